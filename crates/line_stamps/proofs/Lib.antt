@@ -1,0 +1,4 @@
+pub mod Joined
+pub mod Keys
+pub mod Order
+pub mod Ordered

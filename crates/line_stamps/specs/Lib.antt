@@ -1,0 +1,9 @@
+pub mod Faults
+pub mod KeyOrder
+pub mod KeyParts
+pub mod Laws
+pub mod Least
+pub mod LineParts
+pub mod Ordered
+pub mod RecallParts
+pub mod StampParts

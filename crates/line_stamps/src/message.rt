@@ -1,0 +1,81 @@
+//! Messages between cores and slices.
+
+use super::line::Line;
+use super::stamp::Stamp;
+use mem_op::{Addr, CoreId};
+use std::marker::Model;
+
+/// What a core asks of a slice or gives back to it.
+#[derive(Clone, Copy, Debug, PartialEq, Eq)]
+pub enum Message {
+    /// SH_REQ: wants to read at `pts`; `copy` is the `wts` of the copy that it has.
+    ShReq {
+        addr: Addr,
+        copy: Option<Stamp>,
+        pts: Stamp,
+    },
+    /// EX_REQ: wants to write; `copy` is the `wts` of the copy that it has.
+    ExReq {
+        addr: Addr,
+        copy: Option<Stamp>,
+    },
+    /// WB_REP: gives an Exclusive line back and keeps it as Shared.
+    WbRep {
+        addr: Addr,
+        line: Line,
+    },
+    /// FLUSH_REP: gives an Exclusive line back and drops it.
+    FlushRep {
+        addr: Addr,
+        line: Line,
+    },
+}
+
+/// How a line is to be given back.
+#[derive(Clone, Copy, Debug, PartialEq, Eq)]
+pub enum RecallKind {
+    /// `wb`: by WB_REP.
+    WriteBack,
+    /// `flush`: by FLUSH_REP.
+    Flush,
+}
+
+/// A hint to an owner that its line is wanted.
+#[derive(Clone, Copy, Debug, PartialEq, Eq)]
+pub struct Recall {
+    /// Up to when the line is wanted for reading; 0, and not used, for a flush.
+    pub rts: Stamp,
+    /// The line's address.
+    pub addr: Addr,
+    /// The core that owns the line.
+    pub owner: CoreId,
+    /// How it is to be given back.
+    pub kind: RecallKind,
+}
+
+impl Model for Recall {
+    ghost use Rattle.line_stamps.specs.RecallParts.{RecallParts};
+
+    ghost Value = { RecallParts };
+
+    ghost view = { λ r. record { rts = r.rts; addr = r.addr; owner = r.owner; kind = r.kind } };
+
+    ghost inverse = { λ r. record { rts = r.rts; addr = r.addr; owner = r.owner; kind = r.kind } };
+}
+
+/// What a slice answers.
+#[derive(Clone, Copy, Debug, PartialEq, Eq)]
+pub enum Reply {
+    /// SH_REP: the line, to read.
+    ShRep(Line),
+    /// EX_REP: the line, to write.
+    ExRep(Line),
+    /// RENEW_REP: the copy is still good, up to this `rts`.
+    RenewRep(Stamp),
+    /// UPGRADE_REP: the copy is still good, up to this `rts`, and may be written.
+    UpgradeRep(Stamp),
+    /// What was given back is taken.
+    Taken,
+    /// The line is another's: offer it this recall, and ask again.
+    Busy(Recall),
+}

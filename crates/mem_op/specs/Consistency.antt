@@ -1,0 +1,57 @@
+-- Sequential consistency, as textbooks have it: one order of all operations that keeps each core's program
+-- order, and in which each load answers the last earlier store to its address, or 0.
+use Rattle.std.specs.Prelude.{◌≡◌, ℕ, ◌<◌, Bool, false, ◌&&◌, ◌==◌, if◌then◌else◌, List, Option, Some, None, slice_get, is_some, option_and_then, AllPairs, count_by, find, reverse, take}
+use Rattle.std.specs.List.{filter_map}
+use Rattle.mem_op.specs.declared.id.OpId.{OpId}
+
+-- a load of a value from an address, or a store of a value to it
+pub data Operation : Type 0 where
+  Loaded : (addr value : ℕ) → Operation
+  Stored : (addr value : ℕ) → Operation
+
+-- the operation of an id, where `cores` has each core's operations in program order
+abbrev pub operation_at : List (List Operation) → OpId → Option Operation
+operation_at cores id = option_and_then (λ operations. slice_get operations id.index) (slice_get cores id.core)
+
+abbrev pub is_same_id : OpId → OpId → Bool
+is_same_id a b = (a.core == b.core) && (a.index == b.index)
+
+-- each operation's id stands in the list once, and nothing else stands there
+abbrev pub IsSerialOrder : List (List Operation) → List OpId → Type 0
+IsSerialOrder cores order =
+    (id : OpId) → count_by (is_same_id id) order ≡ (if is_some (operation_at cores id) then 1 else 0)
+
+-- of two ids of one core the one that stands first has the lower index
+abbrev pub KeepsProgramOrder : List OpId → Type 0
+KeepsProgramOrder order = AllPairs (λ a b. a.core ≡ b.core → a.index < b.index) order
+
+abbrev pub is_store_to : ℕ → Operation → Bool
+is_store_to addr (Loaded a v) = false
+is_store_to addr (Stored a v) = a == addr
+
+abbrev pub value_of : Operation → ℕ
+value_of (Loaded a v) = v
+value_of (Stored a v) = v
+
+abbrev pub value_or_zero : Option Operation → ℕ
+value_or_zero None = 0
+value_or_zero (Some operation) = value_of operation
+
+-- the flat answer: the value of the last store to the address among the operations, or 0
+abbrev pub last_value : ℕ → List Operation → ℕ
+last_value addr operations = value_or_zero (find (is_store_to addr) (reverse operations))
+
+-- each load answers the last store to its address that stands earlier
+abbrev pub GivesFlatAnswers : List Operation → Type 0
+GivesFlatAnswers operations =
+    (k addr value : ℕ) → slice_get operations k ≡ Some (Loaded addr value) → value ≡ last_value addr (take k operations)
+
+-- a serial order that keeps program order and in which each load has its flat answer
+pub record IsSequentialOrder (cores : List (List Operation)) (order : List OpId) : Type 0 where
+  pub serial : IsSerialOrder cores order
+  pub program : KeepsProgramOrder order
+  pub flat : GivesFlatAnswers (filter_map (operation_at cores) order)
+
+-- the operations are sequentially consistent
+abbrev pub IsConsistent : List (List Operation) → Type 0
+IsConsistent cores = (order : List OpId) × IsSequentialOrder cores order

@@ -1,0 +1,3 @@
+pub mod Consistency
+pub mod Faults
+pub mod Parts

@@ -1,0 +1,31 @@
+//! Why a number is out of range.
+
+use std::fmt;
+use std::fmt::Display;
+use thiserror::Error;
+
+/// Why a number is no address, core or index.
+#[derive(Clone, Copy, Debug, PartialEq, Eq, Error)]
+pub enum RangeFault {
+    /// An address is at most 65,535.
+    AddrRange,
+    /// A core is at most 63.
+    CoreRange,
+    /// An index is at most 1,048,575.
+    IndexRange,
+}
+
+impl Display for RangeFault {
+    ghost use Rattle.std.specs.Prelude.{Some};
+    ghost use Rattle.mem_op.specs.Faults.{fault_text};
+
+    ghost output = { λ fault. Some (fault_text fault) };
+
+    fn fmt<W: fmt::Write>(&self, f: &mut fmt::Formatter<W>) -> fmt::Result {
+        match self {
+            RangeFault::AddrRange => f.write_str("1 AddrRange"),
+            RangeFault::CoreRange => f.write_str("2 CoreRange"),
+            RangeFault::IndexRange => f.write_str("3 IndexRange"),
+        }
+    }
+}
