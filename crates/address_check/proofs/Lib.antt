@@ -1,0 +1,10 @@
+pub mod Apart
+pub mod Chunks
+pub mod Collecting
+pub mod Cuts
+pub mod GroupPass
+pub mod Pairs
+pub mod Pieces
+pub mod Sorting
+pub mod Totals
+pub mod Window

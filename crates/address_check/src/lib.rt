@@ -1,0 +1,20 @@
+//! The check of loads against stores, address by address.
+#![tactic(auto)]
+
+mod fault;
+mod gate;
+mod group;
+mod index;
+mod local_check;
+mod span;
+#[cfg(test)]
+mod tests;
+mod workers;
+
+pub use fault::{AddressFault, AddressRule};
+pub use gate::{Gate, Phase};
+pub use group::group_fault;
+pub use index::AddressIndex;
+pub use local_check::{LocalCheck, lesser_fault};
+pub use span::Span;
+pub use workers::fault_by_workers;

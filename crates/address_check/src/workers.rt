@@ -1,0 +1,95 @@
+//! Workers that share a check, each with a piece of its items.
+
+ghost use Rattle.std.specs.Prelude.{◌≡◌, ◌<◌, ◌≤◌, ◌*◌, ℕ, Option, None, IfOk, length, fold, slice_index_or};
+ghost use Rattle.line_stamps.specs.Least.{lesser};
+ghost use Rattle.address_check.specs.Piece.{piece_of};
+
+use super::gate::{Gate, Phase};
+use super::local_check::{LocalCheck, lesser_fault};
+use std::alloc::{AllocError, Global};
+use std::thread;
+use std::thread::Threads;
+
+/// The least of the faults.
+fn least_fault<F: Ord + Copy>(found: &[Option<F>]) -> Option<F>
+    ensures { result ≡ fold (λ a b. lesser F.cmp a b) None found.now }
+{
+    found
+        .iter()
+        .fold(None, |least, fault| lesser_fault(least, *fault))
+}
+
+/// The items of a piece.
+fn piece<T>(items: &[T], size: usize, number: usize) -> &[T]
+    ensures { result.now ≡ piece_of size items.now number }
+{
+    let start = number.saturating_mul(size).min(items.len());
+    let end = start.saturating_add(size).min(items.len());
+    &items[start..end]
+}
+
+/// Items that are cut into pieces, each of at most `size`, the first with number 0.
+#[derive(Drop)]
+struct Pieces<'a, C: LocalCheck> {
+    check: &'a C,
+    items: &'a [C::Item],
+    size: usize,
+}
+
+impl<'a, C: LocalCheck> Pieces<'a, C> {
+    /// The fault of a piece.
+    fn fault(&self, number: usize) -> Option<C::Fault>
+        ensures { result ≡ C.fault_of self.now.check.now
+            (piece_of self.now.size self.now.items.now number) }
+    {
+        self.check.fault(piece(self.items, self.size, number))
+    }
+
+    /// The fault of all items, from those of the pieces.
+    fn least(&self, found: &[Option<C::Fault>]) -> Option<C::Fault>
+        requires cover { length self.now.items.now ≤ length found.now * self.now.size }
+        requires each { (k : ℕ) (d : Option C.Fault) → k < length found.now →
+            slice_index_or found.now k d
+            ≡ C.fault_of self.now.check.now (piece_of self.now.size self.now.items.now k) }
+        ensures { result ≡ C.fault_of self.now.check.now self.now.items.now }
+    {
+        least_fault(found)
+    }
+}
+
+/// The fault of all items, found by so many workers at once, 1 to 64, each with a piece of the items. A single worker
+/// is the calling thread, and takes no memory. Err where memory was refused.
+pub fn fault_by_workers<R: Threads + Sync, G: Gate + Sync, C: LocalCheck + Sync>(
+    rt: &R,
+    alloc: Global,
+    gate: &G,
+    phase: Phase,
+    check: &C,
+    items: &[C::Item],
+    workers: usize,
+) -> Result<Option<C::Fault>, AllocError>
+    requires some { 0 < workers }
+    requires few { workers ≤ 64 }
+    ensures { IfOk result (λ fault. fault ≡ C.fault_of check.now items.now) }
+{
+    if workers == 1 {
+        gate.enter(phase, 1);
+        return Ok(check.fault(items));
+    }
+    let size = items.len().div_ceil(workers);
+    let pieces = Pieces { check, items, size };
+    let found = thread::map_indices(
+        rt,
+        alloc,
+        workers,
+        &|i: usize| -> Option<C::Fault>
+            requires { i < 64 }
+            ensures { result ≡ C.fault_of pieces.entry.check.now
+                (piece_of pieces.entry.size pieces.entry.items.now i) }
+        {
+            gate.enter(phase, i + 1);
+            pieces.fault(i)
+        },
+    )?;
+    Ok(pieces.least(&found))
+}

@@ -1,0 +1,4 @@
+pub mod ConfigParts
+pub mod Faults
+pub mod Lease
+pub mod Ranges

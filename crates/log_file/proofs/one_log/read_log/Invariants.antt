@@ -1,0 +1,15 @@
+-- The bytes that were read were all fed, and no read failed.
+use Rattle.std.proofs.Common.{◌≡◌, ◌-◌, ◌<◌, ◌^◌, Ok, List, ℕ}
+use Rattle.std.specs.Io.KnownBytes.{Consumes}
+use Rattle.log_file.specs.Feeding.{fed_len}
+use Rattle.log_file.proofs.one_log.read_log.Given as goal
+
+abbrev pub invariant-reading : goal.invariant-reading
+invariant-reading g l =
+    (l.reader.core ≡ l.fn.core) × (l.reader.cores ≡ l.cores)
+    × ((given : List ℕ) × (l.reader.fed ≡ Ok given) × Consumes (g.S.ByteSource.remaining l.fn.source) (g.S.ByteSource.remaining l.source) given)
+    × (fed_len l.reader.fed < 2 ^ 27)
+    × (g.S.ByteSource.failed l.source ≡ g.S.ByteSource.failed l.fn.source)
+
+abbrev pub decreases-reading : goal.decreases-reading
+decreases-reading g l = 2 ^ 27 - fed_len l.reader.fed

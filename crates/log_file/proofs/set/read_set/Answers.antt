@@ -1,0 +1,67 @@
+-- The set so far, one file more; and the file that is refused.
+use Rattle.std.proofs.Common.{◌≡◌, ℕ, length, arith, ap, subst, ◌∙◌, refl, Err, ◌++◌, ◌∷◌, [], rules}
+use Rattle.log_file.specs.declared.log_fault.LogFault.TheVariants.{OutOfMemory}
+use Rattle.log_file.specs.Devices.{Tells}
+use Rattle.log_file.specs.Answers.{IsFaultOrDevice}
+use Rattle.log_file.specs.Log.{Spells}
+use Rattle.log_file.proofs.Sets.{same_reader, same_behind, set_more, set_refused, set_done, set_failed, set_count, spelled_short}
+use Rattle.log_file.proofs.set.read_set.Goals as goal
+
+pub returns-in-Err-clause-answer : goal.returns-in-Err-clause-answer
+returns-in-Err-clause-answer g c =
+    let rem = g.S.ByteSource.remaining in
+    let x = c.index-readers-file.result in
+    let loop = c.loop-file in
+    let a = c.in-Err.ensures.answer in
+    let same = same_reader loop.readers c.args.readers.now loop.file x loop.invariant.1 in
+    let tells = subst (λ s. Tells (rem s) a.0) same a.1 in
+    let holds : IsFaultOrDevice loop.file (length c.args.readers.now) a.0 c.in-Err.fault = subst (λ (k : ℕ). IsFaultOrDevice k (length c.args.readers.now) a.0 c.in-Err.fault) c.in-Ok.ensures.0 a.2 in
+    set_refused rem c.args.readers.now loop.file (length c.args.readers.now) x loop.logs.items a.0 c.in-Err.fault (omega arith) loop.invariant.2 loop.invariant.0 tells holds
+
+pub returns-in-Err-clause-read : goal.returns-in-Err-clause-read
+returns-in-Err-clause-read g c = λ e.
+    let failed = c.in-Err.ensures.read (ap (λ f. Err f) e) in
+    let loop = c.loop-file in
+    set_failed g.S.ByteSource.failed c.args.readers.now loop.readers loop.file c.index-readers-file.result c.read_log.new.source (omega arith) (omega arith) loop.invariant.1 c.index-readers-file.is failed
+
+pub returns-then-is_err-clause-answer : goal.returns-then-is_err-clause-answer
+returns-then-is_err-clause-answer g c =
+    let rem = g.S.ByteSource.remaining in
+    let x = c.index-readers-file.result in
+    let loop = c.loop-file in
+    let a = c.in-Ok-read_log.ensures.answer in
+    let same = same_reader loop.readers c.args.readers.now loop.file x loop.invariant.1 in
+    let tells = subst (λ s. Tells (rem s) a.0) same a.1 in
+    set_refused rem c.args.readers.now loop.file (length c.args.readers.now) x loop.logs.items a.0 OutOfMemory (omega arith) loop.invariant.2 loop.invariant.0 tells tt
+
+pub loop-file-preserved : goal.loop-file-preserved
+loop-file-preserved g c =
+    let rem = g.S.ByteSource.remaining in
+    let x = c.index-readers-file.result in
+    let loop = c.loop-file in
+    let log = c.in-Ok-read_log.log in
+    let a = c.in-Ok-read_log.ensures.answer in
+    let same = same_reader loop.readers c.args.readers.now loop.file x loop.invariant.1 in
+    let tells = subst (λ s. Tells (rem s) a.0) same a.1 in
+    let spells : Spells loop.file (length c.args.readers.now) a.0 log.items = subst (λ (k : ℕ). Spells k (length c.args.readers.now) a.0 log.items) c.in-Ok.ensures.0 a.2 in
+    let pushed : c.push.new.self.items ≡ loop.logs.items ++ log ∷ [] = search rules in (
+      set_more rem c.args.readers.now loop.file (length c.args.readers.now) x loop.logs.items c.push.new.self.items log a.0 (omega arith) loop.invariant.0 tells spells pushed,
+      same_behind loop.readers c.args.readers.now loop.file c.read_log.new.source loop.invariant.1,
+      refl,
+    )
+
+pub returns-clause-answer : goal.returns-clause-answer
+returns-clause-answer g c =
+    let loop = c.loop-file in
+    set_done g.S.ByteSource.remaining c.args.readers.now loop.file (length c.args.readers.now) loop.logs.items (omega arith) loop.invariant.2 loop.invariant.0
+
+pub returns-clause-count : goal.returns-clause-count
+returns-clause-count g c =
+    let loop = c.loop-file in
+    let count = set_count g.S.ByteSource.remaining c.args.readers.now loop.file (length c.args.readers.now) loop.logs.items (omega arith) loop.invariant.0 in
+    loop.logs.ok.0 ∙ count
+
+pub returns-clause-short : goal.returns-clause-short
+returns-clause-short g c =
+    let far = c.loop-file.invariant.0 in
+    spelled_short 0 (length c.args.readers.now) far.0 c.loop-file.logs.items far.2

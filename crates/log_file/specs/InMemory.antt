@@ -1,0 +1,17 @@
+-- What clauses read of the devices in memory.
+use Rattle.std.specs.Prelude.{ℕ, List}
+use Rattle.log_file.specs.declared.mem_source.MemSource.{MemSource}
+use Rattle.log_file.specs.declared.mem_sink.MemSink.{MemSink}
+
+-- the bytes that weren't read yet
+abbrev pub bytes_left : MemSource → List ℕ
+bytes_left source = source.bytes.now
+
+abbrev pub failed_reads : MemSource → ℕ
+failed_reads source = source.failures
+
+abbrev pub bytes_taken : MemSink → List ℕ
+bytes_taken sink = sink.taken.items
+
+abbrev pub failed_writes : MemSink → ℕ
+failed_writes sink = sink.failures

@@ -1,0 +1,13 @@
+pub mod Answers
+pub mod Devices
+pub mod Faults
+pub mod Feeding
+pub mod InMemory
+pub mod Keeping
+pub mod Laws
+pub mod Log
+pub mod OneLine
+pub mod SetFaults
+pub mod Sets
+pub mod Standing
+pub mod Wrapped

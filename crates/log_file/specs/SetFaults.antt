@@ -1,0 +1,15 @@
+-- The text of a fault of a set: the file and the line, where there are any, a number and a name.
+use Rattle.std.specs.Prelude.{ℕ, List, ◌++◌, codes}
+use Rattle.std.specs.Fmt.{decimal}
+use Rattle.log_file.specs.declared.log_fault.LogFault.{LogFault}
+use Rattle.log_file.specs.declared.log_fault.LogFault.TheVariants.{At, OutOfMemory, Read}
+use Rattle.log_file.specs.declared.set_fault.SetFault.{SetFault}
+use Rattle.log_file.specs.Faults.{fault_text}
+
+abbrev pub text_in_file : ℕ → LogFault → List ℕ
+text_in_file file (At line fault) = codes "file " ++ decimal file ++ codes " line " ++ decimal line ++ codes ": " ++ fault_text fault
+text_in_file file Read = codes "file " ++ decimal file ++ codes ": 28 Read"
+text_in_file file OutOfMemory = codes "10 OutOfMemory"
+
+abbrev pub set_fault_text : SetFault → List ℕ
+set_fault_text e = text_in_file e.file e.fault

@@ -1,0 +1,58 @@
+-- A set of logs, one text a core: its logs, or its first fault.
+use Rattle.std.specs.Prelude.{◌≡◌, ℕ, ◌+◌, ◌<◌, List, [], ◌∷◌, length, Option, Some, Result, Ok, Err, slice_get, slice_index_or}
+use Rattle.std.specs.List.{AllZip}
+use Rattle.std.specs.Global.{Vec}
+use Rattle.log_record.specs.declared.record.Record.{Record}
+use Rattle.log_record.specs.Entries.{record_lists}
+use Rattle.log_file.specs.declared.fault.Fault.{Fault}
+use Rattle.log_file.specs.declared.log_fault.LogFault.{LogFault}
+use Rattle.log_file.specs.declared.log_fault.LogFault.TheVariants.{At, OutOfMemory, Read}
+use Rattle.log_file.specs.declared.set_fault.SetFault.{SetFault}
+use Rattle.log_file.specs.Devices.{Failed, Tells}
+use Rattle.log_file.specs.Log.{Spells, IsFirstFault}
+
+-- the texts spell the logs of cores core, core + 1, .. of so many
+abbrev pub SpellFrom : ℕ → ℕ → List (List ℕ) → List (List Record) → Type 0
+SpellFrom core cores [] [] = Unit {0}
+SpellFrom core cores [] (log ∷ logs) = ⊥
+SpellFrom core cores (text ∷ texts) [] = ⊥
+SpellFrom core cores (text ∷ texts) (log ∷ logs) = Spells core cores text log × SpellFrom (core + 1) cores texts logs
+
+-- text k spells log k, the log of core k
+abbrev pub SpellSet : List (List ℕ) → List (List Record) → Type 0
+SpellSet texts logs = SpellFrom 0 (length texts) texts logs
+
+abbrev pub text_at : List (List ℕ) → ℕ → List ℕ
+text_at texts k = slice_index_or texts k []
+
+-- the texts in front of this one spell their logs
+abbrev pub SpellBefore : List (List ℕ) → ℕ → Type 0
+SpellBefore texts file = (k : ℕ) → k < file → (log : List Record) × Spells k (length texts) (text_at texts k) log
+
+-- the fault of the least file that has one
+pub record IsFirstOfSet (texts : List (List ℕ)) (file line : ℕ) (f : Fault) : Type 0 where
+  pub there : file < length texts
+  pub before : SpellBefore texts file
+  pub first : IsFirstFault file (length texts) (text_at texts file) line f
+
+-- the first fault of the set; at its file, want of memory or a failed read may come in its place
+abbrev pub IsSetFault : List (List ℕ) → ℕ → LogFault → Type 0
+IsSetFault texts file (At line f) = IsFirstOfSet texts file line f
+IsSetFault texts file OutOfMemory = (file < length texts) × SpellBefore texts file
+IsSetFault texts file Read = (file < length texts) × SpellBefore texts file
+
+-- the logs that the texts spell, or the first fault of the set
+abbrev pub IsSetAnswer : List (List ℕ) → Result (Vec (Vec Record)) SetFault → Type 0
+IsSetAnswer texts (Ok logs) = SpellSet texts (record_lists logs.items)
+IsSetAnswer texts (Err e) = IsSetFault texts e.file e.fault
+
+-- ---- the readers
+
+-- the texts are those that the readers tell
+abbrev pub TellEach : {S : Type 0} → (S → Option (List ℕ)) → List S → List (List ℕ) → Type 0
+TellEach remaining readers texts = AllZip (λ s text. Tells (remaining s) text) readers texts
+
+-- the reader of this file failed
+abbrev pub ReaderFailed : {S : Type 0} → (S → ℕ) → List S → List S → ℕ → Type 0
+ReaderFailed {S} failed old new file =
+    (before : S) × ((after : S) × (slice_get old file ≡ Some before) × (slice_get new file ≡ Some after) × Failed (failed before) (failed after))

@@ -1,0 +1,43 @@
+//! Devices that take bytes.
+
+ghost use Rattle.std.specs.Prelude.{◌≡◌, ◌<◌, ◌≤◌, ℕ, List, length, take, IfOk, OnOk, OnErr, None, Option};
+ghost use Rattle.std.specs.Io.KnownBytes.{WriteAppends, Appends};
+ghost use Rattle.log_file.specs.Devices.{CountsFailure, Failed};
+
+use crate::device_fault::WriteFailed;
+
+/// What takes bytes, some at a time, and may fail at any time.
+pub trait ByteSink {
+    /// The bytes that it took, where the sink tells them.
+    ghost contents: { Self → Option (List ℕ) } = { λ _. None };
+
+    /// How many writes have failed: at most 18,446,744,073,709,551,615 are counted.
+    ghost failed: { Self → ℕ };
+
+    /// Takes bytes from the front of the piece, and answers how many: never 0 of a piece that isn't
+    /// empty.
+    fn write(&mut self, piece: &[u8]) -> Result<usize, WriteFailed>
+        ensures bound { IfOk result (λ n. n ≤ length piece.now) }
+        ensures some { IfOk result (λ n. 0 < length piece.now → 0 < n) }
+        ensures bytes { WriteAppends (contents self.old) (contents self.new) result piece.now }
+        ensures counts { CountsFailure (failed self.old) (failed self.new) result };
+
+    /// How many writes have failed.
+    fn failures(&self) -> u64
+        ensures { result ≡ failed self.now };
+}
+
+/// Writes all of the bytes. Where a write fails, what the sink took is a beginning of them.
+pub fn write_all<W: ByteSink>(sink: &mut W, bytes: &[u8]) -> Result<(), WriteFailed>
+    ensures ok { OnOk result (Appends (W.contents sink.old) (W.contents sink.new) bytes.now) }
+    ensures begun { (n : ℕ) × (n ≤ length bytes.now)
+        × Appends (W.contents sink.old) (W.contents sink.new) (take n bytes.now) }
+    ensures failed { OnErr result (Failed (W.failed sink.old) (W.failed sink.new)) }
+    ensures quiet { OnOk result (W.failed sink.new ≡ W.failed sink.old) }
+{
+    let mut at = 0;
+    while at < bytes.len() {
+        at += sink.write(&bytes[at..])?;
+    }
+    Ok(())
+}

@@ -1,0 +1,129 @@
+//! A log read line by line.
+
+ghost use Rattle.std.specs.Prelude.{◌≡◌, ◌<◌, ◌≤◌, [], ◌++◌, List, IfOk, IfErr, OnOk, MatchResult};
+ghost use Rattle.log_record.specs.declared.record.Record.{Record};
+ghost use Rattle.log_file.specs.Answers.{IsFaultOf};
+ghost use Rattle.log_file.specs.Log.{Spells};
+ghost use Rattle.log_file.specs.Standing.{IsInRange, SameLog, IsBehind, IsTooFar, IsPartRefused, IsLineRefused};
+ghost use Rattle.log_file.specs.Standing.{Stands, IsSettledWith, TakesNext, read_text};
+
+use crate::fault::Fault;
+use crate::log_fault::LogFault;
+use crate::one_line::LINE_LIMIT;
+use crate::phase::Phase;
+use crate::progress::Progress;
+use arrayvec::ArrayVec;
+use log_record::Record;
+use memchr::memchr;
+
+/// A whole line that was taken.
+#[derive(Clone, Copy)]
+pub(crate) struct Line {
+    /// The record, if the line is one.
+    pub(crate) logged: Option<Record>,
+    /// How many bytes of the piece were taken, its line feed with them.
+    pub(crate) taken: usize,
+}
+
+/// Reads the lines of a log one at a time, and keeps no record.
+#[derive(Drop)]
+pub(crate) struct LineReader {
+    /// What the whole lines were.
+    progress: Progress,
+    /// The bytes of the line that isn't whole yet.
+    begun: ArrayVec<u8, LINE_LIMIT>,
+}
+
+impl LineReader {
+    /// A reader of the log of one core of so many, at its beginning.
+    pub(crate) fn new(core: u64, cores: u64) -> LineReader
+        requires core { core < cores }
+        requires cores { cores ≤ 64 }
+        ensures core { result.progress.core ≡ core }
+        ensures cores { result.progress.cores ≡ cores }
+        ensures stands { Stands result [] }
+        ensures empty { read_text result [] ≡ [] }
+    {
+        LineReader {
+            progress: Progress {
+                core,
+                cores,
+                phase: Phase::Header,
+                count: 0,
+            },
+            begun: ArrayVec::new(),
+        }
+    }
+
+    /// Keeps a part of a line that isn't whole yet.
+    fn begin(&mut self, part: &[u8]) -> Result<(), LogFault>
+        requires { IsInRange self.old.progress }
+        ensures progress { self.new.progress ≡ self.old.progress }
+        ensures kept { OnOk result (self.new.begun.items ≡ self.old.begun.items ++ part.now) }
+        ensures fits { OnOk result (¬ IsTooFar self.old part.now) }
+        ensures refused { IfErr result (IsPartRefused self.old part.now) }
+    {
+        if self.progress.phase == Phase::Ended && !part.is_empty() {
+            return Err(self.progress.fault_of_more());
+        }
+        match self.begun.try_extend_from_slice(part) {
+            Ok(()) => Ok(()),
+            Err(_) => Err(self.progress.fault_of_more()),
+        }
+    }
+
+    /// Ends the line with its last part, and answers the record if it is one.
+    fn end(&mut self, part: &[u8]) -> Result<Option<Record>, LogFault>
+        requires { IsInRange self.old.progress }
+        ensures same { SameLog self.old.progress self.new.progress }
+        ensures in_range { IsInRange self.new.progress }
+        ensures none_begun { OnOk result (self.new.begun.items ≡ []) }
+        ensures behind { IfOk result (λ logged.
+            IsBehind self.old.progress (self.old.begun.items ++ part.now) logged self.new.progress) }
+        ensures refused { IfErr result (IsLineRefused self.old part.now) }
+    {
+        if self.begun.is_empty() {
+            return self.progress.take_line(part);
+        }
+        self.begin(part)?;
+        let logged = self.progress.take_line(self.begun.as_slice())?;
+        self.begun.clear();
+        Ok(logged)
+    }
+
+    /// Takes the bytes of the piece up to its first line feed, and answers what line they end. Where no
+    /// line feed is in the piece, it takes all of it as a part of a line, and answers None.
+    pub(crate) fn next_line(&mut self, piece: &[u8]) -> Result<Option<Line>, LogFault>
+        requires { IsInRange self.old.progress }
+        ensures same { SameLog self.old.progress self.new.progress }
+        ensures in_range { IsInRange self.new.progress }
+        ensures taken { (records : List Record) → Stands self.old records → MatchResult result
+            (λ line. TakesNext self.old records piece.now line self.new)
+            (IsSettledWith self.old records piece.now) }
+    {
+        let Some(at) = memchr(b'\n', piece) else {
+            self.begin(piece)?;
+            return Ok(None);
+        };
+        let logged = self.end(&piece[..at])?;
+        Ok(Some(Line {
+            logged,
+            taken: at + 1,
+        }))
+    }
+
+    /// Whether the log is whole; Truncated at the line that the bytes end in, where it isn't.
+    pub(crate) fn finish(&self) -> Result<(), LogFault>
+        requires { IsInRange self.now.progress }
+        ensures { (records : List Record) → Stands self.now records → MatchResult result
+            (λ _. Spells self.now.progress.core self.now.progress.cores
+            (read_text self.now records) records)
+            (IsFaultOf self.now.progress.core self.now.progress.cores (read_text self.now records)) }
+    {
+        match self.progress.phase {
+            Phase::Header => Err(LogFault::At(1, Fault::Truncated)),
+            Phase::Records => Err(LogFault::At(self.progress.count + 2, Fault::Truncated)),
+            Phase::Ended => Ok(()),
+        }
+    }
+}

@@ -1,0 +1,73 @@
+//! A sink in memory.
+
+ghost use Rattle.std.specs.Prelude.{◌≡◌, []};
+ghost use Rattle.log_file.specs.InMemory.{bytes_taken, failed_writes};
+
+use crate::byte_sink::ByteSink;
+use crate::device_fault::WriteFailed;
+use crate::step::Step;
+use std::alloc::Global;
+
+/// A sink that keeps in memory what it took. Its writes follow the steps, one a call, and then take
+/// all. Want of memory is a failure too.
+#[derive(Drop)]
+pub struct MemSink<'a> {
+    taken: Vec<u8>,
+    steps: &'a [Step],
+    failures: u64,
+}
+
+impl<'a> MemSink<'a> {
+    /// A sink that took nothing and hasn't failed yet.
+    pub fn new(alloc: Global, steps: &'a [Step]) -> MemSink<'a>
+        ensures bytes { bytes_taken result ≡ [] }
+        ensures failed { failed_writes result ≡ 0 }
+    {
+        MemSink {
+            taken: Vec::new(alloc),
+            steps,
+            failures: 0,
+        }
+    }
+
+    /// The bytes that it took.
+    pub fn bytes(&self) -> &[u8]
+        ensures { result.now ≡ bytes_taken self.now }
+    {
+        &self.taken
+    }
+}
+
+impl ByteSink for MemSink<'_> {
+    ghost use Rattle.std.specs.Prelude.{Some};
+
+    ghost contents = { λ sink. Some sink.taken.items };
+
+    ghost failed = { λ sink. sink.failures };
+
+    fn write(&mut self, piece: &[u8]) -> Result<usize, WriteFailed> {
+        let limit = match self.steps.split_first() {
+            None => usize::MAX,
+            Some((step, others)) => {
+                self.steps = others;
+                match step {
+                    Step::Fail => {
+                        self.failures = self.failures.saturating_add(1);
+                        return Err(WriteFailed);
+                    }
+                    Step::Move(limit) => *limit,
+                }
+            }
+        };
+        let count = piece.len().min(limit.saturating_add(1));
+        if self.taken.extend_from_slice(&piece[..count]).is_err() {
+            self.failures = self.failures.saturating_add(1);
+            return Err(WriteFailed);
+        }
+        Ok(count)
+    }
+
+    fn failures(&self) -> u64 {
+        self.failures
+    }
+}

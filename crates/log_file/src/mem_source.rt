@@ -1,0 +1,73 @@
+//! A source in memory.
+
+ghost use Rattle.std.specs.Prelude.{◌≡◌, ◌<◌, ◌≤◌, length, take};
+ghost use Rattle.log_file.specs.InMemory.{bytes_left, failed_reads};
+
+use crate::byte_source::ByteSource;
+use crate::device_fault::ReadFailed;
+use crate::step::Step;
+
+/// A source over bytes in memory. Its reads follow the steps, one a call, and then give what there is.
+#[derive(Drop)]
+pub struct MemSource<'a> {
+    bytes: &'a [u8],
+    steps: &'a [Step],
+    failures: u64,
+}
+
+impl<'a> MemSource<'a> {
+    /// A source of these bytes that hasn't failed yet.
+    pub fn new(bytes: &'a [u8], steps: &'a [Step]) -> MemSource<'a>
+        ensures bytes { bytes_left result ≡ bytes.entry.now }
+        ensures failed { failed_reads result ≡ 0 }
+    {
+        MemSource {
+            bytes,
+            steps,
+            failures: 0,
+        }
+    }
+}
+
+/// Copies as much as fits of at most one byte more than the limit, and answers how many bytes.
+fn give(bytes: &[u8], limit: usize, buf: &mut [u8]) -> usize
+    ensures within { result ≤ length bytes.now }
+    ensures fits { result ≤ length buf.new }
+    ensures copied { take result buf.new ≡ take result bytes.now }
+    ensures some { result ≡ 0 → 0 < length buf.new → length bytes.now ≡ 0 }
+{
+    let count = buf.len().min(bytes.len()).min(limit.saturating_add(1));
+    buf[..count].copy_from_slice(&bytes[..count]);
+    count
+}
+
+impl ByteSource for MemSource<'_> {
+    ghost use Rattle.std.specs.Prelude.{Some};
+
+    ghost remaining = { λ source. Some source.bytes.now };
+
+    ghost failed = { λ source. source.failures };
+
+    fn read(&mut self, buf: &mut [u8]) -> Result<usize, ReadFailed> {
+        let limit = match self.steps.split_first() {
+            None => usize::MAX,
+            Some((step, others)) => {
+                self.steps = others;
+                match step {
+                    Step::Fail => {
+                        self.failures = self.failures.saturating_add(1);
+                        return Err(ReadFailed);
+                    }
+                    Step::Move(limit) => *limit,
+                }
+            }
+        };
+        let count = give(self.bytes, limit, buf);
+        self.bytes = &self.bytes[count..];
+        Ok(count)
+    }
+
+    fn failures(&self) -> u64 {
+        self.failures
+    }
+}

@@ -1,0 +1,30 @@
+//! A log in pieces.
+
+ghost use Rattle.std.specs.Prelude.{◌≡◌, ◌<◌, ◌≤◌, ℕ, List};
+ghost use Rattle.std.specs.List.{flat_map};
+ghost use Rattle.log_file.specs.Answers.{IsAnswer};
+
+use crate::log_fault::LogFault;
+use crate::log_reader::LogReader;
+use log_record::Record;
+use mem_op::CoreId;
+use std::alloc::Global;
+
+/// The log of this core of so many that the pieces spell together, or their first fault: of any cutting,
+/// the answer is that of the whole. 10 comes where a growth was refused.
+pub fn read_pieces(
+    alloc: Global,
+    pieces: &[Vec<u8>],
+    core: CoreId,
+    cores: u64,
+) -> Result<Vec<Record>, LogFault>
+    requires core { core < cores }
+    requires cores { cores ≤ 64 }
+    ensures { IsAnswer core cores (flat_map (λ piece. piece.items) pieces.now) result }
+{
+    let mut reader = LogReader::new(alloc, core, cores);
+    for piece in pieces {
+        reader.feed(piece)?;
+    }
+    reader.finish()
+}

@@ -1,0 +1,49 @@
+//! A set of logs read from devices.
+
+ghost use Rattle.std.specs.Prelude.{◌≡◌, ◌≤◌, ℕ, List, All, length, vec_len, IfOk, IfErr};
+ghost use Rattle.log_file.specs.Sets.{IsSetAnswer, ReaderFailed, TellEach};
+
+use crate::byte_source::ByteSource;
+use crate::log_fault::LogFault;
+use crate::one_log::read_log;
+use crate::set_fault::SetFault;
+use log_record::Record;
+use mem_op::CoreId;
+use std::alloc::Global;
+
+/// The logs of a set, one from each reader in their order, or the fault of the first file that has one.
+/// File k is to be the log of core k, and the cores as many as the readers. No reader behind that file is
+/// read. 10 comes where a growth was refused, 28 where a read failed.
+pub fn read_set<S: ByteSource>(
+    alloc: Global,
+    readers: &mut [S],
+) -> Result<Vec<Vec<Record>>, SetFault>
+    requires { length readers.old ≤ 64 }
+    // There are texts, those that the readers tell, of which this is the answer.
+    ensures answer { (texts : List (List ℕ)) × TellEach S.remaining readers.old texts
+        × IsSetAnswer texts result }
+    // A failed read is answered only where that reader failed in this call.
+    ensures read { IfErr result (λ e. e.fault ≡ LogFault.Read →
+        ReaderFailed S.failed readers.old readers.new e.file) }
+    ensures count { IfOk result (λ logs. vec_len logs ≡ length readers.old) }
+    ensures short { IfOk result (λ logs. All (λ log. vec_len log ≤ 1048576) logs.items) }
+{
+    let cores = readers.len() as u64;
+    let mut logs = Vec::new(alloc);
+    for (file, reader) in readers.iter_mut().enumerate() {
+        let Ok(core) = CoreId::new(file as u64) else {
+            unreachable!();
+        };
+        let log = match read_log(alloc, reader, core, cores) {
+            Ok(log) => log,
+            Err(fault) => return Err(SetFault { file, fault }),
+        };
+        if logs.push(log).is_err() {
+            return Err(SetFault {
+                file,
+                fault: LogFault::OutOfMemory,
+            });
+        }
+    }
+    Ok(logs)
+}

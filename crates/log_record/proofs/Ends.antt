@@ -1,0 +1,92 @@
+-- The header and the end line, both ways.
+use Rattle.std.proofs.Common.{◌≡◌, ℕ, List, ◌++◌, Option, Some, None, option_map, refl, sym, ap, subst, ◌∙◌}
+use Rattle.std.specs.Prelude.{codes, IfSome, IsNone}
+use Rattle.log_record.specs.declared.header.Header.{Header}
+use Rattle.log_record.specs.declared.end.End.{End}
+use Rattle.log_record.specs.Line.{numeral, header_text, end_text, IsHeaderShape, IsEndShape}
+use Rattle.log_record.specs.Numbers.{as_u64}
+use Rattle.log_record.specs.Reading.{◌>>=◌, number_at, after, last_number, header_numbers, header_of, end_of}
+use Rattle.log_record.specs.Raw.{header_parts, end_parts}
+use Rattle.log_record.proofs.Numbers.{number_takes, number_again, after_takes, after_again}
+use Rattle.log_record.proofs.Records.{bind_some, some_is, last_takes, last_again}
+
+pub numeral_one : numeral 1 ≡ codes "1"
+unfolding numeral
+numeral_one = refl
+
+-- a header of format 1 from its first words on
+pub header_text_is : (core cores : ℕ) → header_text 1 core cores ≡ codes "tardis-log 1 core " ++ (numeral core ++ (codes " of " ++ numeral cores))
+unfolding header_text
+header_text_is core cores = rw numeral_one refl
+
+numbers_take : (bytes : List ℕ) (x : ℕ × ℕ) → header_numbers bytes ≡ Some x → bytes ≡ numeral x.0 ++ (codes " of " ++ numeral x.1)
+unfolding header_numbers
+numbers_take bytes x e =
+    let b = bind_some (number_at bytes) (λ core. after (codes " of ") core.1 >>= λ rest. last_number rest >>= λ cores. Some (core.0, cores)) x e in
+    let c = bind_some (after (codes " of ") b.0.1) (λ rest. last_number rest >>= λ cores. Some (b.0.0, cores)) x b.2 in
+    let d = bind_some (last_number c.0) (λ cores. Some (b.0.0, cores)) x c.2 in
+    let all : bytes ≡ numeral b.0.0 ++ (codes " of " ++ numeral d.0) =
+    number_takes bytes b.0 b.1 ∙ ap (λ (r : List ℕ). numeral b.0.0 ++ r) (after_takes (codes " of ") b.0.1 c.0 c.1 ∙ ap (λ (r : List ℕ). codes " of " ++ r) (last_takes c.0 d.0 d.1)) in
+    subst (λ (y : ℕ × ℕ). bytes ≡ numeral y.0 ++ (codes " of " ++ numeral y.1)) (some_is (b.0.0, d.0) x d.2) all
+
+numbers_again : (core cores : ℕ) → header_numbers (numeral core ++ (codes " of " ++ numeral cores)) ≡ Some (core, cores)
+unfolding header_numbers
+numbers_again core cores = rw (number_again core (codes " of " ++ numeral cores) refl, after_again (codes " of ") (numeral cores), last_again cores) refl
+
+pub header_takes : (line : List ℕ) (x : ℕ × ℕ) → header_of line ≡ Some x → line ≡ header_text 1 x.0 x.1
+unfolding header_of
+header_takes line x e =
+    let a = bind_some (after (codes "tardis-log 1 core ") line) (λ rest. header_numbers rest) x e in
+    after_takes (codes "tardis-log 1 core ") line a.0 a.1 ∙ ap (λ (r : List ℕ). codes "tardis-log 1 core " ++ r) (numbers_take a.0 x a.2) ∙ sym (header_text_is x.0 x.1)
+
+pub header_again : (core cores : ℕ) → header_of (header_text 1 core cores) ≡ Some (core, cores)
+unfolding header_of
+header_again core cores =
+    rw (header_text_is core cores, after_again (codes "tardis-log 1 core ") (numeral core ++ (codes " of " ++ numeral cores))) (numbers_again core cores)
+
+pub end_takes : (line : List ℕ) (n : ℕ) → end_of line ≡ Some n → line ≡ end_text n
+unfolding end_of end_text
+end_takes line n e =
+    let a = bind_some (after (codes "end ") line) (λ rest. last_number rest) n e in
+    after_takes (codes "end ") line a.0 a.1 ∙ ap (λ (r : List ℕ). codes "end " ++ r) (last_takes a.0 n a.2)
+
+pub end_again : (n : ℕ) → end_of (end_text n) ≡ Some n
+unfolding end_of end_text
+end_again n = rw (after_again (codes "end ") (numeral n), last_again n) refl
+
+-- ---- what the code's answers mean
+
+not_none : {A : Type 0} (r : Option A) (x : A) → r ≡ Some x → IsNone r → ⊥
+not_none None x e none = cc
+not_none (Some y) x e none = cc
+
+-- a header's line, and what the code keeps of its numbers
+abbrev HeaderIs : List ℕ → Header → Type 0
+HeaderIs line h = (core : ℕ) × ((cores : ℕ) × (line ≡ header_text 1 core cores) × (h.core ≡ as_u64 core) × (h.cores ≡ as_u64 cores))
+
+pub header_found : (line : List ℕ) (r : Option Header) → r ≡ option_map header_parts (header_of line) → IfSome r (λ h. HeaderIs line h)
+header_found line r e = subst (λ (q : Option Header). IfSome q (λ h. HeaderIs line h)) (sym e) (go (header_of line) refl)
+  where
+    go : (o : Option (ℕ × ℕ)) → header_of line ≡ o → IfSome (option_map header_parts o) (λ h. HeaderIs line h)
+    go None h = tt
+    go (Some x) h = (x.0, (x.1, header_takes line x h, refl, refl))
+
+pub header_none : (line : List ℕ) (r : Option Header) → r ≡ option_map header_parts (header_of line) → IsNone r → IsHeaderShape 1 line → ⊥
+header_none line r e none shape =
+    let there : header_of line ≡ Some (shape.0, shape.1.0) = ap header_of shape.1.1 ∙ header_again shape.0 shape.1.0 in
+    not_none r (header_parts (shape.0, shape.1.0)) (e ∙ ap (option_map header_parts) there) none
+
+abbrev EndIs : List ℕ → End → Type 0
+EndIs line e = (count : ℕ) × (line ≡ end_text count) × (e.count ≡ as_u64 count)
+
+pub end_found : (line : List ℕ) (r : Option End) → r ≡ option_map end_parts (end_of line) → IfSome r (λ e. EndIs line e)
+end_found line r e = subst (λ (q : Option End). IfSome q (λ e. EndIs line e)) (sym e) (go (end_of line) refl)
+  where
+    go : (o : Option ℕ) → end_of line ≡ o → IfSome (option_map end_parts o) (λ e. EndIs line e)
+    go None h = tt
+    go (Some n) h = (n, end_takes line n h, refl)
+
+pub end_none : (line : List ℕ) (r : Option End) → r ≡ option_map end_parts (end_of line) → IsNone r → IsEndShape line → ⊥
+end_none line r e none shape =
+    let there : end_of line ≡ Some shape.0 = ap end_of shape.1 ∙ end_again shape.0 in
+    not_none r (end_parts shape.0) (e ∙ ap (option_map end_parts) there) none

@@ -1,0 +1,174 @@
+-- What every line of a log is like: no line feed in it, short where its numbers are in range, and determined
+-- by its text.
+use Rattle.std.proofs.Common.{◌≡◌, ℕ, zero, suc, ◌+◌, ◌<◌, ◌≤◌, ◌^◌, Bool, true, false, eqb, List, [], ◌∷◌, ◌++◌, length, refl, sym, ap, subst, ◌∙◌, arith, length-append, ◌&&◌, not}
+use Rattle.std.specs.Prelude.{codes}
+use Rattle.std.specs.List.{All}
+use Rattle.std.proofs.lemmas.Bool.{ne_eqb, and_parts, not-true}
+use Rattle.std.proofs.lemmas.Fmt.{length-decimal-le}
+use Rattle.mem_op.specs.declared.id.Source.{Source}
+use Rattle.mem_op.specs.declared.id.Source.TheVariants as source
+use Rattle.log_record.specs.declared.record.Act.{Act}
+use Rattle.log_record.specs.declared.record.Act.TheVariants as act
+use Rattle.log_record.specs.declared.record.Record.{Record}
+use Rattle.log_record.specs.Line.{numeral, source_text, record_text, header_text, end_text, line_limit, Fits, ActFits, SourceFits}
+use Rattle.log_record.specs.Reading.{Fields, record_of, header_of, end_of}
+use Rattle.log_record.proofs.Numbers.{AreDigits, numeral_digits, digit_low}
+use Rattle.log_record.proofs.Records.{fields_text, fields_in, tagged_text, record_text_is, record_again, some_is}
+use Rattle.log_record.proofs.Ends.{header_text_is, header_again, end_again}
+use Rattle.log_record.proofs.Printing.{numeral_decimal}
+
+-- ---- no line feed
+
+abbrev pub NoLf : List ℕ → Type 0
+NoLf [] = Unit {0}
+NoLf (b ∷ bs) = (eqb b 10 ≡ false) × NoLf bs
+
+pub NoLf-append : (xs ys : List ℕ) → NoLf xs → NoLf ys → NoLf (xs ++ ys)
+NoLf-append [] ys p q = q
+NoLf-append (x ∷ xs) ys p q = (p.0, NoLf-append xs ys p.1 q)
+
+pub NoLf-all : (xs : List ℕ) → NoLf xs → All (λ b. eqb b 10 ≡ false) xs
+NoLf-all [] p k d lt = absurd (omega arith)
+NoLf-all (x ∷ xs) p zero d lt = p.0
+NoLf-all (x ∷ xs) p (suc k) d lt = NoLf-all xs p.1 k d (omega arith)
+
+digits_no_lf : (ds : List ℕ) → AreDigits ds → NoLf ds
+digits_no_lf [] all = tt
+digits_no_lf (d ∷ ds) all = (ne_eqb d 10 (λ e. omega (arith, e, digit_low d all.0)), digits_no_lf ds all.1)
+
+pub numeral_no_lf : (n : ℕ) → NoLf (numeral n)
+numeral_no_lf n = digits_no_lf (numeral n) (numeral_digits n)
+
+source_no_lf : (s : Source) → NoLf (source_text s)
+source_no_lf source.Init = (refl, (refl, (refl, (refl, tt))))
+source_no_lf (source.Store id) = NoLf-append (numeral id.core) (46 ∷ numeral id.index) (numeral_no_lf id.core) (refl, numeral_no_lf id.index)
+
+fields_no_lf : (f : Fields) (rest : List ℕ) → NoLf rest → NoLf (fields_text f rest)
+fields_no_lf f rest h =
+    NoLf-append (numeral f.addr) (32 ∷ (numeral f.value ++ (32 ∷ (numeral f.ts ++ (32 ∷ rest))))) (numeral_no_lf f.addr) (
+      refl,
+      NoLf-append (numeral f.value) (32 ∷ (numeral f.ts ++ (32 ∷ rest))) (numeral_no_lf f.value)
+          (refl, NoLf-append (numeral f.ts) (32 ∷ rest) (numeral_no_lf f.ts) (refl, h)),
+    )
+
+tagged_no_lf : (a : Act) (f : Fields) (rank : ℕ) → NoLf (tagged_text a f rank [])
+tagged_no_lf act.Store f rank = (refl, (refl, fields_no_lf f (numeral rank ++ []) (NoLf-append (numeral rank) [] (numeral_no_lf rank) tt)))
+tagged_no_lf (act.Load s) f rank =
+    (refl, (refl, fields_no_lf f (numeral rank ++ (32 ∷ (source_text s ++ []))) (NoLf-append (numeral rank) (32 ∷ (source_text s ++ [])) (numeral_no_lf rank) (refl, NoLf-append (source_text s) [] (source_no_lf s) tt))))
+
+pub record_no_lf : (r : Record) → NoLf (record_text r)
+record_no_lf r = subst NoLf (sym (record_text_is r)) (tagged_no_lf r.act (fields_in r) r.rank)
+
+-- the text of a constant, by a test that computes
+abbrev no_lf_test : List ℕ → Bool
+no_lf_test [] = true
+no_lf_test (b ∷ bs) = not (eqb b 10) && no_lf_test bs
+
+const_no_lf : (xs : List ℕ) → no_lf_test xs ≡ true → NoLf xs
+const_no_lf [] e = tt
+const_no_lf (b ∷ bs) e = let p = and_parts (not (eqb b 10)) (no_lf_test bs) e in (not-true (eqb b 10) p.0, const_no_lf bs p.1)
+
+pub header_no_lf : (format core cores : ℕ) → NoLf (header_text format core cores)
+unfolding header_text
+header_no_lf format core cores =
+    NoLf-append (codes "tardis-log ") (numeral format ++ (codes " core " ++ (numeral core ++ (codes " of " ++ numeral cores)))) (const_no_lf (codes "tardis-log ") refl)
+    (NoLf-append (numeral format) (codes " core " ++ (numeral core ++ (codes " of " ++ numeral cores))) (numeral_no_lf format)
+    (NoLf-append (codes " core ") (numeral core ++ (codes " of " ++ numeral cores)) (const_no_lf (codes " core ") refl)
+    (NoLf-append (numeral core) (codes " of " ++ numeral cores) (numeral_no_lf core)
+    (NoLf-append (codes " of ") (numeral cores) (const_no_lf (codes " of ") refl) (numeral_no_lf cores)))))
+
+pub end_no_lf : (count : ℕ) → NoLf (end_text count)
+unfolding end_text
+end_no_lf count = NoLf-append (codes "end ") (numeral count) (const_no_lf (codes "end ") refl) (numeral_no_lf count)
+
+-- ---- short
+
+numeral_short : (k n : ℕ) → 0 < k → n < 10 ^ k → n < 2 ^ 64 → length (numeral n) ≤ k
+numeral_short k n pos small lt = subst (λ (xs : List ℕ). length xs ≤ k) (sym (numeral_decimal n lt)) (length-decimal-le k n pos small lt)
+
+source_short : (s : Source) → SourceFits s → length (source_text s) ≤ 10
+source_short source.Init fits = omega arith
+source_short (source.Store id) fits =
+    omega (arith, length-append (numeral id.core) (46 ∷ numeral id.index), numeral_short 2 id.core (omega arith) (omega arith) (omega arith), numeral_short 7 id.index (omega arith) (omega arith) (omega arith))
+
+fields_short : (f : Fields) (rest : List ℕ) (n : ℕ) → f.addr < 65536 → f.value < 2 ^ 64 → f.ts ≤ 281474976710656 → length rest ≤ n → length (fields_text f rest) ≤ 43 + n
+fields_short f rest n a v t le =
+    omega (
+      arith,
+      length-append (numeral f.addr) (32 ∷ (numeral f.value ++ (32 ∷ (numeral f.ts ++ (32 ∷ rest))))),
+      length-append (numeral f.value) (32 ∷ (numeral f.ts ++ (32 ∷ rest))),
+      length-append (numeral f.ts) (32 ∷ rest),
+      numeral_short 5 f.addr (omega arith) (omega arith) (omega arith),
+      numeral_short 20 f.value (omega arith) (omega arith) (omega arith),
+      numeral_short 15 f.ts (omega arith) (omega arith) (omega arith),
+    )
+
+tagged_short : (a : Act) (f : Fields) (rank : ℕ) → ActFits a → f.addr < 65536 → f.value < 2 ^ 64 → f.ts ≤ 281474976710656 → rank < 4294967296 → length (tagged_text a f rank []) ≤ 80
+tagged_short act.Store f rank fits a v t k =
+    let s : length (numeral rank ++ []) ≤ 10 = omega (arith, length-append (numeral rank) [], numeral_short 10 rank (omega arith) (omega arith) (omega arith)) in
+    omega (arith, fields_short f (numeral rank ++ []) 10 a v t s)
+tagged_short (act.Load src) f rank fits a v t k =
+    let s : length (numeral rank ++ (32 ∷ (source_text src ++ []))) ≤ 21 =
+    omega (arith, length-append (numeral rank) (32 ∷ (source_text src ++ [])), length-append (source_text src) [], source_short src fits, numeral_short 10 rank (omega arith) (omega arith) (omega arith)) in
+    omega (arith, fields_short f (numeral rank ++ (32 ∷ (source_text src ++ []))) 21 a v t s)
+
+pub record_short : (r : Record) → Fits r → length (record_text r) ≤ line_limit
+record_short r fits = subst (λ (xs : List ℕ). length xs ≤ 80) (sym (record_text_is r)) (tagged_short r.act (fields_in r) r.rank fits.act fits.addr fits.value fits.ts fits.rank)
+
+pub header_short : (core cores : ℕ) → core < cores → cores < 65 → length (header_text 1 core cores) ≤ line_limit
+header_short core cores lt few =
+    subst (λ (xs : List ℕ). length xs ≤ 80) (sym (header_text_is core cores))
+    (omega (
+      arith,
+      length-append (numeral core) (codes " of " ++ numeral cores),
+      numeral_short 2 core (omega arith) (omega arith) (omega arith),
+      numeral_short 2 cores (omega arith) (omega arith) (omega arith),
+    ))
+
+pub end_short : (count : ℕ) → count ≤ 1048576 → length (end_text count) ≤ line_limit
+unfolding end_text
+end_short count le = omega (arith, numeral_short 7 count (omega arith) (omega arith) (omega arith))
+
+-- ---- once
+
+pub record_once : (q r : Record) → record_text q ≡ record_text r → q ≡ r
+record_once q r e = some_is q r (sym (record_again q) ∙ ap record_of e ∙ record_again r)
+
+pub header_once : (a b c d : ℕ) → header_text 1 a b ≡ header_text 1 c d → (a ≡ c) × (b ≡ d)
+header_once a b c d e =
+    let joined = some_is (a, b) (c, d) (sym (header_again a b) ∙ ap header_of e ∙ header_again c d) in
+    (ap (λ (p : ℕ × ℕ). p.0) joined, ap (λ (p : ℕ × ℕ). p.1) joined)
+
+pub end_once : (m n : ℕ) → end_text m ≡ end_text n → m ≡ n
+end_once m n e = some_is m n (sym (end_again m) ∙ ap end_of e ∙ end_again n)
+
+-- ---- no line is another's
+
+-- the first byte, or 0
+abbrev first_of : List ℕ → ℕ
+first_of [] = 0
+first_of (b ∷ bs) = b
+
+tag_at : (a : Act) (f : Fields) (rank : ℕ) → first_of (tagged_text a f rank []) ≤ 83
+tag_at act.Store f rank = omega arith
+tag_at (act.Load s) f rank = omega arith
+
+first_of_record : (r : Record) → first_of (record_text r) ≤ 83
+first_of_record r = subst (λ (xs : List ℕ). first_of xs ≤ 83) (sym (record_text_is r)) (tag_at r.act (fields_in r) r.rank)
+
+first_of_header : (format core cores : ℕ) → first_of (header_text format core cores) ≡ 116
+unfolding header_text
+first_of_header format core cores = refl
+
+first_of_end : (count : ℕ) → first_of (end_text count) ≡ 101
+unfolding end_text
+first_of_end count = refl
+
+pub record_no_header : (r : Record) (format core cores : ℕ) → record_text r ≡ header_text format core cores → ⊥
+record_no_header r format core cores e = omega (arith, first_of_record r, ap first_of e, first_of_header format core cores)
+
+pub record_no_end : (r : Record) (count : ℕ) → record_text r ≡ end_text count → ⊥
+record_no_end r count e = omega (arith, first_of_record r, ap first_of e, first_of_end count)
+
+pub header_no_end : (format core cores count : ℕ) → header_text format core cores ≡ end_text count → ⊥
+header_no_end format core cores count e = omega (arith, first_of_header format core cores, ap first_of e, first_of_end count)

@@ -1,0 +1,81 @@
+-- The text of each line of a log, without its line feed.
+use Rattle.std.specs.Prelude.{◌≡◌, ℕ, ◌+◌, ◌<◌, ◌≤◌, ◌^◌, ◌==◌, if◌then◌else◌, List, [], ◌∷◌, ◌++◌, map, codes}
+use Rattle.std.specs.Int.Digits.{digits_of}
+use Rattle.std.specs.List.{join_with_byte}
+use Rattle.mem_op.specs.declared.id.Source.{Source}
+use Rattle.mem_op.specs.declared.id.Source.TheVariants as source
+use Rattle.log_record.specs.declared.record.Act.{Act}
+use Rattle.log_record.specs.declared.record.Act.TheVariants as act
+use Rattle.log_record.specs.declared.record.Record.{Record}
+
+-- ---- the texts
+
+-- a number of any size in decimal: `0`, or digits of which the first isn't 0
+unfoldable pub numeral : ℕ → List ℕ
+numeral n = if n == 0 then codes "0" else map (λ digit. 48 + digit) (digits_of 10 n)
+
+-- `init`, or the core and the index of a store
+abbrev pub source_text : Source → List ℕ
+source_text source.Init = codes "init"
+source_text (source.Store id) = numeral id.core ++ 46 ∷ numeral id.index
+
+-- S for a store, L for a load
+abbrev pub tag : Act → List ℕ
+tag act.Store = codes "S"
+tag (act.Load s) = codes "L"
+
+-- the fields behind those of every record
+abbrev pub last_fields : Act → List (List ℕ)
+last_fields act.Store = []
+last_fields (act.Load s) = source_text s ∷ []
+
+abbrev pub fields_of : Record → List (List ℕ)
+fields_of r = tag r.act ∷ numeral r.addr ∷ numeral r.value ∷ numeral r.ts ∷ numeral r.rank ∷ last_fields r.act
+
+-- a record's line: its fields, with a space between each two
+unfoldable pub record_text : Record → List ℕ
+record_text r = join_with_byte 32 (fields_of r)
+
+-- the first line of a log of this format, of this core of so many
+unfoldable pub header_text : ℕ → ℕ → ℕ → List ℕ
+header_text format core cores =
+    codes "tardis-log " ++ (numeral format ++ (codes " core " ++ (numeral core ++ (codes " of " ++ numeral cores))))
+
+-- the last line of a log of so many records
+unfoldable pub end_text : ℕ → List ℕ
+end_text count = codes "end " ++ numeral count
+
+-- ---- the shapes
+-- A number of a line may have any size. So a line has a record's shape where it is the text of some record,
+-- of numbers of any size, and likewise below.
+
+abbrev pub IsRecordShape : List ℕ → Type 0
+IsRecordShape line = (r : Record) × (line ≡ record_text r)
+
+abbrev pub IsHeaderShape : ℕ → List ℕ → Type 0
+IsHeaderShape format line = (core : ℕ) × ((cores : ℕ) × (line ≡ header_text format core cores))
+
+abbrev pub IsEndShape : List ℕ → Type 0
+IsEndShape line = (count : ℕ) × (line ≡ end_text count)
+
+-- ---- the ranges
+
+abbrev pub SourceFits : Source → Type 0
+SourceFits source.Init = Unit {0}
+SourceFits (source.Store id) = (id.core < 64) × (id.index < 1048576)
+
+abbrev pub ActFits : Act → Type 0
+ActFits act.Store = Unit {0}
+ActFits (act.Load s) = SourceFits s
+
+-- the numbers of a record are in range
+pub record Fits (r : Record) : Type 0 where
+  pub value : r.value < 2 ^ 64
+  pub ts : r.ts ≤ 281474976710656
+  pub rank : r.rank < 4294967296
+  pub addr : r.addr < 65536
+  pub act : ActFits r.act
+
+-- The most bytes of a line of a log, its line feed not counted. No line of numbers in range has more.
+abbrev pub line_limit : ℕ
+line_limit = 80

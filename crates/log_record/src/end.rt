@@ -1,0 +1,43 @@
+//! The last line of a log.
+
+ghost use Rattle.std.specs.Prelude.{◌≡◌, ℕ, IfOk, IfSome, IsNone, option_map, string_bytes};
+ghost use Rattle.log_record.specs.Line.{end_text, IsEndShape};
+ghost use Rattle.log_record.specs.Numbers.{as_u64};
+ghost use Rattle.log_record.specs.Raw.{end_parts};
+ghost use Rattle.log_record.specs.Reading.{end_of};
+
+use crate::number::{after_text, last};
+use std::alloc::{AllocError, Global};
+
+/// The number of an end line.
+#[derive(Clone, Copy, Debug, PartialEq, Eq)]
+pub struct End {
+    /// How many records the log is said to have; None where 64 bits don't hold the number.
+    pub count: Option<u64>,
+}
+
+#[tactic(auto, unfolding(crate::specs::Reading::end_of))]
+fn parts(line: &[u8]) -> Option<End>
+    ensures { result ≡ option_map end_parts (end_of line.now) }
+{
+    let count = last(after_text(b"end ", line)?)?;
+    Some(End { count })
+}
+
+/// The end line that this is, without its line feed; None where it is none.
+#[tactic(auto, using(crate::proofs::Ends::end_found, crate::proofs::Ends::end_none))]
+pub fn read_end(line: &[u8]) -> Option<End>
+    ensures found { IfSome result
+        (λ e. (count : ℕ) × (line.now ≡ end_text count) × (e.count ≡ as_u64 count)) }
+    ensures none { IsNone result → ¬ IsEndShape line.now }
+{
+    parts(line)
+}
+
+/// The end line of a log of so many records, without its line feed.
+#[tactic(auto, using(crate::proofs::Printing::numeral_decimal), unfolding(crate::specs::Line::end_text))]
+pub fn print_end(alloc: Global, count: u64) -> Result<String, AllocError>
+    ensures { IfOk result (λ line. string_bytes line ≡ end_text count) }
+{
+    format!(in alloc; "end {count}")
+}

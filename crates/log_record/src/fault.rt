@@ -1,0 +1,28 @@
+//! Why a line is no record's.
+
+use std::fmt;
+use std::fmt::Display;
+use thiserror::Error;
+
+/// Why a line is refused as a record's.
+#[derive(Clone, Copy, Debug, PartialEq, Eq, Error)]
+pub enum LineFault {
+    /// It hasn't the shape of a record's line.
+    BadLine,
+    /// It has, and one of its numbers is out of range.
+    OutOfRange,
+}
+
+impl Display for LineFault {
+    ghost use Rattle.std.specs.Prelude.{Some};
+    ghost use Rattle.log_record.specs.Faults.{fault_text};
+
+    ghost output = { λ fault. Some (fault_text fault) };
+
+    fn fmt<W: fmt::Write>(&self, f: &mut fmt::Formatter<W>) -> fmt::Result {
+        match self {
+            LineFault::BadLine => f.write_str("21 BadLine"),
+            LineFault::OutOfRange => f.write_str("22 OutOfRange"),
+        }
+    }
+}

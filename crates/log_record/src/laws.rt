@@ -1,0 +1,21 @@
+//! Laws of the texts. Each function does nothing: its contract is the law.
+
+ghost use Rattle.log_record.specs.Laws.{OneRecordALine, NoLineIsAnothers, NoRecordIsLong};
+
+/// A line is that of at most one record.
+#[tactic(auto, using(crate::proofs::Lines::record_once))]
+pub fn one_record_a_line()
+    ensures { OneRecordALine }
+{}
+
+/// No line of a record, a header or an end line is another's.
+#[tactic(auto, using(crate::proofs::Lines::record_no_header, crate::proofs::Lines::record_no_end, crate::proofs::Lines::header_no_end))]
+pub fn no_line_is_anothers()
+    ensures { NoLineIsAnothers }
+{}
+
+/// The line of a record in range has at most 80 bytes.
+#[tactic(auto, using(crate::proofs::Lines::record_short))]
+pub fn no_record_is_long()
+    ensures { NoRecordIsLong }
+{}

@@ -1,0 +1,27 @@
+//! A record as its line has it, before ranges are looked at: a number that 64 bits don't hold is None.
+
+#[derive(Clone, Copy)]
+pub(crate) enum RawSource {
+    Init,
+    Store(Option<u64>, Option<u64>),
+}
+
+#[derive(Clone, Copy)]
+pub(crate) enum RawAct {
+    Load(RawSource),
+    Store,
+}
+
+#[derive(Clone, Copy)]
+pub(crate) struct RawFields {
+    pub(crate) addr: Option<u64>,
+    pub(crate) value: Option<u64>,
+    pub(crate) ts: Option<u64>,
+}
+
+#[derive(Clone, Copy)]
+pub(crate) struct RawRecord {
+    pub(crate) act: RawAct,
+    pub(crate) fields: RawFields,
+    pub(crate) rank: Option<u64>,
+}

@@ -1,0 +1,74 @@
+//! The memory below a slice: its words, and the memory stamp that lines are filled with.
+#![tactic(auto)]
+
+mod memory;
+mod words;
+
+pub use memory::MemorySlice;
+pub use words::{StoredWord, Words};
+
+#[cfg(test)]
+mod tests {
+    use super::*;
+    use line_stamps::{Line, LineStamps, Rank, Stamp};
+    use mem_op::{Addr, CoreId, OpId, OpIndex, Source};
+    use std::test::Fail;
+
+    #[test]
+    fn lines_go_to_memory_and_come_back(rt: HostRuntime) -> Result<(), Fail> {
+        let mut memory = MemorySlice::new(rt.alloc());
+        let (first, second) = (Addr::new(5)?, Addr::new(6)?);
+        let fresh = Line {
+            value: 0,
+            source: Source::Init,
+            stamps: LineStamps::at(Stamp::ZERO, Rank::ZERO),
+        };
+        assert_eq!(rt; memory.fill(first), fresh);
+
+        let source = Source::Store(OpId {
+            core: CoreId::new(3)?,
+            index: OpIndex::new(9)?,
+        });
+        let written = Stamp::new(4)?;
+        let (lease, rank) = (Stamp::new(10)?, Rank::new(2)?);
+        let mut stamps = LineStamps::at(written, rank);
+        stamps.rts = stamps.rts.max(lease);
+        memory.put_back(
+            first,
+            &Line {
+                value: 77,
+                source,
+                stamps,
+            },
+        )?;
+        assert_eq!(rt;
+            memory.fill(first),
+            Line {
+                value: 77,
+                source,
+                stamps: LineStamps::at(lease, rank),
+            }
+        );
+        assert_eq!(rt;
+            memory.fill(second),
+            Line {
+                value: 0,
+                source: Source::Init,
+                stamps: LineStamps::at(lease, rank),
+            }
+        );
+
+        // A line with an earlier lease and a lower rank leaves the memory stamp and rank.
+        memory.put_back(first, &fresh)?;
+        assert_eq!(rt;
+            memory.fill(first),
+            Line {
+                value: 0,
+                source: Source::Init,
+                stamps: LineStamps::at(lease, rank),
+            }
+        );
+        assert_eq!(rt; memory.words.get(second), None);
+        Ok(())
+    }
+}

@@ -1,0 +1,58 @@
+-- From the verdict on a set to one order of its operations: its records by key.
+use Rattle.std.specs.Prelude.{◌≡◌, ℕ, List, refl, Option, Some, None, filter, length}
+use Rattle.std.specs.Option.{option_map, option_map_or, option_or}
+use Rattle.std.proofs.lemmas.Bool.{false_from_ne_true}
+use Rattle.mem_op.specs.Consistency.{IsSequentialOrder, IsConsistent}
+use Rattle.line_stamps.proofs.Ordered.{In-mapped, none_from_least, In-filtered, In-filter_map}
+use Rattle.log_record.specs.declared.record.Record.{Record}
+use Rattle.log_record.specs.declared.record.Entry.{Entry}
+use Rattle.log_record.specs.Entries.{operations_of, entries}
+use Rattle.core_check.specs.declared.fault.CoreFault.{CoreFault}
+use Rattle.core_check.specs.FaultOrder.{core_fault_cmp}
+use Rattle.core_check.specs.CoreFaults.{breaks_core_order, order_fault, order_faults, least_core_fault}
+use Rattle.address_check.specs.declared.fault.AddressFault.{AddressFault}
+use Rattle.address_check.specs.FaultOrder.{fault_cmp}
+use Rattle.address_check.specs.AddressFaults.{address_fault, address_faults, least_address_fault}
+use Rattle.verdict.specs.declared.answer.Verdict.TheVariants.{Yes, No}
+use Rattle.verdict.specs.ByKey.{ids_by_key}
+use Rattle.verdict.specs.Faults.{from_core, from_address}
+use Rattle.verdict.specs.VerdictOf.{verdict_of}
+use Rattle.verdict.proofs.SerialOrder.{by_key-serial}
+use Rattle.verdict.proofs.ProgramOrder.{NoCoreFault, by_key-program}
+use Rattle.verdict.proofs.FlatAnswers.{NoAddressFault, by_key-flat}
+
+-- the ids of a set without faults, by key, are a sequential order of its operations
+pub key_order_is_sequential : (logs : List (List Record)) → NoCoreFault logs → NoAddressFault logs → IsSequentialOrder (operations_of logs) (ids_by_key logs)
+key_order_is_sequential logs no_core_fault no_address_fault = record {
+  serial = by_key-serial logs;
+  program = by_key-program logs no_core_fault;
+  flat = by_key-flat logs no_address_fault;
+}
+
+-- ---- from the verdict
+
+none_of_cores : (logs : List (List Record)) → least_core_fault logs ≡ None → NoCoreFault logs
+none_of_cores logs none e p = false_from_ne_true (breaks_core_order logs e) (λ breaks.
+    none_from_least core_fault_cmp (order_faults logs) (order_fault e.id) none
+    (In-mapped (λ (x : Entry). order_fault x.id) e (filter (breaks_core_order logs) (entries logs)) (In-filtered (breaks_core_order logs) (entries logs) e p breaks)))
+
+none_of_addresses : (logs : List (List Record)) → least_address_fault (entries logs) ≡ None → NoAddressFault logs
+none_of_addresses logs none e p = go (address_fault (entries logs) e) refl
+  where
+    go : (found : Option AddressFault) → address_fault (entries logs) e ≡ found → address_fault (entries logs) e ≡ None
+    go None h = h
+    go (Some f) h = absurd (none_from_least fault_cmp (address_faults (entries logs)) f none (In-filter_map (address_fault (entries logs)) (entries logs) e f p h))
+
+-- where the verdict is Yes there is no fault
+no_faults : (core : Option CoreFault) (address : Option AddressFault) (n count : ℕ) → option_map_or No (option_or (option_map from_core core) (option_map from_address address)) (Yes n) ≡ Yes count → (core ≡ None) × (address ≡ None)
+no_faults None None n count h = (refl, refl)
+no_faults None (Some f) n count h = absurd cc
+no_faults (Some f) address n count h = absurd cc
+
+pub yes_is_sequential : (logs : List (List Record)) (count : ℕ) → verdict_of logs ≡ Yes count → IsSequentialOrder (operations_of logs) (ids_by_key logs)
+yes_is_sequential logs count h =
+    let none = no_faults (least_core_fault logs) (least_address_fault (entries logs)) (length (entries logs)) count h in
+    key_order_is_sequential logs (none_of_cores logs none.0) (none_of_addresses logs none.1)
+
+pub yes_is_consistent : (logs : List (List Record)) (count : ℕ) → verdict_of logs ≡ Yes count → IsConsistent (operations_of logs)
+yes_is_consistent logs count h = (ids_by_key logs, yes_is_sequential logs count h)

@@ -1,0 +1,153 @@
+-- By key each load of a set has its flat answer, where no address has a fault.
+use Rattle.std.specs.Prelude.{◌≡◌, ℕ, Bool, true, false, cond, ◌&&◌, ◌==◌, List, [], ◌∷◌, ◌++◌, refl, Option, Some, None, slice_get, map, find, reverse, take, if◌then◌else◌}
+use Rattle.std.specs.List.{filter_map, cons_option}
+use Rattle.std.proofs.Common.{sym, ◌∙◌, ap, subst, inl, inr}
+use Rattle.std.specs.Option.{option_map}
+use Rattle.std.specs.Ordering.{is_lt}
+use Rattle.std.proofs.lemmas.Bool.{and_parts, and_from, eqb-true, false_from_ne_true}
+use Rattle.std.proofs.lemmas.List.{take-map, map-append}
+use Rattle.std.proofs.lemmas.Option.{slice_get-map}
+use Rattle.mem_op.specs.declared.id.Source.{Source}
+use Rattle.mem_op.specs.Consistency.{Operation, Loaded, operation_at, is_store_to, value_of, value_or_zero, last_value, GivesFlatAnswers}
+use Rattle.line_stamps.specs.Ordered.{In, IsGreatest}
+use Rattle.line_stamps.proofs.Order.{lt_cases}
+use Rattle.line_stamps.proofs.Ordered.{reverse-cons, In-slice_get, In-take, In-from_sorted, Ascends-take, before_from_take, take_from_before, last_is_greatest, greatest_from_least}
+use Rattle.log_record.specs.declared.record.Record.{Record}
+use Rattle.log_record.specs.declared.record.Entry.{Entry}
+use Rattle.log_record.specs.declared.record.Act.{Act}
+use Rattle.log_record.specs.declared.record.Act.TheVariants.{Load, Store}
+use Rattle.log_record.specs.Entries.{entry_cmp, operation_by, operation_of, operations_of, entries}
+use Rattle.log_record.proofs.EntryFacts.{record_of_entry, same_record, operation_at-operations_of}
+use Rattle.address_check.specs.declared.fault.AddressRule.TheVariants.{Source as WrongSource, Value as WrongValue}
+use Rattle.address_check.specs.AddressFaults.{is_store, is_earlier_store, right_store, is_source, value_from, broken_rule, fault_by, act_fault, address_fault}
+use Rattle.address_check.proofs.Totals.{entry_total}
+use Rattle.verdict.specs.ByKey.{by_key, ids_by_key}
+use Rattle.verdict.proofs.SerialOrder.{tied_id, by_key-ascends, in_set_by_key}
+
+-- no load of the set has a fault of source or value
+abbrev pub NoAddressFault : List (List Record) → Type 0
+NoAddressFault logs = (e : Entry) → In e (entries logs) → address_fault (entries logs) e ≡ None
+
+abbrev is_earlier : Entry → Entry → Bool
+is_earlier a b = is_lt (entry_cmp a b)
+
+abbrev operation : Entry → Operation
+operation e = operation_of e.logged
+
+-- two that are greatest among the set's entries have one value
+one_greatest : (logs : List (List Record)) (p : Entry → Bool) (r s : Option Entry) → IsGreatest entry_cmp p (entries logs) r → IsGreatest entry_cmp p (entries logs) s → value_from r ≡ value_from s
+one_greatest logs p None None g h = refl
+one_greatest logs p None (Some b) g h = let f = g b h.0 in let k = h.1 in cc
+one_greatest logs p (Some a) None g h = let f = h a g.0 in let k = g.1 in cc
+one_greatest logs p (Some a) (Some b) g h =
+    let not_before : is_earlier a b ≡ false = g.2 b h.0 h.1 in
+    let not_after : is_earlier b a ≡ false = h.2 a g.0 g.1 in
+    elim (lt_cases entry_cmp entry_total a b) [
+      | inl l ↦ cc
+      | inr t ↦ elim t [
+        | inl tied ↦ ap (λ (r : Record). r.value) (same_record logs a b g.0 h.0 (tied_id a b tied))
+        | inr l ↦ cc
+      ]
+    ]
+
+map-reverse : {X Y : Type 0} (f : X → Y) (xs : List X) → reverse (map f xs) ≡ map f (reverse xs)
+map-reverse f [] = refl
+map-reverse f (x ∷ xs) =
+    reverse-cons (f x) (map f xs) ∙ ap (λ l. l ++ f x ∷ []) (map-reverse f xs) ∙ sym (map-append f (reverse xs) (x ∷ [])) ∙ ap (map f) (sym (reverse-cons x xs))
+
+find-map : {X Y : Type 0} (p : Y → Bool) (f : X → Y) (xs : List X) → find p (map f xs) ≡ option_map f (find (λ x. p (f x)) xs)
+find-map p f [] = refl
+find-map {X} {Y} p f (x ∷ xs) = go (p (f x)) (find-map p f xs)
+  where
+    go : (b : Bool) → find p (map f xs) ≡ option_map f (find (λ x. p (f x)) xs) → cond b (Some (f x)) (find p (map f xs)) ≡ option_map f (cond b (Some x) (find (λ x. p (f x)) xs))
+    go true h = refl
+    go false h = h
+
+value_of_operation : (act : Act) (addr value : ℕ) → value_of (operation_by act addr value) ≡ value
+value_of_operation (Load source) addr value = refl
+value_of_operation Store addr value = refl
+
+value_of_option : (o : Option Entry) → value_or_zero (option_map operation o) ≡ value_from o
+value_of_option None = refl
+value_of_option (Some e) = value_of_operation e.logged.act e.logged.addr e.logged.value
+
+-- the last store to an address among the first entries
+abbrev last_store : ℕ → ℕ → List Entry → Option Entry
+last_store addr k es = find (λ e. is_store_to addr (operation e)) (reverse (take k es))
+
+last_value-map : (addr k : ℕ) (es : List Entry) → last_value addr (take k (map operation es)) ≡ value_from (last_store addr k es)
+last_value-map addr k es =
+    ap (last_value addr) (take-map operation k es)
+    ∙ ap (λ l. value_or_zero (find (is_store_to addr) l)) (map-reverse operation (take k es))
+    ∙ ap value_or_zero (find-map (is_store_to addr) operation (reverse (take k es)))
+    ∙ value_of_option (last_store addr k es)
+
+store_to : (addr : ℕ) (act : Act) (a v : ℕ) → is_store_to addr (operation_by act a v) ≡ (is_store act && (a == addr))
+store_to addr (Load source) a v = refl
+store_to addr Store a v = refl
+
+-- the last store before a load in the order of keys is the greatest earlier store of the set
+last_is_right : (logs : List (List Record)) (e : Entry) (k : ℕ) → slice_get (by_key logs) k ≡ Some e → (r : Option Entry) → IsGreatest entry_cmp (λ x. is_store_to e.logged.addr (operation x)) (take k (by_key logs)) r → IsGreatest entry_cmp (is_earlier_store e) (entries logs) r
+last_is_right logs e k here None h = none
+  where
+    none : (x : Entry) → In x (entries logs) → is_earlier_store e x ≡ false
+    none x p = false_from_ne_true (is_earlier_store e x) (λ t.
+        let parts = and_parts (is_store x.logged.act && (x.logged.addr == e.logged.addr)) (is_earlier x e) t in
+        let taken = take_from_before entry_cmp entry_total (by_key logs) k e x (by_key-ascends logs) here (In-from_sorted entry_cmp x (entries logs) p) parts.1 in
+        let isnt : is_store_to e.logged.addr (operation x) ≡ false = h x taken in
+        let same : is_store_to e.logged.addr (operation x) ≡ (is_store x.logged.act && (x.logged.addr == e.logged.addr)) = store_to e.logged.addr x.logged.act x.logged.addr x.logged.value in
+        let is : (is_store x.logged.act && (x.logged.addr == e.logged.addr)) ≡ true = parts.0 in
+        cc)
+last_is_right logs e k here (Some s) h = (in_set_by_key logs s (In-take s k (by_key logs) h.0), passes, above)
+  where
+    passes : is_earlier_store e s ≡ true
+    passes = and_from (is_store s.logged.act && (s.logged.addr == e.logged.addr)) (is_earlier s e) (sym (store_to e.logged.addr s.logged.act s.logged.addr s.logged.value) ∙ h.1)
+        (before_from_take entry_cmp entry_total (by_key logs) k e s (by_key-ascends logs) here h.0)
+
+    above : (x : Entry) → In x (entries logs) → is_earlier_store e x ≡ true → is_earlier s x ≡ false
+    above x p t =
+        let parts = and_parts (is_store x.logged.act && (x.logged.addr == e.logged.addr)) (is_earlier x e) t in
+        h.2 x (take_from_before entry_cmp entry_total (by_key logs) k e x (by_key-ascends logs) here (In-from_sorted entry_cmp x (entries logs) p) parts.1)
+        (store_to e.logged.addr x.logged.act x.logged.addr x.logged.value ∙ parts.0)
+
+right_value : (e : Entry) (source : Source) (value : ℕ) (r : Option Entry) → fault_by e (broken_rule source value r) ≡ None → value ≡ value_from r
+right_value e source value r h = go (is_source source r) (value == value_from r) refl h
+  where
+    go : (b c : Bool) → (value == value_from r) ≡ c → fault_by e (if b then (if c then None else Some WrongValue) else Some WrongSource) ≡ None → value ≡ value_from r
+    go true true q h = eqb-true value (value_from r) q
+    go true false q h = cc
+    go false c q h = cc
+
+load_parts : (act : Act) (a v addr value : ℕ) → operation_by act a v ≡ Loaded addr value → (source : Source) × (act ≡ Load source) × (a ≡ addr) × (v ≡ value)
+load_parts (Load source) a v addr value h = (source, refl, cc, cc)
+load_parts Store a v addr value h = cc
+
+flat_at : (logs : List (List Record)) → NoAddressFault logs → (k addr value : ℕ) → slice_get (map operation (by_key logs)) k ≡ Some (Loaded addr value) → value ≡ last_value addr (take k (map operation (by_key logs)))
+flat_at logs none k addr value h = go (slice_get (by_key logs) k) refl (sym (slice_get-map operation (by_key logs) k) ∙ h)
+  where
+    go : (o : Option Entry) → slice_get (by_key logs) k ≡ o → option_map operation o ≡ Some (Loaded addr value) → value ≡ last_value addr (take k (map operation (by_key logs)))
+    go None here t = cc
+    go (Some e) here t =
+        let is_load : operation_by e.logged.act e.logged.addr e.logged.value ≡ Loaded addr value = cc in
+        let parts = load_parts e.logged.act e.logged.addr e.logged.value addr value is_load in
+        let in_set = in_set_by_key logs e (In-slice_get e (by_key logs) k here) in
+        let no_fault : fault_by e (broken_rule parts.0 e.logged.value (right_store (entries logs) e)) ≡ None =
+        sym (ap (λ a. act_fault a e (right_store (entries logs) e)) parts.1) ∙ none e in_set in
+        let last = last_store e.logged.addr k (by_key logs) in
+        let greatest = last_is_right logs e k here last
+        (last_is_greatest entry_cmp entry_total (λ x. is_store_to e.logged.addr (operation x)) (take k (by_key logs)) (Ascends-take entry_cmp entry_total k (by_key logs) (by_key-ascends logs))) in
+        sym parts.3
+        ∙ right_value e parts.0 e.logged.value (right_store (entries logs) e) no_fault
+        ∙ one_greatest logs (is_earlier_store e) (right_store (entries logs) e) last (greatest_from_least entry_cmp entry_total (is_earlier_store e) (entries logs)) greatest
+        ∙ sym (last_value-map e.logged.addr k (by_key logs))
+        ∙ ap (λ a. last_value a (take k (map operation (by_key logs)))) parts.2
+
+operations_by_key : (logs : List (List Record)) (es : List Entry) → ((e : Entry) → In e es → In e (entries logs)) → filter_map (operation_at (operations_of logs)) (map (λ e. e.id) es) ≡ map operation es
+operations_by_key logs [] h = refl
+operations_by_key logs (e ∷ es) h =
+    ap (λ o. cons_option o (filter_map (operation_at (operations_of logs)) (map (λ e. e.id) es)))
+    (operation_at-operations_of logs e.id ∙ ap (option_map operation_of) (record_of_entry logs e (h e (inl refl))))
+    ∙ ap (λ l. operation e ∷ l) (operations_by_key logs es (λ x p. h x (inr p)))
+
+pub by_key-flat : (logs : List (List Record)) → NoAddressFault logs → GivesFlatAnswers (filter_map (operation_at (operations_of logs)) (ids_by_key logs))
+by_key-flat logs none = subst GivesFlatAnswers (sym (operations_by_key logs (by_key logs) (in_set_by_key logs))) (flat_at logs none)

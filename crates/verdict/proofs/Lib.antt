@@ -1,0 +1,9 @@
+pub mod Bridge
+pub mod CoreFacts
+pub mod FlatAnswers
+pub mod FlatSoFar
+pub mod ProgramOrder
+pub mod Replaying
+pub mod SerialOrder
+pub mod Soundness
+pub mod Told

@@ -1,0 +1,35 @@
+-- What the judge answers to the texts of a set of logs.
+use Rattle.std.specs.Prelude.{◌≡◌, ◌<◌, ℕ, List, length, Result, Ok, Err}
+use Rattle.mem_op.specs.Consistency.{IsConsistent}
+use Rattle.log_record.specs.declared.record.Record.{Record}
+use Rattle.log_record.specs.Entries.{operations_of}
+use Rattle.log_file.specs.Sets.{SpellSet, SpellBefore, IsFirstOfSet}
+use Rattle.verdict.specs.declared.answer.Verdict.{Verdict}
+use Rattle.verdict.specs.declared.answer.Verdict.TheVariants.{Yes, No}
+use Rattle.verdict.specs.declared.judge_fault.JudgeFault.{JudgeFault}
+use Rattle.verdict.specs.declared.judge_fault.JudgeFault.TheVariants.{BadConfig, Log, OutOfMemory, Read}
+use Rattle.verdict.specs.VerdictOf.{verdict_of}
+
+-- the texts spell a set, and this is the verdict on it
+abbrev pub IsVerdictOn : List (List ℕ) → Verdict → Type 0
+IsVerdictOn texts verdict =
+    (logs : List (List Record)) × SpellSet texts logs × (verdict ≡ verdict_of logs)
+
+-- The verdict on the set that the texts spell, or their first fault. A bad count, want of memory or a
+-- failed read may come in place of either; a read fails at a file only where the texts in front of it
+-- spell their logs.
+abbrev pub IsAnswerTo : List (List ℕ) → Result Verdict JudgeFault → Type 0
+IsAnswerTo texts (Ok verdict) = IsVerdictOn texts verdict
+IsAnswerTo texts (Err (Log file line fault)) = IsFirstOfSet texts file line fault
+IsAnswerTo texts (Err (Read file)) = (file < length texts) × SpellBefore texts file
+IsAnswerTo texts (Err (BadConfig count)) = Unit {0}
+IsAnswerTo texts (Err OutOfMemory) = Unit {0}
+
+abbrev pub IsYes : Verdict → Type 0
+IsYes (Yes count) = Unit {0}
+IsYes (No fault) = ⊥
+
+-- the texts spell a set whose operations are sequentially consistent
+abbrev pub SpellConsistentSet : List (List ℕ) → Type 0
+SpellConsistentSet texts =
+    (logs : List (List Record)) × SpellSet texts logs × IsConsistent (operations_of logs)

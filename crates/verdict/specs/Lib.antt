@@ -1,0 +1,12 @@
+pub mod ByKey
+pub mod CoreFaultsOf
+pub mod CoreLaw
+pub mod Counts
+pub mod EachId
+pub mod FaultParts
+pub mod Faults
+pub mod Judgement
+pub mod Laws
+pub mod SetFaults
+pub mod Texts
+pub mod VerdictOf

@@ -1,0 +1,28 @@
+//! What the judge answers.
+
+use crate::fault::Fault;
+use std::fmt;
+use std::fmt::Display;
+
+/// The answer to a set of logs.
+#[derive(Clone, Copy, Debug, PartialEq, Eq)]
+pub enum Verdict {
+    /// No record breaks a rule; how many records there are.
+    Yes(usize),
+    /// The first record that breaks a rule.
+    No(Fault),
+}
+
+impl Display for Verdict {
+    ghost use Rattle.std.specs.Prelude.{Some};
+    ghost use Rattle.verdict.specs.Texts.{verdict_text};
+
+    ghost output = { λ verdict. Some (verdict_text verdict) };
+
+    fn fmt<W: fmt::Write>(&self, f: &mut fmt::Formatter<W>) -> fmt::Result {
+        match self {
+            Verdict::Yes(count) => write!(f, "yes: {} operations", count),
+            Verdict::No(fault) => write!(f, "no: {}", fault),
+        }
+    }
+}

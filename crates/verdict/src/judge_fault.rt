@@ -1,0 +1,92 @@
+//! Why there is no verdict.
+
+ghost use Rattle.std.specs.Prelude.{◌≡◌};
+ghost use Rattle.verdict.specs.declared.judge_fault.JudgeFault.TheVariants.{OutOfMemory};
+ghost use Rattle.verdict.specs.SetFaults.{from_set};
+
+use log_file::{Fault, LogFault, SetFault};
+use std::alloc::AllocError;
+use std::fmt;
+use std::fmt::Display;
+use thiserror::Error;
+
+/// A count that has a range.
+#[derive(Clone, Copy, Debug, PartialEq, Eq)]
+pub enum Count {
+    /// How many log files a set has.
+    Files,
+    /// How many workers judge it.
+    Workers,
+}
+
+impl Display for Count {
+    ghost use Rattle.std.specs.Prelude.{Some};
+    ghost use Rattle.verdict.specs.Texts.{count_text};
+
+    ghost output = { λ count. Some (count_text count) };
+
+    fn fmt<W: fmt::Write>(&self, f: &mut fmt::Formatter<W>) -> fmt::Result {
+        match self {
+            Count::Files => f.write_str("files"),
+            Count::Workers => f.write_str("workers"),
+        }
+    }
+}
+
+/// Why there is no verdict. Files are numbered from 0.
+#[derive(Clone, Copy, Debug, PartialEq, Eq, Error)]
+pub enum JudgeFault {
+    /// A count is out of range.
+    BadConfig(Count),
+    /// The first fault of a file, and at which line, counted from 1.
+    Log {
+        file: usize,
+        line: u64,
+        fault: Fault,
+    },
+    /// A growth was refused.
+    OutOfMemory,
+    /// A read of a file failed.
+    Read {
+        file: usize,
+    },
+}
+
+impl Display for JudgeFault {
+    ghost use Rattle.std.specs.Prelude.{Some};
+    ghost use Rattle.verdict.specs.Texts.{judge_fault_text};
+
+    ghost output = { λ fault. Some (judge_fault_text fault) };
+
+    fn fmt<W: fmt::Write>(&self, f: &mut fmt::Formatter<W>) -> fmt::Result {
+        match self {
+            JudgeFault::BadConfig(count) => write!(f, "6 BadConfig {}", count),
+            JudgeFault::Log { file, line, fault } => {
+                write!(f, "file {} line {}: {}", file, line, fault)
+            }
+            JudgeFault::OutOfMemory => f.write_str("10 OutOfMemory"),
+            JudgeFault::Read { file } => write!(f, "file {}: 28 Read", file),
+        }
+    }
+}
+
+impl From<AllocError> for JudgeFault {
+    ghost from_gives = { λ _ fault. fault ≡ OutOfMemory };
+
+    fn from(_: AllocError) -> JudgeFault {
+        JudgeFault::OutOfMemory
+    }
+}
+
+impl From<SetFault> for JudgeFault {
+    ghost from_gives = { λ found fault. fault ≡ from_set found.file found.fault };
+
+    fn from(found: SetFault) -> JudgeFault {
+        let file = found.file;
+        match found.fault {
+            LogFault::At(line, fault) => JudgeFault::Log { file, line, fault },
+            LogFault::OutOfMemory => JudgeFault::OutOfMemory,
+            LogFault::Read => JudgeFault::Read { file },
+        }
+    }
+}

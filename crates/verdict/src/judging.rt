@@ -1,0 +1,81 @@
+//! The judge of a set of log files.
+
+ghost use Rattle.std.specs.Prelude.{◌≡◌, ◌↔◌, ℕ, List, length, IfErr, IfOk, IsErrOf};
+ghost use Rattle.log_file.specs.Sets.{ReaderFailed, TellEach};
+ghost use Rattle.verdict.specs.Counts.{IsBadCount, IsInRange, IsOutOfRange};
+ghost use Rattle.verdict.specs.Judgement.{IsAnswerTo, IsYes, SpellConsistentSet};
+ghost use Rattle.verdict.specs.declared.judge_fault.Count.TheVariants.{Files, Workers};
+ghost use Rattle.verdict.specs.declared.judge_fault.JudgeFault.TheVariants.{BadConfig, Read};
+
+use crate::answer::Verdict;
+use crate::counts::check_counts;
+use crate::judge_fault::JudgeFault;
+use crate::log_set::LogSet;
+use crate::verdict_on::verdict_on;
+use address_check::Gate;
+use log_file::{ByteSource, read_set};
+use std::alloc::Global;
+use std::thread::Threads;
+
+/// The verdict on the set of logs that the readers give, or why there is none.
+fn answer_to<R: Threads + Sync, S: ByteSource, G: Gate + Sync>(
+    rt: &R,
+    alloc: Global,
+    readers: &mut [S],
+    workers: usize,
+    gate: &G,
+) -> Result<Verdict, JudgeFault>
+    ensures files { IsErrOf result (BadConfig Files) ↔ IsOutOfRange (length readers.old) }
+    ensures workers { IsErrOf result (BadConfig Workers)
+        ↔ (IsInRange (length readers.old) × IsOutOfRange workers) }
+    ensures unread { IfErr result (λ fault. IsBadCount fault → readers.new ≡ readers.old) }
+    ensures exact { (texts : List (List ℕ)) × TellEach S.remaining readers.old texts
+        × IsAnswerTo texts result }
+    ensures read { IfErr result (λ fault. (file : ℕ) → fault ≡ Read file
+        → ReaderFailed S.failed readers.old readers.new file) }
+{
+    check_counts(readers.len(), workers)?;
+    let set = LogSet::new(read_set(alloc, readers)?);
+    let verdict = verdict_on(rt, alloc, set, workers, gate)?;
+    Ok(verdict)
+}
+
+/// The verdict on the set of logs that the readers give, file `k` the log of core `k` of as many cores
+/// as there are files. A set that gets Yes is sequentially consistent, whoever made its logs.
+///
+/// The calling thread reads the files in their order and stops at the first fault. Then come the
+/// phases `Cores` and, where no core has a fault, `Addresses`, each cut into as many pieces as there are
+/// workers. Each worker enters the gate with the number of its piece, from 1; a single worker is the
+/// calling thread.
+///
+/// Refusals: 6 BadConfig before any read, where the number of files, or else that of workers, isn't
+/// 1..64; 20..27, the first fault of the least file that has one; 28 Read where the reader of a file
+/// failed; 10 OutOfMemory where a growth was refused.
+pub fn judge<R: Threads + Sync, S: ByteSource, G: Gate + Sync>(
+    rt: &R,
+    alloc: Global,
+    readers: &mut [S],
+    workers: usize,
+    gate: &G,
+) -> Result<Verdict, JudgeFault>
+    // 6 comes exactly where a count is out of range, and nothing is read then.
+    ensures files { IsErrOf result (BadConfig Files) ↔ IsOutOfRange (length readers.old) }
+    ensures workers { IsErrOf result (BadConfig Workers)
+        ↔ (IsInRange (length readers.old) × IsOutOfRange workers) }
+    ensures unread { IfErr result (λ fault. IsBadCount fault → readers.new ≡ readers.old) }
+
+    // The readers tell texts, and the answer is the verdict on the set that these spell, or their
+    // first fault. It names no number of workers.
+    ensures exact { (texts : List (List ℕ)) × TellEach S.remaining readers.old texts
+        × IsAnswerTo texts result }
+    ensures read { IfErr result (λ fault. (file : ℕ) → fault ≡ Read file
+        → ReaderFailed S.failed readers.old readers.new file) }
+
+    // The readers tell texts, and where the answer is Yes, these spell a set whose operations have
+    // one order that keeps each core's program order and in which each load answers the last
+    // earlier store to its address, or 0.
+    ensures sound { (texts : List (List ℕ)) × TellEach S.remaining readers.old texts
+        × IfOk result (λ verdict. IsYes verdict → SpellConsistentSet texts) }
+{
+    answer_to(rt, alloc, readers, workers, gate)
+}

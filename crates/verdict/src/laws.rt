@@ -1,0 +1,14 @@
+//! Laws of the verdict. Each function does nothing: its contract is the law.
+
+ghost use Rattle.verdict.specs.Laws.{KeyOrderIsSequential, YesIsConsistent};
+
+/// Where the verdict on a set is Yes, its ids in the order of their keys are a serial order of its
+/// operations that keeps program order and in which each load has its flat answer.
+pub fn key_order_is_sequential()
+    ensures { KeyOrderIsSequential }
+{}
+
+/// Where the verdict on a set is Yes, its operations are sequentially consistent.
+pub fn yes_is_consistent()
+    ensures { YesIsConsistent }
+{}

@@ -1,0 +1,25 @@
+//! The verdict on a set of logs.
+#![tactic(auto)]
+
+mod answer;
+mod cores;
+mod counts;
+mod fault;
+mod judge_fault;
+mod judging;
+mod laws;
+mod log_set;
+mod replay;
+mod rule;
+#[cfg(test)]
+mod tests;
+mod verdict_on;
+
+pub use answer::Verdict;
+pub use counts::check_counts;
+pub use fault::Fault;
+pub use judge_fault::{Count, JudgeFault};
+pub use judging::judge;
+pub use laws::{key_order_is_sequential, yes_is_consistent};
+pub use replay::replay_order;
+pub use rule::Rule;

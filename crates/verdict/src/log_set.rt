@@ -1,0 +1,66 @@
+//! The logs of a set.
+
+ghost use Rattle.std.specs.Prelude.{◌≡◌, ◌≤◌, [], All, length, slice_get, unwrap_or, vec_len};
+ghost use Rattle.log_record.specs.Entries.{record_lists};
+
+use log_record::Record;
+use mem_op::CoreId;
+use std::marker::Model;
+
+/// The logs of a set, one a core: at most 64, each of at most 1,048,576 records.
+#[derive(Drop)]
+pub(crate) struct LogSet {
+    logs: Vec<Vec<Record>>,
+}
+
+impl Model for LogSet {
+    ghost use Rattle.std.specs.Prelude.{◌≤◌, List, All, vec_len};
+    ghost use Rattle.log_record.specs.declared.record.Record.{Record};
+    ghost use Rattle.log_record.specs.Entries.{record_lists};
+
+    ghost Value = { List (List Record) };
+
+    ghost view = { λ set. record_lists set.logs.items };
+
+    ghost invariant = { λ set. (vec_len set.logs ≤ 64)
+        × All (λ log. vec_len log ≤ 1048576) set.logs.items };
+}
+
+impl LogSet {
+    /// The set of these logs.
+    pub(crate) fn new(logs: Vec<Vec<Record>>) -> LogSet
+        requires cores { vec_len logs ≤ 64 }
+        requires records { All (λ log. vec_len log ≤ 1048576) logs.items }
+        ensures { result ≡ record_lists logs.items }
+    {
+        LogSet { logs }
+    }
+
+    /// How many logs there are.
+    pub(crate) fn len(&self) -> usize
+        ensures len { result ≡ length self.now }
+        ensures few { result ≤ 64 }
+    {
+        self.logs.len()
+    }
+
+    /// The log of a core, empty where there is none.
+    pub(crate) fn log(&self, core: CoreId) -> &[Record]
+        ensures log { result.now ≡ unwrap_or (slice_get self.now core) [] }
+        ensures short { length result.now ≤ 1048576 }
+    {
+        match self.logs.get(core.get() as usize) {
+            Some(log) => log.as_slice(),
+            None => &[],
+        }
+    }
+
+    /// The logs, in the order of their cores.
+    pub(crate) fn into_logs(self) -> Vec<Vec<Record>>
+        ensures logs { record_lists result.items ≡ self }
+        ensures cores { vec_len result ≤ 64 }
+        ensures records { All (λ log. vec_len log ≤ 1048576) result.items }
+    {
+        self.logs
+    }
+}

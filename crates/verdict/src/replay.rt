@@ -1,0 +1,175 @@
+//! Whether a list of ids is an order in which the logs answer as one memory.
+
+ghost use Rattle.std.specs.Prelude.{◌≡◌, ℕ, ◌↔◌, IsTrue, IfOk, vec_len, slice_index, map};
+ghost use Rattle.std.specs.List.{filter_map};
+ghost use Rattle.mem_op.specs.Consistency.{KeepsProgramOrder, GivesFlatAnswers, IsSequentialOrder, operation_at};
+ghost use Rattle.log_record.specs.Entries.{record_lists, record_at, operations_of};
+ghost use Rattle.verdict.specs.EachId.{CountsEach};
+
+use log_record::{Act, Record};
+use mem_op::{OpId, Word};
+use std::alloc::{AllocError, Global};
+
+/// How many words a memory has: one for each address.
+const WORDS: usize = 65_536;
+
+/// Whether the list is a serial order of the operations of the logs that keeps program order, and in which
+/// each load's value is that of the last earlier store to its address, or 0. It looks at no stamp, rank or
+/// source. Refused only where memory is.
+pub fn replay_order(alloc: Global, order: &[OpId], logs: &[Vec<Record>]) -> Result<bool, AllocError>
+    ensures { IfOk result (λ holds.
+        IsTrue holds ↔ IsSequentialOrder (operations_of (record_lists logs.now)) order.now) }
+{
+    let lengths = lengths(alloc, logs)?;
+    let ordered = keeps_program_order(alloc, order, &lengths)?;
+    let flat = gives_flat_answers(alloc, order, logs)?;
+    Ok(ordered && flat)
+}
+
+/// Whether each id `(c, i)` with `i` below the length of core `c` stands in the list once, nothing else
+/// stands there, and each core's ids stand in program order.
+fn keeps_program_order(alloc: Global, order: &[OpId], lengths: &[u64]) -> Result<bool, AllocError>
+    ensures { IfOk result (λ holds.
+        IsTrue holds ↔ (CountsEach lengths.now order.now × KeepsProgramOrder order.now)) }
+{
+    let mut next = zeros(alloc, lengths.len())?;
+    for id in order {
+        let core = id.core.get() as usize;
+        let index = id.index.get();
+        if core >= lengths.len() || index >= lengths[core] || index != next[core] {
+            return Ok(false);
+        }
+        next[core] = index + 1;
+    }
+    Ok(next.as_slice() == lengths)
+}
+
+/// How many records each log has.
+fn lengths(alloc: Global, logs: &[Vec<Record>]) -> Result<Vec<u64>, AllocError>
+    ensures { IfOk result (λ v. v.items ≡ map vec_len logs.now) }
+{
+    logs.iter().map(|log| log.len() as u64).collect(alloc)
+}
+
+/// Zeros.
+fn zeros(alloc: Global, length: usize) -> Result<Vec<Word>, AllocError>
+    ensures length { IfOk result (λ v. vec_len v ≡ length) }
+    ensures zero { IfOk result (λ v. (k : ℕ) → slice_index v.items k ≡ 0) }
+{
+    vec![in alloc; 0; length]
+}
+
+/// The record of an id.
+fn record_of(logs: &[Vec<Record>], id: &OpId) -> Option<Record>
+    ensures { result ≡ record_at (record_lists logs.now) id.now }
+{
+    match logs.get(id.core.get() as usize) {
+        Some(log) => log.get(id.index.get() as usize).copied(),
+        None => None,
+    }
+}
+
+/// Whether each load of the list answers the last earlier store to its address, or 0.
+fn gives_flat_answers(
+    alloc: Global,
+    order: &[OpId],
+    logs: &[Vec<Record>],
+) -> Result<bool, AllocError>
+    ensures { IfOk result (λ holds.
+        IsTrue holds ↔ GivesFlatAnswers
+        (filter_map (operation_at (operations_of (record_lists logs.now))) order.now)) }
+{
+    let mut memory = zeros(alloc, WORDS)?;
+    for id in order {
+        if let Some(found) = record_of(logs, id) {
+            let addr = found.addr.get() as usize;
+            match found.act {
+                Act::Store => memory[addr] = found.value,
+                Act::Load(_) => {
+                    if memory[addr] != found.value {
+                        return Ok(false);
+                    }
+                }
+            }
+        }
+    }
+    Ok(true)
+}
+
+#[cfg(test)]
+mod tests {
+    use super::*;
+    use line_stamps::{Rank, Stamp};
+    use mem_op::{Addr, CoreId, OpIndex, Source};
+    use std::test::Fail;
+
+    fn id(core: u64, index: u64) -> Result<OpId, Fail> {
+        Ok(OpId {
+            core: CoreId::new(core)?,
+            index: OpIndex::new(index)?,
+        })
+    }
+
+    fn logged(act: &Act, addr: u64, value: Word, ts: u64) -> Result<Record, Fail> {
+        Ok(Record {
+            value,
+            ts: Stamp::new(ts)?,
+            rank: Rank::ZERO,
+            addr: Addr::new(addr)?,
+            act: *act,
+        })
+    }
+
+    /// Each core stores 1 at an address and loads the other's; core 1 comes after core 0.
+    fn read_across(alloc: Global) -> Result<Vec<Vec<Record>>, Fail> {
+        let mut first = Vec::new(alloc);
+        first.push(logged(&Act::Store, 0, 1, 1)?)?;
+        first.push(logged(&Act::Load(Source::Init), 1, 0, 1)?)?;
+        let mut second = Vec::new(alloc);
+        second.push(logged(&Act::Store, 1, 1, 12)?)?;
+        second.push(logged(&Act::Load(Source::Store(id(0, 0)?)), 0, 1, 12)?)?;
+        let mut logs = Vec::new(alloc);
+        logs.push(first)?;
+        logs.push(second)?;
+        Ok(logs)
+    }
+
+    #[test]
+    fn orders_of_two_cores(rt: HostRuntime) -> Result<(), Fail> {
+        let alloc = rt.alloc();
+        let logs = read_across(alloc)?;
+        let (a, b, c, d) = (id(0, 0)?, id(0, 1)?, id(1, 0)?, id(1, 1)?);
+        let other_core = id(2, 0)?;
+        assert_eq!(rt;
+            replay_order(alloc, &[a, b, c, d], &logs)?,
+            true,
+            "the order of keys"
+        );
+        assert_eq!(rt;
+            replay_order(alloc, &[b, a, c, d], &logs)?,
+            false,
+            "the first two exchanged"
+        );
+        assert_eq!(rt;
+            replay_order(alloc, &[a, a, c, d], &logs)?,
+            false,
+            "one twice"
+        );
+        assert_eq!(rt;
+            replay_order(alloc, &[a, b, c], &logs)?,
+            false,
+            "one left out"
+        );
+        assert_eq!(rt;
+            replay_order(alloc, &[a, b, c, d, other_core], &logs)?,
+            false,
+            "one of no core"
+        );
+        assert_eq!(rt;
+            replay_order(alloc, &[c, d, a, b], &logs)?,
+            false,
+            "a load before its store"
+        );
+        Ok(())
+    }
+}
