@@ -22,7 +22,9 @@ pub trait LocalCheck {
     ghost empty: { (check : Self) → fault_of check [] ≡ None };
 
     // The fault of two lists joined is the lesser of theirs.
-    ghost joined: { (check : Self) (xs ys : List Self.Item) → fault_of check (xs ++ ys) ≡ lesser Self.Fault.cmp (fault_of check xs) (fault_of check ys) };
+    ghost joined: { (check : Self) (xs ys : List Self.Item) →
+        fault_of check (xs ++ ys)
+        ≡ lesser Self.Fault.cmp (fault_of check xs) (fault_of check ys) };
 }
 
 /// The lesser of two faults, if there is one, and the first where they tie.

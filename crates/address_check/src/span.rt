@@ -16,7 +16,8 @@ use log_record::Entry;
 use std::alloc::{AllocError, Global};
 use std::thread::Threads;
 
-/// Records that stand one after another in an index, from `start` up to `end`.
+/// Records that stand one after another in an index, from `start` up to `end`. There are none past
+/// the end of the index.
 #[derive(Clone, Copy, Debug, PartialEq, Eq)]
 pub struct Span {
     /// The place of the first.
@@ -48,8 +49,8 @@ impl AddressIndex {
         least
     }
 
-    /// At most `count` spans of whole groups and about as many records, which have all records between them. Err where
-    /// memory was refused.
+    /// At most `count` spans of whole groups, each of about as many records, which have all records
+    /// between them. Err where memory was refused.
     fn spans(&self, alloc: Global, count: usize) -> Result<Vec<Span>, AllocError>
         requires { 0 < count }
         ensures { IfOk result
@@ -69,8 +70,8 @@ impl AddressIndex {
         Ok(spans)
     }
 
-    /// The address fault of least key, found by so many workers at once, 1 to 64, each with whole groups. Err where
-    /// memory was refused.
+    /// The address fault of least key, found by so many workers at once, 1 to 64, each with whole
+    /// groups. Err where memory was refused.
     pub fn least_fault<R: Threads + Sync, G: Gate + Sync>(
         &self,
         rt: &R,

@@ -10,7 +10,8 @@ use std::sync::atomic::{AtomicUsize, Ordering};
 use std::test::*;
 use std::thread::Threads;
 
-/// A line of a log: address, value, stamp, rank, and what a load read: a core and an index, or the initial 0.
+/// A line of a log: address, value, stamp, rank, and what a load read: the store of a core and an
+/// index, or the initial 0.
 #[derive(Clone, Copy)]
 enum Line {
     S(u64, u64, u64, u64),
@@ -154,8 +155,8 @@ fn records_stand_by_address_and_key(rt: HostRuntime) -> Result<(), Fail> {
     Ok(())
 }
 
-/// A set of 8,192 records in which each load of core 1 reads core 0's store of the same index, but the last, which has
-/// this source.
+/// A set of 8,192 records in which each load of core 1 reads core 0's store of the same index, but
+/// the last, which has this source.
 fn many(
     rt: &(impl Threads + Abort + Sync),
     alloc: Global,

@@ -10,18 +10,25 @@ use Rattle.log_file.specs.Log.{line, IsWhole, IsBody, IsEnd, IsLong, FaultAt, nu
 use Rattle.log_file.specs.OneLine.{BodyHolds, LeastBody}
 use Rattle.log_file.proofs.Front.{Front, body_there, front_length, no_end, quiet, rest_line}
 
-pub here : (core cores : ℕ) (records : List Record) (lines : List (List ℕ)) (l : List ℕ) (ls : List (List ℕ)) → Front core cores records lines (l ∷ ls) → line lines (length records + 2) ≡ l
+pub here : (core cores : ℕ) (records : List Record) (lines : List (List ℕ)) (l : List ℕ) (ls : List (List ℕ))
+    → Front core cores records lines (l ∷ ls) → line lines (length records + 2) ≡ l
 here core cores records lines l ls h = rest_line core cores records lines (l ∷ ls) h 0
 
-pub no_end_just_before : (core cores : ℕ) (records : List Record) (lines rest : List (List ℕ)) → Front core cores records lines rest → (j : ℕ) → IsEnd lines j → length records + 2 ≡ j + 1 → ⊥
-no_end_just_before core cores records lines rest h j end at = no_end core cores records lines rest h j end.body.later (omega (arith, at)) end.shape
+pub no_end_just_before : (core cores : ℕ) (records : List Record) (lines rest : List (List ℕ))
+    → Front core cores records lines rest → (j : ℕ) → IsEnd lines j → length records + 2 ≡ j + 1 → ⊥
+no_end_just_before core cores records lines rest h j end at =
+    no_end core cores records lines rest h j end.body.later (omega (arith, at)) end.shape
 
-pub whole_there : (core cores : ℕ) (records : List Record) (lines : List (List ℕ)) (l : List ℕ) (ls : List (List ℕ)) → Front core cores records lines (l ∷ ls) → 0 < length ls → IsWhole lines (length records + 2)
-whole_there core cores records lines l ls h whole = (omega arith, omega (arith, front_length core cores records lines (l ∷ ls) h))
+pub whole_there : (core cores : ℕ) (records : List Record) (lines : List (List ℕ)) (l : List ℕ) (ls : List (List ℕ))
+    → Front core cores records lines (l ∷ ls) → 0 < length ls → IsWhole lines (length records + 2)
+whole_there core cores records lines l ls h whole =
+    (omega arith, omega (arith, front_length core cores records lines (l ∷ ls) h))
 
 -- a whole line's least fault
-pub body_first : (core cores : ℕ) (records : List Record) (lines : List (List ℕ)) (l : List ℕ) (ls : List (List ℕ)) (f : Fault) → Front core cores records lines (l ∷ ls) → 0 < length ls → LeastBody (length records) l f
-    → FaultAt core cores lines (length records + 2) f × ((g : Fault) → FaultAt core cores lines (length records + 2) g → number f ≤ number g)
+pub body_first : (core cores : ℕ) (records : List Record) (lines : List (List ℕ)) (l : List ℕ) (ls : List (List ℕ))
+    (f : Fault) → Front core cores records lines (l ∷ ls) → 0 < length ls → LeastBody (length records) l f
+    → FaultAt core cores lines (length records + 2) f
+    × ((g : Fault) → FaultAt core cores lines (length records + 2) g → number f ≤ number g)
 body_first core cores records lines l ls f h whole found = (holds f found.0, λ g p. least g p)
   where
     k : ℕ
@@ -38,10 +45,26 @@ body_first core cores records lines l ls f h whole found = (holds f found.0, λ 
 
     holds : (f : Fault) → BodyHolds (length records) l f → FaultAt core cores lines (length records + 2) f
     holds BadLine (inl long) = (body, inl (subst (λ (x : List ℕ). IsLong x) (sym at) long))
-    holds BadLine (inr bad) = (body, inr (is-whole, subst (λ (x : List ℕ). IsRecordShape x → ⊥) (sym at) bad.0, subst (λ (x : List ℕ). IsEndShape x → ⊥) (sym at) bad.1))
+    holds BadLine (inr bad) = (
+      body,
+      inr (
+        is-whole,
+        subst (λ (x : List ℕ). IsRecordShape x → ⊥) (sym at) bad.0,
+        subst
+            (λ (x : List ℕ). IsEndShape x → ⊥) (sym at) bad.1,
+      ),
+    )
     holds OutOfRange p = inr (body, is-whole, (p.0, at ∙ p.1, p.2))
     holds TooMany p = (body, is-whole, subst (λ (x : List ℕ). IsRecordShape x) (sym at) p.0, omega (arith, p.1))
-    holds CountDiffers p = (record { body = body; whole = is-whole; shape = (p.0, at ∙ p.1) }, (p.0, at ∙ p.1, λ e. p.2 (omega (arith, e))))
+    holds CountDiffers p = (
+      record { body = body; whole = is-whole; shape = (p.0, at ∙ p.1) },
+      (
+        p.0,
+        at
+            ∙ p.1,
+        λ e. p.2 (omega (arith, e)),
+      ),
+    )
     holds BadHeader p = absurd p
     holds TrailingBytes p = absurd p
     holds Truncated p = absurd p
@@ -50,7 +73,12 @@ body_first core cores records lines l ls f h whole found = (holds f found.0, λ 
     least : (g : Fault) → FaultAt core cores lines (length records + 2) g → number f ≤ number g
     least BadHeader p = absurd (omega (arith, p.0))
     least BadLine (b, inl long) = found.1 BadLine (inl (subst (λ (x : List ℕ). IsLong x) at long))
-    least BadLine (b, inr bad) = found.1 BadLine (inr (subst (λ (x : List ℕ). IsRecordShape x → ⊥) at bad.1, subst (λ (x : List ℕ). IsEndShape x → ⊥) at bad.2))
+    least BadLine (b, inr bad) =
+        found.1 BadLine (inr (
+          subst (λ (x : List ℕ). IsRecordShape x → ⊥) at bad.1,
+          subst
+              (λ (x : List ℕ). IsEndShape x → ⊥) at bad.2,
+        ))
     least OutOfRange (inl p) = absurd (omega (arith, p.0))
     least OutOfRange (inr p) = found.1 OutOfRange (p.2.0, sym at ∙ p.2.1, p.2.2)
     least TooMany p = found.1 TooMany (subst (λ (x : List ℕ). IsRecordShape x) at p.2, omega (arith, p.3))
@@ -60,9 +88,18 @@ body_first core cores records lines l ls f h whole found = (holds f found.0, λ 
     least WrongCore p = absurd (omega (arith, p.0))
 
 -- a line that is too long, whole or not
-pub long_first : (core cores : ℕ) (records : List Record) (lines : List (List ℕ)) (l : List ℕ) (ls : List (List ℕ)) → Front core cores records lines (l ∷ ls) → line_limit < length l
-    → FaultAt core cores lines (length records + 2) BadLine × ((g : Fault) → FaultAt core cores lines (length records + 2) g → 21 ≤ number g)
-long_first core cores records lines l ls h long = ((body_there core cores records lines (l ∷ ls) h, inl (subst (λ (x : List ℕ). IsLong x) (sym (here core cores records lines l ls h)) long)), λ g p. least g p)
+pub long_first : (core cores : ℕ) (records : List Record) (lines : List (List ℕ)) (l : List ℕ) (ls : List (List ℕ))
+    → Front core cores records lines (l ∷ ls) → line_limit < length l
+    → FaultAt core cores lines (length records + 2) BadLine
+    × ((g : Fault) → FaultAt core cores lines (length records + 2) g → 21 ≤ number g)
+long_first core cores records lines l ls h long = (
+  (
+    body_there core cores records lines (l ∷ ls) h,
+    inl
+        (subst (λ (x : List ℕ). IsLong x) (sym (here core cores records lines l ls h)) long),
+  ),
+  λ g p. least g p,
+)
   where
     least : (g : Fault) → FaultAt core cores lines (length records + 2) g → 21 ≤ number g
     least BadHeader p = absurd (omega (arith, p.0))
@@ -75,9 +112,18 @@ long_first core cores records lines l ls h long = ((body_there core cores record
     least WrongCore p = omega arith
 
 -- the bytes end in a line that isn't whole
-pub cut_first : (core cores : ℕ) (records : List Record) (lines : List (List ℕ)) (l : List ℕ) → Front core cores records lines (l ∷ []) → length l ≤ line_limit
-    → FaultAt core cores lines (length records + 2) Truncated × ((g : Fault) → FaultAt core cores lines (length records + 2) g → 26 ≤ number g)
-cut_first core cores records lines l h short = ((omega (arith, len), λ j lo hi shape. no_end core cores records lines (l ∷ []) h j lo hi shape), λ g p. least g p)
+pub cut_first : (core cores : ℕ) (records : List Record) (lines : List (List ℕ)) (l : List ℕ)
+    → Front core cores records lines (l ∷ []) → length l ≤ line_limit
+    → FaultAt core cores lines (length records + 2) Truncated
+    × ((g : Fault) → FaultAt core cores lines (length records + 2) g → 26 ≤ number g)
+cut_first core cores records lines l h short = (
+  (
+    omega (arith, len),
+    λ j lo hi shape. no_end core cores records lines
+        (l ∷ []) h j lo hi shape,
+  ),
+  λ g p. least g p,
+)
   where
     len : length lines ≡ length records + 2
     len = omega (arith, front_length core cores records lines (l ∷ []) h)
@@ -87,7 +133,9 @@ cut_first core cores records lines l h short = ((omega (arith, len), λ j lo hi 
 
     least : (g : Fault) → FaultAt core cores lines (length records + 2) g → 26 ≤ number g
     least BadHeader p = absurd (omega (arith, p.0))
-    least BadLine (b, inl long) = let l' : line_limit < length l = subst (λ (x : List ℕ). IsLong x) (here core cores records lines l [] h) long in absurd (omega arith)
+    least BadLine (b, inl long) =
+        let l' : line_limit < length l = subst (λ (x : List ℕ). IsLong x)
+        (here core cores records lines l [] h) long in absurd (omega arith)
     least BadLine (b, inr bad) = absurd (not-whole bad.0)
     least OutOfRange (inl p) = absurd (omega (arith, p.0))
     least OutOfRange (inr p) = absurd (not-whole p.1)
@@ -99,7 +147,9 @@ cut_first core cores records lines l h short = ((omega (arith, len), λ j lo hi 
 
 -- ---- behind the end line
 
-pub end_is : (core cores : ℕ) (records : List Record) (lines ls : List (List ℕ)) → Front core cores records lines (end_text (length records) ∷ ls) → 0 < length ls → IsEnd lines (length records + 2)
+pub end_is : (core cores : ℕ) (records : List Record) (lines ls : List (List ℕ))
+    → Front core cores records lines (end_text (length records) ∷ ls) → 0 < length ls
+    → IsEnd lines (length records + 2)
 end_is core cores records lines ls h whole = record {
   body = body_there core cores records lines (end_text (length records) ∷ ls) h;
   whole = whole_there core cores records lines (end_text (length records)) ls h whole;
@@ -107,7 +157,9 @@ end_is core cores records lines ls h whole = record {
 }
 
 -- the right end line has no fault
-pub end_quiet : (core cores : ℕ) (records : List Record) (lines ls : List (List ℕ)) → Front core cores records lines (end_text (length records) ∷ ls) → 0 < length ls → (g : Fault) → FaultAt core cores lines (length records + 2) g → ⊥
+pub end_quiet : (core cores : ℕ) (records : List Record) (lines ls : List (List ℕ))
+    → Front core cores records lines (end_text (length records) ∷ ls) → 0 < length ls → (g : Fault)
+    → FaultAt core cores lines (length records + 2) g → ⊥
 end_quiet core cores records lines ls h whole g p = quiet-at g p
   where
     at : line lines (length records + 2) ≡ end_text (length records)
@@ -115,19 +167,28 @@ end_quiet core cores records lines ls h whole g p = quiet-at g p
 
     quiet-at : (g : Fault) → FaultAt core cores lines (length records + 2) g → ⊥
     quiet-at BadHeader p = omega (arith, p.0)
-    quiet-at BadLine (b, inl long) = let l : line_limit < length (end_text (length records)) = subst (λ (x : List ℕ). line_limit < length x) at long in let s = end_short (length records) h.log.few in omega arith
+    quiet-at BadLine (b, inl long) =
+        let l : line_limit < length (end_text (length records)) = subst
+        (λ (x : List ℕ). line_limit < length x) at long in let s = end_short
+        (length records) h.log.few in omega arith
     quiet-at BadLine (b, inr bad) = bad.2 (length records, at)
     quiet-at OutOfRange (inl p) = omega (arith, p.0)
     quiet-at OutOfRange (inr p) = record_no_end p.2.0 (length records) (sym p.2.1 ∙ at)
     quiet-at TooMany p = record_no_end p.2.0 (length records) (sym p.2.1 ∙ at)
     quiet-at CountDiffers p = p.1.2 (omega (arith, end_once p.1.0 (length records) (sym p.1.1 ∙ at)))
-    quiet-at TrailingBytes p = no_end_just_before core cores records lines (end_text (length records) ∷ ls) h p.0.0 p.0.1 p.0.2
-    quiet-at Truncated p = omega (arith, p.0, front_length core cores records lines (end_text (length records) ∷ ls) h)
+    quiet-at TrailingBytes p =
+        no_end_just_before core cores records lines (end_text (length records) ∷ ls) h p.0.0 p.0.1 p.0.2
+    quiet-at Truncated p =
+        omega (arith, p.0, front_length core cores records lines (end_text (length records) ∷ ls) h)
     quiet-at WrongCore p = omega (arith, p.0)
 
 -- a byte behind the end line
-pub trailing_first : (core cores : ℕ) (records : List Record) (lines : List (List ℕ)) (l : List ℕ) (ls : List (List ℕ)) → Front core cores records lines (end_text (length records) ∷ (l ∷ ls)) → (0 < length l) ⊎ (0 < length ls)
-    → FaultAt core cores lines (length records + 3) TrailingBytes × ((j : ℕ) (g : Fault) → FaultAt core cores lines j g → (length records + 3 < j) ⊎ ((length records + 3 ≡ j) × (25 ≤ number g)))
+pub trailing_first : (core cores : ℕ) (records : List Record) (lines : List (List ℕ)) (l : List ℕ)
+    (ls : List (List ℕ)) → Front core cores records lines (end_text (length records) ∷ (l ∷ ls)) → (0 < length l)
+    ⊎ (0 < length ls)
+    → FaultAt core cores lines (length records + 3) TrailingBytes
+    × ((j : ℕ) (g : Fault) → FaultAt core cores lines j g → (length records + 3 < j)
+    ⊎ ((length records + 3 ≡ j) × (25 ≤ number g)))
 trailing_first core cores records lines l ls h more = (((length records + 2, end, omega arith), follows more), first)
   where
     end : IsEnd lines (length records + 2)
@@ -136,9 +197,18 @@ trailing_first core cores records lines l ls h more = (((length records + 2, end
     next : line lines (length records + 3) ≡ l
     next = rest_line core cores records lines (end_text (length records) ∷ (l ∷ ls)) h 1
 
-    follows : (0 < length l) ⊎ (0 < length ls) → (0 < length (line lines (length records + 3))) ⊎ IsWhole lines (length records + 3)
+    follows : (0 < length l) ⊎ (0 < length ls) → (0 < length (line lines (length records + 3)))
+        ⊎ IsWhole lines (length records + 3)
     follows (inl some) = inl (subst (λ (x : List ℕ). 0 < length x) (sym next) some)
-    follows (inr some) = inr (omega arith, omega (arith, front_length core cores records lines (end_text (length records) ∷ (l ∷ ls)) h))
+    follows (inr some) =
+        inr (
+          omega arith,
+          omega (
+            arith,
+            front_length core cores records lines
+                (end_text (length records) ∷ (l ∷ ls)) h,
+          ),
+        )
 
     closed : IsBody lines (length records + 3) → ⊥
     closed b = b.open_yet (length records + 2) (omega arith) (omega arith) end.shape
@@ -154,15 +224,18 @@ trailing_first core cores records lines l ls h more = (((length records + 2, end
     least Truncated p = omega arith
     least WrongCore p = omega arith
 
-    first : (j : ℕ) (g : Fault) → FaultAt core cores lines j g → (length records + 3 < j) ⊎ ((length records + 3 ≡ j) × (25 ≤ number g))
+    first : (j : ℕ) (g : Fault) → FaultAt core cores lines j g → (length records + 3 < j)
+        ⊎ ((length records + 3 ≡ j) × (25 ≤ number g))
     first j g p =
         elim (cases_order (length records + 3) j) [
           | inl same ↦ inr (same, least g (subst (λ (k : ℕ). FaultAt core cores lines k g) (sym same) p))
           | inr (inl before) ↦ inl before
           | inr (inr later) ↦
               elim (cases_order (length records + 2) j) [
-                | inl same ↦ absurd (end_quiet core cores records lines (l ∷ ls) h (omega arith) g (subst (λ (k : ℕ). FaultAt core cores lines k g) (sym same) p))
+                | inl same ↦ absurd (end_quiet core cores records lines (l ∷ ls) h (omega arith) g
+                    (subst (λ (k : ℕ). FaultAt core cores lines k g) (sym same) p))
                 | inr (inl before) ↦ absurd (omega arith)
-                | inr (inr much-later) ↦ absurd (quiet core cores records lines (end_text (length records) ∷ (l ∷ ls)) h j g much-later p)
+                | inr (inr much-later) ↦ absurd
+                    (quiet core cores records lines (end_text (length records) ∷ (l ∷ ls)) h j g much-later p)
               ]
         ]

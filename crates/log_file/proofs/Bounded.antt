@@ -11,24 +11,56 @@ use Rattle.log_file.specs.Log.{with_lf, begun, text_of, spelling, IsLog}
 use Rattle.log_file.specs.Standing.{IsSound, Stands, read_text, whole_text}
 use Rattle.log_file.proofs.Lines.{spelling_text}
 
-records_long : (records : List Record) → AllByRecursion Fits records → length (text_of (map record_text records)) ≤ 81 * length records
+records_long : (records : List Record) → AllByRecursion Fits records
+    → length (text_of (map record_text records)) ≤ 81 * length records
 records_long [] all = omega arith
 records_long (r ∷ records) all =
-    omega (arith, length-append (with_lf (record_text r)) (text_of (map record_text records)), length-append (record_text r) (10 ∷ []), record_short r all.0, records_long records all.1)
+    omega (
+      arith,
+      length-append (with_lf (record_text r)) (text_of (map record_text records)),
+      length-append
+          (record_text r) (10 ∷ []),
+      record_short r all.0,
+      records_long records all.1,
+    )
 
-begun_long : (core cores : ℕ) (records : List Record) → IsLog core cores records → length (text_of (begun core cores records)) ≤ 81 * length records + 81
+begun_long : (core cores : ℕ) (records : List Record) → IsLog core cores records
+    → length (text_of (begun core cores records)) ≤ 81 * length records + 81
 begun_long core cores records log =
-    omega (arith, length-append (with_lf (header_text 1 core cores)) (text_of (map record_text records)), length-append (header_text 1 core cores) (10 ∷ []), header_short core cores log.core_fits (omega (arith, log.cores_fit)), records_long records log.each_fits)
+    omega (
+      arith,
+      length-append (with_lf (header_text 1 core cores))
+          (text_of (map record_text records)),
+      length-append (header_text 1 core cores)
+          (10 ∷ []),
+      header_short core cores log.core_fits
+          (omega (arith, log.cores_fit)),
+      records_long records log.each_fits,
+    )
 
-spelling_long : (core cores : ℕ) (records : List Record) → IsLog core cores records → length (spelling core cores records) ≤ 81 * length records + 162
+spelling_long : (core cores : ℕ) (records : List Record) → IsLog core cores records
+    → length (spelling core cores records) ≤ 81 * length records + 162
 spelling_long core cores records log =
-    let e : length (spelling core cores records) ≡ length (text_of (begun core cores records) ++ (end_text (length records) ++ 10 ∷ [])) = ap length (sym (append-nil (spelling core cores records)) ∙ spelling_text core cores records []) in
-    omega (arith, e, length-append (text_of (begun core cores records)) (end_text (length records) ++ 10 ∷ []), length-append (end_text (length records)) (10 ∷ []), begun_long core cores records log, end_short (length records) log.few)
+    let e : length (spelling core cores records) ≡ length
+    (text_of (begun core cores records) ++ (end_text (length records) ++ 10 ∷ [])) = ap length
+    (sym (append-nil (spelling core cores records)) ∙ spelling_text core cores records []) in
+    omega (
+      arith,
+      e,
+      length-append (text_of (begun core cores records))
+          (end_text (length records) ++ 10 ∷ []),
+      length-append (end_text (length records))
+          (10 ∷ []),
+      begun_long core cores records log,
+      end_short (length records) log.few,
+    )
 
-whole_long : (q : Phase) (core cores : ℕ) (records : List Record) (line : List ℕ) → IsSound q core cores records line → length (whole_text q core cores records) < 2 ^ 27 - 100
+whole_long : (q : Phase) (core cores : ℕ) (records : List Record) (line : List ℕ) → IsSound q core cores records line
+    → length (whole_text q core cores records) < 2 ^ 27 - 100
 whole_long phase.Header core cores records line sound = omega arith
 whole_long phase.Records core cores records line sound = omega (arith, begun_long core cores records sound, sound.few)
-whole_long phase.Ended core cores records line sound = omega (arith, spelling_long core cores records sound.0, sound.0.few)
+whole_long phase.Ended core cores records line sound = omega
+    (arith, spelling_long core cores records sound.0, sound.0.few)
 
 pub read_long : (s : LineReader) (records : List Record) → Stands s records → length (read_text s records) < 2 ^ 27
 read_long s records stands =

@@ -14,7 +14,8 @@ pub tells_told : (o : Option (List ℕ)) → Tells o (told o)
 tells_told None = tt
 tells_told (Some bytes) = refl
 
-pub consumes_more : (old mid new : Option (List ℕ)) (a b : List ℕ) → Consumes old mid a → Consumes mid new b → Consumes old new (a ++ b)
+pub consumes_more : (old mid new : Option (List ℕ)) (a b : List ℕ) → Consumes old mid a → Consumes mid new b
+    → Consumes old new (a ++ b)
 consumes_more None mid new a b p q = tt
 consumes_more (Some xs) None new a b p q = absurd p
 consumes_more (Some xs) (Some ys) None a b p q = absurd q
@@ -32,7 +33,8 @@ consumes_end (Some xs) (Some ys) a p end = p ∙ ap (λ (x : List ℕ). a ++ x) 
 
 -- ---- sinks
 
-pub appends_more : (old mid new : Option (List ℕ)) (a b : List ℕ) → Appends old mid a → Appends mid new b → Appends old new (a ++ b)
+pub appends_more : (old mid new : Option (List ℕ)) (a b : List ℕ) → Appends old mid a → Appends mid new b
+    → Appends old new (a ++ b)
 appends_more None mid new a b p q = tt
 appends_more (Some xs) None new a b p q = absurd p
 appends_more (Some xs) (Some ys) None a b p q = absurd q
@@ -45,4 +47,6 @@ take_nil (suc k) = refl
 pub take_further : (i n : ℕ) (xs : List ℕ) → take i xs ++ take n (drop i xs) ≡ take (i + n) xs
 take_further zero n xs = ap (λ (k : ℕ). take k xs) (let e : n ≡ 0 + n = omega arith in e)
 take_further (suc i) n [] = take_nil n ∙ sym (take_nil (suc i + n))
-take_further (suc i) n (x ∷ xs) = ap (λ (ys : List ℕ). x ∷ ys) (take_further i n xs) ∙ ap (λ (k : ℕ). take k (x ∷ xs)) (let e : suc (i + n) ≡ suc i + n = omega arith in e)
+take_further (suc i) n (x ∷ xs) =
+    ap (λ (ys : List ℕ). x ∷ ys) (take_further i n xs)
+    ∙ ap (λ (k : ℕ). take k (x ∷ xs)) (let e : suc (i + n) ≡ suc i + n = omega arith in e)

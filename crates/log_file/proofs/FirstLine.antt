@@ -6,7 +6,8 @@ use Rattle.log_file.specs.declared.fault.Fault.TheVariants.{BadHeader, BadLine, 
 use Rattle.log_file.specs.Log.{IsWhole, FaultAt, number}
 use Rattle.log_file.specs.OneLine.{HeaderHolds, LeastHeader}
 
-pub header_first : (core cores : ℕ) (l : List ℕ) (ls : List (List ℕ)) (f : Fault) → 0 < length ls → LeastHeader core cores l f
+pub header_first : (core cores : ℕ) (l : List ℕ) (ls : List (List ℕ)) (f : Fault) → 0 < length ls
+    → LeastHeader core cores l f
     → FaultAt core cores (l ∷ ls) 1 f × ((g : Fault) → FaultAt core cores (l ∷ ls) 1 g → number f ≤ number g)
 header_first core cores l ls f whole found = (holds f found.0, λ g p. least g p)
   where
@@ -70,7 +71,8 @@ header_cut core cores l short = ((refl, λ j lo hi shape. omega arith), λ g p. 
     least WrongCore p = omega arith
 
 -- no fault stands at line 0
-pub none_at_zero : (core cores : ℕ) (lines : List (List ℕ)) (g : Fault) → 0 < length lines → FaultAt core cores lines 0 g → ⊥
+pub none_at_zero : (core cores : ℕ) (lines : List (List ℕ)) (g : Fault) → 0 < length lines
+    → FaultAt core cores lines 0 g → ⊥
 none_at_zero core cores lines BadHeader more p = omega (arith, p.0)
 none_at_zero core cores lines BadLine more p = let b = p.0.later in omega arith
 none_at_zero core cores lines OutOfRange more (inl p) = omega (arith, p.0)
@@ -81,7 +83,9 @@ none_at_zero core cores lines TrailingBytes more p = omega (arith, p.0.2)
 none_at_zero core cores lines Truncated more p = omega (arith, p.0)
 none_at_zero core cores lines WrongCore more p = omega (arith, p.0)
 
-pub first_at_one : (core cores : ℕ) (l : List ℕ) (ls : List (List ℕ)) (f : Fault) → ((g : Fault) → FaultAt core cores (l ∷ ls) 1 g → number f ≤ number g) → (j : ℕ) (g : Fault) → FaultAt core cores (l ∷ ls) j g → (1 < j) ⊎ ((1 ≡ j) × (number f ≤ number g))
+pub first_at_one : (core cores : ℕ) (l : List ℕ) (ls : List (List ℕ)) (f : Fault)
+    → ((g : Fault) → FaultAt core cores (l ∷ ls) 1 g → number f ≤ number g) → (j : ℕ) (g : Fault)
+    → FaultAt core cores (l ∷ ls) j g → (1 < j) ⊎ ((1 ≡ j) × (number f ≤ number g))
 first_at_one core cores l ls f least zero g p = absurd (none_at_zero core cores (l ∷ ls) g (omega arith) p)
 first_at_one core cores l ls f least (suc zero) g p = inr (refl, least g p)
 first_at_one core cores l ls f least (suc (suc j)) g p = inl (omega arith)

@@ -17,42 +17,52 @@ pub record Front (core cores : ℕ) (records : List Record) (lines rest : List (
   pub parts : lines ≡ begun core cores records ++ rest
   pub more : 0 < length rest
 
-record_at : (records : List Record) (rest : List (List ℕ)) (i : ℕ) → AllByRecursion Fits records → i < length records → (r : Record) × (get_or (map record_text records ++ rest) i [] ≡ record_text r) × Fits r
+record_at : (records : List Record) (rest : List (List ℕ)) (i : ℕ) → AllByRecursion Fits records → i < length records
+    → (r : Record) × (get_or (map record_text records ++ rest) i [] ≡ record_text r) × Fits r
 record_at [] rest i all lt = absurd (omega arith)
 record_at (r ∷ records) rest zero all lt = (r, refl, all.0)
 record_at (r ∷ records) rest (suc i) all lt = record_at records rest i all.1 (omega arith)
 
-behind : (records : List Record) (rest : List (List ℕ)) (i : ℕ) → get_or (map record_text records ++ rest) (length records + i) [] ≡ get_or rest i []
+behind : (records : List Record) (rest : List (List ℕ)) (i : ℕ)
+    → get_or (map record_text records ++ rest) (length records + i) [] ≡ get_or rest i []
 behind [] rest i = ap (λ (k : ℕ). get_or rest k []) (let e : 0 + i ≡ i = omega arith in e)
 behind (r ∷ records) rest i =
     let e : suc (length records) + i ≡ suc (length records + i) = omega arith in
     ap (λ (k : ℕ). get_or (map record_text (r ∷ records) ++ rest) k []) e ∙ behind records rest i
 
-header_line : (core cores : ℕ) (records : List Record) (lines rest : List (List ℕ)) → Front core cores records lines rest → line lines 1 ≡ header_text 1 core cores
+header_line : (core cores : ℕ) (records : List Record) (lines rest : List (List ℕ))
+    → Front core cores records lines rest → line lines 1 ≡ header_text 1 core cores
 header_line core cores records lines rest h = ap (λ (ls : List (List ℕ)). line ls 1) h.parts
 
-record_line : (core cores : ℕ) (records : List Record) (lines rest : List (List ℕ)) → Front core cores records lines rest → (j : ℕ) → 1 < j → j < length records + 2 → (r : Record) × (line lines j ≡ record_text r) × Fits r
+record_line : (core cores : ℕ) (records : List Record) (lines rest : List (List ℕ))
+    → Front core cores records lines rest → (j : ℕ) → 1 < j → j < length records + 2 → (r : Record)
+    × (line lines j ≡ record_text r) × Fits r
 record_line core cores records lines rest h zero lo hi = absurd (omega arith)
 record_line core cores records lines rest h (suc zero) lo hi = absurd (omega arith)
 record_line core cores records lines rest h (suc (suc i)) lo hi =
     let p = record_at records rest i h.log.each_fits (omega arith) in
     (p.0, ap (λ (ls : List (List ℕ)). line ls (suc (suc i))) h.parts ∙ p.1, p.2)
 
-pub rest_line : (core cores : ℕ) (records : List Record) (lines rest : List (List ℕ)) → Front core cores records lines rest → (i : ℕ) → line lines (length records + (2 + i)) ≡ get_or rest i []
+pub rest_line : (core cores : ℕ) (records : List Record) (lines rest : List (List ℕ))
+    → Front core cores records lines rest → (i : ℕ) → line lines (length records + (2 + i)) ≡ get_or rest i []
 rest_line core cores records lines rest h i =
     let e : length records + (2 + i) ≡ suc (suc (length records + i)) = omega arith in
-    ap (λ (k : ℕ). line lines k) e ∙ ap (λ (ls : List (List ℕ)). line ls (suc (suc (length records + i)))) h.parts ∙ behind records rest i
+    ap (λ (k : ℕ). line lines k) e ∙ ap (λ (ls : List (List ℕ)). line ls (suc (suc (length records + i)))) h.parts
+    ∙ behind records rest i
 
-pub front_length : (core cores : ℕ) (records : List Record) (lines rest : List (List ℕ)) → Front core cores records lines rest → length lines ≡ length records + 1 + length rest
+pub front_length : (core cores : ℕ) (records : List Record) (lines rest : List (List ℕ))
+    → Front core cores records lines rest → length lines ≡ length records + 1 + length rest
 front_length core cores records lines rest h =
     ap length h.parts ∙ omega (arith, length-append (map record_text records) rest, length-map records record_text)
 
-pub no_end : (core cores : ℕ) (records : List Record) (lines rest : List (List ℕ)) → Front core cores records lines rest → (j : ℕ) → 1 < j → j < length records + 2 → IsEndShape (line lines j) → ⊥
+pub no_end : (core cores : ℕ) (records : List Record) (lines rest : List (List ℕ))
+    → Front core cores records lines rest → (j : ℕ) → 1 < j → j < length records + 2 → IsEndShape (line lines j) → ⊥
 no_end core cores records lines rest h j lo hi shape =
     let p = record_line core cores records lines rest h j lo hi in
     record_no_end p.0 shape.0 (sym p.1 ∙ shape.1)
 
-pub body_there : (core cores : ℕ) (records : List Record) (lines rest : List (List ℕ)) → Front core cores records lines rest → IsBody lines (length records + 2)
+pub body_there : (core cores : ℕ) (records : List Record) (lines rest : List (List ℕ))
+    → Front core cores records lines rest → IsBody lines (length records + 2)
 body_there core cores records lines rest h = record {
   later = omega arith;
   there = omega (arith, front_length core cores records lines rest h, h.more);
@@ -60,13 +70,16 @@ body_there core cores records lines rest h = record {
 }
 
 -- no fault holds up to there
-pub quiet : (core cores : ℕ) (records : List Record) (lines rest : List (List ℕ)) → Front core cores records lines rest → (j : ℕ) (g : Fault) → j < length records + 2 → FaultAt core cores lines j g → ⊥
+pub quiet : (core cores : ℕ) (records : List Record) (lines rest : List (List ℕ))
+    → Front core cores records lines rest → (j : ℕ) (g : Fault) → j < length records + 2
+    → FaultAt core cores lines j g → ⊥
 quiet core cores records lines rest h j BadHeader lt (at, inl long) =
     let e = header_line core cores records lines rest h in
     let s = header_short core cores h.log.core_fits (omega (arith, h.log.cores_fit)) in
     let l : line_limit < length (header_text 1 core cores) = subst (λ (x : List ℕ). line_limit < length x) e long in
     omega arith
-quiet core cores records lines rest h j BadHeader lt (at, inr bad) = bad.1 (core, (cores, header_line core cores records lines rest h))
+quiet core cores records lines rest h j BadHeader lt (at, inr bad) =
+    bad.1 (core, (cores, header_line core cores records lines rest h))
 quiet core cores records lines rest h j BadLine lt (body, inl long) =
     let p = record_line core cores records lines rest h j body.later lt in
     let s = record_short p.0 p.2 in
@@ -82,16 +95,22 @@ quiet core cores records lines rest h j OutOfRange lt (inr p) =
     let q = record_line core cores records lines rest h j p.0.later lt in
     p.2.2 (subst Fits (record_once q.0 p.2.0 (sym q.1 ∙ p.2.1)) q.2)
 quiet core cores records lines rest h j TooMany lt p = omega (arith, h.log.few, p.3)
-quiet core cores records lines rest h j CountDiffers lt p = no_end core cores records lines rest h j p.0.body.later lt p.0.shape
-quiet core cores records lines rest h j TrailingBytes lt p = no_end core cores records lines rest h p.0.0 p.0.1.body.later (omega (arith, p.0.2)) p.0.1.shape
-quiet core cores records lines rest h j Truncated lt p = omega (arith, p.0, front_length core cores records lines rest h, h.more)
+quiet core cores records lines rest h j CountDiffers lt p =
+    no_end core cores records lines rest h j p.0.body.later lt p.0.shape
+quiet core cores records lines rest h j TrailingBytes lt p =
+    no_end core cores records lines rest h p.0.0 p.0.1.body.later (omega (arith, p.0.2)) p.0.1.shape
+quiet core cores records lines rest h j Truncated lt p =
+    omega (arith, p.0, front_length core cores records lines rest h, h.more)
 quiet core cores records lines rest h j WrongCore lt (at, whole, (c, (n, e, inl ne))) =
     let s = header_once c n core cores (sym e ∙ header_line core cores records lines rest h) in ne s.0
 quiet core cores records lines rest h j WrongCore lt (at, whole, (c, (n, e, inr ne))) =
     let s = header_once c n core cores (sym e ∙ header_line core cores records lines rest h) in ne s.1
 
 -- the fault of the line behind them is the first, where it is the least of that line
-pub first_there : (core cores : ℕ) (records : List Record) (lines rest : List (List ℕ)) → Front core cores records lines rest → (f : Fault) → ((g : Fault) → FaultAt core cores lines (length records + 2) g → number f ≤ number g) → (j : ℕ) (g : Fault) → FaultAt core cores lines j g → (length records + 2 < j) ⊎ ((length records + 2 ≡ j) × (number f ≤ number g))
+pub first_there : (core cores : ℕ) (records : List Record) (lines rest : List (List ℕ))
+    → Front core cores records lines rest → (f : Fault)
+    → ((g : Fault) → FaultAt core cores lines (length records + 2) g → number f ≤ number g) → (j : ℕ) (g : Fault)
+    → FaultAt core cores lines j g → (length records + 2 < j) ⊎ ((length records + 2 ≡ j) × (number f ≤ number g))
 first_there core cores records lines rest h f least j g p =
     elim (cases_order (length records + 2) j) [
       | inl same ↦ inr (same, least g (subst (λ (k : ℕ). FaultAt core cores lines k g) (sym same) p))
@@ -99,7 +118,8 @@ first_there core cores records lines rest h f least j g p =
       | inr (inr later) ↦ absurd (quiet core cores records lines rest h j g later p)
     ]
 
-pub front_from : (core cores : ℕ) (records : List Record) (bytes rest : List ℕ) → IsLog core cores records → bytes ≡ text_of (begun core cores records) ++ rest → Front core cores records (lines_of bytes) (lines_of rest)
+pub front_from : (core cores : ℕ) (records : List Record) (bytes rest : List ℕ) → IsLog core cores records
+    → bytes ≡ text_of (begun core cores records) ++ rest → Front core cores records (lines_of bytes) (lines_of rest)
 front_from core cores records bytes rest log e = record {
   log = log;
   parts = ap lines_of e ∙ lines_of_text (begun core cores records) rest (begun_no_lf core cores records);

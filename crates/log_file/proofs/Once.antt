@@ -6,25 +6,35 @@ use Rattle.log_record.proofs.Lines.{NoLf-all, end_no_lf, record_once, header_onc
 use Rattle.log_file.specs.Log.{Spells, begun, spelling, lines_of}
 use Rattle.log_file.proofs.Lines.{lines_of_line, lines_of_text, begun_no_lf, spelling_text}
 
-spelled_lines : (core cores : ℕ) (records : List Record) (x : List ℕ) → lines_of (spelling core cores records ++ x) ≡ begun core cores records ++ (end_text (length records) ∷ lines_of x)
+spelled_lines : (core cores : ℕ) (records : List Record) (x : List ℕ)
+    → lines_of (spelling core cores records ++ x) ≡ begun core cores records ++
+    (end_text (length records) ∷ lines_of x)
 spelled_lines core cores records x =
-    ap lines_of (spelling_text core cores records x) ∙ lines_of_text (begun core cores records) (end_text (length records) ++ 10 ∷ x) (begun_no_lf core cores records)
-    ∙ ap (λ (ls : List (List ℕ)). begun core cores records ++ ls) (lines_of_line (end_text (length records)) x (NoLf-all (end_text (length records)) (end_no_lf (length records))))
+    ap lines_of (spelling_text core cores records x)
+    ∙ lines_of_text (begun core cores records) (end_text (length records) ++ 10 ∷ x)
+    (begun_no_lf core cores records)
+    ∙ ap (λ (ls : List (List ℕ)). begun core cores records ++ ls)
+    (lines_of_line (end_text (length records)) x (NoLf-all (end_text (length records)) (end_no_lf (length records))))
 
-same_records : (m n : ℕ) (rs qs : List Record) (xs ys : List (List ℕ)) → map record_text rs ++ (end_text m ∷ xs) ≡ map record_text qs ++ (end_text n ∷ ys) → rs ≡ qs
+same_records : (m n : ℕ) (rs qs : List Record) (xs ys : List (List ℕ))
+    → map record_text rs ++ (end_text m ∷ xs) ≡ map record_text qs ++ (end_text n ∷ ys) → rs ≡ qs
 same_records m n [] [] xs ys e = refl
-same_records m n [] (q ∷ qs) xs ys e = let first : end_text m ≡ record_text q = cc in absurd (record_no_end q m (sym first))
+same_records m n [] (q ∷ qs) xs ys e =
+    let first : end_text m ≡ record_text q = cc in absurd (record_no_end q m (sym first))
 same_records m n (r ∷ rs) [] xs ys e = let first : record_text r ≡ end_text n = cc in absurd (record_no_end r n first)
 same_records m n (r ∷ rs) (q ∷ qs) xs ys e =
     let first : record_text r ≡ record_text q = cc in
     let rest : map record_text rs ++ (end_text m ∷ xs) ≡ map record_text qs ++ (end_text n ∷ ys) = cc in
-    ap (λ (x : Record). x ∷ rs) (record_once r q first) ∙ ap (λ (l : List Record). q ∷ l) (same_records m n rs qs xs ys rest)
+    ap (λ (x : Record). x ∷ rs) (record_once r q first)
+    ∙ ap (λ (l : List Record). q ∷ l) (same_records m n rs qs xs ys rest)
 
-pub spelled_once : (a b c d : ℕ) (rs qs : List Record) (x y : List ℕ) → spelling a b rs ++ x ≡ spelling c d qs ++ y → (a ≡ c) × (b ≡ d) × (rs ≡ qs)
+pub spelled_once : (a b c d : ℕ) (rs qs : List Record) (x y : List ℕ) → spelling a b rs ++ x ≡ spelling c d qs ++ y
+    → (a ≡ c) × (b ≡ d) × (rs ≡ qs)
 spelled_once a b c d rs qs x y e =
     let lines = sym (spelled_lines a b rs x) ∙ ap lines_of e ∙ spelled_lines c d qs y in
     let first : header_text 1 a b ≡ header_text 1 c d = heads lines in
-    let rest : map record_text rs ++ (end_text (length rs) ∷ lines_of x) ≡ map record_text qs ++ (end_text (length qs) ∷ lines_of y) = tails lines in
+    let rest : map record_text rs ++ (end_text (length rs) ∷ lines_of x) ≡ map record_text qs ++
+    (end_text (length qs) ∷ lines_of y) = tails lines in
     let h = header_once a b c d first in
     (h.0, h.1, same_records (length rs) (length qs) rs qs (lines_of x) (lines_of y) rest)
   where
@@ -35,7 +45,9 @@ spelled_once a b c d rs qs x y e =
     tails e = cc
 
 -- bytes spell one log at most
-pub one_log : (core cores : ℕ) (bytes : List ℕ) (rs qs : List Record) → Spells core cores bytes rs → Spells core cores bytes qs → rs ≡ qs
+pub one_log : (core cores : ℕ) (bytes : List ℕ) (rs qs : List Record) → Spells core cores bytes rs
+    → Spells core cores bytes qs → rs ≡ qs
 one_log core cores bytes rs qs p q =
-    let e : spelling core cores rs ++ [] ≡ spelling core cores qs ++ [] = ap (λ (xs : List ℕ). xs ++ []) (sym p.1 ∙ q.1) in
+    let e : spelling core cores rs ++ [] ≡ spelling core cores qs ++ [] = ap (λ (xs : List ℕ). xs ++ [])
+    (sym p.1 ∙ q.1) in
     (spelled_once core cores core cores rs qs [] [] e).2

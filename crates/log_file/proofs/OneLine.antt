@@ -21,7 +21,8 @@ as_u64_is n a e = kept (nat_lt n (2 ^ 64)) e
 abbrev Header : List ℕ → ℕ → ℕ → Type 0
 Header line a b = (c : ℕ) × ((n : ℕ) × (line ≡ header_text 1 c n) × (Some a ≡ as_u64 c) × (Some b ≡ as_u64 n))
 
-pub wrong_core : (line : List ℕ) (core cores a b : ℕ) → length line ≤ line_limit → Header line a b → a < b → b ≤ 64 → (a ≢ core) ⊎ (b ≢ cores) → LeastHeader core cores line WrongCore
+pub wrong_core : (line : List ℕ) (core cores a b : ℕ) → length line ≤ line_limit → Header line a b → a < b → b ≤ 64
+    → (a ≢ core) ⊎ (b ≢ cores) → LeastHeader core cores line WrongCore
 wrong_core line core cores a b short h lt few other =
     let a-is = as_u64_is h.0 a h.1.2 in
     let b-is = as_u64_is h.1.0 b h.1.3 in
@@ -49,7 +50,8 @@ wrong_core line core cores a b short h lt few other =
     least TrailingBytes p = absurd p
     least Truncated p = absurd p
 
-pub too_many : (line : List ℕ) (count : ℕ) (r : Record) → length line ≤ line_limit → line ≡ record_text r → Fits r → record_limit ≤ count → LeastBody count line TooMany
+pub too_many : (line : List ℕ) (count : ℕ) (r : Record) → length line ≤ line_limit → line ≡ record_text r → Fits r
+    → record_limit ≤ count → LeastBody count line TooMany
 too_many line count r short e fits many = (((r, e), many), least)
   where
     least : (g : Fault) → BodyHolds count line g → 23 ≤ number g

@@ -28,12 +28,14 @@ cut_or_core TrailingBytes h = absurd (omega (arith, h))
 cut_or_core Truncated h = inl refl
 cut_or_core WrongCore h = inr refl
 
-header_only : (core cores : ℕ) (l : List ℕ) (k : ℕ) (g : Fault) → length l ≤ line_limit → FaultAt core cores (l ∷ []) k g → g ≡ Truncated
+header_only : (core cores : ℕ) (l : List ℕ) (k : ℕ) (g : Fault) → length l ≤ line_limit
+    → FaultAt core cores (l ∷ []) k g → g ≡ Truncated
 header_only core cores l zero g short p = absurd (none_at_zero core cores (l ∷ []) g (omega arith) p)
 header_only core cores l (suc zero) g short p =
     elim (cut_or_core g ((header_cut core cores l short).1 g p)) [
       | inl e ↦ e
-      | inr e ↦ let q = subst (λ (f : Fault). FaultAt core cores (l ∷ []) 1 f) e p in let w : 1 < 1 = q.1.1 in absurd (omega arith)
+      | inr e ↦ let q = subst (λ (f : Fault). FaultAt core cores (l ∷ []) 1 f) e p in let w : 1 < 1 = q.1.1 in absurd
+          (omega arith)
     ]
 header_only core cores l (suc (suc k)) g short p = absurd (none g p)
   where
@@ -48,14 +50,16 @@ header_only core cores l (suc (suc k)) g short p = absurd (none g p)
     none Truncated p = omega (arith, p.0)
     none WrongCore p = omega (arith, p.0)
 
-body_only : (core cores : ℕ) (records : List Record) (lines : List (List ℕ)) (l : List ℕ) (k : ℕ) (g : Fault) → Front core cores records lines (l ∷ []) → length l ≤ line_limit → FaultAt core cores lines k g → g ≡ Truncated
+body_only : (core cores : ℕ) (records : List Record) (lines : List (List ℕ)) (l : List ℕ) (k : ℕ) (g : Fault)
+    → Front core cores records lines (l ∷ []) → length l ≤ line_limit → FaultAt core cores lines k g → g ≡ Truncated
 body_only core cores records lines l k g front short p =
     elim (cases_order (length records + 2) k) [
       | inl same ↦
           let p' = subst (λ (j : ℕ). FaultAt core cores lines j g) (sym same) p in
           elim (cut_or_core g ((cut_first core cores records lines l front short).1 g p')) [
             | inl e ↦ e
-            | inr e ↦ let q = subst (λ (f : Fault). FaultAt core cores lines (length records + 2) f) e p' in absurd (omega (arith, q.0))
+            | inr e ↦ let q = subst (λ (f : Fault). FaultAt core cores lines (length records + 2) f) e p' in absurd
+                (omega (arith, q.0))
           ]
       | inr (inl before) ↦ absurd (none g before p)
       | inr (inr later) ↦ absurd (quiet core cores records lines (l ∷ []) front k g later p)
@@ -71,18 +75,31 @@ body_only core cores records lines l k g front short p =
     none OutOfRange lt (inr p) = omega (arith, p.0.there, len)
     none TooMany lt p = omega (arith, p.0.there, len)
     none CountDiffers lt p = omega (arith, p.0.body.there, len)
-    none TrailingBytes lt p = no_end core cores records lines (l ∷ []) front p.0.0 p.0.1.body.later (omega (arith, p.0.1.whole.1, len)) p.0.1.shape
+    none TrailingBytes lt p =
+        no_end core cores records lines (l ∷ []) front p.0.0 p.0.1.body.later
+        (omega (arith, p.0.1.whole.1, len)) p.0.1.shape
     none Truncated lt p = omega (arith, p.0, len)
     none WrongCore lt p = omega (arith, p.0)
 
-bytes_only : (p : Phase) (core cores : ℕ) (records : List Record) (line : List ℕ) → IsSound p core cores records line → IsOneLine line → length line ≤ line_limit → (k : ℕ) (g : Fault) → FaultAt core cores (lines_of (whole_text p core cores records ++ line)) k g → g ≡ Truncated
-bytes_only phase.Header core cores records line sound one short k g f = header_only core cores line k g short (subst (λ (ls : List (List ℕ)). FaultAt core cores ls k g) (lines_of_last line one) f)
+bytes_only : (p : Phase) (core cores : ℕ) (records : List Record) (line : List ℕ) → IsSound p core cores records line
+    → IsOneLine line → length line ≤ line_limit → (k : ℕ) (g : Fault)
+    → FaultAt core cores (lines_of (whole_text p core cores records ++ line)) k g → g ≡ Truncated
+bytes_only phase.Header core cores records line sound one short k g f = header_only core cores line k g short
+    (subst (λ (ls : List (List ℕ)). FaultAt core cores ls k g) (lines_of_last line one) f)
 bytes_only phase.Records core cores records line sound one short k g f =
     let bytes = text_of (begun core cores records) ++ line in
-    let front : Front core cores records (lines_of bytes) (line ∷ []) = subst (λ (ls : List (List ℕ)). Front core cores records (lines_of bytes) ls) (lines_of_last line one) (front_from core cores records bytes line sound refl) in
+    let front : Front core cores records (lines_of bytes) (line ∷ []) = subst
+    (λ (ls : List (List ℕ)). Front core cores records (lines_of bytes) ls) (lines_of_last line one)
+    (front_from core cores records bytes line sound refl) in
     body_only core cores records (lines_of bytes) line k g front short f
 bytes_only phase.Ended core cores records line sound one short k g f =
-    absurd (spelled_quiet core cores (spelling core cores records ++ line) records (sound.0, ap (λ (xs : List ℕ). spelling core cores records ++ xs) sound.1 ∙ append-nil (spelling core cores records)) k g f)
+    absurd (spelled_quiet core cores (spelling core cores records ++ line) records (
+      sound.0,
+      ap (λ (xs : List ℕ). spelling core cores records ++ xs) sound.1
+          ∙ append-nil (spelling core cores records),
+    ) k g f)
 
-pub only_cut : (s : LineReader) (records : List Record) → Stands s records → (k : ℕ) (g : Fault) → FaultAt s.progress.core s.progress.cores (lines_of (read_text s records)) k g → g ≡ Truncated
-only_cut s records stands k g f = bytes_only s.progress.phase s.progress.core s.progress.cores records s.begun.items stands.sound stands.one stands.short k g f
+pub only_cut : (s : LineReader) (records : List Record) → Stands s records → (k : ℕ) (g : Fault)
+    → FaultAt s.progress.core s.progress.cores (lines_of (read_text s records)) k g → g ≡ Truncated
+only_cut s records stands k g f =
+    bytes_only s.progress.phase s.progress.core s.progress.cores records s.begun.items stands.sound stands.one stands.short k g f

@@ -17,7 +17,9 @@ use Rattle.log_file.proofs.Ranges.{record_fits}
 -- ---- a later line
 
 abbrev pub BodyOutcome : ℕ → List ℕ → Type 0
-BodyOutcome count l = ((r : Record) × (l ≡ record_text r) × Fits r × (count < record_limit)) ⊎ ((l ≡ end_text count) ⊎ ((f : Fault) × LeastBody count l f))
+BodyOutcome count l =
+    ((r : Record) × (l ≡ record_text r) × Fits r × (count < record_limit))
+    ⊎ ((l ≡ end_text count) ⊎ ((f : Fault) × LeastBody count l f))
 
 long_least : (count : ℕ) (l : List ℕ) → line_limit < length l → LeastBody count l BadLine
 long_least count l long = (inl long, λ g p. least g p)
@@ -45,7 +47,8 @@ bad_least count l no-record no-end = (inr (no-record, no-end), λ g p. least g p
     least Truncated p = omega arith
     least WrongCore p = omega arith
 
-range_least : (count : ℕ) (l : List ℕ) (r : Record) → length l ≤ line_limit → l ≡ record_text r → (Fits r → ⊥) → LeastBody count l OutOfRange
+range_least : (count : ℕ) (l : List ℕ) (r : Record) → length l ≤ line_limit → l ≡ record_text r → (Fits r → ⊥)
+    → LeastBody count l OutOfRange
 range_least count l r short e bad = ((r, e, bad), λ g p. least g p)
   where
     least : (g : Fault) → BodyHolds count l g → 22 ≤ number g
@@ -59,7 +62,8 @@ range_least count l r short e bad = ((r, e, bad), λ g p. least g p)
     least Truncated p = omega arith
     least WrongCore p = omega arith
 
-count_least : (count : ℕ) (l : List ℕ) (n : ℕ) → length l ≤ line_limit → l ≡ end_text n → n ≢ count → LeastBody count l CountDiffers
+count_least : (count : ℕ) (l : List ℕ) (n : ℕ) → length l ≤ line_limit → l ≡ end_text n → n ≢ count
+    → LeastBody count l CountDiffers
 count_least count l n short e ne = ((n, e, ne), λ g p. least g p)
   where
     least : (g : Fault) → BodyHolds count l g → 24 ≤ number g
@@ -124,7 +128,8 @@ header_bad core cores l bad = (bad, λ g p. least g p)
     least TrailingBytes p = absurd p
     least Truncated p = absurd p
 
-header_range : (core cores c n : ℕ) (l : List ℕ) → length l ≤ line_limit → l ≡ header_text 1 c n → ((c < n) × (n ≤ 64) → ⊥) → LeastHeader core cores l OutOfRange
+header_range : (core cores c n : ℕ) (l : List ℕ) → length l ≤ line_limit → l ≡ header_text 1 c n
+    → ((c < n) × (n ≤ 64) → ⊥) → LeastHeader core cores l OutOfRange
 header_range core cores c n l short e bad = ((c, (n, e, bad)), λ g p. least g p)
   where
     least : (g : Fault) → HeaderHolds core cores l g → 22 ≤ number g
@@ -138,13 +143,16 @@ header_range core cores c n l short e bad = ((c, (n, e, bad)), λ g p. least g p
     least TrailingBytes p = absurd p
     least Truncated p = absurd p
 
-header_wrong : (core cores c n : ℕ) (l : List ℕ) → length l ≤ line_limit → l ≡ header_text 1 c n → c < n → n ≤ 64 → (c ≢ core) ⊎ (n ≢ cores) → LeastHeader core cores l WrongCore
+header_wrong : (core cores c n : ℕ) (l : List ℕ) → length l ≤ line_limit → l ≡ header_text 1 c n → c < n → n ≤ 64
+    → (c ≢ core) ⊎ (n ≢ cores) → LeastHeader core cores l WrongCore
 header_wrong core cores c n l short e lt few other = ((c, (n, e, other)), λ g p. least g p)
   where
     least : (g : Fault) → HeaderHolds core cores l g → 27 ≤ number g
     least BadHeader (inl long) = absurd (omega arith)
     least BadHeader (inr no-shape) = absurd (no-shape (c, (n, e)))
-    least OutOfRange p = let s = header_once p.0 p.1.0 c n (sym p.1.1 ∙ e) in absurd (p.1.2 (omega (arith, s.0, s.1), omega (arith, s.1)))
+    least OutOfRange p =
+        let s = header_once p.0 p.1.0 c n (sym p.1.1 ∙ e) in absurd
+        (p.1.2 (omega (arith, s.0, s.1), omega (arith, s.1)))
     least WrongCore p = omega arith
     least BadLine p = absurd p
     least TooMany p = absurd p
@@ -160,7 +168,8 @@ header_outcome core cores l =
     ]
   where
     none_there : (c n : ℕ) → l ≡ header_text 1 c n → header_of l ≡ None → ⊥
-    none_there c n is e = let x : ℕ × ℕ = (c, n) in let j : Some x ≡ None = sym (header_again c n) ∙ ap header_of (sym is) ∙ e in cc
+    none_there c n is e =
+        let x : ℕ × ℕ = (c, n) in let j : Some x ≡ None = sym (header_again c n) ∙ ap header_of (sym is) ∙ e in cc
 
     go : (o : Option (ℕ × ℕ)) → header_of l ≡ o → length l ≤ line_limit → HeaderOutcome core cores l
     go None e short = inr (BadHeader, header_bad core cores l (inr (λ s. none_there s.0 s.1.0 s.1.1 e)))
@@ -169,12 +178,17 @@ header_outcome core cores l =
         elim (cases_lt x.0 x.1) [
           | inr ge ↦ inr (OutOfRange, header_range core cores x.0 x.1 l short is (λ h. let y = h.0 in omega arith))
           | inl lt ↦ elim (cases_lt 64 x.1) [
-            | inl many ↦ inr (OutOfRange, header_range core cores x.0 x.1 l short is (λ h. let y = h.1 in omega arith))
+            | inl many ↦ inr (
+              OutOfRange,
+              header_range core cores x.0 x.1 l short is
+                  (λ h. let y = h.1 in omega arith),
+            )
             | inr few ↦ elim (cases_eq x.0 core) [
               | inr ne ↦ inr (WrongCore, header_wrong core cores x.0 x.1 l short is lt few (inl ne))
               | inl same ↦ elim (cases_eq x.1 cores) [
                 | inr ne ↦ inr (WrongCore, header_wrong core cores x.0 x.1 l short is lt few (inr ne))
-                | inl same' ↦ inl (is ∙ ap (λ (k : ℕ). header_text 1 k x.1) same ∙ ap (λ (k : ℕ). header_text 1 core k) same')
+                | inl same' ↦ inl (is ∙ ap (λ (k : ℕ). header_text 1 k x.1) same
+                    ∙ ap (λ (k : ℕ). header_text 1 core k) same')
               ]
             ]
           ]

@@ -13,22 +13,30 @@ use Rattle.log_file.proofs.Front.{Front, front_from, front_length, no_end, quiet
 use Rattle.log_file.proofs.Lines.{lines_of_line, spelling_text}
 
 -- bytes that spell a log have no fault
-pub spelled_quiet : (core cores : ℕ) (bytes : List ℕ) (records : List Record) → Spells core cores bytes records → (k : ℕ) (f : Fault) → FaultAt core cores (lines_of bytes) k f → ⊥
+pub spelled_quiet : (core cores : ℕ) (bytes : List ℕ) (records : List Record) → Spells core cores bytes records
+    → (k : ℕ) (f : Fault) → FaultAt core cores (lines_of bytes) k f → ⊥
 spelled_quiet core cores bytes records spells k f p =
     elim (cases_order (length records + 2) k) [
-      | inl same ↦ end_quiet core cores records (lines_of bytes) ([] ∷ []) front (omega arith) f (subst (λ (j : ℕ). FaultAt core cores (lines_of bytes) j f) (sym same) p)
+      | inl same ↦ end_quiet core cores records (lines_of bytes) ([] ∷ []) front (omega arith) f
+          (subst (λ (j : ℕ). FaultAt core cores (lines_of bytes) j f) (sym same) p)
       | inr (inl before) ↦ behind-end f before p
-      | inr (inr later) ↦ quiet core cores records (lines_of bytes) (end_text (length records) ∷ ([] ∷ [])) front k f later p
+      | inr (inr later) ↦ quiet core cores records (lines_of bytes)
+          (end_text (length records) ∷ ([] ∷ [])) front k f later p
     ]
   where
     last : bytes ≡ text_of (begun core cores records) ++ (end_text (length records) ++ 10 ∷ [])
     last = spells.1 ∙ sym (append-nil (spelling core cores records)) ∙ spelling_text core cores records []
 
     front : Front core cores records (lines_of bytes) (end_text (length records) ∷ ([] ∷ []))
-    front = subst (λ (ls : List (List ℕ)). Front core cores records (lines_of bytes) ls) (lines_of_line (end_text (length records)) [] (NoLf-all (end_text (length records)) (end_no_lf (length records)))) (front_from core cores records bytes (end_text (length records) ++ 10 ∷ []) spells.0 last)
+    front =
+        subst (λ (ls : List (List ℕ)). Front core cores records (lines_of bytes) ls)
+        (lines_of_line (end_text (length records)) []
+        (NoLf-all (end_text (length records)) (end_no_lf (length records))))
+        (front_from core cores records bytes (end_text (length records) ++ 10 ∷ []) spells.0 last)
 
     len : length (lines_of bytes) ≡ length records + 3
-    len = omega (arith, front_length core cores records (lines_of bytes) (end_text (length records) ∷ ([] ∷ [])) front)
+    len =
+        omega (arith, front_length core cores records (lines_of bytes) (end_text (length records) ∷ ([] ∷ [])) front)
 
     next : line (lines_of bytes) (length records + 3) ≡ []
     next = rest_line core cores records (lines_of bytes) (end_text (length records) ∷ ([] ∷ [])) front 1
@@ -47,7 +55,9 @@ spelled_quiet core cores bytes records spells k f p =
         elim (cases_order (length records + 2) q.0) [
           | inl same ↦ omega (arith, q.2)
           | inr (inl before) ↦ absurd (closed q.0 before q.1.body.open_yet)
-          | inr (inr later) ↦ absurd (no_end core cores records (lines_of bytes) (end_text (length records) ∷ ([] ∷ [])) front q.0 q.1.body.later later q.1.shape)
+          | inr (inr later) ↦ absurd
+              (no_end core cores records (lines_of bytes)
+              (end_text (length records) ∷ ([] ∷ [])) front q.0 q.1.body.later later q.1.shape)
         ]
 
     behind-end : (f : Fault) → length records + 2 < k → FaultAt core cores (lines_of bytes) k f → ⊥
@@ -57,7 +67,8 @@ spelled_quiet core cores bytes records spells k f p =
     behind-end OutOfRange lt (inr p) = closed k lt p.0.open_yet
     behind-end TooMany lt p = closed k lt p.0.open_yet
     behind-end CountDiffers lt p = closed k lt p.0.body.open_yet
-    behind-end TrailingBytes lt (at, inl some) = nothing (subst (λ (j : ℕ). 0 < length (line (lines_of bytes) j)) (where-it-is at) some)
+    behind-end TrailingBytes lt (at, inl some) =
+        nothing (subst (λ (j : ℕ). 0 < length (line (lines_of bytes) j)) (where-it-is at) some)
     behind-end TrailingBytes lt (at, inr whole) = omega (arith, whole.1, len, where-it-is at)
     behind-end Truncated lt p = closed k lt p.1
     behind-end WrongCore lt p = omega (arith, p.0)

@@ -23,31 +23,46 @@ split_feed (b ∷ xs) =
       | inr other ↦
           elim (split_feed xs) [
             | inl one ↦ inl (All-cons (λ b. eqb b 10 ≡ false) b xs other one)
-            | inr p ↦ inr (b ∷ p.0, (p.1.0, ap (λ (ys : List ℕ). b ∷ ys) p.1.1, All-cons (λ b. eqb b 10 ≡ false) b p.0 other p.1.2))
+            | inr p ↦ inr (
+              b ∷ p.0,
+              (
+                p.1.0,
+                ap (λ (ys : List ℕ). b ∷ ys) p.1.1,
+                All-cons
+                    (λ b. eqb b 10 ≡ false) b p.0 other p.1.2,
+              ),
+            )
           ]
     ]
 
 -- the first fault, which stays unless it is Truncated
 abbrev pub Stays : ℕ → ℕ → List ℕ → Type 0
-Stays core cores bytes = (k : ℕ) × ((f : Fault) × IsFirstFault core cores bytes k f × (f ≢ Truncated → (more : List ℕ) → IsFirstFault core cores (bytes ++ more) k f))
+Stays core cores bytes =
+    (k : ℕ) × ((f : Fault) × IsFirstFault core cores bytes k f
+    × (f ≢ Truncated → (more : List ℕ) → IsFirstFault core cores (bytes ++ more) k f))
 
 abbrev pub Answered : ℕ → ℕ → List ℕ → Type 0
 Answered core cores bytes = ((records : List Record) × Spells core cores bytes records) ⊎ Stays core cores bytes
 
-far_more : (core cores : ℕ) (records : List Record) (bytes rest more : List ℕ) → SoFar core cores records bytes rest → SoFar core cores records (bytes ++ more) (rest ++ more)
-far_more core cores records bytes rest more far = (far.0, ap (λ (x : List ℕ). x ++ more) far.1 ∙ append_assoc (text_of (begun core cores records)) rest more)
+far_more : (core cores : ℕ) (records : List Record) (bytes rest more : List ℕ) → SoFar core cores records bytes rest
+    → SoFar core cores records (bytes ++ more) (rest ++ more)
+far_more core cores records bytes rest more far =
+    (far.0, ap (λ (x : List ℕ). x ++ more) far.1 ∙ append_assoc (text_of (begun core cores records)) rest more)
 
 split_more : (rest l after more : List ℕ) → rest ≡ l ++ 10 ∷ after → rest ++ more ≡ l ++ 10 ∷ (after ++ more)
 split_more rest l after more e = ap (λ (x : List ℕ). x ++ more) e ∙ append_assoc l (10 ∷ after) more
 
 -- the answer at the rest of the bytes, where shorter rests have theirs
 step : (core cores : ℕ) (records : List Record) (bytes rest : List ℕ) → SoFar core cores records bytes rest
-    → ((more-records : List Record) (after : List ℕ) → length after < length rest → SoFar core cores more-records bytes after → Answered core cores bytes) → Answered core cores bytes
+    → ((more-records : List Record) (after : List ℕ) → length after < length rest
+    → SoFar core cores more-records bytes after → Answered core cores bytes) → Answered core cores bytes
 step core cores records bytes rest far again = by_split (split_feed rest)
   where
-    by_outcome : (l after : List ℕ) → rest ≡ l ++ 10 ∷ after → IsOneLine l → BodyOutcome (length records) l → Answered core cores bytes
+    by_outcome : (l after : List ℕ) → rest ≡ l ++ 10 ∷ after → IsOneLine l → BodyOutcome (length records) l
+        → Answered core cores bytes
     by_outcome l after e one (inl p) =
-        again (records ++ p.0 ∷ []) after (omega (arith, ap length e, length-append l (10 ∷ after))) (body_taken core cores records bytes rest l after p.0 far e p.1 p.2 p.3)
+        again (records ++ p.0 ∷ []) after (omega (arith, ap length e, length-append l (10 ∷ after)))
+        (body_taken core cores records bytes rest l after p.0 far e p.1 p.2 p.3)
     by_outcome l [] e one (inr (inl is)) = inl (records, end_taken core cores records bytes rest l [] far e is refl)
     by_outcome l (b ∷ after) e one (inr (inl is)) =
         inr (
@@ -55,7 +70,9 @@ step core cores records bytes rest far again = by_split (split_feed rest)
           (
             TrailingBytes,
             end_followed core cores records bytes rest l (b ∷ after) far e one is (omega arith),
-            λ ne more. end_followed core cores records (bytes ++ more) (rest ++ more) l ((b ∷ after) ++ more) (far_more core cores records bytes rest more far) (split_more rest l (b ∷ after) more e) one is (omega arith),
+            λ ne more. end_followed core cores records (bytes ++ more) (rest ++ more) l ((b ∷ after) ++ more)
+                (far_more core cores records bytes rest more far) (split_more rest l (b ∷ after) more e) one is
+                (omega arith),
           ),
         )
     by_outcome l after e one (inr (inr p)) =
@@ -64,11 +81,13 @@ step core cores records bytes rest far again = by_split (split_feed rest)
           (
             p.0,
             body_refused core cores records bytes rest l after p.0 far e one p.1,
-            λ ne more. body_refused core cores records (bytes ++ more) (rest ++ more) l (after ++ more) p.0 (far_more core cores records bytes rest more far) (split_more rest l after more e) one p.1,
+            λ ne more. body_refused core cores records (bytes ++ more) (rest ++ more) l (after ++ more) p.0
+                (far_more core cores records bytes rest more far) (split_more rest l after more e) one p.1,
           ),
         )
 
-    by_split : IsOneLine rest ⊎ ((l : List ℕ) × ((after : List ℕ) × (rest ≡ l ++ 10 ∷ after) × IsOneLine l)) → Answered core cores bytes
+    by_split : IsOneLine rest ⊎ ((l : List ℕ) × ((after : List ℕ) × (rest ≡ l ++ 10 ∷ after) × IsOneLine l))
+        → Answered core cores bytes
     by_split (inl one) =
         elim (cases_lt line_limit (length rest)) [
           | inl long ↦ inr (
@@ -76,28 +95,43 @@ step core cores records bytes rest far again = by_split (split_feed rest)
             (
               BadLine,
               body_too_long core cores records bytes rest far one long,
-              λ ne more. subst (λ (x : List ℕ). IsFirstFault core cores (x ++ more) (length records + 2) BadLine) (sym far.1) (body_long_settled core cores records rest far.0 one long more),
+              λ ne more. subst (λ (x : List ℕ). IsFirstFault core cores (x ++ more) (length records + 2) BadLine)
+                  (sym far.1) (body_long_settled core cores records rest far.0 one long more),
             ),
           )
           | inr short ↦ inr (length records + 2, (Truncated, body_cut_off core cores records bytes rest far one short, λ ne more. absurd (ne refl)))
         ]
     by_split (inr p) = by_outcome p.0 p.1.0 p.1.1 p.1.2 (body_outcome (length records) p.0)
 
-pub walk : (n core cores : ℕ) (records : List Record) (bytes rest : List ℕ) → length rest < n → SoFar core cores records bytes rest → Answered core cores bytes
+pub walk : (n core cores : ℕ) (records : List Record) (bytes rest : List ℕ) → length rest < n
+    → SoFar core cores records bytes rest → Answered core cores bytes
 walk zero core cores records bytes rest lt far = absurd (omega arith)
 walk (suc n) core cores records bytes rest lt far =
-    step core cores records bytes rest far (λ more-records after shorter next. walk n core cores more-records bytes after (omega arith) next)
+    step core cores records bytes rest far
+    (λ more-records after shorter next. walk n core cores more-records bytes after (omega arith) next)
 
 -- every text is answered
 pub answered : (core cores : ℕ) (bytes : List ℕ) → core < cores → cores ≤ 64 → Answered core cores bytes
 answered core cores bytes lt few = by_split (split_feed bytes)
   where
-    by_outcome : (l rest : List ℕ) → bytes ≡ l ++ 10 ∷ rest → IsOneLine l → HeaderOutcome core cores l → Answered core cores bytes
-    by_outcome l rest e one (inl is) = walk (suc (length rest)) core cores [] bytes rest (omega arith) (none_so_far core cores bytes rest lt few (header_taken core cores bytes l rest e is))
+    by_outcome : (l rest : List ℕ) → bytes ≡ l ++ 10 ∷ rest → IsOneLine l → HeaderOutcome core cores l
+        → Answered core cores bytes
+    by_outcome l rest e one (inl is) =
+        walk (suc (length rest)) core cores [] bytes rest (omega arith)
+        (none_so_far core cores bytes rest lt few (header_taken core cores bytes l rest e is))
     by_outcome l rest e one (inr p) =
-        inr (1, (p.0, header_refused core cores bytes l rest p.0 e one p.1, λ ne more. header_refused core cores (bytes ++ more) l (rest ++ more) p.0 (split_more bytes l rest more e) one p.1))
+        inr (
+          1,
+          (
+            p.0,
+            header_refused core cores bytes l rest p.0 e one p.1,
+            λ ne more. header_refused core cores
+                (bytes ++ more) l (rest ++ more) p.0 (split_more bytes l rest more e) one p.1,
+          ),
+        )
 
-    by_split : IsOneLine bytes ⊎ ((l : List ℕ) × ((after : List ℕ) × (bytes ≡ l ++ 10 ∷ after) × IsOneLine l)) → Answered core cores bytes
+    by_split : IsOneLine bytes ⊎ ((l : List ℕ) × ((after : List ℕ) × (bytes ≡ l ++ 10 ∷ after) × IsOneLine l))
+        → Answered core cores bytes
     by_split (inl one) =
         elim (cases_lt line_limit (length bytes)) [
           | inl long ↦ inr (1, (BadHeader, header_too_long core cores bytes one long, λ ne more. header_long_settled core cores bytes one long more))
@@ -109,7 +143,12 @@ answered core cores bytes lt few = by_split (split_feed bytes)
 
 -- the fault of a number
 abbrev fault_of : ℕ → Fault
-fault_of n = cond (eqb n 20) BadHeader (cond (eqb n 21) BadLine (cond (eqb n 22) OutOfRange (cond (eqb n 23) TooMany (cond (eqb n 24) CountDiffers (cond (eqb n 25) TrailingBytes (cond (eqb n 26) Truncated WrongCore))))))
+fault_of n =
+    cond (eqb n 20) BadHeader
+    (cond (eqb n 21) BadLine
+    (cond (eqb n 22) OutOfRange
+    (cond (eqb n 23) TooMany
+    (cond (eqb n 24) CountDiffers (cond (eqb n 25) TrailingBytes (cond (eqb n 26) Truncated WrongCore))))))
 
 fault_back : (f : Fault) → fault_of (number f) ≡ f
 fault_back BadHeader = refl
@@ -124,22 +163,27 @@ fault_back WrongCore = refl
 pub number_once : (f g : Fault) → number f ≡ number g → f ≡ g
 number_once f g e = sym (fault_back f) ∙ ap fault_of e ∙ fault_back g
 
-first_once : (core cores : ℕ) (bytes : List ℕ) (k j : ℕ) (f g : Fault) → IsFirstFault core cores bytes k f → IsFirstFault core cores bytes j g → (k ≡ j) × (number f ≡ number g)
+first_once : (core cores : ℕ) (bytes : List ℕ) (k j : ℕ) (f g : Fault) → IsFirstFault core cores bytes k f
+    → IsFirstFault core cores bytes j g → (k ≡ j) × (number f ≡ number g)
 first_once core cores bytes k j f g p q = go (p.least j g q.holds) (q.least k f p.holds)
   where
-    go : (k < j) ⊎ ((k ≡ j) × (number f ≤ number g)) → (j < k) ⊎ ((j ≡ k) × (number g ≤ number f)) → (k ≡ j) × (number f ≡ number g)
+    go : (k < j) ⊎ ((k ≡ j) × (number f ≤ number g)) → (j < k) ⊎ ((j ≡ k) × (number g ≤ number f)) → (k ≡ j)
+        × (number f ≡ number g)
     go (inl a) (inl b) = absurd (omega arith)
     go (inl a) (inr b) = let x = b.0 in absurd (omega arith)
     go (inr a) (inl b) = let x = a.0 in absurd (omega arith)
     go (inr a) (inr b) = let x = a.1 in let y = b.1 in (a.0, omega arith)
 
 -- a text without a fault spells a log
-pub faultless_spells : (core cores : ℕ) (bytes : List ℕ) → core < cores → cores ≤ 64 → ((k : ℕ) (f : Fault) → FaultAt core cores (lines_of bytes) k f → ⊥) → (records : List Record) × Spells core cores bytes records
+pub faultless_spells : (core cores : ℕ) (bytes : List ℕ) → core < cores → cores ≤ 64
+    → ((k : ℕ) (f : Fault) → FaultAt core cores (lines_of bytes) k f → ⊥) → (records : List Record)
+    × Spells core cores bytes records
 faultless_spells core cores bytes lt few none =
     elim (answered core cores bytes lt few) [ inl p ↦ p | inr p ↦ absurd (none p.0 p.1.0 p.1.1.holds) ]
 
 -- a first fault other than Truncated stays, however the bytes go on
-pub first_stays : (core cores : ℕ) (bytes more : List ℕ) (k : ℕ) (f : Fault) → core < cores → cores ≤ 64 → IsFirstFault core cores bytes k f → f ≢ Truncated → IsFirstFault core cores (bytes ++ more) k f
+pub first_stays : (core cores : ℕ) (bytes more : List ℕ) (k : ℕ) (f : Fault) → core < cores → cores ≤ 64
+    → IsFirstFault core cores bytes k f → f ≢ Truncated → IsFirstFault core cores (bytes ++ more) k f
 first_stays core cores bytes more k f lt few first ne =
     elim (answered core cores bytes lt few) [
       | inl p ↦ absurd (spelled_quiet core cores bytes p.0 p.1 k f first.holds)
@@ -147,5 +191,6 @@ first_stays core cores bytes more k f lt few first ne =
           let same = first_once core cores bytes p.0 k p.1.0 f p.1.1 first in
           let g-is : p.1.0 ≡ f = number_once p.1.0 f same.1 in
           subst (λ (j : ℕ). IsFirstFault core cores (bytes ++ more) j f) same.0
-          (subst (λ (g : Fault). IsFirstFault core cores (bytes ++ more) p.0 g) g-is (p.1.2 (λ e. ne (sym g-is ∙ e)) more))
+          (subst (λ (g : Fault). IsFirstFault core cores (bytes ++ more) p.0 g) g-is
+          (p.1.2 (λ e. ne (sym g-is ∙ e)) more))
     ]

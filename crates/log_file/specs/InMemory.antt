@@ -2,16 +2,25 @@
 use Rattle.std.specs.Prelude.{ℕ, List}
 use Rattle.log_file.specs.declared.mem_source.MemSource.{MemSource}
 use Rattle.log_file.specs.declared.mem_sink.MemSink.{MemSink}
+use Rattle.log_file.specs.declared.step.Step.{Step}
 
 -- the bytes that weren't read yet
 abbrev pub bytes_left : MemSource → List ℕ
 bytes_left source = source.bytes.now
+
+-- what the reads from here on do
+abbrev pub reads_to_come : MemSource → List Step
+reads_to_come source = source.steps.now
 
 abbrev pub failed_reads : MemSource → ℕ
 failed_reads source = source.failures
 
 abbrev pub bytes_taken : MemSink → List ℕ
 bytes_taken sink = sink.taken.items
+
+-- what the writes from here on do
+abbrev pub writes_to_come : MemSink → List Step
+writes_to_come sink = sink.steps.now
 
 abbrev pub failed_writes : MemSink → ℕ
 failed_writes sink = sink.failures

@@ -7,7 +7,8 @@ use Rattle.log_file.specs.declared.set_fault.SetFault.{SetFault}
 use Rattle.log_file.specs.Faults.{fault_text}
 
 abbrev pub text_in_file : ℕ → LogFault → List ℕ
-text_in_file file (At line fault) = codes "file " ++ decimal file ++ codes " line " ++ decimal line ++ codes ": " ++ fault_text fault
+text_in_file file (At line fault) =
+    codes "file " ++ decimal file ++ codes " line " ++ decimal line ++ codes ": " ++ fault_text fault
 text_in_file file Read = codes "file " ++ decimal file ++ codes ": 28 Read"
 text_in_file file OutOfMemory = codes "10 OutOfMemory"
 

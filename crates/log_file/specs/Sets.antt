@@ -55,4 +55,5 @@ TellEach remaining readers texts = AllZip (λ s text. Tells (remaining s) text) 
 -- the reader of this file failed
 abbrev pub ReaderFailed : {S : Type 0} → (S → ℕ) → List S → List S → ℕ → Type 0
 ReaderFailed {S} failed old new file =
-    (before : S) × ((after : S) × (slice_get old file ≡ Some before) × (slice_get new file ≡ Some after) × Failed (failed before) (failed after))
+    (before : S) × ((after : S)
+    × (slice_get old file ≡ Some before) × (slice_get new file ≡ Some after) × Failed (failed before) (failed after))

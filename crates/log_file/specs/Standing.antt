@@ -29,9 +29,11 @@ pub record SameLog (old new : Progress) : Type 0 where
 
 -- what a whole line is that isn't refused, and the progress behind it
 abbrev pub BehindAt : Phase → Progress → List ℕ → Option Record → Progress → Type 0
-BehindAt phase.Header old line None new = (line ≡ header_text 1 old.core old.cores) × (new ≡ record old { phase = phase.Records })
+BehindAt phase.Header old line None new =
+    (line ≡ header_text 1 old.core old.cores) × (new ≡ record old { phase = phase.Records })
 BehindAt phase.Header old line (Some r) new = ⊥
-BehindAt phase.Records old line None new = (line ≡ end_text old.count) × (new ≡ record old { phase = phase.Ended })
+BehindAt phase.Records old line None new =
+    (line ≡ end_text old.count) × (new ≡ record old { phase = phase.Ended })
 BehindAt phase.Records old line (Some r) new =
     (line ≡ record_text r) × Fits r × (old.count < record_limit) × (new ≡ record old { count = old.count + 1 })
 BehindAt phase.Ended old line r new = ⊥

@@ -7,8 +7,8 @@ use crate::byte_sink::ByteSink;
 use crate::device_fault::WriteFailed;
 use std::io::Write;
 
-/// A writer of std as a sink. Each `Err` of the writer counts as a failure, and so does a write that
-/// takes nothing of a piece that isn't empty.
+/// A writer of std as a sink. Each `Err` of the writer counts as a failure, and so does a write
+/// that takes nothing of a piece that isn't empty.
 #[derive(Drop)]
 pub struct FromWrite<W> {
     writer: W,

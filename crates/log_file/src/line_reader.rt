@@ -79,7 +79,8 @@ impl LineReader {
         ensures in_range { IsInRange self.new.progress }
         ensures none_begun { OnOk result (self.new.begun.items ≡ []) }
         ensures behind { IfOk result (λ logged.
-            IsBehind self.old.progress (self.old.begun.items ++ part.now) logged self.new.progress) }
+            IsBehind self.old.progress (self.old.begun.items ++ part.now)
+            logged self.new.progress) }
         ensures refused { IfErr result (IsLineRefused self.old part.now) }
     {
         if self.begun.is_empty() {
@@ -91,8 +92,8 @@ impl LineReader {
         Ok(logged)
     }
 
-    /// Takes the bytes of the piece up to its first line feed, and answers what line they end. Where no
-    /// line feed is in the piece, it takes all of it as a part of a line, and answers None.
+    /// Takes the bytes of the piece up to its first line feed, and answers what line they end.
+    /// Where no line feed is in the piece, it takes all of it as a part of a line: None.
     pub(crate) fn next_line(&mut self, piece: &[u8]) -> Result<Option<Line>, LogFault>
         requires { IsInRange self.old.progress }
         ensures same { SameLog self.old.progress self.new.progress }
@@ -118,7 +119,8 @@ impl LineReader {
         ensures { (records : List Record) → Stands self.now records → MatchResult result
             (λ _. Spells self.now.progress.core self.now.progress.cores
             (read_text self.now records) records)
-            (IsFaultOf self.now.progress.core self.now.progress.cores (read_text self.now records)) }
+            (IsFaultOf self.now.progress.core self.now.progress.cores
+            (read_text self.now records)) }
     {
         match self.progress.phase {
             Phase::Header => Err(LogFault::At(1, Fault::Truncated)),

@@ -73,7 +73,8 @@ impl LogReader {
     pub fn feed(&mut self, piece: &[u8]) -> Result<(), LogFault>
         ensures core { self.new.core ≡ self.old.core }
         ensures cores { self.new.cores ≡ self.old.cores }
-        ensures fed { Feeds self.old.core self.old.cores self.old.fed piece.now result self.new.fed }
+        ensures fed { Feeds self.old.core self.old.cores
+            self.old.fed piece.now result self.new.fed }
         // Every fault but Truncated is answered by the call whose bytes settle it.
         ensures at_once { OnOk result (IsOpen self.new.core self.new.cores self.new.fed) }
         // No log has more bytes.

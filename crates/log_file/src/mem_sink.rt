@@ -1,14 +1,14 @@
 //! A sink in memory.
 
 ghost use Rattle.std.specs.Prelude.{◌≡◌, []};
-ghost use Rattle.log_file.specs.InMemory.{bytes_taken, failed_writes};
+ghost use Rattle.log_file.specs.InMemory.{bytes_taken, writes_to_come, failed_writes};
 
 use crate::byte_sink::ByteSink;
 use crate::device_fault::WriteFailed;
 use crate::step::Step;
 use std::alloc::Global;
 
-/// A sink that keeps in memory what it took. Its writes follow the steps, one a call, and then take
+/// A sink that keeps in memory what it took. Each write follows a step, and behind the last it takes
 /// all. Want of memory is a failure too.
 #[derive(Drop)]
 pub struct MemSink<'a> {
@@ -21,6 +21,7 @@ impl<'a> MemSink<'a> {
     /// A sink that took nothing and hasn't failed yet.
     pub fn new(alloc: Global, steps: &'a [Step]) -> MemSink<'a>
         ensures bytes { bytes_taken result ≡ [] }
+        ensures steps { writes_to_come result ≡ steps.entry.now }
         ensures failed { failed_writes result ≡ 0 }
     {
         MemSink {

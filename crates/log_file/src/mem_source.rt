@@ -1,13 +1,14 @@
 //! A source in memory.
 
 ghost use Rattle.std.specs.Prelude.{◌≡◌, ◌<◌, ◌≤◌, length, take};
-ghost use Rattle.log_file.specs.InMemory.{bytes_left, failed_reads};
+ghost use Rattle.log_file.specs.InMemory.{bytes_left, reads_to_come, failed_reads};
 
 use crate::byte_source::ByteSource;
 use crate::device_fault::ReadFailed;
 use crate::step::Step;
 
-/// A source over bytes in memory. Its reads follow the steps, one a call, and then give what there is.
+/// A source over bytes in memory. Each read follows a step, and behind the last it gives what there
+/// is.
 #[derive(Drop)]
 pub struct MemSource<'a> {
     bytes: &'a [u8],
@@ -19,6 +20,7 @@ impl<'a> MemSource<'a> {
     /// A source of these bytes that hasn't failed yet.
     pub fn new(bytes: &'a [u8], steps: &'a [Step]) -> MemSource<'a>
         ensures bytes { bytes_left result ≡ bytes.entry.now }
+        ensures steps { reads_to_come result ≡ steps.entry.now }
         ensures failed { failed_reads result ≡ 0 }
     {
         MemSource {

@@ -1,6 +1,6 @@
 //! A set of logs read from devices.
 
-ghost use Rattle.std.specs.Prelude.{◌≡◌, ◌≤◌, ℕ, List, All, length, vec_len, IfOk, IfErr};
+ghost use Rattle.std.specs.Prelude.{◌≡◌, ◌+◌, ◌≤◌, ℕ, List, All, drop, length, vec_len, IfOk, IfErr};
 ghost use Rattle.log_file.specs.Sets.{IsSetAnswer, ReaderFailed, TellEach};
 
 use crate::byte_source::ByteSource;
@@ -11,9 +11,9 @@ use log_record::Record;
 use mem_op::CoreId;
 use std::alloc::Global;
 
-/// The logs of a set, one from each reader in their order, or the fault of the first file that has one.
-/// File k is to be the log of core k, and the cores as many as the readers. No reader behind that file is
-/// read. 10 comes where a growth was refused, 28 where a read failed.
+/// The logs of a set, one from each reader in their order, or the fault of the first file that has
+/// one. File k is to be the log of core k, and the cores as many as the readers. 10 comes where a
+/// growth was refused, 28 where a read failed.
 pub fn read_set<S: ByteSource>(
     alloc: Global,
     readers: &mut [S],
@@ -25,6 +25,9 @@ pub fn read_set<S: ByteSource>(
     // A failed read is answered only where that reader failed in this call.
     ensures read { IfErr result (λ e. e.fault ≡ LogFault.Read →
         ReaderFailed S.failed readers.old readers.new e.file) }
+    // The readers behind the file that is refused aren't read.
+    ensures unread { IfErr result (λ e.
+        drop (e.file + 1) readers.new ≡ drop (e.file + 1) readers.old) }
     ensures count { IfOk result (λ logs. vec_len logs ≡ length readers.old) }
     ensures short { IfOk result (λ logs. All (λ log. vec_len log ≤ 1048576) logs.items) }
 {

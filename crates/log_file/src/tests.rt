@@ -277,10 +277,9 @@ fn sets_are_read(rt: HostRuntime) {
             "at {zero}, {one}"
         );
     }
-    // The first file is read in two pieces and its end; the second one fails at the fourth read.
-    let steps = [Step::Move(9), Step::Move(99), Step::Move(0), Step::Fail];
-    let longer =
-        "tardis-log 1 core 1 of 2\nS 1 1 12 0\nL 0 1 12 0 0.0\nL 0 1 12 0 0.0\nL 0 1 12 0 0.0\nL 0 1 12 0 0.0\nL 0 1 12 0 0.0\n";
+    // The first file comes in two pieces; the second one fails at the fourth read.
+    let steps = [Step::Move(9), Step::Move(60), Step::Move(0), Step::Fail];
+    let longer = "tardis-log 1 core 1 of 2\nS 1 1 12 0\nL 0 1 12 0 0.0\nL 0 1 12 0 0.0\nend 3\n";
     let failed = Err(SetFault {
         file: 1,
         fault: LogFault::Read,

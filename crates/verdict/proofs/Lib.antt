@@ -2,6 +2,7 @@ pub mod Bridge
 pub mod CoreFacts
 pub mod FlatAnswers
 pub mod FlatSoFar
+pub mod OneAnswer
 pub mod ProgramOrder
 pub mod Replaying
 pub mod SerialOrder

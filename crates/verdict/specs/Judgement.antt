@@ -25,6 +25,14 @@ IsAnswerTo texts (Err (Read file)) = (file < length texts) × SpellBefore texts 
 IsAnswerTo texts (Err (BadConfig count)) = Unit {0}
 IsAnswerTo texts (Err OutOfMemory) = Unit {0}
 
+-- the answer is the texts' alone: a verdict, or the fault of a log
+abbrev pub IsOfTexts : Result Verdict JudgeFault → Type 0
+IsOfTexts (Ok verdict) = Unit {0}
+IsOfTexts (Err (Log file line fault)) = Unit {0}
+IsOfTexts (Err (Read file)) = ⊥
+IsOfTexts (Err (BadConfig count)) = ⊥
+IsOfTexts (Err OutOfMemory) = ⊥
+
 abbrev pub IsYes : Verdict → Type 0
 IsYes (Yes count) = Unit {0}
 IsYes (No fault) = ⊥

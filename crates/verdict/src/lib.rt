@@ -20,6 +20,6 @@ pub use counts::check_counts;
 pub use fault::Fault;
 pub use judge_fault::{Count, JudgeFault};
 pub use judging::judge;
-pub use laws::{key_order_is_sequential, yes_is_consistent};
+pub use laws::{key_order_is_sequential, texts_have_one_answer, yes_is_consistent};
 pub use replay::replay_order;
 pub use rule::Rule;

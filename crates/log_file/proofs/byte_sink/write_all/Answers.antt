@@ -12,10 +12,14 @@ loop-at-preserved g c =
     let n = c.in_ok-at.field-0 in
     let at = c.loop-at.at in
     let e = c.in_ok-at.ensures in
-    let from_here = subst (λ (x : List ℕ). Appends (held c.loop-at.sink) (held c.write.new.self) (take n x)) (take_rest bytes at) e.bytes in
-    let so_far = appends_more (held c.args.sink.now) (held c.loop-at.sink) (held c.write.new.self) (take at bytes) (take n (drop at bytes)) c.loop-at.invariant.taken from_here in
+    let from_here = subst (λ (x : List ℕ). Appends (held c.loop-at.sink) (held c.write.new.self) (take n x))
+    (take_rest bytes at) e.bytes in
+    let so_far = appends_more (held c.args.sink.now) (held c.loop-at.sink) (held c.write.new.self) (take at bytes)
+    (take n (drop at bytes)) c.loop-at.invariant.taken from_here in
     record {
       within = omega (arith, e.bound, length-drop at bytes);
-      taken = subst (λ (x : List ℕ). Appends (held c.args.sink.now) (held c.write.new.self) x) (take_further at n bytes) so_far;
+      taken =
+          subst (λ (x : List ℕ). Appends (held c.args.sink.now) (held c.write.new.self) x)
+          (take_further at n bytes) so_far;
       quiet = e.counts ∙ c.loop-at.invariant.quiet;
     }

@@ -15,10 +15,12 @@ pub returns-in_err-feed-clause-answer : goal.returns-in_err-feed-clause-answer
 returns-in_err-feed-clause-answer g c =
     let p = err_from_is_err_and c.from_residual-in_err-feed.result c.from_residual-in_err-feed.ensures.1 in
     let rem = g.S.ByteSource.remaining in
-    let inv = c.reading.invariant in
+    let inv = c.loop-reader.invariant in
     let given = inv.2 in
     let piece = take c.in_ok-count.count c.read.new.buf in
-    source_refused c.args.core c.args.cores c.reading.reader.core c.reading.reader.cores (rem c.args.source.now) (rem c.read.new.self) given.0 piece c.in_err-feed.field-0.0
-    c.reading.reader.fed c.feed.new.self.fed c.from_residual-in_err-feed.result (p.1 ∙ ap (λ x. Err x) p.2)
-    (consumes_more (rem c.args.source.now) (rem c.reading.source) (rem c.read.new.self) given.0 piece given.2 c.in_ok-count.ensures.bytes.0)
+    source_refused c.args.core c.args.cores c.loop-reader.reader.core c.loop-reader.reader.cores (rem c.args.source.now)
+    (rem c.read.new.self) given.0 piece c.in_err-feed.field-0.0
+    c.loop-reader.reader.fed c.feed.new.self.fed c.from_residual-in_err-feed.result (p.1 ∙ ap (λ x. Err x) p.2)
+    (consumes_more (rem c.args.source.now) (rem c.loop-reader.source)
+    (rem c.read.new.self) given.0 piece given.2 c.in_ok-count.ensures.bytes.0)
     inv.0 inv.1 given.1 c.in_err-feed.ensures.fed

@@ -4,12 +4,13 @@ use Rattle.std.specs.Io.KnownBytes.{Consumes}
 use Rattle.log_file.specs.Feeding.{fed_len}
 use Rattle.log_file.proofs.one_log.read_log.Given as goal
 
-abbrev pub invariant-reading : goal.invariant-reading
-invariant-reading g l =
+abbrev pub invariant-loop-reader : goal.invariant-loop-reader
+invariant-loop-reader g l =
     (l.reader.core ≡ l.fn.core) × (l.reader.cores ≡ l.cores)
-    × ((given : List ℕ) × (l.reader.fed ≡ Ok given) × Consumes (g.S.ByteSource.remaining l.fn.source) (g.S.ByteSource.remaining l.source) given)
+    × ((given : List ℕ) × (l.reader.fed ≡ Ok given)
+    × Consumes (g.S.ByteSource.remaining l.fn.source) (g.S.ByteSource.remaining l.source) given)
     × (fed_len l.reader.fed < 2 ^ 27)
     × (g.S.ByteSource.failed l.source ≡ g.S.ByteSource.failed l.fn.source)
 
-abbrev pub decreases-reading : goal.decreases-reading
-decreases-reading g l = 2 ^ 27 - fed_len l.reader.fed
+abbrev pub decreases-loop-reader : goal.decreases-loop-reader
+decreases-loop-reader g l = 2 ^ 27 - fed_len l.reader.fed

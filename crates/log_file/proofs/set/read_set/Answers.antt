@@ -15,8 +15,10 @@ returns-in-Err-clause-answer g c =
     let a = c.in-Err.ensures.answer in
     let same = same_reader loop.readers c.args.readers.now loop.file x loop.invariant.1 in
     let tells = subst (λ s. Tells (rem s) a.0) same a.1 in
-    let holds : IsFaultOrDevice loop.file (length c.args.readers.now) a.0 c.in-Err.fault = subst (λ (k : ℕ). IsFaultOrDevice k (length c.args.readers.now) a.0 c.in-Err.fault) c.in-Ok.ensures.0 a.2 in
-    set_refused rem c.args.readers.now loop.file (length c.args.readers.now) x loop.logs.items a.0 c.in-Err.fault (omega arith) loop.invariant.2 loop.invariant.0 tells holds
+    let holds : IsFaultOrDevice loop.file (length c.args.readers.now) a.0 c.in-Err.fault = subst
+    (λ (k : ℕ). IsFaultOrDevice k (length c.args.readers.now) a.0 c.in-Err.fault) c.in-Ok.ensures.0 a.2 in
+    set_refused rem c.args.readers.now loop.file (length c.args.readers.now) x loop.logs.items a.0 c.in-Err.fault
+    (omega arith) loop.invariant.2 loop.invariant.0 tells holds
 
 pub returns-in-Err-clause-read : goal.returns-in-Err-clause-read
 returns-in-Err-clause-read g c = λ e.
@@ -32,7 +34,8 @@ returns-then-is_err-clause-answer g c =
     let a = c.in-Ok-read_log.ensures.answer in
     let same = same_reader loop.readers c.args.readers.now loop.file x loop.invariant.1 in
     let tells = subst (λ s. Tells (rem s) a.0) same a.1 in
-    set_refused rem c.args.readers.now loop.file (length c.args.readers.now) x loop.logs.items a.0 OutOfMemory (omega arith) loop.invariant.2 loop.invariant.0 tells tt
+    set_refused rem c.args.readers.now loop.file (length c.args.readers.now) x loop.logs.items a.0 OutOfMemory
+    (omega arith) loop.invariant.2 loop.invariant.0 tells tt
 
 pub loop-file-preserved : goal.loop-file-preserved
 loop-file-preserved g c =
@@ -43,9 +46,12 @@ loop-file-preserved g c =
     let a = c.in-Ok-read_log.ensures.answer in
     let same = same_reader loop.readers c.args.readers.now loop.file x loop.invariant.1 in
     let tells = subst (λ s. Tells (rem s) a.0) same a.1 in
-    let spells : Spells loop.file (length c.args.readers.now) a.0 log.items = subst (λ (k : ℕ). Spells k (length c.args.readers.now) a.0 log.items) c.in-Ok.ensures.0 a.2 in
+    let spells : Spells loop.file (length c.args.readers.now) a.0 log.items = subst
+    (λ (k : ℕ). Spells k (length c.args.readers.now) a.0 log.items) c.in-Ok.ensures.0 a.2 in
     let pushed : c.push.new.self.items ≡ loop.logs.items ++ log ∷ [] = search rules in (
-      set_more rem c.args.readers.now loop.file (length c.args.readers.now) x loop.logs.items c.push.new.self.items log a.0 (omega arith) loop.invariant.0 tells spells pushed,
+      set_more rem c.args.readers.now loop.file
+          (length c.args.readers.now) x loop.logs.items c.push.new.self.items log a.0
+          (omega arith) loop.invariant.0 tells spells pushed,
       same_behind loop.readers c.args.readers.now loop.file c.read_log.new.source loop.invariant.1,
       refl,
     )
@@ -53,12 +59,14 @@ loop-file-preserved g c =
 pub returns-clause-answer : goal.returns-clause-answer
 returns-clause-answer g c =
     let loop = c.loop-file in
-    set_done g.S.ByteSource.remaining c.args.readers.now loop.file (length c.args.readers.now) loop.logs.items (omega arith) loop.invariant.2 loop.invariant.0
+    set_done g.S.ByteSource.remaining c.args.readers.now loop.file (length c.args.readers.now) loop.logs.items
+    (omega arith) loop.invariant.2 loop.invariant.0
 
 pub returns-clause-count : goal.returns-clause-count
 returns-clause-count g c =
     let loop = c.loop-file in
-    let count = set_count g.S.ByteSource.remaining c.args.readers.now loop.file (length c.args.readers.now) loop.logs.items (omega arith) loop.invariant.0 in
+    let count = set_count g.S.ByteSource.remaining c.args.readers.now loop.file
+    (length c.args.readers.now) loop.logs.items (omega arith) loop.invariant.0 in
     loop.logs.ok.0 ∙ count
 
 pub returns-clause-short : goal.returns-clause-short

@@ -24,8 +24,10 @@ returns-in_err-logged-clause-taken c = λ records stands.
     let piece = c.args.piece.now in
     let at = c.in-Some.at in
     let first = c.in-Some.ensures in
-    let whole = sym (take-append-drop (at + 1) piece) ∙ ap (λ (xs : List ℕ). xs ++ drop (at + 1) piece) (taken_with_feed piece at first.0 first.1) in
-    rw (p.1, p.2) (line_of_piece_refused c.args.self.now records piece (take at piece) (drop (at + 1) piece) c.in_err-logged.field-0.0 stands
+    let whole = sym (take-append-drop (at + 1) piece)
+    ∙ ap (λ (xs : List ℕ). xs ++ drop (at + 1) piece) (taken_with_feed piece at first.0 first.1) in
+    rw (p.1, p.2) (line_of_piece_refused c.args.self.now records piece (take at piece)
+    (drop (at + 1) piece) c.in_err-logged.field-0.0 stands
     whole (front_is_one_line piece at first.0) c.in_err-logged.ensures.refused)
 
 pub returns-clause-taken : goal.returns-clause-taken
@@ -34,5 +36,6 @@ returns-clause-taken c = λ records stands.
     let at = c.in-Some.at in
     let first = c.in-Some.ensures in
     let e = c.in_ok-logged.ensures in
-    takes_line c.args.self.now c.end.new.self records piece (take at piece) (record { logged = c.in_ok-logged.logged; taken = at + 1 }) stands e.behind e.none_begun
+    takes_line c.args.self.now c.end.new.self records piece (take at piece)
+    (record { logged = c.in_ok-logged.logged; taken = at + 1 }) stands e.behind e.none_begun
     (omega arith) (omega (arith, first.0.high)) (taken_with_feed piece at first.0 first.1)

@@ -1,0 +1,32 @@
+-- The command line of the program: its subcommands, and the arguments of each.
+use Rattle.std.specs.Prelude.{◌-◌, ◌^◌, ℕ, Some, true, codes}
+use Rattle.clap.specs.Lexer.{usize_max}
+use Rattle.clap.specs.Simple.{on_top}
+use Rattle.clap.specs.Words.{App, Rule, Text, new_app, new_rule, with_rule, with_subcommand}
+use Rattle.clap.specs.declared.builder.action.ArgAction.TheVariants.{Set, Append}
+use Rattle.clap.specs.declared.builder.value_parser.ValueParser.TheVariants.{Unsigned}
+
+-- an option that takes a number
+abbrev pub number_option : Text → Rule
+number_option name = record (new_rule name) {
+  long = Some name;
+  value_names = 1;
+  parser = Some (Unsigned 0 18446744073709551615);
+  action = Some Set;
+}
+
+-- the files, one or more
+abbrev pub files : Rule
+files = record (new_rule (codes "FILE")) {
+  required = true;
+  range = Some (record { start_inclusive = 1; end_inclusive = usize_max });
+  action = Some Append;
+}
+
+-- tardis check [--workers N] FILE..
+abbrev pub check : App
+check = with_rule (with_rule (new_app (codes "check")) (number_option (codes "workers"))) files
+
+-- the program, which is never called without a subcommand
+abbrev pub tardis : App
+tardis = with_subcommand (on_top (λ top. record top { subcommand_required = true }) (new_app (codes "tardis"))) check.top

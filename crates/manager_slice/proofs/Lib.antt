@@ -1,0 +1,6 @@
+pub mod Entries
+pub mod Fills
+pub mod Giving
+pub mod Histories
+pub mod Kept
+pub mod RowTable

@@ -1,0 +1,10 @@
+pub mod Changes
+pub mod Faults
+pub mod Leads
+pub mod Lines
+pub mod Messages
+pub mod Outcome
+pub mod Parts
+pub mod Replay
+pub mod Rows
+pub mod Table

@@ -1,0 +1,46 @@
+//! Why a slice refuses a call.
+
+ghost use Rattle.std.specs.Prelude.{◌≡◌};
+ghost use Rattle.manager_slice.specs.declared.fault.SliceFault.TheVariants.{OutOfMemory};
+
+use std::alloc::AllocError;
+use std::fmt;
+use std::fmt::Display;
+use thiserror::Error;
+
+/// Why a slice refuses a call.
+#[derive(Clone, Copy, Debug, PartialEq, Eq, Error)]
+pub enum SliceFault {
+    /// A line is given back by a core that isn't its owner.
+    NotOwner,
+    /// The answer would carry a stamp above 281,474,976,710,656, which is 2^48.
+    StampLimit,
+    /// A history has at most 1,048,576 entries.
+    HistoryFull,
+    /// Memory of the host was refused.
+    OutOfMemory,
+}
+
+impl Display for SliceFault {
+    ghost use Rattle.std.specs.Prelude.{Some};
+    ghost use Rattle.manager_slice.specs.Faults.{fault_text};
+
+    ghost output = { λ fault. Some (fault_text fault) };
+
+    fn fmt<W: fmt::Write>(&self, f: &mut fmt::Formatter<W>) -> fmt::Result {
+        match self {
+            SliceFault::NotOwner => f.write_str("11 NotOwner"),
+            SliceFault::StampLimit => f.write_str("4 StampLimit"),
+            SliceFault::HistoryFull => f.write_str("12 HistoryFull"),
+            SliceFault::OutOfMemory => f.write_str("10 OutOfMemory"),
+        }
+    }
+}
+
+impl From<AllocError> for SliceFault {
+    ghost from_gives = { λ _ fault. fault ≡ OutOfMemory };
+
+    fn from(_refused: AllocError) -> SliceFault {
+        SliceFault::OutOfMemory
+    }
+}

@@ -1,0 +1,18 @@
+//! The manager slices: the second table of the protocol, exact, with a history of each slice.
+#![tactic(auto)]
+
+mod fault;
+mod lines;
+mod managed;
+mod row;
+mod slice;
+mod state;
+
+pub use fault::SliceFault;
+pub use lines::ServedLines;
+pub use managed::{HistoryEntry, ManagedLine};
+pub use slice::ManagerSlice;
+pub use state::SliceState;
+
+#[cfg(test)]
+mod tests;

@@ -1,0 +1,4 @@
+pub mod Entries
+pub mod Lines
+pub mod Shown
+pub mod Least

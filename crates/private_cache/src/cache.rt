@@ -1,0 +1,308 @@
+//! The private cache.
+
+ghost use Rattle.std.specs.Prelude.{◌≡◌, ◌<◌, ◌↔◌, IsTrue, IsSome, IsNone, IfSome, IsSomeAnd, IsOk, IfOk, IfErr, OnOk, OnErr, MatchResult};
+ghost use Rattle.std.specs.FinMap as map;
+
+use super::answer::{Evicted, Load, Store};
+use super::fault::FillFault;
+use super::held::{Held, copy_of, filled};
+use lease_rule::{Config, load_stamp, rank_of, store_stamp, write_back_rts};
+use line_stamps::{Line, LineStamps, Message, Rank, Recall, RecallKind, Reply, Stamp, StampFault};
+use lru::LruCache;
+use mem_op::{Addr, OpId, Source, Word};
+use std::alloc::{AllocError, Global};
+use std::marker::Model;
+use std::num::NonZeroUsize;
+
+/// The lines of a core, with the order in which they were used last.
+#[derive(Drop)]
+pub struct PrivateCache {
+    lines: LruCache<Addr, Held>,
+}
+
+impl Model for PrivateCache {
+    ghost use Rattle.std.specs.Prelude.{nat_eq};
+    ghost use Rattle.std.specs.List.{IsDistinct};
+    ghost use Rattle.std.specs.Map.{keys_of};
+    ghost use Rattle.std.specs.FinMap as map;
+    ghost use Rattle.private_cache.specs.CacheParts.{CacheParts, cache_code};
+
+    ghost Value = { CacheParts };
+
+    ghost coded = { cache_code };
+
+    ghost view = { λ c. record {
+      lines = map.from_entries c.lines.entries;
+      order = keys_of c.lines.entries;
+      capacity = c.lines.cap;
+    } };
+
+    ghost invariant = { λ c. IsDistinct nat_eq (keys_of c.lines.entries) };
+}
+
+impl PrivateCache {
+    ghost use Rattle.private_cache.specs.Table.{load_hit, store_hit, recalled};
+    ghost use Rattle.private_cache.specs.Steps.{empty_cache, line_at, used, kept, without, after_operation, after_recall, has_room, fill_line, least_recently_used, IsLeastExclusive};
+    ghost use Rattle.private_cache.specs.Answers.{hit_fault, give_fault, load_answer, store_answer, recall_answer, evict_answer};
+
+    /// An empty cache of as many lines as the configuration says.
+    pub fn new(alloc: Global, config: &Config) -> Result<PrivateCache, AllocError>
+        ensures { IfOk result (λ cache. cache ≡ empty_cache config.now.cache_lines) }
+    {
+        let capacity = NonZeroUsize::new(config.cache_lines()).unwrap();
+        Ok(PrivateCache {
+            lines: LruCache::new(alloc, capacity)?,
+        })
+    }
+
+    // The line of the address.
+    fn line(&self, addr: Addr) -> Option<Held>
+        ensures { result ≡ line_at self.now addr }
+    {
+        self.lines.peek(&addr).copied()
+    }
+
+    // The address, which is there or has room, gets this line and becomes the most recently used.
+    fn put(&mut self, addr: Addr, held: &Held) -> Result<(), FillFault>
+        requires { IsTrue (has_room self.old addr) }
+        ensures ok { OnOk result (self.new ≡ used self.old addr held.now) }
+        ensures err { OnErr result (self.new ≡ self.old) }
+        ensures there { IsSome (line_at self.old addr) → IsOk result }
+        ensures fault { IfErr result (λ fault. fault ≡ FillFault.OutOfMemory) }
+    {
+        match self.lines.put(addr, *held) {
+            Ok(_) => Ok(()),
+            Err(_) => Err(FillFault::OutOfMemory),
+        }
+    }
+
+    // The address, which is there and so takes no memory, gets this line and becomes the most
+    // recently used.
+    fn touch(&mut self, addr: Addr, held: &Held)
+        requires { IsSome (line_at self.old addr) }
+        ensures { self.new ≡ used self.old addr held.now }
+    {
+        let _ = self.put(addr, held);
+    }
+
+    // The address, which is there, gets this line, and the order of use stays.
+    fn settle(&mut self, addr: Addr, held: &Held)
+        requires { IsSome (line_at self.old addr) }
+        ensures { self.new ≡ kept self.old addr held.now }
+    {
+        if let Some(place) = self.lines.peek_mut(&addr) {
+            *place = *held;
+        }
+    }
+
+    // Takes the line of the address out.
+    fn take_out(&mut self, addr: Addr) -> Option<Held>
+        ensures value { result ≡ line_at self.old addr }
+        ensures after { self.new ≡ without self.old addr }
+    {
+        self.lines.pop(&addr)
+    }
+
+    // Whether there is room for one line more, or the address is there.
+    fn has_room(&self, addr: Addr) -> bool
+        ensures value { result ≡ has_room self.now addr }
+        ensures some { 0 < self.now.capacity }
+    {
+        self.lines.len() < self.lines.cap().get() || self.lines.contains(&addr)
+    }
+
+    // The address of the least recently used line.
+    fn oldest(&self) -> Option<Addr>
+        ensures value { result ≡ least_recently_used self.now }
+        ensures there { IfSome result (λ oldest. IsSome (line_at self.now oldest)) }
+        ensures none { IsNone result → map.len self.now.lines ≡ 0 }
+    {
+        let (oldest, _) = self.lines.peek_lru()?;
+        Some(*oldest)
+    }
+
+    /// Loads the word at `addr` for a core of stamp `pts` and rank `r`. A hit makes the line the
+    /// most recently used; a miss answers the request to send and changes nothing. 5 RankLimit
+    /// where the load's rank is above the limit. No memory.
+    pub fn load(&mut self, addr: Addr, pts: Stamp, r: Rank) -> Result<Load, StampFault>
+        ensures answer { let held = line_at self.old addr in
+            let hit = load_hit pts r held in
+            MatchResult result
+            (λ load. (load ≡ load_answer addr pts held hit) × (hit_fault hit ≡ None))
+            (λ fault. hit_fault hit ≡ Some fault) }
+        ensures ok { let hit = load_hit pts r (line_at self.old addr) in
+            OnOk result (self.new ≡ after_operation self.old addr hit) }
+        ensures err { OnErr result (self.new ≡ self.old) }
+    {
+        let held = &self.line(addr);
+        let miss = Message::ShReq {
+            addr,
+            copy: copy_of(held),
+            pts,
+        };
+        let Some(held) = held else {
+            return Ok(Load::Miss(miss));
+        };
+        let Line {
+            value,
+            source,
+            stamps,
+        } = held.line();
+        if held.is_shared() && stamps.rts < pts {
+            return Ok(Load::Miss(miss));
+        }
+        let stamp = load_stamp(pts, stamps.wts);
+        let rank = rank_of(stamp, pts, r, stamps.wts, stamps.wr)?;
+        self.touch(addr, &held.read_at(stamp));
+        Ok(Load::Hit {
+            value: *value,
+            source: *source,
+            stamp,
+            rank,
+        })
+    }
+
+    /// Stores a word at `addr` for a core of stamp `pts` and rank `r`; `id` is the store's own. A
+    /// hit makes the line the most recently used; a miss answers the request to send and changes
+    /// nothing. 4 StampLimit or 5 RankLimit where the store's stamp or rank is above its limit.
+    /// No memory.
+    pub fn store(
+        &mut self,
+        addr: Addr,
+        value: Word,
+        id: OpId,
+        pts: Stamp,
+        r: Rank,
+    ) -> Result<Store, StampFault>
+        ensures answer { let held = line_at self.old addr in
+            let hit = store_hit value (Source.Store id) pts r held in
+            MatchResult result
+            (λ store. (store ≡ store_answer addr held hit) × (hit_fault hit ≡ None))
+            (λ fault. hit_fault hit ≡ Some fault) }
+        ensures ok { let hit = store_hit value (Source.Store id) pts r (line_at self.old addr) in
+            OnOk result (self.new ≡ after_operation self.old addr hit) }
+        ensures err { OnErr result (self.new ≡ self.old) }
+    {
+        let held = &self.line(addr);
+        let Some(Held::Exclusive { modified, line }) = held else {
+            return Ok(Store::Miss(Message::ExReq {
+                addr,
+                copy: copy_of(held),
+            }));
+        };
+        let stamps = line.stamps;
+        let stamp = store_stamp(pts, stamps.rts, *modified)?;
+        let rank = rank_of(stamp, pts, r, stamps.wts, stamps.wr)?;
+        self.touch(
+            addr,
+            &Held::Exclusive {
+                modified: true,
+                line: Line {
+                    value,
+                    source: Source::Store(id),
+                    stamps: LineStamps::at(stamp, rank),
+                },
+            },
+        );
+        Ok(Store::Hit { stamp, rank })
+    }
+
+    /// The least recently used line, which has to go before `addr` can be filled; none where `addr`
+    /// is there, or there is room for it. No memory.
+    pub fn victim(&self, addr: Addr) -> Option<Addr>
+        ensures none { IsNone result ↔ IsTrue (has_room self.now addr) }
+        ensures least { IfSome result (λ victim. least_recently_used self.now ≡ Some victim) }
+        ensures there { IfSome result (λ victim. IsSome (line_at self.now victim)) }
+    {
+        if self.has_room(addr) {
+            return None;
+        }
+        self.oldest()
+    }
+
+    /// The least address whose line is Exclusive; none where no line is. No memory.
+    pub fn least_exclusive(&self) -> Option<Addr>
+        ensures { IsLeastExclusive self.now result }
+    {
+        let mut least: Option<Addr> = None;
+        for (addr, held) in self.lines.iter() {
+            if !held.is_shared() {
+                least = match &least {
+                    None => Some(*addr),
+                    Some(found) => Some((*found).min(*addr)),
+                };
+            }
+        }
+        least
+    }
+
+    /// Takes the line of `addr` out: a Shared one is dropped, an Exclusive one is to be given back.
+    /// No memory.
+    pub fn evict(&mut self, addr: Addr) -> Evicted
+        ensures answer { result ≡ evict_answer addr (line_at self.old addr) }
+        ensures after { self.new ≡ without self.old addr }
+    {
+        match &self.take_out(addr) {
+            None => Evicted::Nothing,
+            Some(Held::Shared(_)) => Evicted::Dropped,
+            Some(Held::Exclusive { line, .. }) => {
+                Evicted::GiveBack(Message::FlushRep { addr, line: *line })
+            }
+        }
+    }
+
+    /// Gives an Exclusive line back, as the recall asks: the message to send, or none where the line
+    /// isn't there as Exclusive, and then nothing changes. A write-back keeps the line as Shared and
+    /// leaves the order of use; a flush takes the line out. The recall's owner isn't looked at.
+    /// 4 StampLimit where the `rts` of a write-back is above the limit. No memory.
+    pub fn recall(&mut self, recall: &Recall, lease: u64) -> Result<Option<Message>, StampFault>
+        ensures answer { let given = recalled recall.now lease (line_at self.old recall.now.addr) in
+            MatchResult result
+            (λ answer. (answer ≡ recall_answer recall.now given) × (give_fault given ≡ None))
+            (λ fault. give_fault given ≡ Some fault) }
+        ensures ok { let given = recalled recall.now lease (line_at self.old recall.now.addr) in
+            OnOk result (self.new ≡ after_recall self.old recall.now given) }
+        ensures err { OnErr result (self.new ≡ self.old) }
+    {
+        let addr = recall.addr;
+        let Some(Held::Exclusive { line, .. }) = &self.line(addr) else {
+            return Ok(None);
+        };
+        match recall.kind {
+            RecallKind::WriteBack => {
+                let rts = write_back_rts(line.stamps, recall.rts, lease)?;
+                let line = Line {
+                    stamps: LineStamps { rts, ..line.stamps },
+                    ..*line
+                };
+                self.settle(addr, &Held::Shared(line));
+                Ok(Some(Message::WbRep { addr, line }))
+            }
+            RecallKind::Flush => {
+                let _ = self.take_out(addr);
+                Ok(Some(Message::FlushRep { addr, line: *line }))
+            }
+        }
+    }
+
+    /// Fills a reply in at `addr`, and makes its line the most recently used. 14 BadReply where the
+    /// reply doesn't fit the line, or a new line finds the cache full. 10 OutOfMemory only where the
+    /// line isn't there. A refusal changes nothing.
+    pub fn fill(&mut self, addr: Addr, reply: &Reply) -> Result<(), FillFault>
+        ensures ok { OnOk result (IsSomeAnd (fill_line self.old addr reply.now)
+            (λ held. self.new ≡ used self.old addr held)) }
+        ensures bad_reply { (result ≡ Err FillFault.BadReply)
+            ↔ (fill_line self.old addr reply.now ≡ None) }
+        ensures out_of_memory { result ≡ Err FillFault.OutOfMemory
+            → IsNone (line_at self.old addr) }
+        ensures err { OnErr result (self.new ≡ self.old) }
+    {
+        if !self.has_room(addr) {
+            return Err(FillFault::BadReply);
+        }
+        let Some(held) = &filled(&self.line(addr), reply) else {
+            return Err(FillFault::BadReply);
+        };
+        self.put(addr, held)
+    }
+}

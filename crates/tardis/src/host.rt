@@ -1,0 +1,71 @@
+//! The host's files, and its standard input under the name `/dev/stdin`.
+
+ghost use Rattle.tardis.specs.Host.{failed_reads};
+
+use log_file::{ByteSource, FromRead, ReadFailed, WriteFailed};
+use std::fs;
+use std::fs::File;
+use std::io::Stdin;
+use tardis_command::Folder;
+
+/// A file, or the standard input.
+#[derive(Drop)]
+pub enum HostSource {
+    /// A file.
+    File(FromRead<File>),
+    /// The standard input.
+    Input(FromRead<Stdin>),
+}
+
+impl ByteSource for HostSource {
+    ghost failed = { failed_reads };
+
+    fn read(&mut self, buf: &mut [u8]) -> Result<usize, ReadFailed> {
+        match self {
+            HostSource::File(source) => source.read(buf),
+            HostSource::Input(source) => source.read(buf),
+        }
+    }
+
+    fn failures(&self) -> u64 {
+        match self {
+            HostSource::File(source) => source.failures(),
+            HostSource::Input(source) => source.failures(),
+        }
+    }
+}
+
+/// The host's files by their paths.
+#[derive(Clone, Copy)]
+pub struct HostFolder<'a> {
+    rt: &'a HostRuntime,
+}
+
+impl<'a> HostFolder<'a> {
+    /// The files of the host.
+    pub fn new(rt: &'a HostRuntime) -> HostFolder<'a> {
+        HostFolder { rt }
+    }
+}
+
+impl<'a> Folder for HostFolder<'a> {
+    type Source = HostSource;
+
+    fn open_file(&self, name: &str) -> Result<HostSource, ReadFailed> {
+        // Whoever may read the standard input may still be refused to open it by its name.
+        if name == "/dev/stdin" {
+            return Ok(HostSource::Input(FromRead::new(self.rt.stdin())));
+        }
+        match fs::open(self.rt, name) {
+            Ok(file) => Ok(HostSource::File(FromRead::new(file))),
+            Err(_) => Err(ReadFailed),
+        }
+    }
+
+    fn put(&mut self, name: &str, bytes: &[u8]) -> Result<(), WriteFailed> {
+        match fs::write(self.rt, name, bytes) {
+            Ok(()) => Ok(()),
+            Err(_) => Err(WriteFailed),
+        }
+    }
+}

@@ -1,0 +1,116 @@
+-- How a call of the program ends.
+use Rattle.std.specs.Prelude.{◌≡◌, ◌≤◌, ◌⊎◌, ⊤, ℕ, List, [], ◌∷◌, ◌++◌, Option, Result, Ok, Err, length, take}
+use Rattle.std.specs.Io.KnownBytes.{Appends, Keeps}
+use Rattle.command_line.specs.Asking.{Asks, IsCommandLine}
+use Rattle.command_line.specs.declared.request.Request.{Request}
+use Rattle.command_line.specs.declared.request.Request.TheVariants.{Check}
+use Rattle.log_file.specs.Devices.{Failed}
+use Rattle.verdict.specs.Texts.{verdict_text}
+use Rattle.verdict.specs.declared.answer.Verdict.{Verdict}
+use Rattle.verdict.specs.declared.answer.Verdict.TheVariants.{Yes, No}
+use Rattle.verdict.specs.declared.judge_fault.JudgeFault.{JudgeFault}
+use Rattle.verdict.specs.declared.judge_fault.JudgeFault.TheVariants.{OutOfMemory}
+use Rattle.tardis_command.specs.Checking.{FilesAreConsistent, IsChecked}
+use Rattle.tardis_command.specs.Faults.{command_fault_text, fault_status}
+use Rattle.tardis_command.specs.declared.fault.CommandFault.{CommandFault}
+use Rattle.tardis_command.specs.declared.fault.CommandFault.TheVariants.{Judge, Output}
+
+-- by a verdict, by one that couldn't be printed, by a refusal, or with what the user is told of words that
+-- are no command line
+pub data Ending : Type 0 where
+  Answered : Verdict → Ending
+  Unprinted : Verdict → Ending
+  Refused : JudgeFault → Ending
+  Misused : List ℕ → Ending
+
+-- a text and its line feed
+abbrev pub line : List ℕ → List ℕ
+line text = text ++ 10 ∷ []
+
+abbrev pub verdict_status : Verdict → ℕ
+verdict_status (Yes count) = 0
+verdict_status (No fault) = 1
+
+-- the exit status
+abbrev pub status_of : Ending → ℕ
+status_of (Answered verdict) = verdict_status verdict
+status_of (Unprinted verdict) = fault_status Output
+status_of (Refused fault) = fault_status (Judge fault)
+status_of (Misused text) = 3
+
+-- what standard error is told
+abbrev pub complaint_of : Ending → List ℕ
+complaint_of (Answered verdict) = []
+complaint_of (Unprinted verdict) = line (command_fault_text Output)
+complaint_of (Refused fault) = line (command_fault_text (Judge fault))
+complaint_of (Misused text) = text
+
+-- ---- why
+
+-- what was asked may end so
+abbrev pub IsEndOf : (List ℕ → Option (List ℕ)) → Request → Ending → Type 0
+IsEndOf told (Check asked) (Answered verdict) = IsChecked told asked (Ok verdict)
+IsEndOf told (Check asked) (Unprinted verdict) = IsChecked told asked (Ok verdict)
+IsEndOf told (Check asked) (Refused fault) = IsChecked told asked (Err fault)
+IsEndOf told (Check asked) (Misused text) = ⊥
+
+-- the words ask for something of which this holds
+abbrev pub AskFor : List (List ℕ) → (Request → Type 0) → Type 0
+AskFor words Holds = (asked : Request) × Asks words asked × Holds asked
+
+-- a call with these words may end so; memory may run out before it is known what they ask for
+abbrev pub IsEnd : (List ℕ → Option (List ℕ)) → List (List ℕ) → Ending → Type 0
+IsEnd told words (Misused text) = ¬ (IsCommandLine words)
+IsEnd told words (Refused fault) = AskFor words (λ asked. IsEndOf told asked (Refused fault)) ⊎ (fault ≡ OutOfMemory)
+IsEnd told words (Answered verdict) = AskFor words (λ asked. IsEndOf told asked (Answered verdict))
+IsEnd told words (Unprinted verdict) = AskFor words (λ asked. IsEndOf told asked (Unprinted verdict))
+
+-- the files that were asked for spell a set whose operations are sequentially consistent
+abbrev pub AreConsistent : (List ℕ → Option (List ℕ)) → Request → Type 0
+AreConsistent told (Check asked) = FilesAreConsistent told asked
+
+-- ---- the two outputs
+
+-- what a sink took, where it tells that, and how often it failed
+pub record Sink : Type 0 where
+  pub contents : Option (List ℕ)
+  pub failed : ℕ
+
+abbrev pub sink_of : {S : Type 0} → (S → Option (List ℕ)) → (S → ℕ) → S → Sink
+sink_of contents failed s = record { contents = contents s; failed = failed s }
+
+abbrev pub HasFailed : Sink → Sink → Type 0
+HasFailed old new = Failed old.failed new.failed
+
+abbrev pub TakesBeginning : Sink → Sink → List ℕ → Type 0
+TakesBeginning old new text = (n : ℕ) × (n ≤ length text) × Appends old.contents new.contents (take n text)
+
+-- the sink took the text, or failed behind a beginning of it
+abbrev pub Takes : Sink → Sink → List ℕ → Type 0
+Takes old new text = Appends old.contents new.contents text ⊎ (HasFailed old new × TakesBeginning old new text)
+
+-- standard output takes the line of a verdict, or fails behind a beginning of it, or holds what it held
+abbrev pub OutputAt : Sink → Sink → Ending → Type 0
+OutputAt old new (Answered verdict) = Appends old.contents new.contents (line (verdict_text verdict))
+OutputAt old new (Unprinted verdict) = HasFailed old new × TakesBeginning old new (line (verdict_text verdict))
+OutputAt old new (Refused fault) = Keeps old.contents new.contents ⊎ HasFailed old new
+OutputAt old new (Misused text) = Keeps old.contents new.contents
+
+-- ---- all of it
+
+-- what was asked ended so, and left standard output so
+abbrev pub IsDoneBy : (List ℕ → Option (List ℕ)) → Request → Sink → Sink → Ending → Type 0
+IsDoneBy told asked out out' ending = IsEndOf told asked ending × OutputAt out out' ending
+
+-- how an ending is answered: by an exit status, or by a fault
+abbrev pub IsAnswered : Ending → Result ℕ CommandFault → Type 0
+IsAnswered (Answered verdict) answer = answer ≡ Ok (verdict_status verdict)
+IsAnswered (Unprinted verdict) answer = answer ≡ Err Output
+IsAnswered (Refused fault) answer = answer ≡ Err (Judge fault)
+IsAnswered (Misused text) answer = ⊥
+
+-- a call with these words ended so, and left standard output and standard error so
+pub record EndsBy (told : List ℕ → Option (List ℕ)) (words : List (List ℕ)) (out out' err err' : Sink) (ending : Ending) : Type 0 where
+  pub end : IsEnd told words ending
+  pub output : OutputAt out out' ending
+  pub complaint : Takes err err' (complaint_of ending)

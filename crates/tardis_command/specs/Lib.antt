@@ -1,0 +1,4 @@
+pub mod Checking
+pub mod Endings
+pub mod Faults
+pub mod Printing

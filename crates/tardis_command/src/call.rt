@@ -1,0 +1,105 @@
+//! One call of the program.
+
+ghost use Rattle.std.specs.Prelude.{◌≡◌, IfOk};
+ghost use Rattle.command_line.specs.Asking.{texts};
+ghost use Rattle.tardis_command.specs.Checking.{FilesAreConsistent};
+ghost use Rattle.tardis_command.specs.Endings as endings;
+
+use crate::check::check;
+use crate::fault::CommandFault;
+use crate::folder::Folder;
+use crate::output::{print_verdict, refuse, tell};
+use command_line::{Check, Refusal, Request, read};
+use log_file::ByteSink;
+use std::alloc::Global;
+use std::thread::Threads;
+use verdict::{JudgeFault, Verdict};
+
+/// The exit status of a call whose words are no command line of the program.
+const USAGE: u8 = 3;
+
+/// Does what the words of a command line ask for, of which the first is the program's own name, and
+/// answers the exit status: 0 for Yes, 1 for No, 2 where a log is refused, 3 where the words are or
+/// a count is out of range, else 4. A verdict goes to standard output, all else to standard error.
+pub fn command<R: Threads + Sync, F: Folder, O: ByteSink, E: ByteSink>(
+    rt: &R,
+    alloc: Global,
+    words: &[&str],
+    folder: &mut F,
+    out: &mut O,
+    err: &mut E,
+) -> u8
+    ensures ends { (ending : endings.Ending) × (result ≡ endings.status_of ending)
+        × endings.EndsBy (F.told folder.old) (texts words.entry.now)
+        (endings.sink_of O.contents O.failed out.old)
+        (endings.sink_of O.contents O.failed out.new)
+        (endings.sink_of E.contents E.failed err.old)
+        (endings.sink_of E.contents E.failed err.new) ending }
+    ensures sound { result ≡ 0 → endings.AskFor (texts words.entry.now)
+        (endings.AreConsistent (F.told folder.old)) }
+{
+    let request = match read(alloc, words) {
+        Ok(request) => request,
+        Err(Refusal::Usage(text)) => {
+            tell(err, text.as_str());
+            return USAGE;
+        }
+        Err(Refusal::OutOfMemory) => {
+            return refuse(alloc, err, CommandFault::Judge(JudgeFault::OutOfMemory));
+        }
+    };
+    match perform(rt, alloc, &request, folder, out) {
+        Ok(status) => status,
+        Err(fault) => refuse(alloc, err, fault),
+    }
+}
+
+/// Does what was asked, and answers the exit status.
+fn perform<R: Threads + Sync, F: Folder, O: ByteSink>(
+    rt: &R,
+    alloc: Global,
+    request: &Request<'_>,
+    folder: &mut F,
+    out: &mut O,
+) -> Result<u8, CommandFault>
+    ensures exact { (ending : endings.Ending) × endings.IsAnswered ending result
+        × endings.IsDoneBy (F.told folder.old) request.now
+        (endings.sink_of O.contents O.failed out.old)
+        (endings.sink_of O.contents O.failed out.new) ending }
+    ensures sound { IfOk result (λ status. status ≡ 0
+        → endings.AreConsistent (F.told folder.old) request.now) }
+{
+    match request {
+        Request::Check(asked) => perform_check(rt, alloc, asked, folder, out),
+    }
+}
+
+/// Prints the verdict on the files of a set, and answers its exit status.
+fn perform_check<R: Threads + Sync, F: Folder, O: ByteSink>(
+    rt: &R,
+    alloc: Global,
+    asked: &Check<'_>,
+    folder: &F,
+    out: &mut O,
+) -> Result<u8, CommandFault>
+    ensures exact { (ending : endings.Ending) × endings.IsAnswered ending result
+        × endings.IsDoneBy (F.told folder.now) (Request.Check asked.now)
+        (endings.sink_of O.contents O.failed out.old)
+        (endings.sink_of O.contents O.failed out.new) ending }
+    ensures sound { IfOk result (λ status. status ≡ 0
+        → FilesAreConsistent (F.told folder.now) asked.now) }
+{
+    let verdict = check(rt, alloc, folder, asked)?;
+    print_verdict(alloc, out, verdict)?;
+    Ok(status(&verdict))
+}
+
+/// The exit status of a verdict: 0 for Yes, 1 for No.
+fn status(verdict: &Verdict) -> u8
+    ensures { result ≡ endings.verdict_status verdict.now }
+{
+    match verdict {
+        Verdict::Yes(_) => 0,
+        Verdict::No(_) => 1,
+    }
+}

@@ -1,0 +1,62 @@
+//! What the program prints.
+
+ghost use Rattle.std.specs.Prelude.{◌≡◌, ◌⊎◌, IfErr, OnOk};
+ghost use Rattle.std.specs.Io.KnownBytes.{Appends};
+ghost use Rattle.verdict.specs.Texts.{verdict_text};
+ghost use Rattle.verdict.specs.declared.judge_fault.JudgeFault.TheVariants.{OutOfMemory};
+ghost use Rattle.tardis_command.specs.Endings as endings;
+ghost use Rattle.tardis_command.specs.Faults as faults;
+ghost use Rattle.tardis_command.specs.Printing as printing;
+ghost use Rattle.tardis_command.specs.declared.fault.CommandFault.TheVariants.{Judge};
+
+use crate::fault::CommandFault;
+use log_file::{ByteSink, write_all};
+use std::alloc::Global;
+use verdict::{JudgeFault, Verdict};
+
+/// Prints the line of a verdict: 29 where standard output fails, and then it took a beginning of it.
+pub(crate) fn print_verdict<O: ByteSink>(
+    alloc: Global,
+    out: &mut O,
+    verdict: Verdict,
+) -> Result<(), CommandFault>
+    ensures ok { OnOk result (Appends (O.contents out.old) (O.contents out.new)
+        (endings.line (verdict_text verdict))) }
+    ensures err { IfErr result (printing.IsUnprinted
+        (endings.sink_of O.contents O.failed out.old)
+        (endings.sink_of O.contents O.failed out.new)
+        (endings.line (verdict_text verdict))) }
+{
+    let line = format!(in alloc; "{verdict}\n")?;
+    write_all(out, line.as_bytes())?;
+    Ok(())
+}
+
+/// Tells the user of a refusal on standard error, and answers its exit status. Where there is no
+/// memory for that, it tells of this in its place.
+pub(crate) fn refuse<E: ByteSink>(alloc: Global, err: &mut E, fault: CommandFault) -> u8
+    ensures { (told : CommandFault) × ((told ≡ fault) ⊎ (told ≡ Judge OutOfMemory))
+        × endings.Takes (endings.sink_of E.contents E.failed err.old)
+        (endings.sink_of E.contents E.failed err.new)
+        (endings.line (faults.command_fault_text told))
+        × (result ≡ faults.fault_status told) }
+{
+    match format!(in alloc; "{fault}\n") {
+        Ok(line) => {
+            tell(err, line.as_str());
+            fault.status()
+        }
+        Err(_) => {
+            tell(err, "refused: 10 OutOfMemory\n");
+            CommandFault::Judge(JudgeFault::OutOfMemory).status()
+        }
+    }
+}
+
+/// Tells the user on standard error. A write that fails is passed over.
+pub(crate) fn tell<E: ByteSink>(err: &mut E, text: &str)
+    ensures { endings.Takes (endings.sink_of E.contents E.failed err.old)
+        (endings.sink_of E.contents E.failed err.new) text.now }
+{
+    let _ = write_all(err, text.as_bytes());
+}

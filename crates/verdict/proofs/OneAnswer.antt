@@ -1,0 +1,111 @@
+-- The texts of a set have one verdict, or one first fault.
+use Rattle.std.specs.Prelude.{◌≡◌, ◌<◌, ◌≤◌, ℕ, zero, suc, ◌+◌, ◌==◌, ◌⊎◌, if◌then◌else◌, List, [], ◌∷◌, length, refl, Result, Ok, Err}
+use Rattle.std.proofs.Common.{sym, ◌∙◌, ap, subst, inl, inr, arith}
+use Rattle.std.proofs.lemmas.Bool.{cases_lt}
+use Rattle.log_record.specs.declared.record.Record.{Record}
+use Rattle.log_file.specs.declared.fault.Fault.{Fault}
+use Rattle.log_file.specs.declared.fault.Fault.TheVariants.{BadHeader, BadLine, OutOfRange, TooMany, CountDiffers, TrailingBytes, Truncated, WrongCore}
+use Rattle.log_file.specs.Log.{Spells, IsFirstFault, number}
+use Rattle.log_file.specs.Sets.{SpellFrom, SpellSet, text_at, IsFirstOfSet}
+use Rattle.log_file.proofs.Once.{one_log}
+use Rattle.log_file.proofs.Spelled.{spelled_quiet}
+use Rattle.verdict.specs.declared.answer.Verdict.{Verdict}
+use Rattle.verdict.specs.declared.judge_fault.JudgeFault.{JudgeFault}
+use Rattle.verdict.specs.declared.judge_fault.JudgeFault.TheVariants.{BadConfig, Log, OutOfMemory as NoMemory, Read}
+use Rattle.verdict.specs.VerdictOf.{verdict_of}
+use Rattle.verdict.specs.Judgement.{IsVerdictOn, IsAnswerTo, IsOfTexts}
+
+-- texts spell one set
+one_set : (core cores : ℕ) (texts : List (List ℕ)) (logs others : List (List Record)) → SpellFrom core cores texts logs → SpellFrom core cores texts others → logs ≡ others
+one_set core cores [] [] [] h k = refl
+one_set core cores [] [] (other ∷ others) h k = absurd k
+one_set core cores [] (log ∷ logs) others h k = absurd h
+one_set core cores (text ∷ texts) [] others h k = absurd h
+one_set core cores (text ∷ texts) (log ∷ logs) [] h k = absurd k
+one_set core cores (text ∷ texts) (log ∷ logs) (other ∷ others) h k =
+    let first : log ≡ other = one_log core cores text log other h.0 k.0 in
+    let later : logs ≡ others = one_set (core + 1) cores texts logs others h.1 k.1 in
+    cc
+
+-- the text of each file of a set that is spelled spells a log
+spelled_at : (core cores : ℕ) (texts : List (List ℕ)) (logs : List (List Record)) (file : ℕ) → SpellFrom core cores texts logs → file < length texts → (log : List Record) × Spells (core + file) cores (text_at texts file) log
+spelled_at core cores [] logs file h l = absurd (omega arith)
+spelled_at core cores (text ∷ texts) [] file h l = absurd h
+spelled_at core cores (text ∷ texts) (log ∷ logs) zero h l = (log, subst (λ c. Spells c cores text log) (let z : core ≡ core + 0 = omega arith in z) h.0)
+spelled_at core cores (text ∷ texts) (log ∷ logs) (suc file) h l =
+    let found = spelled_at (core + 1) cores texts logs file h.1 (omega arith) in
+    (found.0, subst (λ c. Spells c cores (text_at texts file) found.0) (let z : core + 1 + file ≡ core + suc file = omega arith in z) found.1)
+
+-- a set that is spelled has no fault
+spelled_or_faulty : (texts : List (List ℕ)) (logs : List (List Record)) (file line : ℕ) (fault : Fault) → SpellSet texts logs → IsFirstOfSet texts file line fault → ⊥
+spelled_or_faulty texts logs file line fault h k =
+    let found = spelled_at 0 (length texts) texts logs file h k.there in
+    let spelled : Spells file (length texts) (text_at texts file) found.0 = subst (λ c. Spells c (length texts) (text_at texts file) found.0) (let z : 0 + file ≡ file = omega arith in z) found.1 in
+    spelled_quiet file (length texts) (text_at texts file) found.0 spelled line fault k.first.holds
+
+fault_of : ℕ → Fault
+fault_of n =
+    if n == 20 then BadHeader else (if n == 21 then BadLine else (if n == 22 then OutOfRange else (if n == 23 then TooMany
+    else (if n == 24 then CountDiffers else (if n == 25 then TrailingBytes else (if n == 26 then Truncated else WrongCore))))))
+
+numbered : (fault : Fault) → fault_of (number fault) ≡ fault
+unfolding fault_of
+numbered BadHeader = refl
+numbered BadLine = refl
+numbered OutOfRange = refl
+numbered TooMany = refl
+numbered CountDiffers = refl
+numbered TrailingBytes = refl
+numbered Truncated = refl
+numbered WrongCore = refl
+
+-- a text has one first fault
+one_first : (core cores : ℕ) (text : List ℕ) (k j : ℕ) (f g : Fault) → IsFirstFault core cores text k f → IsFirstFault core cores text j g → (k ≡ j) × (f ≡ g)
+one_first core cores text k j f g h i = go (h.least j g i.holds) (i.least k f h.holds)
+  where
+    go : (k < j) ⊎ ((k ≡ j) × (number f ≤ number g)) → (j < k) ⊎ ((j ≡ k) × (number g ≤ number f)) → (k ≡ j) × (f ≡ g)
+    go (inl a) (inl b) = absurd (omega arith)
+    go (inl a) (inr b) = absurd (omega (arith, b.0))
+    go (inr a) (inl b) = absurd (omega (arith, a.0))
+    go (inr a) (inr b) = (a.0, (let same : number f ≡ number g = omega (arith, a.1, b.1) in sym (numbered f) ∙ ap fault_of same ∙ numbered g))
+
+-- of two first faults of a set neither is at a file in front of the other's
+not_before : (texts : List (List ℕ)) (file line other_file other_line : ℕ) (fault other : Fault) → IsFirstOfSet texts file line fault → IsFirstOfSet texts other_file other_line other → file < other_file → ⊥
+not_before texts file line other_file other_line fault other h k l =
+    let spelled = k.before file l in
+    spelled_quiet file (length texts) (text_at texts file) spelled.0 spelled.1 line fault h.first.holds
+
+same_fault : (texts : List (List ℕ)) (file line other_file other_line : ℕ) (fault other : Fault) → IsFirstOfSet texts file line fault → IsFirstOfSet texts other_file other_line other → ◌≡◌ {A = JudgeFault} (Log file line fault) (Log other_file other_line other)
+same_fault texts file line other_file other_line fault other h k = elim (cases_lt file other_file) [
+  | inl l ↦ absurd (not_before texts file line other_file other_line fault other h k l)
+  | inr l ↦ elim (cases_lt other_file file) [
+    | inl m ↦ absurd (not_before texts other_file other_line file line other fault k h m)
+    | inr m ↦ at_one_file (let e : file ≡ other_file = omega arith in e)
+  ]
+]
+  where
+    at_one_file : file ≡ other_file → ◌≡◌ {A = JudgeFault} (Log file line fault) (Log other_file other_line other)
+    at_one_file e =
+        let there : IsFirstFault file (length texts) (text_at texts file) other_line other = subst (λ n. IsFirstFault n (length texts) (text_at texts n) other_line other) (sym e) k.first in
+        let one = one_first file (length texts) (text_at texts file) line other_line fault other h.first there in
+        let lines : line ≡ other_line = one.0 in
+        let faults : fault ≡ other = one.1 in
+        cc
+
+same_verdict : (texts : List (List ℕ)) (a b : Verdict) → IsVerdictOn texts a → IsVerdictOn texts b → a ≡ b
+same_verdict texts a b h k = h.2 ∙ ap verdict_of (one_set 0 (length texts) texts h.0 k.0 h.1 k.1) ∙ sym k.2
+
+pub one_answer : (texts : List (List ℕ)) (a b : Result Verdict JudgeFault) → IsOfTexts a → IsOfTexts b → IsAnswerTo texts a → IsAnswerTo texts b → a ≡ b
+one_answer texts (Ok a) (Ok b) p q h k = ap (λ v. Ok v) (same_verdict texts a b h k)
+one_answer texts (Ok a) (Err (Log file line fault)) p q h k = absurd (spelled_or_faulty texts h.0 file line fault h.1 k)
+one_answer texts (Ok a) (Err (Read file)) p q h k = absurd q
+one_answer texts (Ok a) (Err (BadConfig count)) p q h k = absurd q
+one_answer texts (Ok a) (Err NoMemory) p q h k = absurd q
+one_answer texts (Err (Log file line fault)) (Ok b) p q h k = absurd (spelled_or_faulty texts k.0 file line fault k.1 h)
+one_answer texts (Err (Log file line fault)) (Err (Log other_file other_line other)) p q h k = ap (λ e. Err e) (same_fault texts file line other_file other_line fault other h k)
+one_answer texts (Err (Log file line fault)) (Err (Read other)) p q h k = absurd q
+one_answer texts (Err (Log file line fault)) (Err (BadConfig count)) p q h k = absurd q
+one_answer texts (Err (Log file line fault)) (Err NoMemory) p q h k = absurd q
+one_answer texts (Err (Read file)) b p q h k = absurd p
+one_answer texts (Err (BadConfig count)) b p q h k = absurd p
+one_answer texts (Err NoMemory) b p q h k = absurd p
