@@ -3,7 +3,7 @@ use Rattle.std.specs.Prelude.{◌≡◌, ◌⊎◌, ◌<◌, ◌^◌, ⊤, ℕ, 
 use Rattle.std.specs.Borrow.{Bor}
 use Rattle.std.specs.Str.Parse.{IsNumeral, digits_value, without_leading_plus}
 use Rattle.clap.specs.Faults.{fault_of}
-use Rattle.clap.specs.Words.{Row, Text, all_of, one_of, subcommand_of}
+use Rattle.clap.specs.Words.{Row, Text, all_of, first_of, one_of, subcommand_of}
 use Rattle.command_line.specs.Grammar.{tardis}
 use Rattle.command_line.specs.declared.refusal.Refusal.{Refusal}
 use Rattle.command_line.specs.declared.refusal.Refusal.TheVariants.{Usage, OutOfMemory}
@@ -24,9 +24,15 @@ abbrev pub IsCount : Option Text → ℕ → Type 0
 IsCount None n = n ≡ 1
 IsCount (Some text) n = (IsNumber text × (n ≡ digits_value 10 (without_leading_plus text))) ⊎ ((¬ (IsNumber text)) × (n ≡ 1))
 
--- a check of the files that were given, by the workers that were given
-abbrev pub IsCheck : List Row → Check → Type 0
-IsCheck rows check = IsCount (one_of (codes "workers") rows) check.workers × (texts check.files.items ≡ unwrap_or (all_of (codes "FILE") rows) [])
+-- the text of a word, where there is one
+abbrev pub text_of : Option (Bor Text) → Option Text
+text_of = option_map (λ word. word.now)
+
+-- a check of the files that were given, by the workers and against the programs that were given
+pub record IsCheck (rows : List Row) (check : Check) : Type 0 where
+  pub workers : IsCount (one_of (codes "workers") rows) check.workers
+  pub program : text_of check.program ≡ first_of (codes "program") rows
+  pub files : texts check.files.items ≡ unwrap_or (all_of (codes "FILE") rows) []
 
 abbrev pub IsAskedBy : List Row → Request → Type 0
 IsAskedBy rows (request.Check check) = IsCheck rows check

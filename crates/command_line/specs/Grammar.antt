@@ -15,6 +15,10 @@ number_option name = record (new_rule name) {
   action = Some Set;
 }
 
+-- an option that takes the name of a file
+abbrev pub file_option : Text → Rule
+file_option name = record (new_rule name) { long = Some name; value_names = 1; action = Some Set }
+
 -- the files, one or more
 abbrev pub files : Rule
 files = record (new_rule (codes "FILE")) {
@@ -23,9 +27,13 @@ files = record (new_rule (codes "FILE")) {
   action = Some Append;
 }
 
--- tardis check [--workers N] FILE..
+-- [--workers N] [--program F]
+abbrev pub with_check_options : App → App
+with_check_options app = with_rule (with_rule app (number_option (codes "workers"))) (file_option (codes "program"))
+
+-- tardis check [--workers N] [--program F] FILE..
 abbrev pub check : App
-check = with_rule (with_rule (new_app (codes "check")) (number_option (codes "workers"))) files
+check = with_rule (with_check_options (new_app (codes "check"))) files
 
 -- the program, which is never called without a subcommand
 abbrev pub tardis : App

@@ -12,6 +12,8 @@ pub enum Request<'a> {
 pub struct Check<'a> {
     /// How many workers judge it.
     pub workers: u64,
+    /// The name of the file of the programs that the cores ran, where one is given.
+    pub program: Option<&'a str>,
     /// The names of its files, that of core 0 first.
     pub files: Vec<&'a str>,
 }

@@ -1,7 +1,7 @@
 //! Reads the words of a command line.
 
 ghost use Rattle.std.specs.Prelude.{◌≡◌, IfOk, MatchResult, [], codes, false, unwrap_or};
-ghost use Rattle.clap.specs.Words.{all_of, app_of, found_of, kind_of, one_of, rows_of, rule_of};
+ghost use Rattle.clap.specs.Words.{all_of, app_of, first_of, found_of, kind_of, one_of, rows_of, rule_of};
 ghost use Rattle.clap.specs.declared.builder.command.Command.TheViews.{out-Command as fields_of};
 ghost use Rattle.clap.specs.declared.error.kind.ErrorKind.TheVariants as kind;
 ghost use Rattle.command_line.specs.Asking as asking;
@@ -47,10 +47,22 @@ fn check<'a>(alloc: Global) -> Result<Command<'a>, AllocError>
     ensures app { IfOk result (λ command. app_of command ≡ grammar.check) }
     ensures local { IfOk result (λ command. (fields_of command).has_globals ≡ false) }
 {
-    Command::new(alloc, "check")
-        .about("Tells whether a set of logs, one of each core, is consistent")
+    let command = Command::new(alloc, "check").about(
+        "Tells whether a set of logs, one of each core, is consistent",
+    );
+    with_check_options(alloc, command)?.arg(files(alloc).help("The logs, that of core 0 first"))
+}
+
+/// A command with the options of a check.
+fn with_check_options<'a>(alloc: Global, command: Command<'a>) -> Result<Command<'a>, AllocError>
+    ensures app { IfOk result (λ made. app_of made
+        ≡ grammar.with_check_options (app_of command.entry)) }
+    ensures local { (fields_of command.entry).has_globals ≡ false
+        → IfOk result (λ made. (fields_of made).has_globals ≡ false) }
+{
+    command
         .arg(number(alloc, "workers").help("How many workers judge, 1 where it isn't given"))?
-        .arg(files(alloc).help("The logs, that of core 0 first"))
+        .arg(file(alloc, "program").help("The programs that the cores ran"))
 }
 
 /// An option that takes a number.
@@ -62,6 +74,17 @@ fn number<'a>(alloc: Global, name: &'a str) -> Arg<'a>
         .long(name)
         .value_name("N")
         .value_parser(value_parser!(u64))
+        .action(ArgAction::Set)
+}
+
+/// An option that takes the name of a file.
+fn file<'a>(alloc: Global, name: &'a str) -> Arg<'a>
+    ensures rule { rule_of result ≡ grammar.file_option name.entry.now }
+    ensures local { result.global ≡ false }
+{
+    Arg::new(alloc, name)
+        .long(name)
+        .value_name("F")
         .action(ArgAction::Set)
 }
 
@@ -82,6 +105,7 @@ fn check_of<'a>(alloc: Global, matches: &ArgMatches<'a>) -> Result<Check<'a>, Al
 {
     Ok(Check {
         workers: count_of(matches, "workers"),
+        program: name_of(matches, "program"),
         files: files_of(alloc, matches)?,
     })
 }
@@ -91,6 +115,13 @@ fn count_of(matches: &ArgMatches<'_>, name: &str) -> u64
     ensures { asking.IsCount (one_of name.now (rows_of (found_of matches.now))) result }
 {
     matches.get_one(name).unwrap_or(1)
+}
+
+/// The name of the file that an option gives, or none where the option isn't there.
+fn name_of<'a>(matches: &ArgMatches<'a>, option: &str) -> Option<&'a str>
+    ensures { asking.text_of result ≡ first_of option.now (rows_of (found_of matches.now)) }
+{
+    matches.get_str(option)
 }
 
 /// The names of the files.

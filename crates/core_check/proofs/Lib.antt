@@ -1,2 +1,4 @@
+pub mod ConformingFacts
 pub mod FaultFacts
 pub mod OrderFaultFacts
+pub mod ProgramFaultFacts

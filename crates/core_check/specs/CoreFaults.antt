@@ -1,12 +1,14 @@
 -- The core faults of a set of logs, stated over all its records at once.
-use Rattle.std.specs.Prelude.{Bool, false, List, Option, slice_get, filter, map}
+use Rattle.std.specs.Prelude.{ℕ, suc, Bool, false, List, [], ◌∷◌, ◌++◌, Option, slice_get, filter, map}
 use Rattle.std.specs.Option.{option_map_or}
 use Rattle.mem_op.specs.declared.id.OpId.{OpId}
 use Rattle.line_stamps.specs.Least.{least_of}
+use Rattle.core_program.specs.declared.instruction.Instruction.{Instruction}
+use Rattle.core_program.specs.Conforming.{program_fault}
 use Rattle.log_record.specs.declared.record.Record.{Record}
 use Rattle.log_record.specs.declared.record.Entry.{Entry}
-use Rattle.log_record.specs.Entries.{entries}
-use Rattle.core_check.specs.declared.fault.CoreRule.TheVariants.{CoreOrder}
+use Rattle.log_record.specs.Entries.{entries, operation_of}
+use Rattle.core_check.specs.declared.fault.CoreRule.TheVariants.{CoreOrder, Program}
 use Rattle.core_check.specs.declared.fault.CoreFault.{CoreFault}
 use Rattle.core_check.specs.FaultOrder.{core_fault_cmp}
 use Rattle.core_check.specs.CoreOrder.{is_core_fault}
@@ -25,3 +27,25 @@ order_faults logs = map (λ e. order_fault e.id) (filter (breaks_core_order logs
 
 abbrev pub least_core_fault : List (List Record) → Option CoreFault
 least_core_fault logs = least_of core_fault_cmp (order_faults logs)
+
+-- ---- with programs
+
+-- the fault of an id at which a log isn't what its core's program issues
+abbrev pub program_fault_at : OpId → CoreFault
+program_fault_at id = record { rule = Program; id = id }
+
+-- the PROGRAM fault of a core's log, if it has one
+abbrev pub program_faults_of : ℕ → List Instruction → List Record → List CoreFault
+program_faults_of core program log =
+    option_map_or (λ i. program_fault_at (record { core = core; index = i }) ∷ []) (program_fault program (map operation_of log)) []
+
+-- the PROGRAM faults of a core and of those after it, each log by the program beside it
+abbrev pub program_faults_from : ℕ → List (List Instruction) → List (List Record) → List CoreFault
+program_faults_from core [] logs = []
+program_faults_from core (program ∷ programs) [] = []
+program_faults_from core (program ∷ programs) (log ∷ logs) =
+    program_faults_of core program log ++ program_faults_from (suc core) programs logs
+
+-- all PROGRAM faults of the set
+abbrev pub program_faults : List (List Instruction) → List (List Record) → List CoreFault
+program_faults programs logs = program_faults_from 0 programs logs

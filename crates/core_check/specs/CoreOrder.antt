@@ -1,5 +1,5 @@
 -- The order of a core's records: (ts, rank) never falls.
-use Rattle.std.specs.Prelude.{◌≡◌, ◌<◌, ℕ, zero, suc, Bool, true, false, List, Option, Some, None, slice_get}
+use Rattle.std.specs.Prelude.{ℕ, zero, suc, Bool, false, List, Option, Some, None, slice_get}
 use Rattle.std.specs.declared.cmp.Ordering.{Ordering}
 use Rattle.std.specs.Ordering.{nat_cmp, on, then_cmp, is_lt}
 use Rattle.log_record.specs.declared.record.Record.{Record}
@@ -18,8 +18,3 @@ falls (Some earlier) (Some later) = is_lt (stamp_cmp later earlier)
 abbrev pub is_core_fault : List Record → ℕ → Bool
 is_core_fault log zero = false
 is_core_fault log (suc i) = falls (slice_get log i) (slice_get log (suc i))
-
--- the least number that passes, or none where none passes
-abbrev pub IsLeastWhere : (ℕ → Bool) → Option ℕ → Type 0
-IsLeastWhere passes None = (i : ℕ) → passes i ≡ false
-IsLeastWhere passes (Some i) = (passes i ≡ true) × ((j : ℕ) → j < i → passes j ≡ false)

@@ -1,7 +1,8 @@
 //! The order of a core's records.
 
 ghost use Rattle.std.specs.Prelude.{◌<◌, length, IfSome};
-ghost use Rattle.core_check.specs.CoreOrder.{IsLeastWhere, is_core_fault};
+ghost use Rattle.core_program.specs.Least.{IsLeastWhere};
+ghost use Rattle.core_check.specs.CoreOrder.{is_core_fault};
 
 use log_record::Record;
 

@@ -1,7 +1,7 @@
 //! Laws of core faults. Each function does nothing: its contract is the law.
 
 ghost use Rattle.core_check.specs.Laws.{CoreFaultsAreTotallyOrdered, TiedCoreFaultsAreOne};
-ghost use Rattle.core_check.specs.Laws.{OrderFaultsAreWhereLogsFall};
+ghost use Rattle.core_check.specs.Laws.{OrderFaultsAreWhereLogsFall, ProgramFaultsAreWhereLogsDiffer};
 
 /// Core faults are totally ordered.
 pub fn core_faults_are_totally_ordered()
@@ -17,4 +17,10 @@ pub fn tied_core_faults_are_one()
 /// logs.
 pub fn order_faults_are_where_logs_fall()
     ensures { OrderFaultsAreWhereLogsFall }
+{}
+
+/// The PROGRAM faults of a set are the places at which one of its logs differs from what its core's
+/// program issues.
+pub fn program_faults_are_where_logs_differ()
+    ensures { ProgramFaultsAreWhereLogsDiffer }
 {}

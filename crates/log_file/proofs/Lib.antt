@@ -17,3 +17,4 @@ pub mod Spelled
 pub mod Standing
 pub mod Steps
 pub mod Walk
+pub mod Writing

@@ -8,6 +8,8 @@ pub mod Laws
 pub mod Log
 pub mod OneLine
 pub mod SetFaults
+pub mod ReadFaults
 pub mod Sets
 pub mod Standing
 pub mod Wrapped
+pub mod WriteFaults

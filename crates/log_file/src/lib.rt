@@ -1,4 +1,4 @@
-//! Log files: the devices that hold them, and the reader of one.
+//! Log files: the devices that hold them, the reader of one, and its writer.
 #![tactic(auto)]
 
 mod byte_sink;
@@ -18,9 +18,13 @@ mod one_log;
 mod phase;
 mod pieces;
 mod progress;
+mod read;
+mod read_fault;
 mod set;
 mod set_fault;
 mod step;
+mod write;
+mod write_fault;
 
 pub use byte_sink::{ByteSink, write_all};
 pub use byte_source::ByteSource;
@@ -37,9 +41,13 @@ pub use mem_sink::MemSink;
 pub use mem_source::MemSource;
 pub use one_log::read_log;
 pub use pieces::read_pieces;
+pub use read::read_all;
+pub use read_fault::ReadFault;
 pub use set::read_set;
 pub use set_fault::SetFault;
 pub use step::Step;
+pub use write::write_log;
+pub use write_fault::WriteFault;
 
 #[cfg(test)]
 mod tests;

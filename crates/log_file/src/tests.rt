@@ -204,6 +204,33 @@ fn a_failed_read_is_told(rt: HostRuntime) {
 }
 
 #[test]
+fn all_bytes_are_read(rt: HostRuntime) -> Result<(), Fail> {
+    let steps = [Step::Move(0), Step::Move(29), Step::Move(2)];
+    let mut source = MemSource::new(THREE_RECORDS.as_bytes(), &steps);
+    let bytes = read_all(rt.alloc(), &mut source)?;
+    assert_eq!(rt; bytes.as_slice(), THREE_RECORDS.as_bytes());
+    assert_eq!(rt;
+        read_all(rt.alloc(), &mut source)?.len(),
+        0,
+        "the end stays"
+    );
+    for k in 0..3 {
+        let mut steps = [Step::Move(6); 12];
+        steps[k] = Step::Fail;
+        let mut source = MemSource::new(THREE_RECORDS.as_bytes(), &steps);
+        let answer = read_all(rt.alloc(), &mut source);
+        assert_eq!(rt; answer.err(), Some(ReadFault::Read), "read {k} fails");
+        assert_eq!(rt; source.failures(), 1);
+    }
+    assert_eq!(rt; ReadFault::Read.to_string(rt.alloc())?.as_str(), "28 Read");
+    assert_eq!(rt;
+        ReadFault::OutOfMemory.to_string(rt.alloc())?.as_str(),
+        "10 OutOfMemory"
+    );
+    Ok(())
+}
+
+#[test]
 fn pieces_are_read_together(rt: HostRuntime) -> Result<(), Fail> {
     let alloc = rt.alloc();
     let mut pieces = Vec::new(alloc);

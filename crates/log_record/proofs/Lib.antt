@@ -1,7 +1,5 @@
 pub mod Ends
 pub mod EntryFacts
 pub mod Lines
-pub mod Numbers
-pub mod Printing
 pub mod Raws
 pub mod Records

@@ -1,43 +1,24 @@
 -- What every line of a log is like: no line feed in it, short where its numbers are in range, and determined
 -- by its text.
-use Rattle.std.proofs.Common.{◌≡◌, ℕ, zero, suc, ◌+◌, ◌<◌, ◌≤◌, ◌^◌, Bool, true, false, eqb, List, [], ◌∷◌, ◌++◌, length, refl, sym, ap, subst, ◌∙◌, arith, length-append, ◌&&◌, not}
+use Rattle.std.proofs.Common.{◌≡◌, ℕ, ◌+◌, ◌<◌, ◌≤◌, ◌^◌, List, [], ◌∷◌, ◌++◌, length, refl, sym, ap, subst, ◌∙◌, arith, length-append}
 use Rattle.std.specs.Prelude.{codes}
-use Rattle.std.specs.List.{All}
-use Rattle.std.proofs.lemmas.Bool.{ne_eqb, and_parts, not-true}
 use Rattle.std.proofs.lemmas.Fmt.{length-decimal-le}
 use Rattle.mem_op.specs.declared.id.Source.{Source}
 use Rattle.mem_op.specs.declared.id.Source.TheVariants as source
 use Rattle.log_record.specs.declared.record.Act.{Act}
 use Rattle.log_record.specs.declared.record.Act.TheVariants as act
 use Rattle.log_record.specs.declared.record.Record.{Record}
-use Rattle.log_record.specs.Line.{numeral, source_text, record_text, header_text, end_text, line_limit, Fits, ActFits, SourceFits}
+use Rattle.decimal_text.specs.Numbers.{numeral}
+use Rattle.log_record.specs.Line.{source_text, record_text, header_text, end_text, line_limit, Fits, ActFits, SourceFits}
 use Rattle.log_record.specs.Reading.{Fields, record_of, header_of, end_of}
-use Rattle.log_record.proofs.Numbers.{AreDigits, numeral_digits, digit_low}
-use Rattle.log_record.proofs.Records.{fields_text, fields_in, tagged_text, record_text_is, record_again, some_is}
+pub use Rattle.decimal_text.proofs.Lines.{NoLf, NoLf-append, NoLf-all, numeral_no_lf}
+use Rattle.decimal_text.proofs.Lines.{const_no_lf}
+use Rattle.log_record.proofs.Records.{fields_text, fields_in, tagged_text, record_text_is, record_again}
+use Rattle.decimal_text.proofs.Reading.{some_is}
 use Rattle.log_record.proofs.Ends.{header_text_is, header_again, end_again}
-use Rattle.log_record.proofs.Printing.{numeral_decimal}
+use Rattle.decimal_text.proofs.Printing.{numeral_decimal}
 
 -- ---- no line feed
-
-abbrev pub NoLf : List ℕ → Type 0
-NoLf [] = Unit {0}
-NoLf (b ∷ bs) = (eqb b 10 ≡ false) × NoLf bs
-
-pub NoLf-append : (xs ys : List ℕ) → NoLf xs → NoLf ys → NoLf (xs ++ ys)
-NoLf-append [] ys p q = q
-NoLf-append (x ∷ xs) ys p q = (p.0, NoLf-append xs ys p.1 q)
-
-pub NoLf-all : (xs : List ℕ) → NoLf xs → All (λ b. eqb b 10 ≡ false) xs
-NoLf-all [] p k d lt = absurd (omega arith)
-NoLf-all (x ∷ xs) p zero d lt = p.0
-NoLf-all (x ∷ xs) p (suc k) d lt = NoLf-all xs p.1 k d (omega arith)
-
-digits_no_lf : (ds : List ℕ) → AreDigits ds → NoLf ds
-digits_no_lf [] all = tt
-digits_no_lf (d ∷ ds) all = (ne_eqb d 10 (λ e. omega (arith, e, digit_low d all.0)), digits_no_lf ds all.1)
-
-pub numeral_no_lf : (n : ℕ) → NoLf (numeral n)
-numeral_no_lf n = digits_no_lf (numeral n) (numeral_digits n)
 
 source_no_lf : (s : Source) → NoLf (source_text s)
 source_no_lf source.Init = (refl, (refl, (refl, (refl, tt))))
@@ -58,15 +39,6 @@ tagged_no_lf (act.Load s) f rank =
 
 pub record_no_lf : (r : Record) → NoLf (record_text r)
 record_no_lf r = subst NoLf (sym (record_text_is r)) (tagged_no_lf r.act (fields_in r) r.rank)
-
--- the text of a constant, by a test that computes
-abbrev no_lf_test : List ℕ → Bool
-no_lf_test [] = true
-no_lf_test (b ∷ bs) = not (eqb b 10) && no_lf_test bs
-
-const_no_lf : (xs : List ℕ) → no_lf_test xs ≡ true → NoLf xs
-const_no_lf [] e = tt
-const_no_lf (b ∷ bs) e = let p = and_parts (not (eqb b 10)) (no_lf_test bs) e in (not-true (eqb b 10) p.0, const_no_lf bs p.1)
 
 pub header_no_lf : (format core cores : ℕ) → NoLf (header_text format core cores)
 unfolding header_text

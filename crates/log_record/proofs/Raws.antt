@@ -9,9 +9,9 @@ use Rattle.log_record.specs.declared.record.Record.{Record}
 use Rattle.log_record.specs.declared.raw.RawRecord.{RawRecord}
 use Rattle.log_record.specs.Line.{record_text, IsRecordShape, Fits, ActFits, SourceFits}
 use Rattle.log_record.specs.Reading.{record_of}
-use Rattle.log_record.specs.Numbers.{as_u64}
+use Rattle.decimal_text.specs.Numbers.{as_u64}
 use Rattle.log_record.specs.Raw.{raw_of, raw_act_of, raw_source_of}
-use Rattle.log_record.proofs.Numbers.{as_u64_some, as_u64_none}
+use Rattle.decimal_text.proofs.Numbers.{as_u64_some, as_u64_none}
 use Rattle.log_record.proofs.Records.{record_takes, record_again}
 
 as_u64_back : (m n : ℕ) → as_u64 m ≡ as_u64 n → n < 2 ^ 64 → m ≡ n

@@ -1,57 +1,19 @@
 -- What is read as a record is its line, and the line of a record is read as that record.
-use Rattle.std.proofs.Common.{◌≡◌, ℕ, true, false, eqb, List, [], ◌∷◌, ◌++◌, length, Option, Some, None, is_some, refl, sym, ap, subst, ◌∙◌, append_assoc, inl, inr}
+use Rattle.std.proofs.Common.{◌≡◌, ℕ, true, List, [], ◌∷◌, ◌++◌, Some, None, is_some, refl, sym, ap, subst, ◌∙◌, append_assoc, inl, inr}
 use Rattle.std.specs.Prelude.{codes}
-use Rattle.std.proofs.lemmas.Bool.{cases_Bool, cases_eq, ne_eqb, eqb-true, cond-true, cond-false}
-use Rattle.std.proofs.lemmas.List.{append-nil, nil_from_length}
+use Rattle.std.proofs.lemmas.Bool.{cases_Bool, cases_eq, ne_eqb, cond-true, cond-false}
+use Rattle.std.proofs.lemmas.List.{append-nil}
 use Rattle.mem_op.specs.declared.id.Source.{Source}
 use Rattle.mem_op.specs.declared.id.Source.TheVariants as source
 use Rattle.log_record.specs.declared.record.Act.{Act}
 use Rattle.log_record.specs.declared.record.Act.TheVariants as act
 use Rattle.log_record.specs.declared.record.Record.{Record}
-use Rattle.log_record.specs.Line.{numeral, source_text, record_text}
-use Rattle.log_record.specs.Reading.{◌>>=◌, whole, number_at, after, field_at, last_number, store_source_at, source_at, Fields, fields_at, made, store_at, load_at, tagged_at, record_of, is_digit}
-use Rattle.log_record.proofs.Numbers.{guard_some, NoDigit, number_takes, number_again, after_takes, after_again, AreDigits, numeral_digits, numeral_some}
-
--- the value of a step that did not fail
-pub bind_some : {A B : Type 0} (o : Option A) (f : A → Option B) (y : B) → (o >>= f) ≡ Some y → (x : A) × (o ≡ Some x) × (f x ≡ Some y)
-bind_some None f y e = absurd cc
-bind_some (Some x) f y e = (x, refl, e)
-
-pub some_is : {A : Type 0} (x y : A) → Some x ≡ Some y → x ≡ y
-some_is x y e = cc
-
-pub whole_some : {A : Type 0} (o : Option (A × List ℕ)) (x : A) → whole o ≡ Some x → o ≡ Some (x, [])
-whole_some None x e = absurd cc
-whole_some {A} (Some y) x e =
-    let g = guard_some (eqb (length y.1) 0) y.0 x e in
-    let none : y.1 ≡ [] = nil_from_length y.1 (eqb-true (length y.1) 0 g.0) in
-    ap (λ (r : List ℕ). Some (y.0, r)) none ∙ ap (λ (v : A). Some (v, [])) g.1
-
--- ---- a number and a byte
-
-pub field_takes : (c : ℕ) (bytes : List ℕ) (x : ℕ × List ℕ) → field_at c bytes ≡ Some x → bytes ≡ numeral x.0 ++ (c ∷ x.1)
-unfolding field_at
-field_takes c bytes x e =
-    let n = bind_some (number_at bytes) (λ n. after (c ∷ []) n.1 >>= λ rest. Some (n.0, rest)) x e in
-    let a = bind_some (after (c ∷ []) n.0.1) (λ rest. Some (n.0.0, rest)) x n.2 in
-    let all : bytes ≡ numeral n.0.0 ++ (c ∷ a.0) = number_takes bytes n.0 n.1 ∙ ap (λ (r : List ℕ). numeral n.0.0 ++ r) (after_takes (c ∷ []) n.0.1 a.0 a.1) in
-    subst (λ (y : ℕ × List ℕ). bytes ≡ numeral y.0 ++ (c ∷ y.1)) (some_is (n.0.0, a.0) x a.2) all
-
-pub field_again : (c : ℕ) (n : ℕ) (rest : List ℕ) → is_digit c ≡ false → field_at c (numeral n ++ (c ∷ rest)) ≡ Some (n, rest)
-unfolding field_at
-field_again c n rest none = rw (number_again n (c ∷ rest) none, after_again (c ∷ []) rest) refl
-
--- ---- a number at the end
-
-pub last_takes : (bytes : List ℕ) (n : ℕ) → last_number bytes ≡ Some n → bytes ≡ numeral n
-unfolding last_number
-last_takes bytes n e = number_takes bytes (n, []) (whole_some (number_at bytes) n e) ∙ append-nil (numeral n)
-
-pub last_again : (n : ℕ) → last_number (numeral n) ≡ Some n
-unfolding last_number
-last_again n =
-    let e : number_at (numeral n) ≡ Some (n, []) = ap number_at (sym (append-nil (numeral n))) ∙ number_again n [] tt in
-    rw e refl
+use Rattle.decimal_text.specs.Numbers.{numeral}
+use Rattle.decimal_text.specs.Reading.{◌>>=◌, number_at, after, field_at, is_digit}
+use Rattle.log_record.specs.Line.{source_text, record_text}
+use Rattle.log_record.specs.Reading.{store_source_at, source_at, Fields, fields_at, made, store_at, load_at, tagged_at, record_of}
+use Rattle.decimal_text.proofs.Numbers.{NoDigit, number_takes, number_again, after_takes, after_again, AreDigits, numeral_digits, numeral_some}
+use Rattle.decimal_text.proofs.Reading.{bind_some, some_is, whole_some, field_takes, field_again}
 
 -- ---- sources
 

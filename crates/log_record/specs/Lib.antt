@@ -1,9 +1,9 @@
+pub use Rattle.decimal_text.specs.Numbers
 pub mod Entries
 pub mod EntryParts
 pub mod Faults
 pub mod Laws
 pub mod Line
-pub mod Numbers
 pub mod Raw
 pub mod Reading
 pub mod RecordParts

@@ -1,7 +1,7 @@
 -- The text of each line of a log, without its line feed.
-use Rattle.std.specs.Prelude.{◌≡◌, ℕ, ◌+◌, ◌<◌, ◌≤◌, ◌^◌, ◌==◌, if◌then◌else◌, List, [], ◌∷◌, ◌++◌, map, codes}
-use Rattle.std.specs.Int.Digits.{digits_of}
+use Rattle.std.specs.Prelude.{◌≡◌, ℕ, ◌<◌, ◌≤◌, ◌^◌, List, [], ◌∷◌, ◌++◌, codes}
 use Rattle.std.specs.List.{join_with_byte}
+use Rattle.decimal_text.specs.Numbers.{numeral}
 use Rattle.mem_op.specs.declared.id.Source.{Source}
 use Rattle.mem_op.specs.declared.id.Source.TheVariants as source
 use Rattle.log_record.specs.declared.record.Act.{Act}
@@ -9,10 +9,6 @@ use Rattle.log_record.specs.declared.record.Act.TheVariants as act
 use Rattle.log_record.specs.declared.record.Record.{Record}
 
 -- ---- the texts
-
--- a number of any size in decimal: `0`, or digits of which the first isn't 0
-unfoldable pub numeral : ℕ → List ℕ
-numeral n = if n == 0 then codes "0" else map (λ digit. 48 + digit) (digits_of 10 n)
 
 -- `init`, or the core and the index of a store
 abbrev pub source_text : Source → List ℕ

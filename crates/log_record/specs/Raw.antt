@@ -1,6 +1,5 @@
 -- What the code keeps of a line before it looks at ranges: each number where 64 bits hold it.
-use Rattle.std.specs.Prelude.{ℕ, List, Option, Some, None}
-use denote.Ref.{Bor}
+use Rattle.std.specs.Prelude.{ℕ}
 use Rattle.mem_op.specs.declared.id.Source.{Source}
 use Rattle.mem_op.specs.declared.id.Source.TheVariants as source
 use Rattle.log_record.specs.declared.record.Act.{Act}
@@ -14,7 +13,7 @@ use Rattle.log_record.specs.declared.raw.RawFields.{RawFields}
 use Rattle.log_record.specs.declared.raw.RawRecord.{RawRecord}
 use Rattle.log_record.specs.declared.header.Header.{Header}
 use Rattle.log_record.specs.declared.end.End.{End}
-use Rattle.log_record.specs.Numbers.{as_u64}
+use Rattle.decimal_text.specs.Numbers.{as_u64}
 use Rattle.log_record.specs.Reading.{Fields}
 
 abbrev pub raw_source_of : Source → RawSource
@@ -36,13 +35,3 @@ header_parts x = record { core = as_u64 x.0; cores = as_u64 x.1 }
 
 abbrev pub end_parts : ℕ → End
 end_parts n = record { count = as_u64 n }
-
--- a value and the bytes behind it
-abbrev pub front_now : {A : Type 0} → Option (A × Bor (List ℕ)) → Option (A × List ℕ)
-front_now None = None
-front_now (Some x) = Some (x.0, x.1.now)
-
--- what the code keeps of a value, and the bytes behind it
-abbrev pub front_map : {A B : Type 0} → (A → B) → Option (A × List ℕ) → Option (B × List ℕ)
-front_map f None = None
-front_map f (Some x) = Some (f x.0, x.1)

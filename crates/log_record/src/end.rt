@@ -2,11 +2,11 @@
 
 ghost use Rattle.std.specs.Prelude.{◌≡◌, ℕ, IfOk, IfSome, IsNone, option_map, string_bytes};
 ghost use Rattle.log_record.specs.Line.{end_text, IsEndShape};
-ghost use Rattle.log_record.specs.Numbers.{as_u64};
+ghost use Rattle.decimal_text.specs.Numbers.{as_u64};
 ghost use Rattle.log_record.specs.Raw.{end_parts};
 ghost use Rattle.log_record.specs.Reading.{end_of};
 
-use crate::number::{after_text, last};
+use decimal_text::{after_text, read_last};
 use std::alloc::{AllocError, Global};
 
 /// The number of an end line.
@@ -20,7 +20,7 @@ pub struct End {
 fn parts(line: &[u8]) -> Option<End>
     ensures { result ≡ option_map end_parts (end_of line.now) }
 {
-    let count = last(after_text(b"end ", line)?)?;
+    let count = read_last(after_text(b"end ", line)?)?;
     Some(End { count })
 }
 
@@ -35,7 +35,7 @@ pub fn read_end(line: &[u8]) -> Option<End>
 }
 
 /// The end line of a log of so many records, without its line feed.
-#[tactic(auto, using(crate::proofs::Printing::numeral_decimal), unfolding(crate::specs::Line::end_text))]
+#[tactic(auto, using(decimal_text::proofs::Printing::numeral_decimal), unfolding(crate::specs::Line::end_text))]
 pub fn print_end(alloc: Global, count: u64) -> Result<String, AllocError>
     ensures { IfOk result (λ line. string_bytes line ≡ end_text count) }
 {

@@ -2,11 +2,11 @@
 
 ghost use Rattle.std.specs.Prelude.{◌≡◌, ℕ, IfOk, IfSome, IsNone, option_map, string_bytes};
 ghost use Rattle.log_record.specs.Line.{header_text, IsHeaderShape};
-ghost use Rattle.log_record.specs.Numbers.{as_u64};
+ghost use Rattle.decimal_text.specs.Numbers.{as_u64};
 ghost use Rattle.log_record.specs.Raw.{header_parts};
 ghost use Rattle.log_record.specs.Reading.{header_numbers, header_of};
 
-use crate::number::{after_text, last, number};
+use decimal_text::{after_text, read_last, read_number};
 use mem_op::CoreId;
 use std::alloc::{AllocError, Global};
 
@@ -23,9 +23,9 @@ pub struct Header {
 fn numbers(bytes: &[u8]) -> Option<Header>
     ensures { result ≡ option_map header_parts (header_numbers bytes.now) }
 {
-    let (core, rest) = number(bytes)?;
+    let (core, rest) = read_number(bytes)?;
     let rest = after_text(b" of ", rest)?;
-    let cores = last(rest)?;
+    let cores = read_last(rest)?;
     Some(Header { core, cores })
 }
 
@@ -47,7 +47,7 @@ pub fn read_header(line: &[u8]) -> Option<Header>
 }
 
 /// The header of a core's log, without its line feed.
-#[tactic(auto, using(crate::proofs::Printing::numeral_decimal, crate::proofs::Ends::header_text_is))]
+#[tactic(auto, using(decimal_text::proofs::Printing::numeral_decimal, crate::proofs::Ends::header_text_is))]
 pub fn print_header(alloc: Global, core: CoreId, cores: u64) -> Result<String, AllocError>
     ensures { IfOk result (λ line. string_bytes line ≡ header_text 1 core cores) }
 {

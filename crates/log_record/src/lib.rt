@@ -6,7 +6,6 @@ mod fault;
 mod header;
 mod laws;
 mod line;
-mod number;
 mod range;
 mod raw;
 mod reading;

@@ -15,7 +15,7 @@ use std::fmt;
 impl fmt::Display for Record {
     ghost output = { λ r. Some (record_text r) };
 
-    #[tactic(auto, using(crate::proofs::Printing::numeral_decimal), unfolding(crate::specs::Line::record_text))]
+    #[tactic(auto, using(decimal_text::proofs::Printing::numeral_decimal), unfolding(crate::specs::Line::record_text))]
     fn fmt<W: fmt::Write>(&self, f: &mut fmt::Formatter<W>) -> fmt::Result {
         let addr = self.addr.get();
         let value = self.value;

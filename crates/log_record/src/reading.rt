@@ -1,24 +1,25 @@
 //! Reads a record's line from left to right.
 
 ghost use Rattle.std.specs.Prelude.{◌≡◌, option_map};
-ghost use Rattle.log_record.specs.Raw.{front_now, front_map, raw_source_of, raw_fields_of, raw_of};
+ghost use Rattle.decimal_text.specs.Reading.{front_now, front_map};
+ghost use Rattle.log_record.specs.Raw.{raw_source_of, raw_fields_of, raw_of};
 ghost use Rattle.log_record.specs.Reading.{store_source_at, source_at, fields_at, store_at, load_at, tagged_at, record_of};
 
-use crate::number::{field, number};
 use crate::raw::{RawAct, RawFields, RawRecord, RawSource};
+use decimal_text::{read_field, read_number};
 
 /// A core, a dot and an index.
 #[tactic(auto, unfolding(crate::specs::Reading::store_source_at))]
 fn store_source(bytes: &[u8]) -> Option<(RawSource, &[u8])>
     ensures { front_now result ≡ front_map raw_source_of (store_source_at bytes.now) }
 {
-    let (core, rest) = field(b'.', bytes)?;
-    let (index, rest) = number(rest)?;
+    let (core, rest) = read_field(b'.', bytes)?;
+    let (index, rest) = read_number(rest)?;
     Some((RawSource::Store(core, index), rest))
 }
 
 /// A source, and the bytes behind it.
-#[tactic(auto, unfolding(crate::specs::Reading::source_at, crate::specs::Reading::after))]
+#[tactic(auto, unfolding(crate::specs::Reading::source_at, decimal_text::specs::Reading::after))]
 fn source(bytes: &[u8]) -> Option<(RawSource, &[u8])>
     ensures { front_now result ≡ front_map raw_source_of (source_at bytes.now) }
 {
@@ -33,9 +34,9 @@ fn source(bytes: &[u8]) -> Option<(RawSource, &[u8])>
 fn fields(bytes: &[u8]) -> Option<(RawFields, &[u8])>
     ensures { front_now result ≡ front_map raw_fields_of (fields_at bytes.now) }
 {
-    let (addr, rest) = field(b' ', bytes)?;
-    let (value, rest) = field(b' ', rest)?;
-    let (ts, rest) = field(b' ', rest)?;
+    let (addr, rest) = read_field(b' ', bytes)?;
+    let (value, rest) = read_field(b' ', rest)?;
+    let (ts, rest) = read_field(b' ', rest)?;
     Some((RawFields { addr, value, ts }, rest))
 }
 
@@ -45,7 +46,7 @@ fn store(bytes: &[u8]) -> Option<(RawRecord, &[u8])>
     ensures { front_now result ≡ front_map raw_of (store_at bytes.now) }
 {
     let (fields, rest) = fields(bytes)?;
-    let (rank, rest) = number(rest)?;
+    let (rank, rest) = read_number(rest)?;
     let act = RawAct::Store;
     Some((RawRecord { act, fields, rank }, rest))
 }
@@ -56,14 +57,14 @@ fn load(bytes: &[u8]) -> Option<(RawRecord, &[u8])>
     ensures { front_now result ≡ front_map raw_of (load_at bytes.now) }
 {
     let (fields, rest) = fields(bytes)?;
-    let (rank, rest) = field(b' ', rest)?;
+    let (rank, rest) = read_field(b' ', rest)?;
     let (source, rest) = source(rest)?;
     let act = RawAct::Load(source);
     Some((RawRecord { act, fields, rank }, rest))
 }
 
 /// A record's tag and its fields.
-#[tactic(auto, unfolding(crate::specs::Reading::tagged_at, crate::specs::Reading::after))]
+#[tactic(auto, unfolding(crate::specs::Reading::tagged_at, decimal_text::specs::Reading::after))]
 fn tagged(bytes: &[u8]) -> Option<(RawRecord, &[u8])>
     ensures { front_now result ≡ front_map raw_of (tagged_at bytes.now) }
 {

@@ -1,8 +1,7 @@
 -- The entries of a cache by their addresses: what a put leaves, and that no address stands twice.
-use Rattle.std.proofs.Common.{◌≡◌, ℕ, ◌-◌, ◌≤◌, Bool, true, false, ◌||◌, cond, List, [], ◌∷◌, length, refl, sym, ap, ◌∙◌, nat_eq, nat_lt, Option, Some, None, is_some, Result, Ok, Err, IsOk, OnOk, arith}
+use Rattle.std.proofs.Common.{◌≡◌, ℕ, ◌-◌, ◌≤◌, true, false, ◌||◌, cond, List, [], ◌∷◌, length, refl, sym, ap, nat_eq, nat_lt, Some, None, is_some, Result, Ok, Err, IsOk, OnOk, arith}
 use Rattle.std.proofs.lemmas.Grind.{common_steps}
 use Rattle.std.proofs.lemmas.Bool.{eqb-true}
-use Rattle.std.proofs.lemmas.Cmp.{nat_eq_equiv}
 use Rattle.std.proofs.lemmas.List.{take_all}
 use Rattle.std.specs.List.{AllByRecursion, IsDistinct}
 use Rattle.std.specs.Option.{option_map_or}

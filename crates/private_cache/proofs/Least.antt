@@ -1,11 +1,11 @@
 -- The least address of an Exclusive line, found by one walk over the entries.
-use Rattle.std.proofs.Common.{◌≡◌, ℕ, ◌≤◌, min, Bool, true, false, not, cond, ◌⊎◌, nat_eq, List, [], ◌∷◌, Option, Some, None, refl, sym, ap, subst, ◌∙◌, inl, inr, arith}
+use Rattle.std.proofs.Common.{◌≡◌, ℕ, ◌≤◌, min, true, false, not, cond, ◌⊎◌, nat_eq, List, [], ◌∷◌, Option, Some, None, refl, sym, ap, ◌∙◌, inl, inr, arith}
 use Rattle.std.specs.List.{IsDistinct}
 use Rattle.std.specs.Map.{keys_of, lookup}
 use Rattle.std.proofs.lemmas.Bool.Decides.{eqb_tells}
 use Rattle.private_cache.specs.declared.held.Held.{Held}
 use Rattle.private_cache.specs.Table.{is_shared}
-use Rattle.private_cache.specs.Steps.{line_at, is_exclusive, IsLeastExclusive}
+use Rattle.private_cache.specs.Steps.{is_exclusive, IsLeastExclusive}
 use Rattle.private_cache.proofs.Lines.{get-lines, unseen}
 use Rattle.lru.specs.LruCache.{LruCache}
 use Rattle.private_cache.proofs.Shown.{shown, IsApart}

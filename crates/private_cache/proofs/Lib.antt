@@ -1,4 +1,5 @@
 pub mod Entries
 pub mod Lines
+pub mod Operations
 pub mod Shown
 pub mod Least

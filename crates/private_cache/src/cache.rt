@@ -1,6 +1,7 @@
 //! The private cache.
 
-ghost use Rattle.std.specs.Prelude.{◌≡◌, ◌<◌, ◌↔◌, IsTrue, IsSome, IsNone, IfSome, IsSomeAnd, IsOk, IfOk, IfErr, OnOk, OnErr, MatchResult};
+ghost use Rattle.std.specs.Prelude.{◌≡◌, ◌<◌, ◌↔◌, IsTrue, IsSome, IsNone, IfSome, IsSomeAnd, IsOk, IfOk, IfErr, OnOk, OnErr, MatchResult, ℕ};
+ghost use Rattle.mem_op.specs.declared.id.Source.{Source};
 ghost use Rattle.std.specs.FinMap as map;
 
 use super::answer::{Evicted, Load, Store};
@@ -55,8 +56,8 @@ impl PrivateCache {
         })
     }
 
-    // The line of the address.
-    fn line(&self, addr: Addr) -> Option<Held>
+    /// The line of the address, if it is there. No memory.
+    pub fn line(&self, addr: Addr) -> Option<Held>
         ensures { result ≡ line_at self.now addr }
     {
         self.lines.peek(&addr).copied()
@@ -121,18 +122,13 @@ impl PrivateCache {
         Some(*oldest)
     }
 
-    /// Loads the word at `addr` for a core of stamp `pts` and rank `r`. A hit makes the line the
-    /// most recently used; a miss answers the request to send and changes nothing. 5 RankLimit
-    /// where the load's rank is above the limit. No memory.
-    pub fn load(&mut self, addr: Addr, pts: Stamp, r: Rank) -> Result<Load, StampFault>
-        ensures answer { let held = line_at self.old addr in
+    /// What a load at `addr` would answer. No memory.
+    pub fn peek_load(&self, addr: Addr, pts: Stamp, r: Rank) -> Result<Load, StampFault>
+        ensures { let held = line_at self.now addr in
             let hit = load_hit pts r held in
             MatchResult result
             (λ load. (load ≡ load_answer addr pts held hit) × (hit_fault hit ≡ None))
             (λ fault. hit_fault hit ≡ Some fault) }
-        ensures ok { let hit = load_hit pts r (line_at self.old addr) in
-            OnOk result (self.new ≡ after_operation self.old addr hit) }
-        ensures err { OnErr result (self.new ≡ self.old) }
     {
         let held = &self.line(addr);
         let miss = Message::ShReq {
@@ -153,13 +149,53 @@ impl PrivateCache {
         }
         let stamp = load_stamp(pts, stamps.wts);
         let rank = rank_of(stamp, pts, r, stamps.wts, stamps.wr)?;
-        self.touch(addr, &held.read_at(stamp));
         Ok(Load::Hit {
             value: *value,
             source: *source,
             stamp,
             rank,
         })
+    }
+
+    /// Loads the word at `addr` for a core of stamp `pts` and rank `r`. A hit makes the line the
+    /// most recently used; a miss answers the request to send and changes nothing. 5 RankLimit
+    /// where the load's rank is above the limit. No memory.
+    pub fn load(&mut self, addr: Addr, pts: Stamp, r: Rank) -> Result<Load, StampFault>
+        ensures answer { let held = line_at self.old addr in
+            let hit = load_hit pts r held in
+            MatchResult result
+            (λ load. (load ≡ load_answer addr pts held hit) × (hit_fault hit ≡ None))
+            (λ fault. hit_fault hit ≡ Some fault) }
+        ensures ok { let hit = load_hit pts r (line_at self.old addr) in
+            OnOk result (self.new ≡ after_operation self.old addr hit) }
+        ensures err { OnErr result (self.new ≡ self.old) }
+    {
+        let load = self.peek_load(addr, pts, r)?;
+        if let (Load::Hit { stamp, .. }, Some(held)) = (&load, &self.line(addr)) {
+            self.touch(addr, &held.read_at(*stamp));
+        }
+        Ok(load)
+    }
+
+    /// What a store at `addr` would answer, whatever it stores. No memory.
+    pub fn peek_store(&self, addr: Addr, pts: Stamp, r: Rank) -> Result<Store, StampFault>
+        ensures { (value : ℕ) (source : Source) → let held = line_at self.now addr in
+            let hit = store_hit value source pts r held in
+            MatchResult result
+            (λ store. (store ≡ store_answer addr held hit) × (hit_fault hit ≡ None))
+            (λ fault. hit_fault hit ≡ Some fault) }
+    {
+        let held = &self.line(addr);
+        let Some(Held::Exclusive { modified, line }) = held else {
+            return Ok(Store::Miss(Message::ExReq {
+                addr,
+                copy: copy_of(held),
+            }));
+        };
+        let stamps = line.stamps;
+        let stamp = store_stamp(pts, stamps.rts, *modified)?;
+        let rank = rank_of(stamp, pts, r, stamps.wts, stamps.wr)?;
+        Ok(Store::Hit { stamp, rank })
     }
 
     /// Stores a word at `addr` for a core of stamp `pts` and rank `r`; `id` is the store's own. A
@@ -183,28 +219,21 @@ impl PrivateCache {
             OnOk result (self.new ≡ after_operation self.old addr hit) }
         ensures err { OnErr result (self.new ≡ self.old) }
     {
-        let held = &self.line(addr);
-        let Some(Held::Exclusive { modified, line }) = held else {
-            return Ok(Store::Miss(Message::ExReq {
+        let store = self.peek_store(addr, pts, r)?;
+        if let Store::Hit { stamp, rank } = &store {
+            self.touch(
                 addr,
-                copy: copy_of(held),
-            }));
-        };
-        let stamps = line.stamps;
-        let stamp = store_stamp(pts, stamps.rts, *modified)?;
-        let rank = rank_of(stamp, pts, r, stamps.wts, stamps.wr)?;
-        self.touch(
-            addr,
-            &Held::Exclusive {
-                modified: true,
-                line: Line {
-                    value,
-                    source: Source::Store(id),
-                    stamps: LineStamps::at(stamp, rank),
+                &Held::Exclusive {
+                    modified: true,
+                    line: Line {
+                        value,
+                        source: Source::Store(id),
+                        stamps: LineStamps::at(*stamp, *rank),
+                    },
                 },
-            },
-        );
-        Ok(Store::Hit { stamp, rank })
+            );
+        }
+        Ok(store)
     }
 
     /// The least recently used line, which has to go before `addr` can be filled; none where `addr`
@@ -251,6 +280,30 @@ impl PrivateCache {
         }
     }
 
+    /// What a recall would answer. No memory.
+    pub fn peek_recall(&self, recall: &Recall, lease: u64) -> Result<Option<Message>, StampFault>
+        ensures { let given = recalled recall.now lease (line_at self.now recall.now.addr) in
+            MatchResult result
+            (λ answer. (answer ≡ recall_answer recall.now given) × (give_fault given ≡ None))
+            (λ fault. give_fault given ≡ Some fault) }
+    {
+        let addr = recall.addr;
+        let Some(Held::Exclusive { line, .. }) = &self.line(addr) else {
+            return Ok(None);
+        };
+        match recall.kind {
+            RecallKind::WriteBack => {
+                let rts = write_back_rts(line.stamps, recall.rts, lease)?;
+                let line = Line {
+                    stamps: LineStamps { rts, ..line.stamps },
+                    ..*line
+                };
+                Ok(Some(Message::WbRep { addr, line }))
+            }
+            RecallKind::Flush => Ok(Some(Message::FlushRep { addr, line: *line })),
+        }
+    }
+
     /// Gives an Exclusive line back, as the recall asks: the message to send, or none where the line
     /// isn't there as Exclusive, and then nothing changes. A write-back keeps the line as Shared and
     /// leaves the order of use; a flush takes the line out. The recall's owner isn't looked at.
@@ -264,25 +317,22 @@ impl PrivateCache {
             OnOk result (self.new ≡ after_recall self.old recall.now given) }
         ensures err { OnErr result (self.new ≡ self.old) }
     {
-        let addr = recall.addr;
-        let Some(Held::Exclusive { line, .. }) = &self.line(addr) else {
-            return Ok(None);
-        };
-        match recall.kind {
-            RecallKind::WriteBack => {
-                let rts = write_back_rts(line.stamps, recall.rts, lease)?;
-                let line = Line {
-                    stamps: LineStamps { rts, ..line.stamps },
-                    ..*line
-                };
-                self.settle(addr, &Held::Shared(line));
-                Ok(Some(Message::WbRep { addr, line }))
+        let message = self.peek_recall(recall, lease)?;
+        match &message {
+            Some(Message::WbRep { addr, line }) => self.settle(*addr, &Held::Shared(*line)),
+            Some(_) => {
+                let _ = self.take_out(recall.addr);
             }
-            RecallKind::Flush => {
-                let _ = self.take_out(addr);
-                Ok(Some(Message::FlushRep { addr, line: *line }))
-            }
+            None => {}
         }
+        Ok(message)
+    }
+
+    /// Whether the reply fits the line of `addr`, and there is room for it. No memory.
+    pub fn fits(&self, addr: Addr, reply: &Reply) -> bool
+        ensures { IsTrue result ↔ IsSome (fill_line self.now addr reply.now) }
+    {
+        self.has_room(addr) && filled(&self.line(addr), reply).is_some()
     }
 
     /// Fills a reply in at `addr`, and makes its line the most recently used. 14 BadReply where the

@@ -25,14 +25,14 @@ impl Held {
         }
     }
 
-    // Whether it may be read alone.
+    /// Whether it may be read alone.
     pub(crate) fn is_shared(&self) -> bool
         ensures { result ≡ is_shared self.now }
     {
         matches!(self, Held::Shared(_))
     }
 
-    // The line after a load of stamp `t`: an owner draws the lease out to it.
+    /// The line after a load of stamp `t`: an owner draws the lease out to it.
     pub(crate) fn read_at(&self, t: Stamp) -> Held
         ensures { result ≡ read_at self.now t }
     {
@@ -49,7 +49,7 @@ impl Held {
     }
 }
 
-// The `wts` of the copy that a request tells of.
+/// The `wts` of the copy that a request tells of.
 pub(crate) fn copy_of(held: &Option<Held>) -> Option<Stamp>
     ensures { result ≡ copy_of held.now }
 {
@@ -69,7 +69,7 @@ fn renewed(line: &Line, rts: Stamp) -> Option<Line>
     })
 }
 
-// The line after a reply; none where the reply doesn't fit it.
+/// The line after a reply; none where the reply doesn't fit it.
 pub(crate) fn filled(held: &Option<Held>, reply: &Reply) -> Option<Held>
     ensures { result ≡ filled held.now reply.now }
 {

@@ -1,18 +1,23 @@
 -- The check of files, by what the judge answers to their sources.
-use Rattle.std.proofs.Common.{◌≡◌, ◌+◌, ◌<◌, refl, add-one, length, slice_index_or, take, ℕ, List, [], ◌∷◌, ◌++◌, Option, None, Some, Result, Ok, Err, vec_len}
-use Rattle.std.specs.Prelude.{IfSome, IsErrOf}
+use Rattle.std.proofs.Common.{◌≡◌, sym, subst, ◌+◌, ◌<◌, refl, add-one, length, slice_index_or, take, ℕ, List, [], ◌∷◌, ◌++◌, Option, None, Some, Result, Ok, Err, vec_len}
+use Rattle.std.specs.Prelude.{IfSome, IsSome, IsErrOf}
 use Rattle.std.proofs.Math.Seq.{take-suc}
 use Rattle.std.specs.Borrow.{Bor}
 use Rattle.command_line.specs.declared.request.Check.{Check}
+use Rattle.log_record.specs.declared.record.Record.{Record}
+use Rattle.core_program.specs.Answers.{SpellsSet}
+use Rattle.core_program.specs.declared.instruction.Instruction.{Instruction}
 use Rattle.log_file.specs.Devices.{Tells}
 use Rattle.log_file.specs.Sets.{TellEach}
 use Rattle.verdict.specs.Counts.{IsInRange, IsOutOfRange}
-use Rattle.verdict.specs.Judgement.{IsAnswerTo}
+use Rattle.verdict.specs.Judgement.{IsAnswerBy}
 use Rattle.verdict.specs.declared.answer.Verdict.{Verdict}
-use Rattle.verdict.specs.declared.judge_fault.Count.TheVariants.{Files, Workers}
+use Rattle.verdict.specs.declared.judge_fault.Count.TheVariants.{Files, Workers, Programs as ProgramCount}
 use Rattle.verdict.specs.declared.judge_fault.JudgeFault.{JudgeFault}
 use Rattle.verdict.specs.declared.judge_fault.JudgeFault.TheVariants.{BadConfig, Log, Read, OutOfMemory}
-use Rattle.tardis_command.specs.Checking.{AreInRange, AreSourcesOf, AreTextsOf, IsChecked}
+use Rattle.tardis_command.specs.declared.fault.CommandFault.{CommandFault}
+use Rattle.tardis_command.specs.declared.fault.CommandFault.TheVariants.{Judge, Programs, ProgramsUnread, Output}
+use Rattle.tardis_command.specs.Checking.{Against, AreInRange, AreNotAsMany, AreSourcesOf, AreTextsOf, IsAnswerAgainst, IsChecked, IsCheckedAgainst, IsFaultOfPrograms, IsUnprogrammed}
 
 -- the next file's source, behind those of the files in front of it
 one_source_more : {S : Type 0} (told : List ℕ → Option (List ℕ)) (remaining : S → Option (List ℕ)) (sources : List S) (names : List (Bor (List ℕ)))
@@ -48,13 +53,62 @@ told_by_sources told remaining (s ∷ sources) (name ∷ names) (text ∷ texts)
     (tells_so (told name.now) (remaining s) text are.0 tell.0, told_by_sources told remaining sources names texts are.1 tell.1)
 
 -- the judge's answer is that of the check
-pub checked : (told : List ℕ → Option (List ℕ)) (asked : Check) (answer : Result Verdict JudgeFault) (texts : List (List ℕ)) → AreInRange asked
-    → AreTextsOf told asked.files.items texts → IsAnswerTo texts answer → length texts ≡ vec_len asked.files
+pub checked : (told : List ℕ → Option (List ℕ)) (programs : Option (List (List Instruction))) (asked : Check) (judged : List (List Record) → Verdict) (answer : Result Verdict JudgeFault) (texts : List (List ℕ))
+    → ((a : Result Verdict JudgeFault) → IsAnswerBy judged texts a → IsAnswerAgainst programs texts a) → AreInRange asked
+    → AreTextsOf told asked.files.items texts → IsAnswerBy judged texts answer → length texts ≡ vec_len asked.files
     → (IsErrOf answer (BadConfig Files) → IsOutOfRange (vec_len asked.files))
-    → (IsErrOf answer (BadConfig Workers) → IsInRange (vec_len asked.files) × IsOutOfRange asked.workers) → IsChecked told asked answer
-checked told asked (Ok verdict) texts range tell answers many files workers = (range, (texts, tell, answers))
-checked told asked (Err (Log file line fault)) texts range tell answers many files workers = (range, (texts, tell, answers))
-checked told asked (Err (BadConfig Files)) texts range tell answers many files workers = files refl
-checked told asked (Err (BadConfig Workers)) texts range tell answers many files workers = workers refl
-checked told asked (Err (Read file)) texts range tell answers many files workers = (range, rw (← many) answers.0)
-checked told asked (Err OutOfMemory) texts range tell answers many files workers = tt
+    → (IsErrOf answer (BadConfig Workers) → IsInRange (vec_len asked.files) × IsOutOfRange asked.workers)
+    → (IsErrOf answer (BadConfig ProgramCount) → AreNotAsMany (vec_len asked.files) programs) → IsCheckedAgainst told programs asked answer
+checked told programs asked judged (Ok verdict) texts same range tell answers many files workers counted = (range, (texts, tell, same (Ok verdict) answers))
+checked told programs asked judged (Err (Log file line fault)) texts same range tell answers many files workers counted = (range, (texts, tell, same (Err (Log file line fault)) answers))
+checked told programs asked judged (Err (BadConfig Files)) texts same range tell answers many files workers counted = files refl
+checked told programs asked judged (Err (BadConfig Workers)) texts same range tell answers many files workers counted = workers refl
+checked told programs asked judged (Err (BadConfig ProgramCount)) texts same range tell answers many files workers counted = (range, counted refl)
+checked told programs asked judged (Err (Read file)) texts same range tell answers many files workers counted = (range, rw (← many) answers.0)
+checked told programs asked judged (Err OutOfMemory) texts same range tell answers many files workers counted = tt
+
+-- ---- against the programs that were asked for
+
+abbrev pub lifted : Result Verdict JudgeFault → Result Verdict CommandFault
+lifted (Ok verdict) = Ok verdict
+lifted (Err fault) = Err (Judge fault)
+
+-- what holds whatever the programs are
+whatever : (told : List ℕ → Option (List ℕ)) (name : Option (Bor (List ℕ))) (Holds : Type 0) → Against told name (λ programs. Holds) → Holds
+whatever told name Holds h = h.2
+
+against : (told : List ℕ → Option (List ℕ)) (asked : Check) (answer : Result Verdict JudgeFault)
+    → Against told asked.program (λ programs. IsCheckedAgainst told programs asked answer) → IsChecked told asked (lifted answer)
+against told asked (Ok verdict) h = h
+against told asked (Err (Log file line fault)) h = h
+against told asked (Err (Read file)) h = h
+against told asked (Err (BadConfig Files)) h = whatever told asked.program (IsOutOfRange (vec_len asked.files)) h
+against told asked (Err (BadConfig Workers)) h = whatever told asked.program (IsInRange (vec_len asked.files) × IsOutOfRange asked.workers) h
+against told asked (Err (BadConfig ProgramCount)) h = h
+against told asked (Err OutOfMemory) h = tt
+
+-- where none were asked for
+pub against_none : (told : List ℕ → Option (List ℕ)) (asked : Check) (Holds : Option (List (List Instruction)) → Type 0) → asked.program ≡ None → Holds None → Against told asked.program Holds
+against_none told asked Holds none h = subst (λ name. Against told name Holds) (sym none) (None, tt, h)
+
+-- where their file was read
+pub against_some : (told : List ℕ → Option (List ℕ)) (asked : Check) (name : Bor (List ℕ)) (programs : List (List Instruction)) (Holds : Option (List (List Instruction)) → Type 0) → asked.program ≡ Some name
+    → (text : List ℕ) × Tells (told name.now) text × SpellsSet text programs → Holds (Some programs) → Against told asked.program Holds
+against_some told asked name programs Holds some read h = subst (λ n. Against told n Holds) (sym some) (Some programs, read, h)
+
+pub checked_none : (told : List ℕ → Option (List ℕ)) (asked : Check) (answer : Result Verdict JudgeFault) → asked.program ≡ None → IsCheckedAgainst told None asked answer → IsChecked told asked (lifted answer)
+checked_none told asked answer none h = against told asked answer (against_none told asked _ none h)
+
+pub checked_some : (told : List ℕ → Option (List ℕ)) (asked : Check) (name : Bor (List ℕ)) (programs : List (List Instruction)) (answer : Result Verdict JudgeFault) → asked.program ≡ Some name
+    → (text : List ℕ) × Tells (told name.now) text × SpellsSet text programs → IsCheckedAgainst told (Some programs) asked answer → IsChecked told asked (lifted answer)
+checked_some told asked name programs answer some read h = against told asked answer (against_some told asked name programs _ some read h)
+
+-- where there are none
+pub unprogrammed : (told : List ℕ → Option (List ℕ)) (asked : Check) (name : Bor (List ℕ)) (fault : CommandFault) → AreInRange asked → asked.program ≡ Some name → IsUnprogrammed told name.now fault → IsChecked told asked (Err fault)
+unprogrammed told asked name (Programs fault) range some h = (range, subst (λ n. IsFaultOfPrograms told n fault) (sym some) h)
+unprogrammed told asked name ProgramsUnread range some h = (range, subst (λ (n : Option (Bor (List ℕ))). IsSome n) (sym some) refl)
+unprogrammed told asked name (Judge OutOfMemory) range some h = tt
+unprogrammed told asked name (Judge (Log file line fault)) range some h = absurd cc
+unprogrammed told asked name (Judge (Read file)) range some h = absurd cc
+unprogrammed told asked name (Judge (BadConfig count)) range some h = absurd cc
+unprogrammed told asked name Output range some h = absurd h

@@ -1,5 +1,5 @@
 -- How a call ends, from what its parts answer.
-use Rattle.std.proofs.Common.{◌≡◌, ◌⊎◌, ◌∙◌, ap, subst, sym, refl, ℕ, List, [], Option, None, Some, Ok, Err, inl, inr}
+use Rattle.std.proofs.Common.{◌≡◌, ◌⊎◌, ◌∙◌, ap, subst, sym, refl, ℕ, List, Option, None, Some, Ok, Err, inl, inr}
 use Rattle.std.specs.Io.KnownBytes.{Keeps}
 use Rattle.std.proofs.KnownBytes.{Appends-nil}
 use Rattle.command_line.specs.Asking.{Asks, IsCommandLine}
@@ -14,7 +14,7 @@ use Rattle.tardis_command.specs.Printing.{IsUnprinted}
 use Rattle.tardis_command.specs.Endings.{Answered, Ending, EndsBy, HasFailed, IsAnswered, IsDoneBy, Misused, OutputAt, Refused, Sink, Takes, Unprinted, line, status_of, verdict_status}
 use Rattle.tardis_command.specs.Faults.{command_fault_text, fault_status}
 use Rattle.tardis_command.specs.declared.fault.CommandFault.{CommandFault}
-use Rattle.tardis_command.specs.declared.fault.CommandFault.TheVariants.{Judge, Output}
+use Rattle.tardis_command.specs.declared.fault.CommandFault.TheVariants.{Judge, Programs, ProgramsUnread, Output}
 
 pub kept : (contents : Option (List ℕ)) → Keeps contents contents
 kept None = tt
@@ -34,10 +34,12 @@ pub unprinted : (told : List ℕ → Option (List ℕ)) (asked : Check) (verdict
     → (ending : Ending) × IsAnswered ending (Err fault) × IsDoneBy told (request.Check asked) out out' ending
 unprinted told asked verdict out out' Output checked failed = (Unprinted verdict, refl, (checked, failed))
 unprinted told asked verdict out out' (Judge OutOfMemory) checked same =
-    (Refused OutOfMemory, refl, (tt, subst (λ (s : Sink). Keeps out.contents s.contents ⊎ HasFailed out s) (sym same) (inl (kept out.contents))))
+    (Refused (Judge OutOfMemory), refl, (tt, subst (λ (s : Sink). Keeps out.contents s.contents ⊎ HasFailed out s) (sym same) (inl (kept out.contents))))
 unprinted told asked verdict out out' (Judge (BadConfig count)) checked never = absurd never
 unprinted told asked verdict out out' (Judge (Log file place fault)) checked never = absurd never
 unprinted told asked verdict out out' (Judge (Read file)) checked never = absurd never
+unprinted told asked verdict out out' (Programs reason) checked never = absurd never
+unprinted told asked verdict out out' ProgramsUnread checked never = absurd never
 
 module _ (told : List ℕ → Option (List ℕ)) (words : List (List ℕ)) (out err : Sink) where
   pub ends_misused : (err' : Sink) (text : List ℕ) → ¬ (IsCommandLine words) → Takes err err' text
@@ -60,7 +62,7 @@ module _ (told : List ℕ → Option (List ℕ)) (words : List (List ℕ)) (out 
   -- without the memory to go on, or to tell of another refusal
   ends_without_memory : (out' err' : Sink) (status : ℕ) → Keeps out.contents out'.contents ⊎ HasFailed out out'
       → Takes err err' (line (command_fault_text (Judge OutOfMemory))) → status ≡ fault_status (Judge OutOfMemory) → EndsAt out' err' status
-  ends_without_memory out' err' status output takes same = (Refused OutOfMemory, same, record { end = inr refl; output = output; complaint = takes })
+  ends_without_memory out' err' status output takes same = (Refused (Judge OutOfMemory), same, record { end = inr refl; output = output; complaint = takes })
 
   -- the fault was told
   ends_told : (asked : Request) (ending : Ending) (fault : CommandFault) (out' err' : Sink) (status : ℕ) → Asks words asked
@@ -78,7 +80,7 @@ module _ (told : List ℕ → Option (List ℕ)) (words : List (List ℕ)) (out 
         },
       )
   ends_told asked (Refused reason) fault out' err' status asks answered done takes same =
-      let is : fault ≡ Judge reason = cc in (
+      let is : fault ≡ reason = cc in (
         Refused reason,
         same ∙ ap fault_status is,
         record {

@@ -1,15 +1,20 @@
 -- What the check of files answers.
-use Rattle.std.specs.Prelude.{◌≡◌, ◌<◌, ⊤, ℕ, List, Option, Some, Result, Ok, Err, IfSome, vec_len}
+use Rattle.std.specs.Prelude.{◌≡◌, ◌≢◌, ◌<◌, ⊤, ℕ, List, length, Option, None, Some, Result, Ok, Err, IfSome, IsSome, vec_len}
 use Rattle.std.specs.Borrow.{Bor}
 use Rattle.std.specs.List.{AllZip}
 use Rattle.command_line.specs.declared.request.Check.{Check}
+use Rattle.core_program.specs.Answers.{IsSetFault, SpellsSet}
+use Rattle.core_program.specs.declared.fault.ProgramFault.{ProgramFault}
+use Rattle.core_program.specs.declared.instruction.Instruction.{Instruction}
 use Rattle.log_file.specs.Devices.{Tells}
 use Rattle.verdict.specs.Counts.{IsInRange, IsOutOfRange}
-use Rattle.verdict.specs.Judgement.{IsAnswerTo, SpellConsistentSet}
+use Rattle.verdict.specs.Judgement.{IsAnswerTo, IsRunAnswerTo, SpellConsistentSet, SpellFlatRun}
 use Rattle.verdict.specs.declared.answer.Verdict.{Verdict}
-use Rattle.verdict.specs.declared.judge_fault.Count.TheVariants.{Files, Workers}
+use Rattle.verdict.specs.declared.judge_fault.Count.TheVariants.{Files, Workers, Programs as ProgramCount}
 use Rattle.verdict.specs.declared.judge_fault.JudgeFault.{JudgeFault}
 use Rattle.verdict.specs.declared.judge_fault.JudgeFault.TheVariants.{BadConfig, Log, Read, OutOfMemory}
+use Rattle.tardis_command.specs.declared.fault.CommandFault.{CommandFault}
+use Rattle.tardis_command.specs.declared.fault.CommandFault.TheVariants.{Judge, Programs, ProgramsUnread, Output}
 
 -- these are sources of the files of these names: each tells the bytes that the folder tells
 abbrev pub AreSourcesOf : {S : Type 0} → (List ℕ → Option (List ℕ)) → (S → Option (List ℕ)) → List S → List (Bor (List ℕ)) → Type 0
@@ -19,26 +24,91 @@ AreSourcesOf told remaining sources names = AllZip (λ source name. IfSome (told
 abbrev pub AreTextsOf : (List ℕ → Option (List ℕ)) → List (Bor (List ℕ)) → List (List ℕ) → Type 0
 AreTextsOf told names texts = AllZip (λ name text. Tells (told name.now) text) names texts
 
--- what the judge answers to the texts of the files
-abbrev pub IsJudged : (List ℕ → Option (List ℕ)) → Check → Result Verdict JudgeFault → Type 0
-IsJudged told asked answer = (texts : List (List ℕ)) × AreTextsOf told asked.files.items texts × IsAnswerTo texts answer
-
 -- 1..64 files and 1..64 workers
 abbrev pub AreInRange : Check → Type 0
 AreInRange asked = IsInRange (vec_len asked.files) × IsInRange asked.workers
 
+-- ---- the programs
+
+-- the programs that the text of their file spells, where one was given
+abbrev pub AreProgramsOf : (List ℕ → Option (List ℕ)) → Option (Bor (List ℕ)) → Option (List (List Instruction)) → Type 0
+AreProgramsOf told None None = ⊤
+AreProgramsOf told None (Some programs) = ⊥
+AreProgramsOf told (Some name) None = ⊥
+AreProgramsOf told (Some name) (Some programs) = (text : List ℕ) × Tells (told name.now) text × SpellsSet text programs
+
+-- something holds of the programs that were asked for
+abbrev pub Against : (List ℕ → Option (List ℕ)) → Option (Bor (List ℕ)) → (Option (List (List Instruction)) → Type 0) → Type 0
+Against told name Holds = (programs : Option (List (List Instruction))) × AreProgramsOf told name programs × Holds programs
+
+-- the programs aren't as many as this
+abbrev pub AreNotAsMany : ℕ → Option (List (List Instruction)) → Type 0
+AreNotAsMany n None = ⊥
+AreNotAsMany n (Some programs) = length programs ≢ n
+
+-- why the text of the file of this name is no set of programs
+abbrev pub IsTextFault : (List ℕ → Option (List ℕ)) → List ℕ → ProgramFault → Type 0
+IsTextFault told name fault = (text : List ℕ) × Tells (told name) text × IsSetFault text fault
+
+abbrev pub IsFaultOfPrograms : (List ℕ → Option (List ℕ)) → Option (Bor (List ℕ)) → ProgramFault → Type 0
+IsFaultOfPrograms told None fault = ⊥
+IsFaultOfPrograms told (Some name) fault = IsTextFault told name.now fault
+
+-- why there are no programs: the text of their file, or it can't be read, or memory ran out
+abbrev pub IsUnprogrammed : (List ℕ → Option (List ℕ)) → List ℕ → CommandFault → Type 0
+IsUnprogrammed told name (Programs fault) = IsTextFault told name fault
+IsUnprogrammed told name ProgramsUnread = ⊤
+IsUnprogrammed told name (Judge fault) = fault ≡ OutOfMemory
+IsUnprogrammed told name Output = ⊥
+
+-- ---- the answer
+
+-- the answer of the judge, against programs where they are given
+abbrev pub IsAnswerAgainst : Option (List (List Instruction)) → List (List ℕ) → Result Verdict JudgeFault → Type 0
+IsAnswerAgainst None = IsAnswerTo
+IsAnswerAgainst (Some programs) = IsRunAnswerTo programs
+
+-- what the judge answers to the texts of the files
+abbrev pub IsJudged : (List ℕ → Option (List ℕ)) → Option (List (List Instruction)) → Check → Result Verdict JudgeFault → Type 0
+IsJudged told programs asked answer = (texts : List (List ℕ)) × AreTextsOf told asked.files.items texts × IsAnswerAgainst programs texts answer
+
 -- the verdict on the files, or why there is none
-abbrev pub IsChecked : (List ℕ → Option (List ℕ)) → Check → Result Verdict JudgeFault → Type 0
-IsChecked told asked (Ok verdict) = AreInRange asked × IsJudged told asked (Ok verdict)
-IsChecked told asked (Err (Log file line fault)) = AreInRange asked × IsJudged told asked (Err (Log file line fault))
-IsChecked told asked (Err (Read file)) = AreInRange asked × (file < vec_len asked.files)
-IsChecked told asked (Err (BadConfig Files)) = IsOutOfRange (vec_len asked.files)
-IsChecked told asked (Err (BadConfig Workers)) = IsInRange (vec_len asked.files) × IsOutOfRange asked.workers
-IsChecked told asked (Err OutOfMemory) = ⊤
+abbrev pub IsCheckedAgainst : (List ℕ → Option (List ℕ)) → Option (List (List Instruction)) → Check → Result Verdict JudgeFault → Type 0
+IsCheckedAgainst told programs asked (Ok verdict) = AreInRange asked × IsJudged told programs asked (Ok verdict)
+IsCheckedAgainst told programs asked (Err (Log file line fault)) = AreInRange asked × IsJudged told programs asked (Err (Log file line fault))
+IsCheckedAgainst told programs asked (Err (Read file)) = AreInRange asked × (file < vec_len asked.files)
+IsCheckedAgainst told programs asked (Err (BadConfig Files)) = IsOutOfRange (vec_len asked.files)
+IsCheckedAgainst told programs asked (Err (BadConfig Workers)) = IsInRange (vec_len asked.files) × IsOutOfRange asked.workers
+IsCheckedAgainst told programs asked (Err (BadConfig ProgramCount)) = AreInRange asked × AreNotAsMany (vec_len asked.files) programs
+IsCheckedAgainst told programs asked (Err OutOfMemory) = ⊤
+
+-- The same with the programs that were asked for. A count of files or workers that is out of range is told before they are read, and
+-- they are told before a log is opened.
+abbrev pub IsChecked : (List ℕ → Option (List ℕ)) → Check → Result Verdict CommandFault → Type 0
+IsChecked told asked (Ok verdict) = Against told asked.program (λ programs. IsCheckedAgainst told programs asked (Ok verdict))
+IsChecked told asked (Err (Judge (Log file line fault))) = Against told asked.program (λ programs. IsCheckedAgainst told programs asked (Err (Log file line fault)))
+IsChecked told asked (Err (Judge (Read file))) = Against told asked.program (λ programs. IsCheckedAgainst told programs asked (Err (Read file)))
+IsChecked told asked (Err (Judge (BadConfig Files))) = IsOutOfRange (vec_len asked.files)
+IsChecked told asked (Err (Judge (BadConfig Workers))) = IsInRange (vec_len asked.files) × IsOutOfRange asked.workers
+IsChecked told asked (Err (Judge (BadConfig ProgramCount))) = Against told asked.program (λ programs. IsCheckedAgainst told programs asked (Err (BadConfig ProgramCount)))
+IsChecked told asked (Err (Judge OutOfMemory)) = ⊤
+IsChecked told asked (Err (Programs fault)) = AreInRange asked × IsFaultOfPrograms told asked.program fault
+IsChecked told asked (Err ProgramsUnread) = AreInRange asked × IsSome asked.program
+IsChecked told asked (Err Output) = ⊥
+
+-- ---- what a Yes says
 
 -- the texts of the files spell a set whose operations are sequentially consistent
 abbrev pub FilesAreConsistent : (List ℕ → Option (List ℕ)) → Check → Type 0
 FilesAreConsistent told asked = (texts : List (List ℕ)) × AreTextsOf told asked.files.items texts × SpellConsistentSet texts
+
+-- some whole run of these programs on the flat machine performs just the operations of the set that the texts of the files spell
+abbrev pub FilesRunFlatBy : (List ℕ → Option (List ℕ)) → Check → Option (List (List Instruction)) → Type 0
+FilesRunFlatBy told asked None = ⊤
+FilesRunFlatBy told asked (Some programs) = (texts : List (List ℕ)) × AreTextsOf told asked.files.items texts × SpellFlatRun programs texts
+
+abbrev pub FilesRunFlat : (List ℕ → Option (List ℕ)) → Check → Type 0
+FilesRunFlat told asked = Against told asked.program (FilesRunFlatBy told asked)
 
 -- a file can't be opened, or memory ran out
 abbrev pub IsOpenFault : ℕ → JudgeFault → Type 0

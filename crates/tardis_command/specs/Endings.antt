@@ -1,5 +1,5 @@
 -- How a call of the program ends.
-use Rattle.std.specs.Prelude.{◌≡◌, ◌≤◌, ◌⊎◌, ⊤, ℕ, List, [], ◌∷◌, ◌++◌, Option, Result, Ok, Err, length, take}
+use Rattle.std.specs.Prelude.{◌≡◌, ◌≤◌, ◌⊎◌, ℕ, List, [], ◌∷◌, ◌++◌, Option, Result, Ok, Err, length, take}
 use Rattle.std.specs.Io.KnownBytes.{Appends, Keeps}
 use Rattle.command_line.specs.Asking.{Asks, IsCommandLine}
 use Rattle.command_line.specs.declared.request.Request.{Request}
@@ -8,9 +8,8 @@ use Rattle.log_file.specs.Devices.{Failed}
 use Rattle.verdict.specs.Texts.{verdict_text}
 use Rattle.verdict.specs.declared.answer.Verdict.{Verdict}
 use Rattle.verdict.specs.declared.answer.Verdict.TheVariants.{Yes, No}
-use Rattle.verdict.specs.declared.judge_fault.JudgeFault.{JudgeFault}
 use Rattle.verdict.specs.declared.judge_fault.JudgeFault.TheVariants.{OutOfMemory}
-use Rattle.tardis_command.specs.Checking.{FilesAreConsistent, IsChecked}
+use Rattle.tardis_command.specs.Checking.{FilesAreConsistent, FilesRunFlat, IsChecked}
 use Rattle.tardis_command.specs.Faults.{command_fault_text, fault_status}
 use Rattle.tardis_command.specs.declared.fault.CommandFault.{CommandFault}
 use Rattle.tardis_command.specs.declared.fault.CommandFault.TheVariants.{Judge, Output}
@@ -20,7 +19,7 @@ use Rattle.tardis_command.specs.declared.fault.CommandFault.TheVariants.{Judge, 
 pub data Ending : Type 0 where
   Answered : Verdict → Ending
   Unprinted : Verdict → Ending
-  Refused : JudgeFault → Ending
+  Refused : CommandFault → Ending
   Misused : List ℕ → Ending
 
 -- a text and its line feed
@@ -35,14 +34,14 @@ verdict_status (No fault) = 1
 abbrev pub status_of : Ending → ℕ
 status_of (Answered verdict) = verdict_status verdict
 status_of (Unprinted verdict) = fault_status Output
-status_of (Refused fault) = fault_status (Judge fault)
+status_of (Refused fault) = fault_status fault
 status_of (Misused text) = 3
 
 -- what standard error is told
 abbrev pub complaint_of : Ending → List ℕ
 complaint_of (Answered verdict) = []
 complaint_of (Unprinted verdict) = line (command_fault_text Output)
-complaint_of (Refused fault) = line (command_fault_text (Judge fault))
+complaint_of (Refused fault) = line (command_fault_text fault)
 complaint_of (Misused text) = text
 
 -- ---- why
@@ -61,13 +60,17 @@ AskFor words Holds = (asked : Request) × Asks words asked × Holds asked
 -- a call with these words may end so; memory may run out before it is known what they ask for
 abbrev pub IsEnd : (List ℕ → Option (List ℕ)) → List (List ℕ) → Ending → Type 0
 IsEnd told words (Misused text) = ¬ (IsCommandLine words)
-IsEnd told words (Refused fault) = AskFor words (λ asked. IsEndOf told asked (Refused fault)) ⊎ (fault ≡ OutOfMemory)
+IsEnd told words (Refused fault) = AskFor words (λ asked. IsEndOf told asked (Refused fault)) ⊎ (fault ≡ Judge OutOfMemory)
 IsEnd told words (Answered verdict) = AskFor words (λ asked. IsEndOf told asked (Answered verdict))
 IsEnd told words (Unprinted verdict) = AskFor words (λ asked. IsEndOf told asked (Unprinted verdict))
 
 -- the files that were asked for spell a set whose operations are sequentially consistent
 abbrev pub AreConsistent : (List ℕ → Option (List ℕ)) → Request → Type 0
 AreConsistent told (Check asked) = FilesAreConsistent told asked
+
+-- and, where they were checked against programs, some whole run of these on the flat machine performs just its operations
+abbrev pub RunFlat : (List ℕ → Option (List ℕ)) → Request → Type 0
+RunFlat told (Check asked) = FilesRunFlat told asked
 
 -- ---- the two outputs
 
@@ -106,7 +109,7 @@ IsDoneBy told asked out out' ending = IsEndOf told asked ending × OutputAt out 
 abbrev pub IsAnswered : Ending → Result ℕ CommandFault → Type 0
 IsAnswered (Answered verdict) answer = answer ≡ Ok (verdict_status verdict)
 IsAnswered (Unprinted verdict) answer = answer ≡ Err Output
-IsAnswered (Refused fault) answer = answer ≡ Err (Judge fault)
+IsAnswered (Refused fault) answer = answer ≡ Err fault
 IsAnswered (Misused text) answer = ⊥
 
 -- a call with these words ended so, and left standard output and standard error so

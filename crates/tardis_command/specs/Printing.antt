@@ -3,12 +3,14 @@ use Rattle.std.specs.Prelude.{◌≡◌, ℕ, List}
 use Rattle.verdict.specs.declared.judge_fault.JudgeFault.TheVariants.{BadConfig, Log, Read, OutOfMemory}
 use Rattle.tardis_command.specs.Endings.{HasFailed, Sink, TakesBeginning}
 use Rattle.tardis_command.specs.declared.fault.CommandFault.{CommandFault}
-use Rattle.tardis_command.specs.declared.fault.CommandFault.TheVariants.{Judge, Output}
+use Rattle.tardis_command.specs.declared.fault.CommandFault.TheVariants.{Judge, Programs, ProgramsUnread, Output}
 
 -- the sink failed behind a beginning of the line, or there was no memory and it is as it was
 abbrev pub IsUnprinted : Sink → Sink → List ℕ → CommandFault → Type 0
 IsUnprinted old new line Output = HasFailed old new × TakesBeginning old new line
 IsUnprinted old new line (Judge OutOfMemory) = new ≡ old
+IsUnprinted old new line (Programs fault) = ⊥
+IsUnprinted old new line ProgramsUnread = ⊥
 IsUnprinted old new line (Judge (BadConfig count)) = ⊥
 IsUnprinted old new line (Judge (Log file place fault)) = ⊥
 IsUnprinted old new line (Judge (Read file)) = ⊥

@@ -2,7 +2,7 @@
 
 ghost use Rattle.std.specs.Prelude.{◌≡◌, IfOk};
 ghost use Rattle.command_line.specs.Asking.{texts};
-ghost use Rattle.tardis_command.specs.Checking.{FilesAreConsistent};
+ghost use Rattle.tardis_command.specs.Checking.{FilesAreConsistent, FilesRunFlat};
 ghost use Rattle.tardis_command.specs.Endings as endings;
 
 use crate::check::check;
@@ -37,6 +37,8 @@ pub fn command<R: Threads + Sync, F: Folder, O: ByteSink, E: ByteSink>(
         (endings.sink_of E.contents E.failed err.new) ending }
     ensures sound { result ≡ 0 → endings.AskFor (texts words.entry.now)
         (endings.AreConsistent (F.told folder.old)) }
+    ensures flat { result ≡ 0 → endings.AskFor (texts words.entry.now)
+        (endings.RunFlat (F.told folder.old)) }
 {
     let request = match read(alloc, words) {
         Ok(request) => request,
@@ -68,6 +70,8 @@ fn perform<R: Threads + Sync, F: Folder, O: ByteSink>(
         (endings.sink_of O.contents O.failed out.new) ending }
     ensures sound { IfOk result (λ status. status ≡ 0
         → endings.AreConsistent (F.told folder.old) request.now) }
+    ensures flat { IfOk result (λ status. status ≡ 0
+        → endings.RunFlat (F.told folder.old) request.now) }
 {
     match request {
         Request::Check(asked) => perform_check(rt, alloc, asked, folder, out),
@@ -88,6 +92,8 @@ fn perform_check<R: Threads + Sync, F: Folder, O: ByteSink>(
         (endings.sink_of O.contents O.failed out.new) ending }
     ensures sound { IfOk result (λ status. status ≡ 0
         → FilesAreConsistent (F.told folder.now) asked.now) }
+    ensures flat { IfOk result (λ status. status ≡ 0
+        → FilesRunFlat (F.told folder.now) asked.now) }
 {
     let verdict = check(rt, alloc, folder, asked)?;
     print_verdict(alloc, out, verdict)?;

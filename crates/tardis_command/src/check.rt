@@ -1,32 +1,116 @@
 //! The check of the logs of a set.
 
-ghost use Rattle.std.specs.Prelude.{IfErr, IfOk, length};
+ghost use Rattle.std.specs.Prelude.{ℕ, List, IfErr, IfOk, None, Some, length};
+ghost use Rattle.core_program.specs.Answers.{SpellsSet};
+ghost use Rattle.log_file.specs.Devices.{Tells};
 ghost use Rattle.verdict.specs.Judgement.{IsYes};
 ghost use Rattle.tardis_command.specs.Checking as checking;
 
+use crate::fault::CommandFault;
 use crate::folder::Folder;
 use crate::gate::OpenGate;
 use command_line::Check;
+use core_program::ProgramSet;
+use log_file::{ReadFault, read_all};
 use std::alloc::Global;
 use std::thread::Threads;
-use verdict::{JudgeFault, Verdict, check_counts, judge};
+use verdict::{JudgeFault, Verdict, check_counts, judge, judge_run};
 
-/// The verdict on the logs in files of the folder, or why there is none: 6 comes before a file is
-/// opened, and 28 of a file that can't be opened before one is read.
+/// The verdict on the logs in files of the folder, against the programs in another where one is asked
+/// for, or why there is none: 6 of files and workers comes before a file is opened, the programs
+/// before the logs, and 28 of a log that can't be opened before one is read.
 pub(crate) fn check<R: Threads + Sync, F: Folder>(
     rt: &R,
     alloc: Global,
     folder: &F,
     asked: &Check<'_>,
-) -> Result<Verdict, JudgeFault>
+) -> Result<Verdict, CommandFault>
     ensures exact { checking.IsChecked (F.told folder.now) asked.now result }
     ensures sound { IfOk result (λ verdict. IsYes verdict
         → checking.FilesAreConsistent (F.told folder.now) asked.now) }
+    ensures flat { IfOk result (λ verdict. IsYes verdict
+        → checking.FilesRunFlat (F.told folder.now) asked.now) }
 {
-    let workers = asked.workers as usize;
-    check_counts(asked.files.len(), workers)?;
+    check_counts(asked.files.len(), asked.workers as usize)?;
+    let Some(name) = asked.program else {
+        return Ok(judge_files(rt, alloc, folder, asked)?);
+    };
+    let programs = read_programs(alloc, folder, name)?;
+    Ok(judge_run_files(rt, alloc, folder, asked, &programs)?)
+}
+
+/// The verdict on the logs in files of the folder.
+fn judge_files<R: Threads + Sync, F: Folder>(
+    rt: &R,
+    alloc: Global,
+    folder: &F,
+    asked: &Check<'_>,
+) -> Result<Verdict, JudgeFault>
+    requires { checking.AreInRange asked.now }
+    ensures exact { checking.IsCheckedAgainst (F.told folder.now) None asked.now result }
+    ensures sound { IfOk result (λ verdict. IsYes verdict
+        → checking.FilesAreConsistent (F.told folder.now) asked.now) }
+{
     let mut sources = open_all(alloc, folder, asked.files.as_slice())?;
-    judge(rt, alloc, sources.as_mut_slice(), workers, &OpenGate)
+    judge(
+        rt,
+        alloc,
+        sources.as_mut_slice(),
+        asked.workers as usize,
+        &OpenGate,
+    )
+}
+
+/// The verdict on the logs in files of the folder, against these programs.
+fn judge_run_files<R: Threads + Sync, F: Folder>(
+    rt: &R,
+    alloc: Global,
+    folder: &F,
+    asked: &Check<'_>,
+    programs: &ProgramSet,
+) -> Result<Verdict, JudgeFault>
+    requires { checking.AreInRange asked.now }
+    ensures exact { checking.IsCheckedAgainst (F.told folder.now) (Some programs.now) asked.now
+        result }
+    ensures sound { IfOk result (λ verdict. IsYes verdict
+        → checking.FilesAreConsistent (F.told folder.now) asked.now) }
+    ensures flat { IfOk result (λ verdict. IsYes verdict
+        → checking.FilesRunFlatBy (F.told folder.now) asked.now (Some programs.now)) }
+{
+    let mut sources = open_all(alloc, folder, asked.files.as_slice())?;
+    let workers = asked.workers as usize;
+    judge_run(
+        rt,
+        alloc,
+        programs,
+        sources.as_mut_slice(),
+        workers,
+        &OpenGate,
+    )
+}
+
+/// The programs in a file of the folder: 28 where it can't be opened or read.
+fn read_programs<F: Folder>(
+    alloc: Global,
+    folder: &F,
+    name: &str,
+) -> Result<ProgramSet, CommandFault>
+    ensures ok { IfOk result (λ programs. (text : List ℕ) × Tells (F.told folder.now name.now) text
+        × SpellsSet text programs) }
+    ensures err { IfErr result (checking.IsUnprogrammed (F.told folder.now) name.now) }
+{
+    let Ok(mut source) = folder.open_file(name) else {
+        return Err(CommandFault::ProgramsUnread);
+    };
+    let text = match read_all(alloc, &mut source) {
+        Ok(text) => text,
+        Err(ReadFault::Read) => return Err(CommandFault::ProgramsUnread),
+        Err(ReadFault::OutOfMemory) => {
+            return Err(CommandFault::Judge(JudgeFault::OutOfMemory));
+        }
+    };
+    let programs = ProgramSet::parse(alloc, text.as_slice())?;
+    Ok(programs)
 }
 
 /// Opens the files of these names in their order: 28 for the first that can't be opened.

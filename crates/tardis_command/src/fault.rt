@@ -2,9 +2,10 @@
 
 ghost use Rattle.std.specs.Prelude.{◌≡◌};
 ghost use Rattle.tardis_command.specs.Faults.{fault_status};
-ghost use Rattle.tardis_command.specs.declared.fault.CommandFault.TheVariants.{Judge, Output};
+ghost use Rattle.tardis_command.specs.declared.fault.CommandFault.TheVariants.{Judge, Output, Programs};
 ghost use Rattle.verdict.specs.declared.judge_fault.JudgeFault.TheVariants.{OutOfMemory};
 
+use core_program::ProgramFault;
 use log_file::WriteFailed;
 use std::alloc::AllocError;
 use std::fmt;
@@ -17,12 +18,17 @@ use verdict::JudgeFault;
 pub enum CommandFault {
     /// There is no verdict.
     Judge(JudgeFault),
+    /// The file of the programs is none of a set of programs.
+    Programs(ProgramFault),
+    /// The file of the programs can't be opened, or a read of it failed.
+    ProgramsUnread,
     /// Standard output failed.
     Output,
 }
 
 impl CommandFault {
-    /// The exit status: 2 where a log was refused, 3 where a count is out of range, else 4.
+    /// The exit status: 2 where a log or the programs were refused, 3 where a count is out of range,
+    /// else 4.
     pub fn status(&self) -> u8
         ensures { result ≡ fault_status self.now }
     {
@@ -30,7 +36,9 @@ impl CommandFault {
             CommandFault::Judge(JudgeFault::Log { .. }) => 2,
             CommandFault::Judge(JudgeFault::BadConfig(_)) => 3,
             CommandFault::Judge(JudgeFault::Read { .. } | JudgeFault::OutOfMemory) => 4,
-            CommandFault::Output => 4,
+            CommandFault::Programs(ProgramFault::OutOfMemory) => 4,
+            CommandFault::Programs(_) => 2,
+            CommandFault::ProgramsUnread | CommandFault::Output => 4,
         }
     }
 }
@@ -44,6 +52,11 @@ impl Display for CommandFault {
     fn fmt<W: fmt::Write>(&self, f: &mut fmt::Formatter<W>) -> fmt::Result {
         match self {
             CommandFault::Judge(fault) => write!(f, "refused: {fault}"),
+            CommandFault::Programs(ProgramFault::OutOfMemory) => {
+                f.write_str("refused: 10 OutOfMemory")
+            }
+            CommandFault::Programs(fault) => write!(f, "refused: programs {fault}"),
+            CommandFault::ProgramsUnread => f.write_str("refused: programs: 28 Read"),
             CommandFault::Output => f.write_str("refused: output: 29 Write"),
         }
     }
@@ -54,6 +67,14 @@ impl From<JudgeFault> for CommandFault {
 
     fn from(reason: JudgeFault) -> CommandFault {
         CommandFault::Judge(reason)
+    }
+}
+
+impl From<ProgramFault> for CommandFault {
+    ghost from_gives = { λ reason fault. fault ≡ Programs reason };
+
+    fn from(reason: ProgramFault) -> CommandFault {
+        CommandFault::Programs(reason)
     }
 }
 

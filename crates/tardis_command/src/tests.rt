@@ -165,6 +165,95 @@ For more information, try '--help'.\n",
     ),
 ];
 
+/// A program of one core, the records of its log, and the verdict on that log against the program.
+const AGAINST_PROGRAMS: &[(&str, &[&str], u8, &str)] = &[
+    (
+        "ld r0 0\nai r1 r0 1\nsr 1 r1\n",
+        &["L 0 0 0 1 init", "S 1 1 1 0"],
+        0,
+        "yes: 2 operations\n",
+    ),
+    (
+        "ld r0 0\nai r1 r0 1\nsr 1 r1\n",
+        &["L 0 0 0 1 init", "S 1 2 1 0"],
+        1,
+        "no: 0.1 PROGRAM\n",
+    ),
+    // The register wraps to 0, and the jump ends just past the last instruction.
+    (
+        "ai r0 r0 18446744073709551615\nai r0 r0 1\njz r0 1\nst 0 1\n",
+        &[],
+        0,
+        "yes: 0 operations\n",
+    ),
+    // Both faults stand at one operation.
+    (
+        "st 0 1\n",
+        &["S 0 1 5 0", "S 0 1 4 0"],
+        1,
+        "no: 0.1 CORE-ORDER\n",
+    ),
+    // The store is skipped.
+    (
+        "ld r0 0\njz r0 1\nst 1 7\n",
+        &["L 0 0 0 1 init", "S 1 7 1 0"],
+        1,
+        "no: 0.1 PROGRAM\n",
+    ),
+    (
+        "ld r0 0\njz r0 1\nst 1 7\n",
+        &["L 0 0 0 1 init"],
+        0,
+        "yes: 1 operations\n",
+    ),
+    // The log ends before its program.
+    ("st 0 1\nld r0 1\n", &["S 0 1 1 0"], 1, "no: 0.1 PROGRAM\n"),
+];
+
+/// A set of programs for one core.
+const ONE_STORE: &[u8] = b"tardis-programs 1 cores 1\ncore 0\nst 0 1\nend\n";
+
+/// A set for one core whose only instruction is a jump past the end of the program.
+const ONE_JUMP: &[u8] = b"tardis-programs 1 cores 1\ncore 0\njz r0 1\nend\n";
+
+/// Arguments of a check of two empty logs, the files 0 and 1, against programs that are refused: a
+/// store is file 2, a jump file 3, and file 4 ends behind its first line.
+const REFUSED_PROGRAMS: &[(&[&str], u8, &str)] = &[
+    (&["--program", "x", "0"], 4, "refused: programs: 28 Read\n"),
+    (
+        &["--program", "3", "0"],
+        2,
+        "refused: programs line 3: 9 SkipPastEnd\n",
+    ),
+    (
+        &["--program", "4", "0"],
+        2,
+        "refused: programs line 2: 7 BadLine\n",
+    ),
+    // Programs are told before a log is opened, and counts of files and workers before programs.
+    (
+        &["--program", "4", "x"],
+        2,
+        "refused: programs line 2: 7 BadLine\n",
+    ),
+    (
+        &["--program", "4", "--workers", "0", "0"],
+        3,
+        "refused: 6 BadConfig workers\n",
+    ),
+    // Logs are opened before programs are counted, and read after it.
+    (
+        &["--program", "2", "0", "x"],
+        4,
+        "refused: file 1: 28 Read\n",
+    ),
+    (
+        &["--program", "2", "4", "1"],
+        3,
+        "refused: 6 BadConfig programs\n",
+    ),
+];
+
 /// Words that are no command line, or call for help.
 const NO_COMMAND_LINES: &[&[&str]] = &[
     &[],
@@ -292,6 +381,40 @@ fn refused_logs(rt: HostRuntime) -> Result<(), Fail> {
         let told = format!(in rt.alloc(); "refused: file 0 line {line}: 26 Truncated\n")?;
         assert_eq!(rt; done.told.as_str(), told.as_str());
         assert_eq!(rt; done.status, 2);
+    }
+    Ok(())
+}
+
+#[test]
+fn verdicts_against_programs(rt: HostRuntime) -> Result<(), Fail> {
+    for (program, records, status, line) in AGAINST_PROGRAMS {
+        for workers in ["--workers=1", "--workers=2"] {
+            let mut texts = logs_of(rt.alloc(), &[*records])?;
+            let set = format!(in rt.alloc(); "tardis-programs 1 cores 1\ncore 0\n{program}end\n")?;
+            texts.push(set.into_bytes())?;
+            let words = words_of(rt.alloc(), &[workers, "--program", "1", "0"], 0)?;
+            let done = call(&rt, rt.alloc(), &words, &texts, &SOUND)?;
+            assert_eq!(rt; done.told.as_str(), "", "at {program:?}");
+            assert_eq!(rt; done.printed.as_str(), *line, "at {program:?}");
+            assert_eq!(rt; done.status, *status, "at {program:?}");
+        }
+    }
+    Ok(())
+}
+
+#[test]
+fn refused_programs(rt: HostRuntime) -> Result<(), Fail> {
+    let cut_off = &ONE_STORE[..26];
+    let texts = owned(
+        rt.alloc(),
+        &[EMPTY_0_OF_2, EMPTY_1_OF_2, ONE_STORE, ONE_JUMP, cut_off],
+    )?;
+    for (words, status, told) in REFUSED_PROGRAMS {
+        let words = words_of(rt.alloc(), words, 0)?;
+        let done = call(&rt, rt.alloc(), &words, &texts, &SOUND)?;
+        assert_eq!(rt; done.told.as_str(), *told);
+        assert_eq!(rt; done.status, *status, "where {told}");
+        assert_eq!(rt; done.printed.as_str(), "", "where {told}");
     }
     Ok(())
 }

@@ -6,15 +6,15 @@ use Rattle.std.specs.Ordering.{is_lt, nat_cmp, ordering_then}
 use Rattle.std.proofs.Common.{sym, ◌∙◌, ap, subst, inl, inr, arith, get_or}
 use Rattle.std.proofs.lemmas.Bool.{eqb-true, eq-eqb, false_from_ne_true, cases_lt}
 use Rattle.std.proofs.lemmas.List.{append-nil, take_more}
-use Rattle.std.proofs.lemmas.Option.{slice_get_within}
 use Rattle.line_stamps.specs.Least.{least_of, lesser}
 use Rattle.line_stamps.specs.Ordered.{In, IsLeastIn}
 use Rattle.line_stamps.proofs.Ordered.{In-append_left, In-append_right, In-filter, In-filtered, In-flat_map, flat_map-In, least_is, one_least, same_least}
 use Rattle.log_record.specs.declared.record.Record.{Record}
 use Rattle.core_check.specs.declared.fault.CoreFault.{CoreFault}
 use Rattle.core_check.specs.FaultOrder.{core_fault_cmp, rule_number}
-use Rattle.core_check.specs.CoreOrder.{is_core_fault, IsLeastWhere}
-use Rattle.core_check.specs.CoreFaults.{order_fault, order_faults, least_core_fault}
+use Rattle.core_check.specs.CoreOrder.{is_core_fault}
+use Rattle.core_program.specs.Least.{IsLeastWhere}
+use Rattle.core_check.specs.CoreFaults.{order_fault, order_faults}
 use Rattle.core_check.proofs.FaultFacts.{core_fault_total, tied_core_faults}
 use Rattle.core_check.proofs.OrderFaultFacts.{FaultIn, fault_of_log, fault_in_log}
 use Rattle.core_check.specs.contracts.fault.CoreFaultOrd.TheImpl.{ghosts}
@@ -32,7 +32,7 @@ abbrev is_of : ℕ → CoreFault → Bool
 is_of core f = f.id.core == core
 
 -- a fault of a core is a fault of its log
-in_log_of_core : (logs : List (List Record)) (core : ℕ) (f : CoreFault) → In f (faults_of_core logs core) → FaultIn logs f × (f.id.core ≡ core)
+in_log_of_core : (logs : List (List Record)) (core : ℕ) (f : CoreFault) → In f (faults_of_core (order_faults logs) core) → FaultIn logs f × (f.id.core ≡ core)
 in_log_of_core logs core f h =
     let parts = In-filter (is_of core) (order_faults logs) f h in
     (fault_in_log logs f parts.0, eqb-true f.id.core core parts.1)
@@ -41,7 +41,7 @@ in_log_of_core logs core f h =
 abbrev log_of : List (List Record) → ℕ → List Record
 log_of logs core = unwrap_or (slice_get logs core) []
 
-falls_in_read_log : (logs : List (List Record)) (core : ℕ) (f : CoreFault) → In f (faults_of_core logs core) → is_core_fault (log_of logs core) f.id.index ≡ true
+falls_in_read_log : (logs : List (List Record)) (core : ℕ) (f : CoreFault) → In f (faults_of_core (order_faults logs) core) → is_core_fault (log_of logs core) f.id.index ≡ true
 falls_in_read_log logs core f h =
     let found = in_log_of_core logs core f h in
     let place : slice_get logs core ≡ Some found.0.log = subst (λ c. slice_get logs c ≡ Some found.0.log) found.1 found.0.place in
@@ -69,32 +69,40 @@ not_less a b p q core h =
     one_rule : nat_cmp (rule_number a.rule) (rule_number b.rule) ≡ Equal
     one_rule = ap (λ (f : CoreFault). nat_cmp (rule_number f.rule) (rule_number b.rule)) (sym p) ∙ ap (λ (f : CoreFault). nat_cmp 0 (rule_number f.rule)) (sym q)
 
-pub first_of_core : (logs : List (List Record)) (core index : ℕ) → IsLeastWhere (is_core_fault (log_of logs core)) (Some index) → Some (order_fault (record { core = core; index = index })) ≡ least_of_core logs core
-first_of_core logs core index h = is_the_least (faults_of_core logs core) (Some fault) (here, above)
+pub first_of_core : (logs : List (List Record)) (core index : ℕ) → IsLeastWhere (is_core_fault (log_of logs core)) (Some index) → Some (order_fault (record { core = core; index = index })) ≡ least_of_core (order_faults logs) core
+first_of_core logs core index h = is_the_least (faults_of_core (order_faults logs) core) (Some fault) (here, above)
   where
     fault : CoreFault
     fault = order_fault (record { core = core; index = index })
 
-    here : In fault (faults_of_core logs core)
+    here : In fault (faults_of_core (order_faults logs) core)
     here = In-filtered (is_of core) (order_faults logs) fault
         (fault_of_log logs fault.id (log_of logs core) (place_of_fault logs core index h.0) h.0) (eq-eqb core core refl)
 
-    above : (f : CoreFault) → In f (faults_of_core logs core) → is_lt (core_fault_cmp f fault) ≡ false
+    above : (f : CoreFault) → In f (faults_of_core (order_faults logs) core) → is_lt (core_fault_cmp f fault) ≡ false
     above f p =
         let found = in_log_of_core logs core f p in
         not_less f fault found.0.of_order refl found.1 (λ l. (let t = h.1 f.id.index l in let u = falls_in_read_log logs core f p in cc))
 
-pub none_of_core : (logs : List (List Record)) (core : ℕ) → IsLeastWhere (is_core_fault (log_of logs core)) None → None ≡ least_of_core logs core
-none_of_core logs core h = is_the_least (faults_of_core logs core) None (λ f p. (let t = h f.id.index in let u = falls_in_read_log logs core f p in cc))
+pub none_of_core : (logs : List (List Record)) (core : ℕ) → IsLeastWhere (is_core_fault (log_of logs core)) None → None ≡ least_of_core (order_faults logs) core
+none_of_core logs core h = is_the_least (faults_of_core (order_faults logs) core) None (λ f p. (let t = h f.id.index in let u = falls_in_read_log logs core f p in cc))
 
 -- the same of a log that was read and an index that was made of the one found
-pub found_of_core : (logs : List (List Record)) (core index found : ℕ) (log : List Record) → log ≡ log_of logs core → index ≡ found → IsLeastWhere (is_core_fault log) (Some found) → Some (order_fault (record { core = core; index = index })) ≡ least_of_core logs core
+pub found_of_core : (logs : List (List Record)) (core index found : ℕ) (log : List Record) → log ≡ log_of logs core → index ≡ found → IsLeastWhere (is_core_fault log) (Some found) → Some (order_fault (record { core = core; index = index })) ≡ least_of_core (order_faults logs) core
 found_of_core logs core index found log read made h =
     ap (λ i. Some (order_fault (record { core = core; index = i }))) made
     ∙ first_of_core logs core found (subst (λ (l : List Record). IsLeastWhere (is_core_fault l) (Some found)) read h)
 
-pub not_found_of_core : (logs : List (List Record)) (core : ℕ) (log : List Record) → log ≡ log_of logs core → IsLeastWhere (is_core_fault log) None → None ≡ least_of_core logs core
+pub not_found_of_core : (logs : List (List Record)) (core : ℕ) (log : List Record) → log ≡ log_of logs core → IsLeastWhere (is_core_fault log) None → None ≡ least_of_core (order_faults logs) core
 not_found_of_core logs core log read h = none_of_core logs core (subst (λ (l : List Record). IsLeastWhere (is_core_fault l) None) read h)
+
+-- a core without a log has no fault
+pub no_log_of_core : (logs : List (List Record)) (core : ℕ) → None ≡ slice_get logs core → None ≡ least_of_core (order_faults logs) core
+no_log_of_core logs core none = not_found_of_core logs core [] (ap (λ o. unwrap_or o []) none) never
+  where
+    never : (i : ℕ) → is_core_fault [] i ≡ false
+    never zero = refl
+    never (suc i) = refl
 
 -- a core more in a list of the first cores
 pub In-one_more : (cores more : List ℕ) (n added : ℕ) → more ≡ cores ++ added ∷ [] → added ≡ n → ((core : ℕ) → core < n → In core cores) → (core : ℕ) → core < n + 1 → In core more
@@ -103,26 +111,25 @@ In-one_more cores more n added push is h core l = subst (λ (cs : List ℕ). In 
   | inr at ↦ In-append_right core cores (added ∷ []) (inl (omega arith))
 ])
 
--- all cores of the set give its least core fault
-pub least_by_cores : (logs : List (List Record)) (cores : List ℕ) → ((core : ℕ) → core < length logs → In core cores) → least_of_cores logs cores ≡ least_core_fault logs
-least_by_cores logs cores whole =
-    same_least core_fault_cmp core_fault_total (flat_map (faults_of_core logs) cores) (order_faults logs)
+-- cores of which every fault is give the least fault
+pub least_by_cores : (faults : List CoreFault) (cores : List ℕ) → ((f : CoreFault) → In f faults → In f.id.core cores) → least_of_cores faults cores ≡ least_of core_fault_cmp faults
+least_by_cores faults cores whole =
+    same_least core_fault_cmp core_fault_total (flat_map (faults_of_core faults) cores) faults
     (λ a b p q tied. tied_core_faults a b tied) of_set of_cores
   where
-    of_set : (f : CoreFault) → In f (flat_map (faults_of_core logs) cores) → In f (order_faults logs)
-    of_set f p = let found = flat_map-In (faults_of_core logs) cores f p in (In-filter (is_of found.0) (order_faults logs) f found.2).0
+    of_set : (f : CoreFault) → In f (flat_map (faults_of_core faults) cores) → In f faults
+    of_set f p = let found = flat_map-In (faults_of_core faults) cores f p in (In-filter (is_of found.0) faults f found.2).0
 
-    of_cores : (f : CoreFault) → In f (order_faults logs) → In f (flat_map (faults_of_core logs) cores)
+    of_cores : (f : CoreFault) → In f faults → In f (flat_map (faults_of_core faults) cores)
     of_cores f p =
-        let found = fault_in_log logs f p in
-        In-flat_map (faults_of_core logs) cores f.id.core f (whole f.id.core (slice_get_within logs f.id.core found.log found.place))
-        (In-filtered (is_of f.id.core) (order_faults logs) f p (eq-eqb f.id.core f.id.core refl))
+        In-flat_map (faults_of_core faults) cores f.id.core f (whole f p)
+        (In-filtered (is_of f.id.core) faults f p (eq-eqb f.id.core f.id.core refl))
 
 -- the least fault of the first cores, with that of one core more
-pub least_with_core : (logs : List (List Record)) (cores : List ℕ) (k core : ℕ) (least found next : Option CoreFault) → k < length cores → core ≡ get_or cores k core → least ≡ least_of_cores logs (take k cores) → found ≡ least_of_core logs core → next ≡ lesser ghosts.cmp least found → next ≡ least_of_cores logs (take (k + 1) cores)
-least_with_core logs cores k core least found next within here so_far of_core chosen =
+pub least_with_core : (faults : List CoreFault) (cores : List ℕ) (k core : ℕ) (least found next : Option CoreFault) → k < length cores → core ≡ get_or cores k core → least ≡ least_of_cores faults (take k cores) → found ≡ least_of_core faults core → next ≡ lesser ghosts.cmp least found → next ≡ least_of_cores faults (take (k + 1) cores)
+least_with_core faults cores k core least found next within here so_far of_core chosen =
     chosen
     ∙ ap (λ a. lesser ghosts.cmp a found) so_far
-    ∙ ap (lesser ghosts.cmp (least_of_cores logs (take k cores))) (of_core ∙ ap (least_of core_fault_cmp) (sym (append-nil (faults_of_core logs core))))
-    ∙ sym (least_of_cores-joined logs (take k cores) (core ∷ []))
-    ∙ ap (least_of_cores logs) (ap (λ c. take k cores ++ c ∷ []) here ∙ sym (take_more cores k core within))
+    ∙ ap (lesser ghosts.cmp (least_of_cores faults (take k cores))) (of_core ∙ ap (least_of core_fault_cmp) (sym (append-nil (faults_of_core faults core))))
+    ∙ sym (least_of_cores-joined faults (take k cores) (core ∷ []))
+    ∙ ap (least_of_cores faults) (ap (λ c. take k cores ++ c ∷ []) here ∙ sym (take_more cores k core within))

@@ -1,8 +1,12 @@
 pub mod Bridge
 pub mod CoreFacts
 pub mod FlatAnswers
+pub mod FlatRuns
 pub mod FlatSoFar
+pub mod Lists
 pub mod OneAnswer
+pub mod Paths
+pub mod ProgramFacts
 pub mod ProgramOrder
 pub mod Replaying
 pub mod SerialOrder

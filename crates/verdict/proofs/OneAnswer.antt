@@ -13,7 +13,7 @@ use Rattle.verdict.specs.declared.answer.Verdict.{Verdict}
 use Rattle.verdict.specs.declared.judge_fault.JudgeFault.{JudgeFault}
 use Rattle.verdict.specs.declared.judge_fault.JudgeFault.TheVariants.{BadConfig, Log, OutOfMemory as NoMemory, Read}
 use Rattle.verdict.specs.VerdictOf.{verdict_of}
-use Rattle.verdict.specs.Judgement.{IsVerdictOn, IsAnswerTo, IsOfTexts}
+use Rattle.verdict.specs.Judgement.{IsVerdictBy, IsAnswerTo, IsOfTexts}
 
 -- texts spell one set
 one_set : (core cores : ℕ) (texts : List (List ℕ)) (logs others : List (List Record)) → SpellFrom core cores texts logs → SpellFrom core cores texts others → logs ≡ others
@@ -92,7 +92,7 @@ same_fault texts file line other_file other_line fault other h k = elim (cases_l
         let faults : fault ≡ other = one.1 in
         cc
 
-same_verdict : (texts : List (List ℕ)) (a b : Verdict) → IsVerdictOn texts a → IsVerdictOn texts b → a ≡ b
+same_verdict : (texts : List (List ℕ)) (a b : Verdict) → IsVerdictBy verdict_of texts a → IsVerdictBy verdict_of texts b → a ≡ b
 same_verdict texts a b h k = h.2 ∙ ap verdict_of (one_set 0 (length texts) texts h.0 k.0 h.1 k.1) ∙ sym k.2
 
 pub one_answer : (texts : List (List ℕ)) (a b : Result Verdict JudgeFault) → IsOfTexts a → IsOfTexts b → IsAnswerTo texts a → IsAnswerTo texts b → a ≡ b

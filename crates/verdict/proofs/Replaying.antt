@@ -235,7 +235,7 @@ ordered_all lens next order k h l e =
 
 -- ---- the lengths of the logs say which operations there are
 
-is_some-slice_get : {X : Type 0} (xs : List X) (i : ℕ) → is_some (slice_get xs i) ≡ nat_lt i (length xs)
+pub is_some-slice_get : {X : Type 0} (xs : List X) (i : ℕ) → is_some (slice_get xs i) ≡ nat_lt i (length xs)
 is_some-slice_get xs i = elim (cases_lt i (length xs)) [
   | inl l ↦ (let t = slice_get_cases xs i in elim t.1 [ inl r ↦ ap is_some r.2 ∙ sym (lt-ltb i (length xs) l) | inr r ↦ absurd (let w : length xs ≤ i = r.0 in omega arith) ])
   | inr l ↦ ap is_some (slice_get_past xs i l) ∙ sym (le-ltb i (length xs) l)

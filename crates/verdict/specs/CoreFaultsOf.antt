@@ -1,19 +1,34 @@
--- The core faults of some cores of a set.
-use Rattle.std.specs.Prelude.{ℕ, ◌==◌, List, Option, filter}
+-- The core faults of a set, core by core.
+use Rattle.std.specs.Prelude.{ℕ, ◌==◌, List, [], ◌++◌, Option, None, Some, filter, option_map}
+use Rattle.std.specs.Borrow.{Bor}
 use Rattle.std.specs.List.{flat_map}
 use Rattle.line_stamps.specs.Least.{least_of}
 use Rattle.log_record.specs.declared.record.Record.{Record}
+use Rattle.core_program.specs.declared.instruction.Instruction.{Instruction}
 use Rattle.core_check.specs.declared.fault.CoreFault.{CoreFault}
 use Rattle.core_check.specs.FaultOrder.{core_fault_cmp}
-use Rattle.core_check.specs.CoreFaults.{order_faults}
+use Rattle.core_check.specs.CoreFaults.{order_faults, program_faults}
 
--- the set's core faults that are a core's
-abbrev pub faults_of_core : List (List Record) → ℕ → List CoreFault
-faults_of_core logs core = filter (λ f. f.id.core == core) (order_faults logs)
+-- the programs that a reference leads to, where it is given
+abbrev pub given : Option (Bor (List (List Instruction))) → Option (List (List Instruction))
+given = option_map (λ programs. programs.now)
 
-abbrev pub least_of_core : List (List Record) → ℕ → Option CoreFault
-least_of_core logs core = least_of core_fault_cmp (faults_of_core logs core)
+-- the faults against the programs of a set's cores, where they are given
+abbrev pub faults_by_programs : Option (List (List Instruction)) → List (List Record) → List CoreFault
+faults_by_programs None logs = []
+faults_by_programs (Some programs) logs = program_faults programs logs
 
--- the least core fault of these cores
-abbrev pub least_of_cores : List (List Record) → List ℕ → Option CoreFault
-least_of_cores logs cores = least_of core_fault_cmp (flat_map (faults_of_core logs) cores)
+-- all core faults of a set
+abbrev pub core_faults : Option (List (List Instruction)) → List (List Record) → List CoreFault
+core_faults programs logs = order_faults logs ++ faults_by_programs programs logs
+
+-- those of the faults that are a core's
+abbrev pub faults_of_core : List CoreFault → ℕ → List CoreFault
+faults_of_core faults core = filter (λ f. f.id.core == core) faults
+
+abbrev pub least_of_core : List CoreFault → ℕ → Option CoreFault
+least_of_core faults core = least_of core_fault_cmp (faults_of_core faults core)
+
+-- the least of the faults that are of these cores
+abbrev pub least_of_cores : List CoreFault → List ℕ → Option CoreFault
+least_of_cores faults cores = least_of core_fault_cmp (flat_map (faults_of_core faults) cores)

@@ -3,27 +3,37 @@ use Rattle.std.specs.Prelude.{◌≡◌, ◌<◌, ℕ, List, length, Result, Ok,
 use Rattle.mem_op.specs.Consistency.{IsConsistent}
 use Rattle.log_record.specs.declared.record.Record.{Record}
 use Rattle.log_record.specs.Entries.{operations_of}
+use Rattle.core_program.specs.declared.instruction.Instruction.{Instruction}
 use Rattle.log_file.specs.Sets.{SpellSet, SpellBefore, IsFirstOfSet}
 use Rattle.verdict.specs.declared.answer.Verdict.{Verdict}
 use Rattle.verdict.specs.declared.answer.Verdict.TheVariants.{Yes, No}
 use Rattle.verdict.specs.declared.judge_fault.JudgeFault.{JudgeFault}
 use Rattle.verdict.specs.declared.judge_fault.JudgeFault.TheVariants.{BadConfig, Log, OutOfMemory, Read}
-use Rattle.verdict.specs.VerdictOf.{verdict_of}
+use Rattle.verdict.specs.FlatMachine.{RunsFlat}
+use Rattle.verdict.specs.VerdictOf.{verdict_of, run_verdict_of}
 
 -- the texts spell a set, and this is the verdict on it
-abbrev pub IsVerdictOn : List (List ℕ) → Verdict → Type 0
-IsVerdictOn texts verdict =
-    (logs : List (List Record)) × SpellSet texts logs × (verdict ≡ verdict_of logs)
+abbrev pub IsVerdictBy : (List (List Record) → Verdict) → List (List ℕ) → Verdict → Type 0
+IsVerdictBy judged texts verdict =
+    (logs : List (List Record)) × SpellSet texts logs × (verdict ≡ judged logs)
 
 -- The verdict on the set that the texts spell, or their first fault. A bad count, want of memory or a
 -- failed read may come in place of either; a read fails at a file only where the texts in front of it
 -- spell their logs.
+abbrev pub IsAnswerBy : (List (List Record) → Verdict) → List (List ℕ) → Result Verdict JudgeFault → Type 0
+IsAnswerBy judged texts (Ok verdict) = IsVerdictBy judged texts verdict
+IsAnswerBy judged texts (Err (Log file line fault)) = IsFirstOfSet texts file line fault
+IsAnswerBy judged texts (Err (Read file)) = (file < length texts) × SpellBefore texts file
+IsAnswerBy judged texts (Err (BadConfig count)) = Unit {0}
+IsAnswerBy judged texts (Err OutOfMemory) = Unit {0}
+
+-- the answer to a set
 abbrev pub IsAnswerTo : List (List ℕ) → Result Verdict JudgeFault → Type 0
-IsAnswerTo texts (Ok verdict) = IsVerdictOn texts verdict
-IsAnswerTo texts (Err (Log file line fault)) = IsFirstOfSet texts file line fault
-IsAnswerTo texts (Err (Read file)) = (file < length texts) × SpellBefore texts file
-IsAnswerTo texts (Err (BadConfig count)) = Unit {0}
-IsAnswerTo texts (Err OutOfMemory) = Unit {0}
+IsAnswerTo = IsAnswerBy verdict_of
+
+-- the answer to a set whose cores ran these programs
+abbrev pub IsRunAnswerTo : List (List Instruction) → List (List ℕ) → Result Verdict JudgeFault → Type 0
+IsRunAnswerTo programs = IsAnswerBy (run_verdict_of programs)
 
 -- the answer is the texts' alone: a verdict, or the fault of a log
 abbrev pub IsOfTexts : Result Verdict JudgeFault → Type 0
@@ -41,3 +51,8 @@ IsYes (No fault) = ⊥
 abbrev pub SpellConsistentSet : List (List ℕ) → Type 0
 SpellConsistentSet texts =
     (logs : List (List Record)) × SpellSet texts logs × IsConsistent (operations_of logs)
+
+-- the texts spell a set whose operations some whole run of the flat machine performs
+abbrev pub SpellFlatRun : List (List Instruction) → List (List ℕ) → Type 0
+SpellFlatRun programs texts =
+    (logs : List (List Record)) × SpellSet texts logs × RunsFlat programs (operations_of logs)

@@ -5,6 +5,7 @@ pub mod Counts
 pub mod EachId
 pub mod FaultParts
 pub mod Faults
+pub mod FlatMachine
 pub mod Judgement
 pub mod Laws
 pub mod SetFaults

@@ -8,7 +8,7 @@ use Rattle.verdict.specs.FaultParts.{FaultParts}
 use Rattle.verdict.specs.declared.answer.Verdict.{Verdict}
 use Rattle.verdict.specs.declared.answer.Verdict.TheVariants.{Yes, No}
 use Rattle.verdict.specs.declared.judge_fault.Count.{Count}
-use Rattle.verdict.specs.declared.judge_fault.Count.TheVariants.{Files, Workers}
+use Rattle.verdict.specs.declared.judge_fault.Count.TheVariants.{Files, Workers, Programs}
 use Rattle.verdict.specs.declared.judge_fault.JudgeFault.{JudgeFault}
 use Rattle.verdict.specs.declared.judge_fault.JudgeFault.TheVariants.{BadConfig, Log, OutOfMemory, Read}
 
@@ -30,6 +30,7 @@ verdict_text (No fault) = codes "no: " ++ fault_text fault
 abbrev pub count_text : Count → List ℕ
 count_text Files = codes "files"
 count_text Workers = codes "workers"
+count_text Programs = codes "programs"
 
 -- a number and a name, behind the file and the line where there are any
 abbrev pub judge_fault_text : JudgeFault → List ℕ

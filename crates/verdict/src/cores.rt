@@ -2,24 +2,42 @@
 
 ghost use Rattle.std.specs.Prelude.{◌≡◌, ◌<◌, ◌≤◌, ℕ, IfOk, length, refl};
 ghost use Rattle.line_stamps.specs.Ordered.{In};
-ghost use Rattle.core_check.specs.CoreFaults.{least_core_fault};
-ghost use Rattle.verdict.specs.CoreFaultsOf.{least_of_core, least_of_cores};
+ghost use Rattle.core_check.specs.CoreFaults.{order_faults};
+ghost use Rattle.core_check.specs.FaultOrder.{core_fault_cmp};
+ghost use Rattle.line_stamps.specs.Least.{least_of};
+ghost use Rattle.verdict.specs.CoreFaultsOf.{core_faults, given, least_of_core, least_of_cores, faults_by_programs};
 ghost use Rattle.verdict.specs.CoreLaw.{least_of_cores-joined};
 
 use crate::log_set::LogSet;
 use address_check::{Gate, LocalCheck, Phase, fault_by_workers, lesser_fault};
-use core_check::{CoreFault, CoreRule, core_fault};
+use core_check::{CoreFault, CoreRule, conforms, core_fault};
+use core_program::ProgramSet;
 use mem_op::{CoreId, OpId, OpIndex};
 use std::alloc::{AllocError, Global};
 use std::thread::Threads;
 
-impl LogSet {
+/// The check of the logs of a set, against the programs of its cores where they are given.
+#[derive(Clone, Copy)]
+pub(crate) struct CoreCheck<'a> {
+    logs: &'a LogSet,
+    programs: Option<&'a ProgramSet>,
+}
+
+impl<'a> CoreCheck<'a> {
+    /// The check of these logs.
+    pub(crate) fn new(logs: &'a LogSet, programs: Option<&'a ProgramSet>) -> CoreCheck<'a>
+        ensures logs { result.logs.now ≡ logs.now }
+        ensures programs { given result.programs ≡ given programs.entry }
+    {
+        CoreCheck { logs, programs }
+    }
+
     /// The cores of the set. Err where memory was refused.
     fn cores(&self, alloc: Global) -> Result<Vec<CoreId>, AllocError>
-        ensures { IfOk result (λ cores. (core : ℕ) → core < length self.now → In core cores.items) }
+        ensures { IfOk result (λ cores. (core : ℕ) → core < length self.now.logs.now → In core cores.items) }
     {
         let mut cores = Vec::new(alloc);
-        for number in 0..self.len() {
+        for number in 0..self.logs.len() {
             let Ok(core) = CoreId::new(number as u64) else {
                 unreachable!()
             };
@@ -28,18 +46,30 @@ impl LogSet {
         Ok(cores)
     }
 
-    /// The least fault of a core's log.
-    fn fault_of_core(&self, core: CoreId) -> Option<CoreFault>
-        ensures { result ≡ least_of_core self.now core }
+    /// Where a core's log falls first, if it does.
+    fn order_fault(&self, core: CoreId) -> Option<CoreFault>
+        ensures { result ≡ least_of_core (order_faults self.now.logs.now) core }
     {
-        let index = core_fault(self.log(core))?;
-        let Ok(index) = OpIndex::new(index as u64) else {
-            unreachable!()
-        };
-        Some(CoreFault {
-            rule: CoreRule::CoreOrder,
-            id: OpId { core, index },
-        })
+        let index = core_fault(self.logs.get(core)?)?;
+        Some(fault_at(CoreRule::CoreOrder, core, index))
+    }
+
+    /// Where a core's log leaves its program first, if there are programs and it does.
+    fn program_fault(&self, core: CoreId) -> Option<CoreFault>
+        ensures { result
+            ≡ least_of_core (faults_by_programs (given self.now.programs) self.now.logs.now) core }
+    {
+        let program = self.programs?.get(core)?;
+        let index = conforms(program, self.logs.get(core)?)?;
+        Some(fault_at(CoreRule::Program, core, index))
+    }
+
+    /// The least fault of a core.
+    fn fault_of_core(&self, core: CoreId) -> Option<CoreFault>
+        ensures { result
+            ≡ least_of_core (core_faults (given self.now.programs) self.now.logs.now) core }
+    {
+        lesser_fault(self.order_fault(core), self.program_fault(core))
     }
 
     /// The least core fault of the set, found by so many workers at once, 1 to 64. Each has whole cores.
@@ -53,7 +83,8 @@ impl LogSet {
     ) -> Result<Option<CoreFault>, AllocError>
         requires some { 0 < workers }
         requires few { workers ≤ 64 }
-        ensures { IfOk result (λ fault. fault ≡ least_core_fault self.now) }
+        ensures { IfOk result (λ fault. fault
+            ≡ least_of core_fault_cmp (core_faults (given self.now.programs) self.now.logs.now)) }
     {
         let cores = self.cores(alloc)?;
         let fault = fault_by_workers(rt, alloc, gate, Phase::Cores, self, &cores, workers)?;
@@ -61,13 +92,27 @@ impl LogSet {
     }
 }
 
+/// The fault at an index of a core's log.
+fn fault_at(rule: CoreRule, core: CoreId, index: usize) -> CoreFault
+    requires { index < 1048576 }
+    ensures { result ≡ record { rule = rule; id = record { core = core; index = index } } }
+{
+    let Ok(index) = OpIndex::new(index as u64) else {
+        unreachable!()
+    };
+    CoreFault {
+        rule,
+        id: OpId { core, index },
+    }
+}
+
 // An item stands for the whole log of its core.
-impl LocalCheck for LogSet {
+impl LocalCheck for CoreCheck<'_> {
     type Item = CoreId;
 
     type Fault = CoreFault;
 
-    ghost fault_of = { λ set cores. least_of_cores set cores };
+    ghost fault_of = { λ check cores. least_of_cores (core_faults (given check.programs) check.logs.now) cores };
 
     fn fault(&self, cores: &[CoreId]) -> Option<CoreFault> {
         let mut least = None;
@@ -77,7 +122,7 @@ impl LocalCheck for LogSet {
         least
     }
 
-    ghost empty = { λ set. refl };
+    ghost empty = { λ check. refl };
 
-    ghost joined = { λ set xs ys. least_of_cores-joined set xs ys };
+    ghost joined = { λ check xs ys. least_of_cores-joined (core_faults (given check.programs) check.logs.now) xs ys };
 }

@@ -17,6 +17,8 @@ pub enum Count {
     Files,
     /// How many workers judge it.
     Workers,
+    /// How many programs there are, which are as many as files.
+    Programs,
 }
 
 impl Display for Count {
@@ -29,6 +31,7 @@ impl Display for Count {
         match self {
             Count::Files => f.write_str("files"),
             Count::Workers => f.write_str("workers"),
+            Count::Programs => f.write_str("programs"),
         }
     }
 }

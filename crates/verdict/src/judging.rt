@@ -2,9 +2,11 @@
 
 ghost use Rattle.std.specs.Prelude.{◌≡◌, ◌↔◌, ℕ, List, length, IfErr, IfOk, IsErrOf};
 ghost use Rattle.log_file.specs.Sets.{ReaderFailed, TellEach};
+ghost use Rattle.verdict.specs.CoreFaultsOf.{given};
 ghost use Rattle.verdict.specs.Counts.{IsBadCount, IsInRange, IsOutOfRange};
-ghost use Rattle.verdict.specs.Judgement.{IsAnswerTo, IsYes, SpellConsistentSet};
-ghost use Rattle.verdict.specs.declared.judge_fault.Count.TheVariants.{Files, Workers};
+ghost use Rattle.verdict.specs.Judgement.{IsAnswerBy, IsAnswerTo, IsYes, SpellConsistentSet};
+ghost use Rattle.verdict.specs.VerdictOf.{verdict_by};
+ghost use Rattle.verdict.specs.declared.judge_fault.Count.TheVariants.{Files, Workers, Programs};
 ghost use Rattle.verdict.specs.declared.judge_fault.JudgeFault.TheVariants.{BadConfig, Read};
 
 use crate::answer::Verdict;
@@ -13,14 +15,17 @@ use crate::judge_fault::JudgeFault;
 use crate::log_set::LogSet;
 use crate::verdict_on::verdict_on;
 use address_check::Gate;
+use core_program::ProgramSet;
 use log_file::{ByteSource, read_set};
 use std::alloc::Global;
 use std::thread::Threads;
 
-/// The verdict on the set of logs that the readers give, or why there is none.
-fn answer_to<R: Threads + Sync, S: ByteSource, G: Gate + Sync>(
+/// The verdict on the set of logs that the readers give, against the programs of its cores where they
+/// are given, or why there is none.
+pub(crate) fn answer_to<R: Threads + Sync, S: ByteSource, G: Gate + Sync>(
     rt: &R,
     alloc: Global,
+    programs: Option<&ProgramSet>,
     readers: &mut [S],
     workers: usize,
     gate: &G,
@@ -28,15 +33,16 @@ fn answer_to<R: Threads + Sync, S: ByteSource, G: Gate + Sync>(
     ensures files { IsErrOf result (BadConfig Files) ↔ IsOutOfRange (length readers.old) }
     ensures workers { IsErrOf result (BadConfig Workers)
         ↔ (IsInRange (length readers.old) × IsOutOfRange workers) }
+    ensures programs { ¬ (IsErrOf result (BadConfig Programs)) }
     ensures unread { IfErr result (λ fault. IsBadCount fault → readers.new ≡ readers.old) }
     ensures exact { (texts : List (List ℕ)) × TellEach S.remaining readers.old texts
-        × IsAnswerTo texts result }
+        × IsAnswerBy (verdict_by (given programs.entry)) texts result }
     ensures read { IfErr result (λ fault. (file : ℕ) → fault ≡ Read file
         → ReaderFailed S.failed readers.old readers.new file) }
 {
     check_counts(readers.len(), workers)?;
     let set = LogSet::new(read_set(alloc, readers)?);
-    let verdict = verdict_on(rt, alloc, set, workers, gate)?;
+    let verdict = verdict_on(rt, alloc, programs, set, workers, gate)?;
     Ok(verdict)
 }
 
@@ -62,6 +68,7 @@ pub fn judge<R: Threads + Sync, S: ByteSource, G: Gate + Sync>(
     ensures files { IsErrOf result (BadConfig Files) ↔ IsOutOfRange (length readers.old) }
     ensures workers { IsErrOf result (BadConfig Workers)
         ↔ (IsInRange (length readers.old) × IsOutOfRange workers) }
+    ensures programs { ¬ (IsErrOf result (BadConfig Programs)) }
     ensures unread { IfErr result (λ fault. IsBadCount fault → readers.new ≡ readers.old) }
 
     // The readers tell texts, and the answer is the verdict on the set that these spell, or their
@@ -77,5 +84,5 @@ pub fn judge<R: Threads + Sync, S: ByteSource, G: Gate + Sync>(
     ensures sound { (texts : List (List ℕ)) × TellEach S.remaining readers.old texts
         × IfOk result (λ verdict. IsYes verdict → SpellConsistentSet texts) }
 {
-    answer_to(rt, alloc, readers, workers, gate)
+    answer_to(rt, alloc, None, readers, workers, gate)
 }

@@ -11,6 +11,7 @@ mod laws;
 mod log_set;
 mod replay;
 mod rule;
+mod run_judging;
 #[cfg(test)]
 mod tests;
 mod verdict_on;
@@ -23,3 +24,4 @@ pub use judging::judge;
 pub use laws::{key_order_is_sequential, texts_have_one_answer, yes_is_consistent};
 pub use replay::replay_order;
 pub use rule::Rule;
+pub use run_judging::judge_run;

@@ -1,6 +1,6 @@
 //! The logs of a set.
 
-ghost use Rattle.std.specs.Prelude.{◌≡◌, ◌≤◌, [], All, length, slice_get, unwrap_or, vec_len};
+ghost use Rattle.std.specs.Prelude.{◌≡◌, ◌≤◌, All, IfSome, length, option_map, slice_get, vec_len};
 ghost use Rattle.log_record.specs.Entries.{record_lists};
 
 use log_record::Record;
@@ -44,15 +44,13 @@ impl LogSet {
         self.logs.len()
     }
 
-    /// The log of a core, empty where there is none.
-    pub(crate) fn log(&self, core: CoreId) -> &[Record]
-        ensures log { result.now ≡ unwrap_or (slice_get self.now core) [] }
-        ensures short { length result.now ≤ 1048576 }
+    /// The log of a core, if it is there.
+    pub(crate) fn get(&self, core: CoreId) -> Option<&[Record]>
+        ensures log { option_map (λ log. log.now) result ≡ slice_get self.now core }
+        ensures short { IfSome result (λ log. length log.now ≤ 1048576) }
     {
-        match self.logs.get(core.get() as usize) {
-            Some(log) => log.as_slice(),
-            None => &[],
-        }
+        let log = self.logs.get(core.get() as usize)?;
+        Some(log.as_slice())
     }
 
     /// The logs, in the order of their cores.

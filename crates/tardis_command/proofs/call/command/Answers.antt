@@ -26,6 +26,9 @@ returns-in-Ok-perform-clause-ends g c =
 pub returns-in-Ok-perform-clause-sound : goal.returns-in-Ok-perform-clause-sound
 returns-in-Ok-perform-clause-sound g c zero = (c.in-Ok.request, c.in-Ok.ensures.request, c.in-Ok-perform.ensures.sound zero)
 
+pub returns-in-Ok-perform-clause-flat : goal.returns-in-Ok-perform-clause-flat
+returns-in-Ok-perform-clause-flat g c zero = (c.in-Ok.request, c.in-Ok.ensures.request, c.in-Ok-perform.ensures.flat zero)
+
 pub returns-clause-ends : goal.returns-clause-ends
 returns-clause-ends g c =
     let (told, which, takes, status) = c.refuse-in-Err.ensures in

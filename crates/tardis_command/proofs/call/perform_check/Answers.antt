@@ -1,12 +1,11 @@
 use Rattle.std.proofs.Common.{rules, ◌≡◌, ap, inl, Ok, Err}
 use Rattle.tardis_command.proofs.Ends.{kept, unprinted}
 use Rattle.tardis_command.specs.Endings.{Answered, Refused}
-use Rattle.tardis_command.specs.declared.fault.CommandFault.TheVariants.{Judge}
 use Rattle.tardis_command.proofs.call.perform_check.Goals as goal
 
 pub returns-in_err-verdict-clause-exact : goal.returns-in_err-verdict-clause-exact
 returns-in_err-verdict-clause-exact g c =
-    let is : c.from_residual.result ≡ Err (Judge c.in_err-verdict.field-0.0) = search rules in
+    let is : c.from_residual.result ≡ Err c.in_err-verdict.field-0.0 = search rules in
     (Refused c.in_err-verdict.field-0.0, is, (c.in_err-verdict.ensures.exact, inl (kept _)))
 
 pub returns-in_err-print_verdict-clause-exact : goal.returns-in_err-print_verdict-clause-exact

@@ -1,5 +1,7 @@
 -- Where a count is out of range any texts that the readers tell are answered.
 use Rattle.std.specs.Prelude.{map}
+use Rattle.verdict.specs.CoreFaultsOf.{given}
+use Rattle.verdict.specs.VerdictOf.{verdict_by}
 use Rattle.verdict.proofs.Told.{told, each_tells}
 use Rattle.verdict.proofs.Soundness.{refusal_answers}
 use Rattle.verdict.proofs.judging.answer_to.Goals as goal
@@ -9,5 +11,5 @@ returns-in_err-check_counts-clause-exact g c =
     let texts = map (λ reader. told (g.S.ByteSource.remaining reader)) c.args.readers.now in (
       texts,
       each_tells g.S.ByteSource.remaining c.args.readers.now,
-      refusal_answers texts c.from_residual.result c.in_err-check_counts.field-0.0 c.from_residual.ensures.1 c.in_err-check_counts.ensures.err,
+      refusal_answers (verdict_by (given c.args.programs)) texts c.from_residual.result c.in_err-check_counts.field-0.0 c.from_residual.ensures.1 c.in_err-check_counts.ensures.err,
     )

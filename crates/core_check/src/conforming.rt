@@ -1,0 +1,51 @@
+//! Whether a core's log is one of its program.
+
+ghost use Rattle.std.specs.Prelude.{◌≡◌, ◌↔◌, ◌≤◌, None, IfSome, length, map};
+ghost use Rattle.core_program.specs.Conforming.{Conforms, DiffersAt, program_fault};
+ghost use Rattle.core_program.specs.Running.{is_issued};
+ghost use Rattle.log_record.specs.Entries.{operation_of};
+
+use core_program::{Program, ProgramState};
+use log_record::{Act, Record};
+use mem_op::Op;
+
+/// The least index of a log at which the record isn't the operation that the program issues there,
+/// given the logged values of the loads before; the log's length where it ends before the program;
+/// none where the log conforms to the program. Takes no memory.
+pub fn conforms(program: &Program, log: &[Record]) -> Option<usize>
+    ensures fault { result ≡ program_fault program.now (map operation_of log.now) }
+
+    // So it is by the paths that the program allows.
+    ensures conforms { (result ≡ None) ↔ Conforms program.now (map operation_of log.now) }
+    ensures differs { IfSome result (DiffersAt program.now (map operation_of log.now)) }
+
+    ensures within { IfSome result (λ i. i ≤ length log.now) }
+    ensures few { IfSome result (λ i. i ≤ 4096) }
+{
+    // So the index is small.
+    prove!(program.instructions().len() <= 4_096);
+    let mut state = ProgramState::new(program);
+    for (i, logged) in log.iter().enumerate() {
+        if !is_issued(&state.next_op(program), logged) {
+            return Some(i);
+        }
+        state.answer(program, logged.value);
+    }
+    match state.next_op(program) {
+        Some(_) => Some(log.len()),
+        None => None,
+    }
+}
+
+// Whether a record is of the operation that was issued.
+fn is_issued(issued: &Option<Op>, logged: &Record) -> bool
+    ensures { result ≡ is_issued issued.now (operation_of logged.now) }
+{
+    match (issued, &logged.act) {
+        (Some(Op::Load(addr)), Act::Load(_)) => *addr == logged.addr,
+        (Some(Op::Store(addr, value)), Act::Store) => {
+            *addr == logged.addr && *value == logged.value
+        }
+        _ => false,
+    }
+}

@@ -1,0 +1,109 @@
+-- The header of a set and the line in front of a section, read and found in front of bytes.
+use Rattle.std.proofs.Common.{◌≡◌, ℕ, ◌<◌, ◌≤◌, ◌^◌, true, false, cond, eqb, List, ◌∷◌, ◌++◌, Option, Some, None, refl, sym, ap, ◌∙◌, arith, inl, inr}
+use Rattle.std.specs.Prelude.{codes}
+use Rattle.std.specs.Option.{option_eq}
+use Rattle.std.proofs.lemmas.Bool.{cases_Bool, cond-true, cond-false, eqb-true, eqb-false, ne_eqb}
+use Rattle.decimal_text.specs.Numbers.{numeral}
+use Rattle.decimal_text.specs.Reading.{◌>>=◌, after, last_number}
+use Rattle.decimal_text.proofs.Lines.{NoLf}
+use Rattle.decimal_text.proofs.Numbers.{after_takes, after_again}
+use Rattle.decimal_text.proofs.Reading.{bind_some, some_is, last_takes, last_again}
+use Rattle.core_program.specs.Grammar.{header_text, core_text}
+use Rattle.core_program.specs.Lines.{IsOneLine}
+use Rattle.core_program.specs.Reading.{below, cores_of, core_of}
+use Rattle.core_program.specs.Sections.{HeaderInFront}
+use Rattle.core_program.proofs.Instructions.{below_is, below_again}
+use Rattle.core_program.proofs.SetLines.{header_no_lf, core_no_lf}
+use Rattle.core_program.proofs.TextLines.{no_lf_from, no_feed, line_once}
+
+numeral_one : numeral 1 ≡ codes "1"
+unfolding numeral
+numeral_one = refl
+
+-- a header of format 1 from its first words on
+header_text_is : (cores : ℕ) → header_text 1 cores ≡ codes "tardis-programs 1 cores " ++ numeral cores
+unfolding header_text
+header_text_is cores = rw numeral_one refl
+
+-- ---- a line and its number
+
+cores_takes : (line : List ℕ) (n : ℕ) → cores_of line ≡ Some n → (1 ≤ n) × (n ≤ 64) × (line ≡ header_text 1 n)
+unfolding cores_of
+cores_takes line n e =
+    let words = codes "tardis-programs 1 cores " in
+    let b = bind_some (after words line >>= last_number) (λ k. cond (eqb k 0) None (below 65 k)) n e in
+    let a = bind_some (after words line) last_number b.0 b.1 in
+    elim (cases_Bool (eqb b.0 0)) [
+      | inl zero-is ↦ let wrong : None ≡ Some n = sym (cond-true (eqb b.0 0) None (below 65 b.0) zero-is) ∙ b.2 in absurd cc
+      | inr other ↦
+          let g = below_is 65 b.0 n (sym (cond-false (eqb b.0 0) None (below 65 b.0) other) ∙ b.2) in
+          let some = eqb-false b.0 0 other in
+          let all : line ≡ words ++ numeral b.0 = after_takes words line a.0 a.1 ∙ ap (λ (r : List ℕ). words ++ r) (last_takes a.0 b.0 a.2) in (
+            omega (arith, g.0, some),
+            omega (arith, g.1),
+            all ∙ ap (λ (k : ℕ). words ++ numeral k) g.0 ∙ sym (header_text_is n),
+          )
+    ]
+
+cores_again : (n : ℕ) → 1 ≤ n → n ≤ 64 → cores_of (header_text 1 n) ≡ Some n
+unfolding cores_of
+cores_again n some few =
+    rw (header_text_is n, after_again (codes "tardis-programs 1 cores ") (numeral n), last_again n)
+    (cond-false (eqb n 0) None (below 65 n) (ne_eqb n 0 (λ e. omega (arith, e))) ∙ below_again 65 n (omega arith))
+
+core_takes : (line : List ℕ) (n : ℕ) → core_of line ≡ Some n → line ≡ core_text n
+unfolding core_of core_text
+core_takes line n e =
+    let b = bind_some (after (codes "core ") line >>= last_number) (below (2 ^ 64)) n e in
+    let a = bind_some (after (codes "core ") line) last_number b.0 b.1 in
+    let g = below_is (2 ^ 64) b.0 n b.2 in
+    after_takes (codes "core ") line a.0 a.1
+    ∙ ap (λ (r : List ℕ). codes "core " ++ r) (last_takes a.0 b.0 a.2 ∙ ap numeral g.0)
+
+core_again : (n : ℕ) → n < 2 ^ 64 → core_of (core_text n) ≡ Some n
+unfolding core_of core_text
+core_again n lt = rw (after_again (codes "core ") (numeral n), last_again n) (below_again (2 ^ 64) n lt)
+
+-- ---- at the front of bytes
+
+-- a line where the first line is another
+first_line : (text line behind wanted rest : List ℕ) → IsOneLine line → NoLf wanted → text ≡ line ++ 10 ∷ behind
+    → text ≡ wanted ++ 10 ∷ rest → line ≡ wanted
+first_line text line behind wanted rest one none is there =
+    (line_once line wanted behind rest (no_lf_from line one) none (sym is ∙ there)).0
+
+pub no_header_without_feed : (text : List ℕ) → IsOneLine text → (cores : ℕ) (rest : List ℕ) → HeaderInFront cores text rest → ⊥
+no_header_without_feed text one cores rest there = no_feed text (header_text 1 cores) rest (no_lf_from text one) there.2
+
+pub no_header_of_other : (text line behind : List ℕ) → IsOneLine line → text ≡ line ++ 10 ∷ behind → None ≡ cores_of line
+    → (cores : ℕ) (rest : List ℕ) → HeaderInFront cores text rest → ⊥
+no_header_of_other text line behind one is none cores rest there =
+    let same = first_line text line behind (header_text 1 cores) rest one (header_no_lf 1 cores) is there.2 in
+    let wrong : None ≡ Some cores = none ∙ ap cores_of same ∙ cores_again cores there.0 there.1 in
+    cc
+
+pub header_in_front : (text line behind : List ℕ) (cores : ℕ) → text ≡ line ++ 10 ∷ behind → Some cores ≡ cores_of line → HeaderInFront cores text behind
+header_in_front text line behind cores is some =
+    let t = cores_takes line cores (sym some) in
+    (t.0, t.1, is ∙ ap (λ (l : List ℕ). l ++ 10 ∷ behind) t.2)
+
+pub no_core_without_feed : (text : List ℕ) (core : ℕ) → IsOneLine text → (rest : List ℕ) → text ≡ core_text core ++ 10 ∷ rest → ⊥
+no_core_without_feed text core one rest there = no_feed text (core_text core) rest (no_lf_from text one) there
+
+pub no_core_of_other : (text line behind : List ℕ) (core : ℕ) → core < 2 ^ 64 → IsOneLine line → text ≡ line ++ 10 ∷ behind
+    → (core_of line ≡ Some core → ⊥) → (rest : List ℕ) → text ≡ core_text core ++ 10 ∷ rest → ⊥
+no_core_of_other text line behind core lt one is other rest there =
+    other (ap core_of (first_line text line behind (core_text core) rest one (core_no_lf core) is there) ∙ core_again core lt)
+
+pub core_in_front : (text line behind : List ℕ) (core : ℕ) → text ≡ line ++ 10 ∷ behind → core_of line ≡ Some core → text ≡ core_text core ++ 10 ∷ behind
+core_in_front text line behind core is some = is ∙ ap (λ (l : List ℕ). l ++ 10 ∷ behind) (core_takes line core some)
+
+-- ---- a number that is looked for
+
+pub number_found : (o : Option ℕ) (n : ℕ) → true ≡ option_eq eqb o (Some n) → o ≡ Some n
+number_found None n e = absurd cc
+number_found (Some m) n e = ap (λ (k : ℕ). Some k) (eqb-true m n (sym e))
+
+pub number_not_found : (o : Option ℕ) (n : ℕ) → false ≡ option_eq eqb o (Some n) → o ≡ Some n → ⊥
+number_not_found None n e is = cc
+number_not_found (Some m) n e is = eqb-false m n (sym e) (some_is m n is)

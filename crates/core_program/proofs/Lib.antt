@@ -1,0 +1,15 @@
+pub mod Faults
+pub mod Paths
+pub mod Rests
+pub mod Runs
+pub mod InFront
+pub mod Instructions
+pub mod TextLines
+pub mod SectionTexts
+pub mod Wrong
+pub mod ProgramTexts
+pub mod SetLines
+pub mod HeadLines
+pub mod SetTexts
+pub mod Jumps
+pub mod TextLaws

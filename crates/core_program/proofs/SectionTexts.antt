@@ -1,0 +1,45 @@
+-- The instructions of a section, read one by one.
+use Rattle.std.proofs.Common.{◌≡◌, ℕ, List, [], ◌∷◌, ◌++◌, length, sym, ap, ◌∙◌, arith, append_assoc, length-append}
+use Rattle.std.proofs.lemmas.List.{map_push}
+use Rattle.core_program.specs.declared.instruction.Instruction.{Instruction}
+use Rattle.core_program.specs.Grammar.{instruction_text, program_lines, Fits, EachFits, IsSection}
+use Rattle.core_program.specs.Lines.{text_of}
+use Rattle.core_program.specs.Sections.{InstructionInFront, IsTooMany}
+use Rattle.core_program.proofs.TextLines.{text_of-append, text_of-cons}
+
+-- the instructions so far, and the bytes behind their lines
+pub record SoFar (text : List ℕ) (program : List Instruction) (rest : List ℕ) : Type 0 where
+  pub is_section : IsSection program
+  pub text_is : text ≡ text_of (program_lines program) ++ rest
+
+pub each_fits_push : (program : List Instruction) (i : Instruction) → EachFits program → Fits i → EachFits (program ++ i ∷ [])
+each_fits_push [] i all fits = (fits, tt)
+each_fits_push (j ∷ program) i all fits = (all.0, each_fits_push program i all.1 fits)
+
+-- one more line
+pub one_more_line : (program : List Instruction) (i : Instruction) (behind : List ℕ)
+    → text_of (program_lines (program ++ i ∷ [])) ++ behind ≡ text_of (program_lines program) ++ (instruction_text i ++ 10 ∷ behind)
+one_more_line program i behind =
+    let lines = program_lines program in
+    let line = instruction_text i in
+    ap (λ (ls : List (List ℕ)). text_of ls ++ behind) (map_push instruction_text program i)
+    ∙ ap (λ (xs : List ℕ). xs ++ behind) (text_of-append lines (line ∷ []))
+    ∙ append_assoc (text_of lines) (text_of (line ∷ [])) behind
+    ∙ ap (λ (xs : List ℕ). text_of lines ++ xs) (text_of-cons line [] behind)
+
+pub more_text : (text rest behind : List ℕ) (program : List Instruction) (i : Instruction)
+    → text ≡ text_of (program_lines program) ++ rest → InstructionInFront i rest behind
+    → text ≡ text_of (program_lines (program ++ i ∷ [])) ++ behind
+more_text text rest behind program i is there =
+    is ∙ ap (λ (xs : List ℕ). text_of (program_lines program) ++ xs) there.1 ∙ sym (one_more_line program i behind)
+
+-- one more than a section may have
+pub too_many : (text rest behind : List ℕ) (program : List Instruction) (i : Instruction) → SoFar text program rest
+    → InstructionInFront i rest behind → length program ≡ 4096 → IsTooMany text
+too_many text rest behind program i far there full = record {
+  program = program ++ i ∷ [];
+  each_fits = each_fits_push program i far.is_section.each_fits there.0;
+  long = omega (arith, length-append program (i ∷ []), full);
+  rest = behind;
+  text = more_text text rest behind program i far.text_is there;
+}

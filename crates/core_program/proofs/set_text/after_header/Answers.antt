@@ -1,0 +1,16 @@
+use Rattle.std.proofs.Common.{refl}
+use Rattle.core_program.proofs.HeadLines.{no_header_without_feed, no_header_of_other, header_in_front}
+use Rattle.core_program.proofs.set_text.after_header.Goals as goal
+
+pub returns-in_err-line-clause-none : goal.returns-in_err-line-clause-none
+returns-in_err-line-clause-none c = λ _. no_header_without_feed c.args.text.now (c.in_err-line.ensures.none refl)
+
+pub returns-in_err-cores_of-clause-none : goal.returns-in_err-cores_of-clause-none
+returns-in_err-cores_of-clause-none c = λ _.
+    let found = c.in_ok-line.ensures.found in
+    no_header_of_other c.args.text.now c.in_ok-line.line.now c.in_ok-line.rest.now found.0 found.1 c.in_err-cores_of.ensures
+
+pub returns-clause-found : goal.returns-clause-found
+returns-clause-found c =
+    let found = c.in_ok-line.ensures.found in
+    header_in_front c.args.text.now c.in_ok-line.line.now c.in_ok-line.rest.now c.in_ok-cores_of.field-0 found.1 c.in_ok-cores_of.ensures

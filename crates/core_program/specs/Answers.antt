@@ -1,0 +1,73 @@
+-- The faults of programs and of sets of programs, and what their parsers answer.
+use Rattle.std.specs.Prelude.{◌≡◌, ℕ, ◌+◌, ◌≤◌, true, List, length, take, slice_get, Some}
+use Rattle.core_program.specs.declared.instruction.Instruction.{Instruction}
+use Rattle.core_program.specs.declared.fault.ProgramFault.{ProgramFault}
+use Rattle.core_program.specs.declared.fault.ProgramFault.TheVariants.{BadLine, TooLong, SkipPastEnd, OutOfMemory}
+use Rattle.core_program.specs.Grammar.{program_lines, sections, set_lines, EachFits, IsSection, IsSetOf}
+use Rattle.core_program.specs.Lines.{text_of, BeginsText, IsFirstWrong}
+use Rattle.core_program.specs.Shape.{is_skip_past_end}
+
+-- ---- lines
+
+-- lines of a program whose instructions are such a section
+abbrev pub ProgramLines : (List Instruction → Type 0) → List (List ℕ) → Type 0
+ProgramLines Section lines = (program : List Instruction) × (Section program × (lines ≡ program_lines program))
+
+-- lines of a set whose sections are such
+abbrev pub SetLines : (List Instruction → Type 0) → List (List ℕ) → Type 0
+SetLines Section lines = (set : List (List Instruction)) × (IsSetOf Section set × (lines ≡ set_lines set))
+
+-- Line k is the first that is wrong, and would be so if sections had no limit.
+abbrev pub IsBadLine : ((List Instruction → Type 0) → List (List ℕ) → Type 0) → List ℕ → ℕ → Type 0
+IsBadLine Lines bytes k = IsFirstWrong (Lines IsSection) bytes k × (BeginsText (Lines EachFits) bytes k → ⊥)
+
+-- Line k is the first that is wrong, and would be right if sections had no limit: it is the 4,097th instruction
+-- of its section.
+abbrev pub IsTooLong : ((List Instruction → Type 0) → List (List ℕ) → Type 0) → List ℕ → ℕ → Type 0
+IsTooLong Lines bytes k = IsFirstWrong (Lines IsSection) bytes k × BeginsText (Lines EachFits) bytes k
+
+-- ---- jumps past the end
+
+-- line k of a program is a jump past its end
+pub record SkipsAt (program : List Instruction) (k : ℕ) : Type 0 where
+  pub index : ℕ
+  pub passes : is_skip_past_end program index ≡ true
+  pub line : k ≡ index + 1
+
+-- Line k of a set is a jump past the end of its program: in front of it stand the header, the sections of the
+-- cores before its own, its core's line, and the instructions before it.
+pub record SkipsInSetAt (set : List (List Instruction)) (k : ℕ) : Type 0 where
+  pub core : ℕ
+  pub program : List Instruction
+  pub of_core : slice_get set core ≡ Some program
+  pub place : ℕ
+  pub skips : SkipsAt program place
+  pub line : k ≡ 1 + length (sections 0 (take core set)) + 1 + place
+
+-- the least number of which this holds
+abbrev pub IsLeast : (ℕ → Type 0) → ℕ → Type 0
+IsLeast Holds k = Holds k × ((j : ℕ) → Holds j → k ≤ j)
+
+-- ---- answers
+
+-- the bytes are the text of this program
+abbrev pub SpellsProgram : List ℕ → List Instruction → Type 0
+SpellsProgram bytes program = IsSection program × (bytes ≡ text_of (program_lines program))
+
+-- the bytes are the text of this set
+abbrev pub SpellsSet : List ℕ → List (List Instruction) → Type 0
+SpellsSet bytes set = IsSetOf IsSection set × (bytes ≡ text_of (set_lines set))
+
+-- Why bytes aren't the text of a program. Want of memory may come in place of a program and of every other fault.
+abbrev pub IsProgramFault : List ℕ → ProgramFault → Type 0
+IsProgramFault bytes (BadLine k) = IsBadLine ProgramLines bytes k
+IsProgramFault bytes (TooLong k) = IsTooLong ProgramLines bytes k
+IsProgramFault bytes (SkipPastEnd k) = (program : List Instruction) × (SpellsProgram bytes program × IsLeast (SkipsAt program) k)
+IsProgramFault bytes OutOfMemory = Unit {0}
+
+-- why bytes aren't the text of a set
+abbrev pub IsSetFault : List ℕ → ProgramFault → Type 0
+IsSetFault bytes (BadLine k) = IsBadLine SetLines bytes k
+IsSetFault bytes (TooLong k) = IsTooLong SetLines bytes k
+IsSetFault bytes (SkipPastEnd k) = (set : List (List Instruction)) × (SpellsSet bytes set × IsLeast (SkipsInSetAt set) k)
+IsSetFault bytes OutOfMemory = Unit {0}

@@ -1,0 +1,33 @@
+-- What holds of all programs.
+use Rattle.std.specs.Prelude.{◌≡◌, ◌↔◌, ℕ, ◌≤◌, List, length, Some, None}
+use Rattle.mem_op.specs.Consistency.{Operation}
+use Rattle.core_program.specs.declared.instruction.Instruction.{Instruction}
+use Rattle.core_program.specs.State.{State}
+use Rattle.core_program.specs.Shape.{IsProgram}
+use Rattle.core_program.specs.Meaning.{Path}
+use Rattle.core_program.specs.Running.{IsAtRest, run_from}
+use Rattle.core_program.specs.Conforming.{Reaches, Conforms, DiffersAt, program_fault}
+
+-- between states at rest, operations lead to a state just where a path of the program does
+abbrev pub RunsArePaths : Type 0
+RunsArePaths =
+    (program : List Instruction) (s t : State) (operations : List Operation) →
+    IsProgram program → IsAtRest program s → IsAtRest program t → (run_from program s operations ≡ Some t) ↔ Path program s operations t
+
+-- a log conforms just where it has no PROGRAM fault
+abbrev pub ConformingIsNoFault : Type 0
+ConformingIsNoFault =
+    (program : List Instruction) (operations : List Operation) →
+    IsProgram program → (program_fault program operations ≡ None) ↔ Conforms program operations
+
+-- the PROGRAM fault is where the log differs from what the program issues
+abbrev pub FaultIsWhereLogDiffers : Type 0
+FaultIsWhereLogDiffers =
+    (program : List Instruction) (operations : List Operation) (i : ℕ) →
+    IsProgram program → (program_fault program operations ≡ Some i) ↔ DiffersAt program operations i
+
+-- a program issues at most 4,096 operations
+abbrev pub FewOperations : Type 0
+FewOperations =
+    (program : List Instruction) (operations : List Operation) (s : State) →
+    IsProgram program → Reaches program operations s → length operations ≤ 4096

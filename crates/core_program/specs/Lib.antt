@@ -1,0 +1,14 @@
+pub mod Conforming
+pub mod Laws
+pub mod Least
+pub mod Meaning
+pub mod Running
+pub mod Shape
+pub mod State
+pub mod Answers
+pub mod FaultTexts
+pub mod Grammar
+pub mod Lines
+pub mod Reading
+pub mod Sections
+pub mod TextLaws

@@ -1,0 +1,62 @@
+-- What a reader of sections has found. Clauses of private functions cite these.
+use Rattle.std.specs.Prelude.{◌≡◌, ℕ, ◌+◌, ◌≤◌, List, ◌∷◌, ◌++◌, length, map, take, drop}
+use Rattle.std.specs.Global.{Vec}
+use Rattle.core_program.specs.declared.instruction.Instruction.{Instruction}
+use Rattle.core_program.specs.declared.fault.ProgramFault.{ProgramFault}
+use Rattle.core_program.specs.declared.fault.ProgramFault.TheVariants.{BadLine, TooLong, SkipPastEnd, OutOfMemory}
+use Rattle.core_program.specs.declared.section.Section.{Section}
+use Rattle.core_program.specs.Answers.{IsBadLine, IsTooLong, IsLeast, SetLines, SkipsInSetAt}
+use Rattle.core_program.specs.Grammar.{header_text, instruction_text, program_lines, Fits, EachFits, IsSection}
+use Rattle.core_program.specs.Lines.{text_of}
+
+-- an instruction's line stands at the front of the bytes, and these stand behind it
+abbrev pub InstructionInFront : Instruction → List ℕ → List ℕ → Type 0
+InstructionInFront instruction bytes rest = Fits instruction × (bytes ≡ instruction_text instruction ++ 10 ∷ rest)
+
+-- no instruction's line stands at the front of the bytes
+abbrev pub NoInstructionInFront : List ℕ → Type 0
+NoInstructionInFront bytes = (instruction : Instruction) (rest : List ℕ) → InstructionInFront instruction bytes rest → ⊥
+
+-- the instructions' lines that stand at the front of the bytes, as many as there are
+pub record IsSectionOf (bytes : List ℕ) (section : Section) : Type 0 where
+  pub is_section : IsSection section.instructions.items
+  pub within : section.taken ≤ length bytes
+  pub text : take section.taken bytes ≡ text_of (program_lines section.instructions.items)
+  pub all : NoInstructionInFront (drop section.taken bytes)
+
+-- one instruction's line more than a section may have stands at the front of the bytes
+pub record IsTooMany (bytes : List ℕ) : Type 0 where
+  pub program : List Instruction
+  pub each_fits : EachFits program
+  pub long : length program ≡ 4097
+  pub rest : List ℕ
+  pub text : bytes ≡ text_of (program_lines program) ++ rest
+
+-- why no section was read; the first line of the bytes is line `first`
+abbrev pub IsSectionFault : ℕ → List ℕ → ProgramFault → Type 0
+IsSectionFault first bytes (TooLong k) = (k ≡ first + 4096) × IsTooMany bytes
+IsSectionFault first bytes OutOfMemory = Unit {0}
+IsSectionFault first bytes (BadLine k) = ⊥
+IsSectionFault first bytes (SkipPastEnd k) = ⊥
+
+-- the header of so many cores stands at the front of the bytes, and these stand behind it
+abbrev pub HeaderInFront : ℕ → List ℕ → List ℕ → Type 0
+HeaderInFront cores bytes rest = (1 ≤ cores) × (cores ≤ 64) × (bytes ≡ header_text 1 cores ++ 10 ∷ rest)
+
+-- the sections that vectors hold
+abbrev pub section_lists : List (Vec Instruction) → List (List Instruction)
+section_lists sections = map (λ section. section.items) sections
+
+-- the first line of the bytes that isn't as that of a set, or is missing or too much
+abbrev pub IsLineFault : List ℕ → ProgramFault → Type 0
+IsLineFault bytes (BadLine k) = IsBadLine SetLines bytes k
+IsLineFault bytes (TooLong k) = IsTooLong SetLines bytes k
+IsLineFault bytes OutOfMemory = Unit {0}
+IsLineFault bytes (SkipPastEnd k) = ⊥
+
+-- the first jump of a set past the end of its program
+abbrev pub IsJumpFault : List (List Instruction) → ProgramFault → Type 0
+IsJumpFault set (SkipPastEnd k) = IsLeast (SkipsInSetAt set) k
+IsJumpFault set OutOfMemory = Unit {0}
+IsJumpFault set (BadLine k) = ⊥
+IsJumpFault set (TooLong k) = ⊥

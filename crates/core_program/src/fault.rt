@@ -1,0 +1,55 @@
+//! Why bytes are no program and no set of programs.
+
+ghost use Rattle.std.specs.Prelude.{◌≡◌};
+ghost use Rattle.core_program.specs.declared.fault.ProgramFault.TheVariants.{OutOfMemory};
+
+use std::alloc::{AllocError, AllocFailed};
+use std::fmt;
+use std::fmt::Display;
+use thiserror::Error;
+
+/// Why bytes are no program or no set of programs. Lines are counted from 1.
+#[derive(Clone, Copy, Debug, PartialEq, Eq, Error)]
+pub enum ProgramFault {
+    /// At this line: it isn't as the format says, or it is missing.
+    BadLine(u64),
+    /// At this line: it is the 4,097th instruction of its section.
+    TooLong(u64),
+    /// At this line: it is a jump further than to just past the last instruction of its program. No
+    /// line is bad or too long.
+    SkipPastEnd(u64),
+    /// A growth was refused.
+    OutOfMemory,
+}
+
+impl Display for ProgramFault {
+    ghost use Rattle.std.specs.Prelude.{Some};
+    ghost use Rattle.core_program.specs.FaultTexts.{fault_text};
+
+    ghost output = { λ fault. Some (fault_text fault) };
+
+    fn fmt<W: fmt::Write>(&self, f: &mut fmt::Formatter<W>) -> fmt::Result {
+        match self {
+            ProgramFault::BadLine(line) => write!(f, "line {line}: 7 BadLine"),
+            ProgramFault::TooLong(line) => write!(f, "line {line}: 8 TooLong"),
+            ProgramFault::SkipPastEnd(line) => write!(f, "line {line}: 9 SkipPastEnd"),
+            ProgramFault::OutOfMemory => f.write_str("10 OutOfMemory"),
+        }
+    }
+}
+
+impl<T: Drop> From<AllocFailed<T>> for ProgramFault {
+    ghost from_gives = { λ _ fault. fault ≡ OutOfMemory };
+
+    fn from(_: AllocFailed<T>) -> ProgramFault {
+        ProgramFault::OutOfMemory
+    }
+}
+
+impl From<AllocError> for ProgramFault {
+    ghost from_gives = { λ _ fault. fault ≡ OutOfMemory };
+
+    fn from(_: AllocError) -> ProgramFault {
+        ProgramFault::OutOfMemory
+    }
+}

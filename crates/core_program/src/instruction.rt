@@ -1,0 +1,35 @@
+//! Instructions.
+
+ghost use Rattle.std.specs.Prelude.{◌≡◌};
+ghost use Rattle.core_program.specs.Shape.{touches_memory};
+
+use super::register::Register;
+use super::skip::Skip;
+use mem_op::{Addr, Word};
+
+/// An instruction of a core's program.
+#[derive(Clone, Copy, Debug, PartialEq, Eq)]
+pub enum Instruction {
+    /// `ld rN a`: loads the word at an address into a register.
+    Load(Register, Addr),
+    /// `st a K`: stores a word at an address.
+    Store(Addr, Word),
+    /// `sr a rN`: stores a register at an address.
+    StoreRegister(Addr, Register),
+    /// `ai rN rM K`: the first register becomes the second plus a word, modulo 2^64.
+    Add(Register, Register, Word),
+    /// `jz rN k`: where the register is 0, skips the next instructions, so many.
+    SkipIfZero(Register, Skip),
+}
+
+impl Instruction {
+    // Whether it is a load or a store.
+    pub(crate) fn touches_memory(&self) -> bool
+        ensures { result ≡ touches_memory self.now }
+    {
+        match self {
+            Instruction::Load(..) | Instruction::Store(..) | Instruction::StoreRegister(..) => true,
+            Instruction::Add(..) | Instruction::SkipIfZero(..) => false,
+        }
+    }
+}

@@ -1,0 +1,136 @@
+//! Reads an instruction's line from left to right.
+
+ghost use Rattle.std.specs.Prelude.{◌≡◌};
+ghost use Rattle.decimal_text.specs.Reading.{front_now};
+ghost use Rattle.core_program.specs.Reading.{register_at, addr_at, last_register, last_addr, last_word, last_skip};
+ghost use Rattle.core_program.specs.Reading.{load_of, store_of, store_register_of, add_of, skip_of, instruction_of};
+
+use super::format::Format;
+use super::instruction::Instruction;
+use super::register::Register;
+use super::skip::Skip;
+use decimal_text::{after_text, read_field, read_last};
+use mem_op::{Addr, Word};
+
+/// A register with a space behind it, and the bytes behind them.
+#[tactic(auto, unfolding(crate::specs::Reading::register_at))]
+fn register(bytes: &[u8]) -> Option<(Register, &[u8])>
+    ensures { front_now result ≡ register_at bytes.now }
+{
+    let (number, rest) = read_field(b' ', after_text(b"r", bytes)?)?;
+    Some((Register::new(number?)?, rest))
+}
+
+/// An address with a space behind it, and the bytes behind them.
+#[tactic(auto, unfolding(crate::specs::Reading::addr_at))]
+fn addr(bytes: &[u8]) -> Option<(Addr, &[u8])>
+    ensures { front_now result ≡ addr_at bytes.now }
+{
+    let (number, rest) = read_field(b' ', bytes)?;
+    Some((Addr::new(number?).ok()?, rest))
+}
+
+/// A register that is all there is.
+#[tactic(auto, unfolding(crate::specs::Reading::last_register))]
+fn last_register(bytes: &[u8]) -> Option<Register>
+    ensures { result ≡ last_register bytes.now }
+{
+    Register::new(read_last(after_text(b"r", bytes)?)??)
+}
+
+/// An address that is all there is.
+#[tactic(auto, unfolding(crate::specs::Reading::last_addr))]
+fn last_addr(bytes: &[u8]) -> Option<Addr>
+    ensures { result ≡ last_addr bytes.now }
+{
+    Addr::new(read_last(bytes)??).ok()
+}
+
+/// A word that is all there is.
+#[tactic(auto, unfolding(crate::specs::Reading::last_word))]
+fn last_word(bytes: &[u8]) -> Option<Word>
+    ensures { result ≡ last_word bytes.now }
+{
+    read_last(bytes)?
+}
+
+/// The length of a jump that is all there is.
+#[tactic(auto, unfolding(crate::specs::Reading::last_skip))]
+fn last_skip(bytes: &[u8]) -> Option<Skip>
+    ensures { result ≡ last_skip bytes.now }
+{
+    Skip::new(read_last(bytes)??)
+}
+
+/// The fields of `ld rN a`.
+#[tactic(auto, unfolding(crate::specs::Reading::load_of))]
+fn load(fields: &[u8]) -> Option<Instruction>
+    ensures { result ≡ load_of fields.now }
+{
+    let Some((to, rest)) = register(fields) else {
+        return None;
+    };
+    Some(Instruction::Load(to, last_addr(rest)?))
+}
+
+/// The fields of `st a K`.
+#[tactic(auto, unfolding(crate::specs::Reading::store_of))]
+fn store(fields: &[u8]) -> Option<Instruction>
+    ensures { result ≡ store_of fields.now }
+{
+    let Some((addr, rest)) = addr(fields) else {
+        return None;
+    };
+    Some(Instruction::Store(addr, last_word(rest)?))
+}
+
+/// The fields of `sr a rN`.
+#[tactic(auto, unfolding(crate::specs::Reading::store_register_of))]
+fn store_register(fields: &[u8]) -> Option<Instruction>
+    ensures { result ≡ store_register_of fields.now }
+{
+    let Some((addr, rest)) = addr(fields) else {
+        return None;
+    };
+    Some(Instruction::StoreRegister(addr, last_register(rest)?))
+}
+
+/// The fields of `ai rN rM K`.
+#[tactic(auto, unfolding(crate::specs::Reading::add_of))]
+fn add(fields: &[u8]) -> Option<Instruction>
+    ensures { result ≡ add_of fields.now }
+{
+    let Some((to, rest)) = register(fields) else {
+        return None;
+    };
+    let Some((from, rest)) = register(rest) else {
+        return None;
+    };
+    Some(Instruction::Add(to, from, last_word(rest)?))
+}
+
+/// The fields of `jz rN k`.
+#[tactic(auto, unfolding(crate::specs::Reading::skip_of))]
+fn skip(fields: &[u8]) -> Option<Instruction>
+    ensures { result ≡ skip_of fields.now }
+{
+    let Some((tested, rest)) = register(fields) else {
+        return None;
+    };
+    Some(Instruction::SkipIfZero(tested, last_skip(rest)?))
+}
+
+/// The instruction whose line this is in a format, without its line feed.
+#[tactic(auto, unfolding(crate::specs::Reading::instruction_of, decimal_text::specs::Reading::after))]
+pub(crate) fn read_instruction(format: Format, line: &[u8]) -> Option<Instruction>
+    ensures { result ≡ instruction_of line.now }
+{
+    match (format, line) {
+        (_, [b'l', b'd', b' ', fields @ ..]) => load(fields),
+        (_, [b's', b't', b' ', fields @ ..]) => store(fields),
+        (_, [b's', b'r', b' ', fields @ ..]) => store_register(fields),
+        (_, [b'a', b'i', b' ', fields @ ..]) => add(fields),
+        (_, [b'j', b'z', b' ', fields @ ..]) => skip(fields),
+        (Format::First, _) => None,
+    }
+}

@@ -1,0 +1,84 @@
+//! The text of a program, read and written.
+
+ghost use Rattle.std.specs.Prelude.{◌≡◌, IfOk, MatchResult, string_bytes};
+ghost use Rattle.core_program.specs.Answers.{IsProgramFault, SpellsProgram};
+ghost use Rattle.core_program.specs.Grammar.{instruction_text, Fits};
+ghost use Rattle.core_program.specs.Shape.{IsProgram};
+
+use super::fault::ProgramFault;
+use super::format::Format;
+use super::instruction::Instruction;
+use super::program::{Program, skip_past_end};
+use super::section::read_section;
+use std::alloc::{AllocError, Global};
+
+impl Program {
+    /// The program whose text this is: a line for each instruction, each ended by a line feed.
+    /// BadLine at the first line that is no instruction's or has no line feed, TooLong at the line
+    /// of the 4,097th instruction, whichever comes first; where there is neither, SkipPastEnd at
+    /// the first jump past the end.
+    pub fn parse(alloc: Global, text: &[u8]) -> Result<Program, ProgramFault>
+        ensures { MatchResult result
+            (λ program. SpellsProgram text.now program × IsProgram program)
+            (λ fault. IsProgramFault text.now fault) }
+    {
+        let section = read_section(alloc, Format::First, text, 1)?;
+        let instructions = section.instructions;
+        if section.taken < text.len() {
+            return Err(ProgramFault::BadLine(instructions.len() as u64 + 1));
+        }
+        match skip_past_end(instructions.as_slice()) {
+            Some(i) => Err(ProgramFault::SkipPastEnd(i as u64 + 1)),
+            None => Ok(Program::of_checked(instructions)),
+        }
+    }
+
+    /// The text of the program.
+    pub fn print(&self, alloc: Global) -> Result<Vec<u8>, AllocError>
+        ensures { IfOk result (λ text. SpellsProgram text.items self.now) }
+    {
+        let mut text = Vec::new(alloc);
+        for instruction in self.instructions() {
+            let line = print_instruction(alloc, instruction)?;
+            text.extend_from_slice(line.as_bytes())?;
+            text.push(b'\n')?;
+        }
+        Ok(text)
+    }
+}
+
+/// The line of an instruction, without its line feed.
+#[tactic(auto, using(decimal_text::proofs::Printing::numeral_decimal), unfolding(crate::specs::Grammar::instruction_text))]
+fn print_instruction(alloc: Global, instruction: &Instruction) -> Result<String, AllocError>
+    ensures text { IfOk result (λ line. string_bytes line ≡ instruction_text instruction.now) }
+    ensures fits { Fits instruction.now }
+{
+    match instruction {
+        Instruction::Load(to, addr) => {
+            let to = to.get();
+            let addr = addr.get();
+            format!(in alloc; "ld r{to} {addr}")
+        }
+        Instruction::Store(addr, value) => {
+            let addr = addr.get();
+            let value = *value;
+            format!(in alloc; "st {addr} {value}")
+        }
+        Instruction::StoreRegister(addr, from) => {
+            let addr = addr.get();
+            let from = from.get();
+            format!(in alloc; "sr {addr} r{from}")
+        }
+        Instruction::Add(to, from, value) => {
+            let to = to.get();
+            let from = from.get();
+            let value = *value;
+            format!(in alloc; "ai r{to} r{from} {value}")
+        }
+        Instruction::SkipIfZero(tested, skip) => {
+            let tested = tested.get();
+            let skip = skip.get();
+            format!(in alloc; "jz r{tested} {skip}")
+        }
+    }
+}

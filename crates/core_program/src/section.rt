@@ -1,0 +1,72 @@
+//! Reads the instructions of a section.
+
+ghost use Rattle.std.specs.Prelude.{◌≡◌, ◌<◌, ◌^◌, ◌∷◌, ◌++◌, IfSome, IsNone, IfOk, IfErr};
+ghost use Rattle.core_program.specs.Lines.{IsOneLine};
+ghost use Rattle.core_program.specs.Sections.{InstructionInFront, NoInstructionInFront, IsSectionOf, IsSectionFault};
+
+use super::fault::ProgramFault;
+use super::format::Format;
+use super::instruction::Instruction;
+use super::instruction_line::read_instruction;
+use memchr::memchr;
+use std::alloc::Global;
+
+/// The most instructions of a section.
+const SECTION_LIMIT: usize = 4_096;
+
+/// The instructions at the front of a text.
+#[derive(Drop)]
+pub(crate) struct Section {
+    /// The instructions, in their order.
+    pub(crate) instructions: Vec<Instruction>,
+    /// How many bytes their lines have.
+    pub(crate) taken: usize,
+}
+
+/// The first line, without its line feed, and the bytes behind it; None where no line feed is there.
+pub(crate) fn next_line(text: &[u8]) -> Option<(&[u8], &[u8])>
+    ensures found { IfSome result (λ split.
+        IsOneLine split.0.now × (text.now ≡ split.0.now ++ 10 ∷ split.1.now)) }
+    ensures none { IsNone result → IsOneLine text.now }
+{
+    let at = memchr(b'\n', text)?;
+    Some((&text[..at], &text[at + 1..]))
+}
+
+/// The instruction whose line is the first, and the bytes behind it; None where the first line is
+/// no instruction's, or has no line feed.
+fn next_instruction(format: Format, text: &[u8]) -> Option<(Instruction, &[u8])>
+    ensures found { IfSome result (λ read. InstructionInFront read.0 text.now read.1.now) }
+    ensures none { IsNone result → NoInstructionInFront text.now }
+{
+    let (line, rest) = next_line(text)?;
+    Some((read_instruction(format, line)?, rest))
+}
+
+/// The instructions whose lines stand at the front of a text, up to the first line that is no
+/// instruction's. `first` is the number of the text's first line. TooLong at the line of the
+/// 4,097th instruction, where there are so many.
+pub(crate) fn read_section(
+    alloc: Global,
+    format: Format,
+    text: &[u8],
+    first: u64,
+) -> Result<Section, ProgramFault>
+    requires { first < 2 ^ 32 }
+    ensures found { IfOk result (IsSectionOf text.now) }
+    ensures too_long { IfErr result (IsSectionFault first text.now) }
+{
+    let mut instructions = Vec::new(alloc);
+    let mut rest = text;
+    while let Some((instruction, behind)) = next_instruction(format, rest) {
+        if instructions.len() == SECTION_LIMIT {
+            return Err(ProgramFault::TooLong(first + instructions.len() as u64));
+        }
+        instructions.push(instruction)?;
+        rest = behind;
+    }
+    Ok(Section {
+        instructions,
+        taken: text.len() - rest.len(),
+    })
+}

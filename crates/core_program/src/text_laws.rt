@@ -1,0 +1,20 @@
+//! Laws of the texts. Each function does nothing: its contract is the law.
+
+ghost use Rattle.core_program.specs.Answers.{IsProgramFault, IsSetFault};
+ghost use Rattle.core_program.specs.TextLaws.{PrintedIsRead, SpelledSetIsRead, AtMostOneFault};
+
+/// A program's text is that of no other, and it has no fault: `parse` gives back what `print` wrote.
+pub fn printed_is_read()
+    ensures { PrintedIsRead }
+{}
+
+/// A set's text is that of no other, and it has no fault.
+pub fn spelled_set_is_read()
+    ensures { SpelledSetIsRead }
+{}
+
+/// Bytes that are no program's text have one fault, and those that are no set's text have one.
+pub fn one_fault()
+    ensures program { AtMostOneFault IsProgramFault }
+    ensures set { AtMostOneFault IsSetFault }
+{}

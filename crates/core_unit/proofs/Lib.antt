@@ -1,0 +1,5 @@
+pub mod Found
+pub mod Gone
+pub mod Keeping
+pub mod Looks
+pub mod Recalling

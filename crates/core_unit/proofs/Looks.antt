@@ -1,0 +1,28 @@
+-- What a store's line makes of it.
+use Rattle.std.proofs.Common.{◌≡◌, ℕ}
+use Rattle.std.specs.Prelude.{Option, Some, None}
+use Rattle.std.specs.FinMap as map
+use Rattle.mem_op.specs.declared.id.Op.TheVariants as op
+use Rattle.mem_op.specs.declared.id.Source.{Source}
+use Rattle.line_stamps.specs.declared.message.Message.{Message}
+use Rattle.log_record.specs.declared.record.Act.TheVariants as act
+use Rattle.private_cache.specs.Answers.{store_answer}
+use Rattle.private_cache.specs.Table.{Hit, store_hit}
+use Rattle.private_cache.specs.declared.answer.Store.TheVariants as store
+use Rattle.private_cache.specs.declared.held.Held.{Held}
+use Rattle.private_cache.specs.declared.held.Held.TheVariants.{Shared, Exclusive}
+use Rattle.core_unit.specs.Core.{Core}
+use Rattle.core_unit.specs.Look.{look_of}
+use Rattle.core_unit.specs.declared.operation.Look.TheVariants as look
+
+pub store_hits : (u : Core) (a value : ℕ) (source : Source) (pts r t rank : ℕ) (held : Option Held)
+    → store.Hit t rank ≡ store_answer a held (store_hit value source pts r held)
+    → look.Hit (record { value = value; ts = t; rank = rank; addr = a; act = act.Store }) ≡ look_of u (op.Store a value) (store_hit value source pts r held)
+store_hits u a value source pts r t rank None e = cc
+store_hits u a value source pts r t rank (Some (Shared l)) e = cc
+store_hits u a value source pts r t rank (Some (Exclusive modified l)) e = cc
+
+pub store_misses : (u : Core) (a value : ℕ) (m : Message) (hit : Option Hit)
+    → store.Miss m ≡ store_answer a (map.get u.lines a) hit → look.Miss m ≡ look_of u (op.Store a value) hit
+store_misses u a value m None e = cc
+store_misses u a value m (Some hit) e = cc

@@ -1,0 +1,148 @@
+-- A core of the machine: its state, and what each of its steps leaves of it.
+use Rattle.std.specs.Prelude.{ℕ, ◌+◌, ◌%◌, Bool, true, false, ◌||◌, ◌==◌, nat_lt, if◌then◌else◌, List, [], ◌∷◌, ◌++◌, length, Option, Some, None, is_some}
+use Rattle.std.specs.FinMap as map
+use Rattle.mem_op.specs.declared.id.Op.{Op}
+use Rattle.mem_op.specs.declared.id.Op.TheVariants as op
+use Rattle.mem_op.specs.declared.id.OpId.{OpId}
+use Rattle.mem_op.specs.declared.id.Source.TheVariants as source
+use Rattle.line_stamps.specs.declared.line.Line.{Line}
+use Rattle.line_stamps.specs.declared.message.Message.{Message}
+use Rattle.line_stamps.specs.declared.message.Message.TheVariants.{ShReq, ExReq}
+use Rattle.line_stamps.specs.declared.message.RecallKind.{RecallKind}
+use Rattle.line_stamps.specs.declared.message.Reply.{Reply}
+use Rattle.line_stamps.specs.declared.message.Reply.TheVariants.{ShRep, ExRep, RenewRep, UpgradeRep}
+use Rattle.lease_rule.specs.ConfigParts.{ConfigParts}
+use Rattle.lease_rule.specs.Lease.{self_increment}
+use Rattle.log_record.specs.declared.record.Act.{Act}
+use Rattle.log_record.specs.declared.record.Act.TheVariants as act
+use Rattle.log_record.specs.declared.record.Record.{Record}
+use Rattle.core_program.specs.declared.instruction.Instruction.{Instruction}
+use Rattle.core_program.specs.Running.{next_op, answered, start_of}
+use Rattle.core_program.specs.State.{State}
+use Rattle.private_cache.specs.Answers.{give_back}
+use Rattle.private_cache.specs.CacheParts.{Lines}
+use Rattle.private_cache.specs.Table.{Hit, load_hit, store_hit, line_of, copy_of, left, put}
+use Rattle.private_cache.specs.declared.held.Held.{Held}
+
+pub record Core : Type 0 where
+  pub program : List Instruction
+  pub state : State
+  pub pts : ℕ
+  pub r : ℕ
+  pub lines : Lines
+  -- the one message that may be in hand, and the reply to it once it is served
+  pub hand : Option Message
+  pub kept : Option Reply
+  pub log : List Record
+
+-- a core as a machine starts
+abbrev pub new_core : List Instruction → Core
+new_core program = record {
+  program = program;
+  state = start_of program;
+  pts = 0;
+  r = 0;
+  lines = map.empty;
+  hand = None;
+  kept = None;
+  log = [];
+}
+
+-- ---- operations
+
+-- the operation that the program issues next; none where it has ended
+abbrev pub next_of : Core → Option Op
+next_of u = next_op u.program u.state
+
+abbrev pub op_addr : Op → ℕ
+op_addr (op.Load a) = a
+op_addr (op.Store a value) = a
+
+-- the hit of an operation at a line, and None where it is a miss; `id` is the operation's own
+abbrev pub op_hit : Op → OpId → ℕ → ℕ → Option Held → Option Hit
+op_hit (op.Load a) id pts r held = load_hit pts r held
+op_hit (op.Store a value) id pts r held = store_hit value (source.Store id) pts r held
+
+-- the id of the next operation of core c
+abbrev pub next_id : ℕ → Core → OpId
+next_id c u = record { core = c; index = length u.log }
+
+-- what the core's line makes of an operation
+abbrev pub tries : ℕ → Core → Op → Option Hit
+tries c u x = op_hit x (next_id c u) u.pts u.r (map.get u.lines (op_addr x))
+
+-- the request of an operation that is a miss
+abbrev pub request : Op → ℕ → Option Held → Message
+request (op.Load a) pts held = ShReq a (copy_of held) pts
+request (op.Store a value) pts held = ExReq a (copy_of held)
+
+abbrev pub next_request : Core → Op → Message
+next_request u x = request x u.pts (map.get u.lines (op_addr x))
+
+abbrev pub act_of : Op → Line → Act
+act_of (op.Load a) l = act.Load l.source
+act_of (op.Store a value) l = act.Store
+
+-- the record of an operation that has hit: a load has the line's word, and a store has left its own there
+abbrev pub record_of : Op → Hit → Record
+record_of x hit = record {
+  value = (line_of hit.held).value;
+  ts = hit.stamp;
+  rank = hit.rank;
+  addr = op_addr x;
+  act = act_of x (line_of hit.held);
+}
+
+-- after so many operations a core increments its stamp
+abbrev pub is_due : ConfigParts → ℕ → Bool
+is_due g count = count % g.period == 0
+
+-- the core after an operation that has hit, self-increment included
+abbrev pub after_hit : ConfigParts → Core → Op → Hit → Core
+after_hit g u x hit =
+    let due = is_due g (length u.log + 1) in
+    record {
+      program = u.program;
+      state = answered u.program (line_of hit.held).value u.state;
+      pts = if due then self_increment hit.stamp else hit.stamp;
+      r = if due then 0 else hit.rank;
+      lines = put u.lines (op_addr x) (Some hit.held);
+      hand = u.hand;
+      kept = u.kept;
+      log = u.log ++ record_of x hit ∷ [];
+    }
+
+-- ---- the other steps
+
+-- the line of the address is there, or there is room for one more
+abbrev pub has_place : ConfigParts → Core → ℕ → Bool
+has_place g u a = nat_lt (map.len u.lines) g.cache_lines || is_some (map.get u.lines a)
+
+abbrev pub has_dropped : Core → ℕ → Core
+has_dropped u a = record u { lines = put u.lines a None }
+
+-- the line l of address a goes back, and the message that gives it back is in hand
+abbrev pub has_given : Core → RecallKind → ℕ → Line → Core
+has_given u kind a l = record u { lines = put u.lines a (left kind l); hand = Some (give_back kind a l); kept = None }
+
+abbrev pub has_asked : Core → Message → Core
+has_asked u m = record u { hand = Some m; kept = None }
+
+-- a reply was taken that makes the line of address a this one
+abbrev pub has_taken : Core → ℕ → Held → Core
+has_taken u a held = record u { lines = put u.lines a (Some held); hand = None; kept = None }
+
+-- a reply was taken that fills nothing
+abbrev pub has_let_go : Core → Core
+has_let_go u = record u { hand = None; kept = None }
+
+abbrev pub has_bumped : Core → Core
+has_bumped u = record u { pts = self_increment u.pts; r = 0 }
+
+-- a reply that fills a line is of a kind that the message asks for
+abbrev pub fits : Message → Reply → Bool
+fits (ShReq a copy pts) (ShRep l) = true
+fits (ShReq a copy pts) (RenewRep rts) = is_some copy
+fits (ExReq a copy) (ExRep l) = true
+fits (ExReq a copy) (UpgradeRep rts) = is_some copy
+fits _ _ = false

@@ -1,0 +1,55 @@
+//! Why a core refuses an event.
+
+ghost use Rattle.std.specs.Prelude.{◌≡◌};
+ghost use Rattle.core_unit.specs.declared.fault.UnitFault.TheVariants.{OutOfMemory, Stamp};
+
+use line_stamps::StampFault;
+use std::alloc::AllocError;
+use std::fmt;
+use std::fmt::Display;
+use thiserror::Error;
+
+/// Why a core refuses an event.
+#[derive(Clone, Copy, Debug, PartialEq, Eq, Error)]
+pub enum UnitFault {
+    /// The reply isn't one to the message in hand, or no message is.
+    BadReply,
+    /// A transcript has at most 1,048,576 entries.
+    TranscriptFull,
+    /// A stamp or a rank would be above its limit.
+    Stamp(StampFault),
+    /// Memory of the host was refused.
+    OutOfMemory,
+}
+
+impl Display for UnitFault {
+    ghost use Rattle.std.specs.Prelude.{Some};
+    ghost use Rattle.core_unit.specs.Faults.{fault_text};
+
+    ghost output = { λ fault. Some (fault_text fault) };
+
+    fn fmt<W: fmt::Write>(&self, f: &mut fmt::Formatter<W>) -> fmt::Result {
+        match self {
+            UnitFault::BadReply => f.write_str("14 BadReply"),
+            UnitFault::TranscriptFull => f.write_str("13 TranscriptFull"),
+            UnitFault::Stamp(fault) => write!(f, "{fault}"),
+            UnitFault::OutOfMemory => f.write_str("10 OutOfMemory"),
+        }
+    }
+}
+
+impl From<AllocError> for UnitFault {
+    ghost from_gives = { λ _ fault. fault ≡ OutOfMemory };
+
+    fn from(_refused: AllocError) -> UnitFault {
+        UnitFault::OutOfMemory
+    }
+}
+
+impl From<StampFault> for UnitFault {
+    ghost from_gives = { λ limit fault. fault ≡ Stamp limit };
+
+    fn from(limit: StampFault) -> UnitFault {
+        UnitFault::Stamp(limit)
+    }
+}

@@ -1,0 +1,117 @@
+//! Recalls and evictions.
+
+ghost use Rattle.std.specs.Prelude.{◌≡◌, Some, None, Ok, IsNone, OnErr};
+ghost use Rattle.private_cache.specs.Answers.{give_fault, recall_answer};
+ghost use Rattle.private_cache.specs.Steps.{line_at};
+ghost use Rattle.private_cache.specs.Table.{recalled};
+ghost use Rattle.core_unit.specs.Outcomes.{Meets, eviction, evict_outcome, give_outcome, recall_outcome};
+ghost use Rattle.core_unit.specs.Parts.{SameUnit};
+
+use super::entry::CoreEntry;
+use super::fault::UnitFault;
+use super::outcome::Outcome;
+use super::transcript::{check_room, push_copy};
+use super::unit::CoreUnit;
+use line_stamps::{Message, Recall};
+use mem_op::Addr;
+use private_cache::Evicted;
+
+impl CoreUnit {
+    /// Gives the recall's line back where it is there as Exclusive: Gave with the give-back, which is
+    /// then in hand. NoEffect where it isn't there so, or while a message is in hand. The recall's
+    /// owner isn't looked at.
+    ///
+    /// The refusals, in this order: 13 TranscriptFull, 4 StampLimit, 10 OutOfMemory. They change
+    /// nothing.
+    pub fn recall(&mut self, recall: &Recall) -> Result<Outcome, UnitFault>
+        ensures outcome { Meets (recall_outcome self.old recall.now) result self.old self.new }
+        ensures same { SameUnit self.old self.new }
+        ensures refused { OnErr result (self.new ≡ self.old) }
+    {
+        if self.hand.is_some() {
+            return Ok(Outcome::NoEffect);
+        }
+        match &self.cache.peek_recall(recall, self.config.lease()) {
+            Ok(None) => Ok(Outcome::NoEffect),
+            Ok(Some(message)) => self.give(recall, message),
+            Err(fault) => {
+                check_room(&self.transcript)?;
+                Err(UnitFault::Stamp(*fault))
+            }
+        }
+    }
+
+    // Gives a line back by this message, as the recall asks. No message is in hand.
+    fn give(&mut self, recall: &Recall, message: &Message) -> Result<Outcome, UnitFault>
+        requires free { self.old.hand ≡ None }
+        requires asked { let given = recalled recall.now self.old.config.lease (line_at self.old.cache recall.now.addr) in
+            (Some message.now ≡ recall_answer recall.now given) × (give_fault given ≡ None) }
+        ensures outcome { Meets (give_outcome self.old recall.now
+            (recalled recall.now self.old.config.lease (line_at self.old.cache recall.now.addr))) result self.old self.new }
+        ensures same { SameUnit self.old self.new }
+        ensures refused { OnErr result (self.new ≡ self.old) }
+    {
+        let CoreUnit {
+            config,
+            cache,
+            hand,
+            transcript,
+            ..
+        } = self;
+        check_room(transcript)?;
+        transcript.reserve(1)?;
+        let _ = cache.recall(recall, config.lease());
+        *hand = Some(*message);
+        push_copy(transcript, &CoreEntry::Gave(*message));
+        Ok(Outcome::Gave(*message))
+    }
+
+    /// Evicts the line of an address: Dropped where it was Shared, Gave with the give-back in hand
+    /// where it was Exclusive. NoEffect where it isn't there, or while a message is in hand.
+    ///
+    /// The refusals, in this order: 13 TranscriptFull, 10 OutOfMemory. They change nothing.
+    pub fn evict(&mut self, addr: Addr) -> Result<Outcome, UnitFault>
+        ensures outcome { Meets (evict_outcome self.old addr) result self.old self.new }
+        ensures same { SameUnit self.old self.new }
+        ensures refused { OnErr result (self.new ≡ self.old) }
+    {
+        if self.hand.is_some() {
+            return Ok(Outcome::NoEffect);
+        }
+        self.let_go(addr)
+    }
+
+    /// Evicts the line of an address. No message is in hand.
+    pub(crate) fn let_go(&mut self, addr: Addr) -> Result<Outcome, UnitFault>
+        requires { self.old.hand ≡ None }
+        ensures outcome { Meets (eviction self.old (λ m. Outcome.Gave m) addr (line_at self.old.cache addr))
+            result self.old self.new }
+        ensures effect { result ≡ Ok Outcome.NoEffect → IsNone (line_at self.old.cache addr) }
+        ensures same { SameUnit self.old self.new }
+        ensures refused { OnErr result (self.new ≡ self.old) }
+    {
+        let CoreUnit {
+            cache,
+            hand,
+            transcript,
+            ..
+        } = self;
+        if cache.line(addr).is_none() {
+            return Ok(Outcome::NoEffect);
+        }
+        check_room(transcript)?;
+        transcript.reserve(1)?;
+        match &cache.evict(addr) {
+            Evicted::GiveBack(message) => {
+                *hand = Some(*message);
+                push_copy(transcript, &CoreEntry::Gave(*message));
+                Ok(Outcome::Gave(*message))
+            }
+            Evicted::Dropped => {
+                push_copy(transcript, &CoreEntry::Dropped(addr));
+                Ok(Outcome::Dropped(addr))
+            }
+            Evicted::Nothing => Ok(Outcome::NoEffect),
+        }
+    }
+}

@@ -1,0 +1,43 @@
+//! Self-increments.
+
+ghost use Rattle.std.specs.Prelude.{◌≡◌, OnErr};
+ghost use Rattle.core_unit.specs.Outcomes.{Meets, increment_outcome};
+ghost use Rattle.core_unit.specs.Parts.{SameUnit};
+
+use super::entry::CoreEntry;
+use super::fault::UnitFault;
+use super::outcome::Outcome;
+use super::transcript::{check_room, push_copy};
+use super::unit::CoreUnit;
+use lease_rule::self_increment;
+use line_stamps::Rank;
+
+impl CoreUnit {
+    /// Adds 1 to the core's stamp: Bumped, or NoEffect while a message is in hand.
+    ///
+    /// The refusals, in this order: 13 TranscriptFull, 4 StampLimit, 10 OutOfMemory. They change
+    /// nothing.
+    pub fn increment(&mut self) -> Result<Outcome, UnitFault>
+        ensures outcome { Meets (increment_outcome self.old) result self.old self.new }
+        ensures same { SameUnit self.old self.new }
+        ensures refused { OnErr result (self.new ≡ self.old) }
+    {
+        let CoreUnit {
+            pts,
+            r,
+            hand,
+            transcript,
+            ..
+        } = self;
+        if hand.is_some() {
+            return Ok(Outcome::NoEffect);
+        }
+        check_room(transcript)?;
+        let after = self_increment(*pts)?;
+        transcript.reserve(1)?;
+        *pts = after;
+        *r = Rank::ZERO;
+        push_copy(transcript, &CoreEntry::Bumped);
+        Ok(Outcome::Bumped)
+    }
+}

@@ -1,0 +1,21 @@
+//! A core of the machine: its program, its private cache and the message it has in hand, in the state
+//! to which its transcript leads.
+#![tactic(auto)]
+
+mod entry;
+mod fault;
+mod give;
+mod increment;
+mod message;
+mod operation;
+mod outcome;
+mod take;
+mod transcript;
+mod turn;
+mod unit;
+
+pub use entry::CoreEntry;
+pub use fault::UnitFault;
+pub use message::addr_of;
+pub use outcome::Outcome;
+pub use unit::CoreUnit;

@@ -1,0 +1,131 @@
+//! Operations: what a core's line makes of one, and how it is performed.
+
+ghost use Rattle.std.specs.Prelude.{◌≡◌, ◌+◌, ◌<◌, ◌≤◌, Some, None, MatchResult, if◌then◌else◌};
+ghost use Rattle.lease_rule.specs.Lease.{self_increment};
+ghost use Rattle.private_cache.specs.Answers.{hit_fault, past_limit};
+ghost use Rattle.private_cache.specs.Steps.{after_operation, line_at};
+ghost use Rattle.core_unit.specs.Core.{op_addr, op_hit, is_due, next_id, tries};
+ghost use Rattle.core_unit.specs.Look.{look_of};
+ghost use Rattle.core_unit.specs.Parts.{core_of};
+
+use super::unit::CoreUnit;
+use lease_rule::{Config, self_increment};
+use line_stamps::{Message, Rank, Stamp, StampFault};
+use log_record::{Act, Record};
+use mem_op::{Addr, Op, OpId, Word};
+use private_cache::{Load, PrivateCache, Store};
+
+/// What a core's line makes of an operation.
+#[derive(Clone, Copy, Debug, PartialEq, Eq)]
+pub(crate) enum Look {
+    /// The operation can be performed, and this is its record.
+    Hit(Record),
+    /// This is to be asked for first.
+    Miss(Message),
+}
+
+/// The address of an operation.
+pub(crate) fn op_addr(op: &Op) -> Addr
+    ensures { result ≡ op_addr op.now }
+{
+    match op {
+        Op::Load(addr) => *addr,
+        Op::Store(addr, _) => *addr,
+    }
+}
+
+impl CoreUnit {
+    // What the line of its address makes of an operation.
+    pub(crate) fn look(&self, op: &Op) -> Result<Look, StampFault>
+        ensures { let u = core_of self.now None in
+            let hit = tries self.now.core u op.now in
+            MatchResult result
+            (λ look. (look ≡ look_of u op.now hit) × (hit_fault hit ≡ None))
+            (λ fault. hit_fault hit ≡ Some fault) }
+    {
+        match op {
+            Op::Load(addr) => self.look_to_load(*addr),
+            Op::Store(addr, value) => self.look_to_store(*addr, *value),
+        }
+    }
+
+    fn look_to_load(&self, addr: Addr) -> Result<Look, StampFault>
+        ensures { let u = core_of self.now None in
+            let hit = tries self.now.core u (Op.Load addr) in
+            MatchResult result
+            (λ look. (look ≡ look_of u (Op.Load addr) hit) × (hit_fault hit ≡ None))
+            (λ fault. hit_fault hit ≡ Some fault) }
+    {
+        match &self.cache.peek_load(addr, self.pts, self.r)? {
+            Load::Hit {
+                value,
+                source,
+                stamp,
+                rank,
+            } => Ok(Look::Hit(Record {
+                value: *value,
+                ts: *stamp,
+                rank: *rank,
+                addr,
+                act: Act::Load(*source),
+            })),
+            Load::Miss(request) => Ok(Look::Miss(*request)),
+        }
+    }
+
+    fn look_to_store(&self, addr: Addr, value: Word) -> Result<Look, StampFault>
+        ensures { let u = core_of self.now None in
+            let hit = tries self.now.core u (Op.Store addr value) in
+            MatchResult result
+            (λ look. (look ≡ look_of u (Op.Store addr value) hit) × (hit_fault hit ≡ None))
+            (λ fault. hit_fault hit ≡ Some fault) }
+    {
+        match &self.cache.peek_store(addr, self.pts, self.r)? {
+            Store::Hit { stamp, rank } => Ok(Look::Hit(Record {
+                value,
+                ts: *stamp,
+                rank: *rank,
+                addr,
+                act: Act::Store,
+            })),
+            Store::Miss(request) => Ok(Look::Miss(*request)),
+        }
+    }
+}
+
+/// Performs an operation that isn't refused on its line.
+pub(crate) fn perform_at(cache: &mut PrivateCache, op: &Op, id: OpId, pts: Stamp, r: Rank)
+    requires { hit_fault (op_hit op.now id pts r (line_at cache.old (op_addr op.now))) ≡ None }
+    ensures { cache.new ≡ after_operation cache.old (op_addr op.now)
+        (op_hit op.now id pts r (line_at cache.old (op_addr op.now))) }
+{
+    match op {
+        Op::Load(addr) => {
+            let _ = cache.load(*addr, pts, r);
+        }
+        Op::Store(addr, value) => {
+            let _ = cache.store(*addr, *value, id, pts, r);
+        }
+    }
+}
+
+/// The core's stamp and rank after so many operations, of which the last had this stamp and rank. The
+/// stamp is incremented where that is due. 4 StampLimit where it is above 2^48.
+pub(crate) fn after(
+    config: &Config,
+    count: u64,
+    ts: Stamp,
+    rank: Rank,
+) -> Result<(Stamp, Rank), StampFault>
+    ensures { let due = is_due config.now count in
+        let pts = (if due then self_increment ts else ts) in
+        MatchResult result
+        (λ after. (after.0 ≡ pts) × (after.1 ≡ (if due then 0 else rank)) × (past_limit pts 0 ≡ None))
+        (λ fault. past_limit pts 0 ≡ Some fault) }
+{
+    if count % config.period() == 0 {
+        Ok((self_increment(ts)?, Rank::ZERO))
+    } else {
+        Ok((ts, rank))
+    }
+}

@@ -1,0 +1,95 @@
+//! Replies that are taken.
+
+ghost use Rattle.std.specs.Prelude.{◌≡◌, Some, OnErr, true, false};
+ghost use Rattle.private_cache.specs.Steps.{fill_line};
+ghost use Rattle.manager_slice.specs.Messages.{addr_of, is_request};
+ghost use Rattle.core_unit.specs.Core.{fits};
+ghost use Rattle.core_unit.specs.Outcomes.{Meets, recorded, fill_outcome, take_outcome, without_hand};
+ghost use Rattle.core_unit.specs.Parts.{SameUnit};
+ghost use Rattle.core_unit.specs.declared.entry.CoreEntry.TheVariants as entry;
+ghost use Rattle.line_stamps.specs.declared.message.Reply.TheVariants.{Taken};
+
+use super::entry::CoreEntry;
+use super::fault::UnitFault;
+use super::message::{addr_of, fits, is_request};
+use super::outcome::Outcome;
+use super::transcript::{check_room, push_copy};
+use super::unit::CoreUnit;
+use line_stamps::{Message, Reply};
+
+impl CoreUnit {
+    /// Takes the reply to the message in hand, which is in hand no longer: Took, where a reply to a
+    /// request has filled its line, or Busy with the recall. A later turn performs the operation.
+    ///
+    /// The refusals, in this order: 14 BadReply where no message is in hand, the reply isn't of a
+    /// kind that it asks for, or doesn't fit the line or the cache; 13 TranscriptFull, which a Busy
+    /// doesn't meet, as it makes no entry; 10 OutOfMemory. They change nothing.
+    pub fn take(&mut self, reply: &Reply) -> Result<Outcome, UnitFault>
+        ensures outcome { Meets (take_outcome self.old reply.now) result self.old self.new }
+        ensures same { SameUnit self.old self.new }
+        ensures refused { OnErr result (self.new ≡ self.old) }
+    {
+        let Some(message) = &self.hand.as_ref().copied() else {
+            return Err(UnitFault::BadReply);
+        };
+        match reply {
+            Reply::Busy(recall) if is_request(message) => {
+                self.hand = None;
+                Ok(Outcome::Busy(*recall))
+            }
+            Reply::Taken if !is_request(message) => self.be_rid(message),
+            _ if fits(message, reply) => self.fill(message, reply),
+            _ => Err(UnitFault::BadReply),
+        }
+    }
+
+    // What was given back is taken.
+    fn be_rid(&mut self, message: &Message) -> Result<Outcome, UnitFault>
+        requires hand { self.old.hand ≡ Some message.now }
+        requires gives { is_request message.now ≡ false }
+        ensures outcome { Meets (recorded self.old (entry.Got message.now Taken) None Outcome.Took (without_hand self.old))
+            result self.old self.new }
+        ensures same { SameUnit self.old self.new }
+        ensures refused { OnErr result (self.new ≡ self.old) }
+    {
+        let CoreUnit {
+            hand,
+            transcript,
+            ..
+        } = self;
+        check_room(transcript)?;
+        transcript.reserve(1)?;
+        *hand = None;
+        push_copy(transcript, &CoreEntry::Got(*message, Reply::Taken));
+        Ok(Outcome::Took)
+    }
+
+    // A reply of a kind that the request in hand asks for fills its line.
+    fn fill(&mut self, message: &Message, reply: &Reply) -> Result<Outcome, UnitFault>
+        requires hand { self.old.hand ≡ Some message.now }
+        requires kind { fits message.now reply.now ≡ true }
+        ensures outcome { Meets (fill_outcome self.old message.now reply.now
+            (fill_line self.old.cache (addr_of message.now) reply.now)) result self.old self.new }
+        ensures same { SameUnit self.old self.new }
+        ensures refused { OnErr result (self.new ≡ self.old) }
+    {
+        let CoreUnit {
+            cache,
+            hand,
+            transcript,
+            ..
+        } = self;
+        let addr = addr_of(message);
+        if !cache.fits(addr, reply) {
+            return Err(UnitFault::BadReply);
+        }
+        check_room(transcript)?;
+        transcript.reserve(1)?;
+        if cache.fill(addr, reply).is_err() {
+            return Err(UnitFault::OutOfMemory);
+        }
+        *hand = None;
+        push_copy(transcript, &CoreEntry::Got(*message, *reply));
+        Ok(Outcome::Took)
+    }
+}

@@ -1,0 +1,30 @@
+//! Transcripts that grow.
+
+ghost use Rattle.std.specs.Prelude.{◌≡◌, ◌+◌, ◌<◌, ◌≤◌, ◌++◌, ◌∷◌, [], vec_len, vec_capacity, MatchResult, length};
+ghost use Rattle.core_unit.specs.declared.fault.UnitFault.TheVariants.{TranscriptFull};
+
+use super::entry::CoreEntry;
+use super::fault::UnitFault;
+
+/// How many entries a transcript has at most.
+const ENTRY_LIMIT: usize = 1_048_576;
+
+/// 13 TranscriptFull where an entry more doesn't fit.
+pub(crate) fn check_room(transcript: &[CoreEntry]) -> Result<(), UnitFault>
+    ensures { MatchResult result
+        (λ _. length transcript.now < 1048576)
+        (λ fault. (fault ≡ TranscriptFull) × (1048576 ≤ length transcript.now)) }
+{
+    if transcript.len() >= ENTRY_LIMIT {
+        return Err(UnitFault::TranscriptFull);
+    }
+    Ok(())
+}
+
+/// Appends a copy of an item. There is room for it.
+pub(crate) fn push_copy<T: Copy>(items: &mut Vec<T>, item: &T)
+    requires { vec_len items.old < vec_capacity items.old }
+    ensures items { items.new.items ≡ items.old.items ++ item.now ∷ [] }
+{
+    items.push_reserved(*item);
+}

@@ -1,0 +1,134 @@
+//! A log written to a device.
+
+ghost use Rattle.std.specs.Prelude.{◌≡◌, ◌<◌, ◌≤◌, ℕ, length, take, OnOk, IsErrOf, string_bytes};
+ghost use Rattle.std.specs.Io.KnownBytes.{Appends};
+ghost use Rattle.log_record.specs.Line.{Fits};
+ghost use Rattle.log_file.specs.Devices.{Failed};
+ghost use Rattle.log_file.specs.Log.{IsLog, spelling, with_lf};
+
+use crate::byte_sink::{ByteSink, write_all};
+use crate::write_fault::WriteFault;
+use log_record::{Act, Record, print_end, print_header, print_line};
+use mem_op::{CoreId, Source};
+use std::alloc::Global;
+
+/// Writes the log of this core of so many. 10 comes where a growth was refused, 29 where a write
+/// failed; what the sink took by then is a beginning of the log's text.
+pub fn write_log<W: ByteSink>(
+    alloc: Global,
+    sink: &mut W,
+    core: CoreId,
+    cores: u64,
+    records: &[Record],
+) -> Result<(), WriteFault>
+    requires core { core < cores }
+    requires cores { cores ≤ 64 }
+    requires few { length records.now ≤ 1048576 }
+    // What is written spells a log, the one of these records.
+    ensures log { OnOk result (IsLog core cores records.now) }
+    ensures written { OnOk result
+        (Appends (W.contents sink.old) (W.contents sink.new) (spelling core cores records.now)) }
+    ensures begun { (n : ℕ) × (n ≤ length (spelling core cores records.now))
+        × Appends (W.contents sink.old) (W.contents sink.new)
+        (take n (spelling core cores records.now)) }
+    // A failed write is answered only where the sink failed in this call.
+    ensures failed { IsErrOf result WriteFault.Write →
+        Failed (W.failed sink.old) (W.failed sink.new) }
+    // And no failed write is passed over.
+    ensures quiet { ¬ IsErrOf result WriteFault.Write → W.failed sink.new ≡ W.failed sink.old }
+{
+    write_line(sink, print_header(alloc, core, cores)?)?;
+    for logged in records {
+        in_range(logged);
+        write_line(sink, print_line(alloc, logged)?)?;
+    }
+    write_line(sink, print_end(alloc, records.len() as u64)?)
+}
+
+// Writes a line with its line feed.
+fn write_line<W: ByteSink>(sink: &mut W, mut line: String) -> Result<(), WriteFault>
+    ensures written { OnOk result
+        (Appends (W.contents sink.old) (W.contents sink.new) (with_lf (string_bytes line))) }
+    ensures begun { (n : ℕ) × (n ≤ length (with_lf (string_bytes line)))
+        × Appends (W.contents sink.old) (W.contents sink.new)
+        (take n (with_lf (string_bytes line))) }
+    ensures failed { IsErrOf result WriteFault.Write →
+        Failed (W.failed sink.old) (W.failed sink.new) }
+    ensures quiet { ¬ IsErrOf result WriteFault.Write → W.failed sink.new ≡ W.failed sink.old }
+{
+    line.push('\n')?;
+    write_all(sink, line.as_bytes())?;
+    Ok(())
+}
+
+// Does nothing: it tells that the numbers of a record are in range.
+fn in_range(logged: &Record)
+    ensures { Fits logged.now }
+{
+    let _value = logged.value;
+    let _addr = logged.addr.get();
+    let _ts = logged.ts.get();
+    let _rank = logged.rank.get();
+    if let Act::Load(Source::Store(id)) = &logged.act {
+        let _core = id.core.get();
+        let _index = id.index.get();
+    }
+}
+
+#[cfg(test)]
+mod tests {
+    use super::*;
+    use crate::mem_sink::MemSink;
+    use crate::step::Step;
+    use log_record::read_line;
+    use std::test::Fail;
+
+    /// A log of 65 bytes: a store, a load and a store.
+    const THREE_RECORDS: &str =
+        "tardis-log 1 core 0 of 1\nS 5 7 1 0\nL 5 7 1 1 0.0\nS 5 8 1 1\nend 3\n";
+
+    fn three_records() -> Result<[Record; 3], Fail> {
+        Ok([
+            read_line(b"S 5 7 1 0")?,
+            read_line(b"L 5 7 1 1 0.0")?,
+            read_line(b"S 5 8 1 1")?,
+        ])
+    }
+
+    #[test]
+    fn logs_are_written(rt: HostRuntime) -> Result<(), Fail> {
+        let core = CoreId::new(0)?;
+        let mut sink = MemSink::new(rt.alloc(), &[]);
+        let records = three_records()?;
+        assert_eq!(rt; write_log(rt.alloc(), &mut sink, core, 1, &records), Ok(()));
+        assert_eq!(rt; sink.bytes(), THREE_RECORDS.as_bytes());
+        let mut sink = MemSink::new(rt.alloc(), &[Step::Move(0), Step::Move(4)]);
+        assert_eq!(rt; write_log(rt.alloc(), &mut sink, core, 1, &[]), Ok(()));
+        assert_eq!(rt;
+            sink.bytes(),
+            b"tardis-log 1 core 0 of 1\nend 0\n".as_slice()
+        );
+        Ok(())
+    }
+
+    #[test]
+    fn each_write_fails_in_turn(rt: HostRuntime) -> Result<(), Fail> {
+        let core = CoreId::new(0)?;
+        let records = three_records()?;
+        let steps = [
+            Step::Move(99),
+            Step::Move(99),
+            Step::Move(99),
+            Step::Move(99),
+            Step::Fail,
+        ];
+        for (first, taken) in [(0, 59), (1, 49), (2, 35), (3, 25), (4, 0)] {
+            let mut sink = MemSink::new(rt.alloc(), &steps[first..]);
+            let written = write_log(rt.alloc(), &mut sink, core, 1, &records);
+            assert_eq!(rt; written, Err(WriteFault::Write));
+            assert_eq!(rt; sink.bytes().len(), taken);
+            assert!(rt; THREE_RECORDS.as_bytes().starts_with(sink.bytes()));
+        }
+        Ok(())
+    }
+}

@@ -1,0 +1,33 @@
+-- Items of a list that are replaced.
+use Rattle.std.proofs.Common.{◌≡◌, ℕ, zero, suc, ◌<◌, ◌≤◌, List, length, get_or, [], ◌∷◌, inl, inr, refl, sym, ap, ◌∙◌}
+use Rattle.std.specs.Prelude.{◌⊎◌, Some, None, option_map, map, slice_get, slice_set}
+use Rattle.std.proofs.lemmas.Option.{slice_get-get_or, slice_get-map, slice_get_past}
+
+-- what stands there, put there again, changes nothing
+pub set_again : {X : Type 0} (xs : List X) (i : ℕ) (x : X) → slice_get xs i ≡ Some x → slice_set xs i x ≡ xs
+set_again [] i x e = refl
+set_again (y ∷ ys) zero x e = (let same : x ≡ y = cc in ap (λ z. z ∷ ys) same)
+set_again (y ∷ ys) (suc i) x e = ap (λ zs. y ∷ zs) (set_again ys i x e)
+
+-- what is found is the new item, or an old one
+pub found_in_set : {X : Type 0} (xs : List X) (i : ℕ) (x : X) (j : ℕ) (y : X) → slice_get (slice_set xs i x) j ≡ Some y
+    → ((j ≡ i) × (y ≡ x)) ⊎ (slice_get xs j ≡ Some y)
+found_in_set [] i x j y e = inr e
+found_in_set (z ∷ zs) zero x zero y e = inl (refl, cc)
+found_in_set (z ∷ zs) zero x (suc j) y e = inr e
+found_in_set (z ∷ zs) (suc i) x zero y e = inr e
+found_in_set (z ∷ zs) (suc i) x (suc j) y e =
+    elim (found_in_set zs i x j y e) [ inl same ↦ inl (ap suc same.0, same.1) | inr old ↦ inr old ]
+
+pub found_in_map : {A B : Type 0} (f : A → B) (xs : List A) (i : ℕ) (x : A) → slice_get xs i ≡ Some x → slice_get (map f xs) i ≡ Some (f x)
+found_in_map f xs i x e = slice_get-map f xs i ∙ ap (λ o. option_map f o) e
+
+pub none_in_map : {A B : Type 0} (f : A → B) (xs : List A) (i : ℕ) → slice_get xs i ≡ None → slice_get (map f xs) i ≡ None
+none_in_map f xs i e = slice_get-map f xs i ∙ ap (λ o. option_map f o) e
+
+-- what a look-up at an index finds
+pub stands : {X : Type 0} (xs : List X) (i j : ℕ) (x : X) → j ≡ i → j < length xs → x ≡ get_or xs j x → slice_get xs i ≡ Some x
+stands xs i j x same below e = ap (slice_get xs) (sym same) ∙ slice_get-get_or xs j x below ∙ ap (λ y. Some y) (sym e)
+
+pub stands_none : {X : Type 0} (xs : List X) (i j : ℕ) → j ≡ i → length xs ≤ j → slice_get xs i ≡ None
+stands_none xs i j same past = ap (slice_get xs) (sym same) ∙ slice_get_past xs j past

@@ -1,0 +1,33 @@
+-- The parts of the machine that contracts see.
+use Rattle.std.specs.Prelude.{◌≡◌, ℕ, List, length, Some, map, slice_get}
+use Rattle.lease_rule.specs.ConfigParts.{ConfigParts}
+use Rattle.manager_slice.specs.Changes.{slice_of}
+use Rattle.manager_slice.specs.Parts.{SliceParts}
+use Rattle.core_unit.specs.Parts.{core_of}
+use Rattle.tardis_core.specs.Machine.{World}
+use Rattle.tardis_core.specs.SeatParts.{SeatParts}
+
+pub record CoreParts : Type 0 where
+  pub config : ConfigParts
+  pub seats : List SeatParts
+  pub slices : List SliceParts
+
+-- the machine as the relation of its events sees it, with no order of use
+abbrev pub world : CoreParts → World
+world p = record { cores = map (λ seat. core_of seat.unit seat.kept) p.seats; slices = map (λ s. slice_of s.state) p.slices }
+
+-- a core at its number
+pub record IsSeat (g : ConfigParts) (c : ℕ) (seat : SeatParts) : Type 0 where
+  pub core : seat.unit.core ≡ c
+  pub config : seat.unit.config ≡ g
+
+-- a slice at its number
+pub record IsSliceAt (g : ConfigParts) (n : ℕ) (s : SliceParts) : Type 0 where
+  pub number : s.number ≡ n
+  pub config : s.config ≡ g
+
+-- what the type of the machine keeps
+pub record IsMachine (p : CoreParts) : Type 0 where
+  pub seats : (c : ℕ) (seat : SeatParts) → slice_get p.seats c ≡ Some seat → IsSeat p.config c seat
+  pub slices : (n : ℕ) (s : SliceParts) → slice_get p.slices n ≡ Some s → IsSliceAt p.config n s
+  pub count : length p.slices ≡ p.config.slices

@@ -1,0 +1,42 @@
+-- Runs, event by event, each by its exact outcome.
+use Rattle.std.specs.Prelude.{◌≡◌, ◌⊎◌, ℕ, true, List, [], ◌∷◌, Option, Some, None, option_and_then, slice_get, take}
+use Rattle.lease_rule.specs.ConfigParts.{ConfigParts}
+use Rattle.core_program.specs.declared.instruction.Instruction.{Instruction}
+use Rattle.tardis_core.specs.Machine.{Run, opening}
+use Rattle.tardis_core.specs.Opening.{opening_parts}
+use Rattle.tardis_core.specs.Parts.{CoreParts, world}
+use Rattle.tardis_core.specs.Steps.{StepOutcome, Refuses, Answers, Steps, is_memory, step_outcome}
+use Rattle.tardis_core.specs.declared.event.Event.{Event}
+use Rattle.tardis_core.specs.declared.fault.CoreFault.{CoreFault}
+use Rattle.tardis_core.specs.declared.running.RunFault.{RunFault}
+
+-- the machine behind an event, and None where the event is refused
+abbrev pub behind : StepOutcome → Option CoreParts
+behind (Refuses fault) = None
+behind (Answers o q) = Some q
+behind (Steps o q) = Some q
+
+-- the machine behind these events, and None where one of them is refused
+abbrev pub run_from : CoreParts → List Event → Option CoreParts
+run_from p [] = Some p
+run_from p (e ∷ events) = option_and_then (λ q. run_from q events) (behind (step_outcome p e))
+
+-- an event that comes to this may be refused so: for the cause that is due, or for want of memory in place of a step
+abbrev pub MayRefuse : StepOutcome → CoreFault → Type 0
+MayRefuse (Refuses due) fault = fault ≡ due
+MayRefuse (Answers o q) fault = ⊥
+MayRefuse (Steps o q) fault = is_memory fault ≡ true
+
+-- the events before this one are a run, and it is refused where they lead
+pub record IsRefusedAt (programs : List (List Instruction)) (g : ConfigParts) (events : List Event) (at : ℕ) (fault : CoreFault) : Type 0 where
+  pub machine : CoreParts
+  pub reached : run_from (opening_parts programs g) (take at events) ≡ Some machine
+  pub run : Run g (opening programs g.slices) (take at events) (world machine)
+  pub event : Event
+  pub stands : slice_get events at ≡ Some event
+  pub refused : MayRefuse (step_outcome machine event) fault
+
+-- an event is refused, or there was no memory to begin with
+abbrev pub IsRunFault : List (List Instruction) → ConfigParts → List Event → RunFault → Type 0
+IsRunFault programs g events r =
+    ((r.at ≡ 0) × (is_memory r.fault ≡ true)) ⊎ IsRefusedAt programs g events r.at r.fault

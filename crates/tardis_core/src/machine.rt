@@ -1,0 +1,68 @@
+//! The core machine.
+
+ghost use Rattle.std.specs.Prelude.{◌≡◌, option_and_then, option_map, slice_get};
+ghost use Rattle.std.specs.Option.{option_copied};
+
+use super::seat::Seat;
+use core_unit::CoreUnit;
+use lease_rule::Config;
+use line_stamps::Reply;
+use manager_slice::ManagerSlice;
+use mem_op::CoreId;
+use std::marker::Model;
+
+/// Core units and manager slices, with the reply that is kept for each core, once its message in hand
+/// is served.
+#[derive(Drop)]
+pub struct Core {
+    pub(crate) config: Config,
+    pub(crate) seats: Vec<Seat>,
+    pub(crate) slices: Vec<ManagerSlice>,
+}
+
+impl Model for Core {
+    ghost use Rattle.std.specs.Coded.{codes};
+    ghost use Rattle.tardis_core.specs.contracts.seat.Seat as seat;
+    ghost use Rattle.manager_slice.specs.contracts.slice.ManagerSlice as slice;
+    ghost use Rattle.tardis_core.specs.Parts.{CoreParts, IsMachine};
+
+    ghost Value = { CoreParts };
+
+    ghost coded = { Prim.hlevel (codes, seat.the_row.coded, slice.the_row.coded) };
+
+    ghost view = { λ m. record { config = m.config; seats = m.seats.items; slices = m.slices.items } };
+
+    ghost invariant = { λ m. IsMachine (record { config = m.config; seats = m.seats.items; slices = m.slices.items }) };
+}
+
+impl Core {
+    /// The configuration.
+    pub fn config(&self) -> &Config
+        ensures { result.now ≡ self.now.config }
+    {
+        &self.config
+    }
+
+    /// A core, if it is there.
+    pub fn unit(&self, core: CoreId) -> Option<&CoreUnit>
+        ensures { option_copied result ≡ option_map (λ s. s.unit) (slice_get self.now.seats core) }
+    {
+        let seat = self.seats.get(core.get() as usize)?;
+        Some(&seat.unit)
+    }
+
+    /// A slice, if it is there.
+    pub fn slice(&self, number: usize) -> Option<&ManagerSlice>
+        ensures { option_copied result ≡ slice_get self.now.slices number }
+    {
+        self.slices.get(number)
+    }
+
+    /// The reply that is kept for a core until it takes it, if there is one.
+    pub fn kept(&self, core: CoreId) -> Option<&Reply>
+        ensures { option_copied result ≡ option_and_then (λ s. s.kept) (slice_get self.now.seats core) }
+    {
+        let seat = self.seats.get(core.get() as usize)?;
+        seat.kept.as_ref()
+    }
+}

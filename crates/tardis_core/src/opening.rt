@@ -1,0 +1,65 @@
+//! The machine as it starts.
+
+ghost use Rattle.std.specs.Prelude.{◌≡◌, true, IfOk, IfErr, vec_len};
+ghost use Rattle.tardis_core.specs.Machine.{opening};
+ghost use Rattle.tardis_core.specs.Opening.{new_seats, new_slices, opening_parts};
+ghost use Rattle.tardis_core.specs.Parts.{world};
+ghost use Rattle.tardis_core.specs.Steps.{is_memory};
+
+use super::fault::CoreFault;
+use super::machine::Core;
+use super::seat::Seat;
+use core_program::ProgramSet;
+use core_unit::CoreUnit;
+use lease_rule::Config;
+use manager_slice::ManagerSlice;
+use mem_op::CoreId;
+use std::alloc::Global;
+
+impl Core {
+    /// The machine with each core at the start of its program and all slices empty; 10 OutOfMemory
+    /// alone is refused.
+    pub fn new(alloc: Global, programs: &ProgramSet, config: &Config) -> Result<Core, CoreFault>
+        ensures parts { IfOk result (λ m. m ≡ opening_parts programs.now config.now) }
+        ensures opening { IfOk result (λ m. world m ≡ opening programs.now config.now.slices) }
+        ensures refused { IfErr result (λ fault. is_memory fault ≡ true) }
+    {
+        let seats = seats_of(alloc, programs, config)?;
+        let slices = slices_of(alloc, config)?;
+        Ok(Core {
+            config: *config,
+            seats,
+            slices,
+        })
+    }
+}
+
+// A seat for each core at the start of its program.
+fn seats_of(alloc: Global, programs: &ProgramSet, config: &Config) -> Result<Vec<Seat>, CoreFault>
+    ensures seats { IfOk result (λ seats. seats.items ≡ new_seats config.now 0 programs.now) }
+    ensures refused { IfErr result (λ fault. is_memory fault ≡ true) }
+{
+    let mut seats = Vec::new(alloc);
+    for number in 0..programs.len() as u64 {
+        let core = CoreId::new(number).unwrap();
+        let program = programs.get(core).unwrap().clone()?;
+        let unit = CoreUnit::new(alloc, core, program, config)?;
+        seats.reserve(1)?;
+        seats.push_reserved(Seat { unit, kept: None });
+    }
+    Ok(seats)
+}
+
+// As many empty slices as the configuration says.
+fn slices_of(alloc: Global, config: &Config) -> Result<Vec<ManagerSlice>, CoreFault>
+    ensures slices { IfOk result (λ slices. slices.items ≡ new_slices config.now config.now.slices) }
+    ensures refused { IfErr result (λ fault. is_memory fault ≡ true) }
+{
+    let mut slices = Vec::new(alloc);
+    for number in 0..config.slices() {
+        let slice = ManagerSlice::new(alloc, number, config)?;
+        slices.reserve(1)?;
+        slices.push_reserved(slice);
+    }
+    Ok(slices)
+}

@@ -1,0 +1,119 @@
+//! Seats of cores.
+
+ghost use Rattle.std.specs.Prelude.{◌≡◌, true, Some};
+ghost use Rattle.core_unit.specs.Parts.{SameUnit};
+ghost use Rattle.tardis_core.specs.Machine.{core_event, is_alone};
+ghost use Rattle.tardis_core.specs.Seats.{SeatMeets, SeatGoes, asked_by, seat_outcome};
+
+use super::event::Event;
+use core_unit::{CoreUnit, Outcome, UnitFault};
+use line_stamps::{Message, Recall, Reply};
+use mem_op::Addr;
+use std::marker::Model;
+
+/// A core, and the reply to the message in its hand, once that is served.
+#[derive(Drop)]
+pub(crate) struct Seat {
+    /// The core.
+    pub(crate) unit: CoreUnit,
+    /// The reply that it hasn't taken yet.
+    pub(crate) kept: Option<Reply>,
+}
+
+impl Model for Seat {
+    ghost use Rattle.std.specs.Prelude.{◌≡◌, None};
+    ghost use Rattle.std.specs.Coded.{codes};
+    ghost use Rattle.core_unit.specs.contracts.unit.CoreUnit as core;
+    ghost use Rattle.tardis_core.specs.SeatParts.{SeatParts};
+
+    ghost Value = { SeatParts };
+
+    ghost coded = { Prim.hlevel (codes, core.the_row.coded) };
+
+    ghost view = { λ seat. record { unit = seat.unit; kept = seat.kept } };
+
+    ghost invariant = { λ seat. seat.unit.hand ≡ None → seat.kept ≡ None };
+}
+
+impl Seat {
+    /// An event of the core alone.
+    pub(crate) fn step(&mut self, event: &Event) -> Result<Outcome, UnitFault>
+        requires own { core_event event.now ≡ Some self.old.unit.core }
+        requires alone { is_alone event.now ≡ true }
+        ensures outcome { SeatMeets (seat_outcome event.now self.old) result self.old self.new }
+        ensures same { SameUnit self.old.unit self.new.unit }
+        ensures goes { SeatGoes event.now self.old result self.new }
+    {
+        match event {
+            Event::Turn(_) => self.turn(),
+            Event::Take(_) => self.take(),
+            Event::Recall(_, recall) => self.recall(recall),
+            Event::Evict(_, addr) => self.evict(*addr),
+            Event::Increment(_) => self.increment(),
+            Event::Serve(_) | Event::Spill(_) => Ok(Outcome::NoEffect),
+        }
+    }
+
+    /// The message in the core's hand, where it has no reply yet.
+    pub(crate) fn asking(&self) -> Option<Message>
+        ensures { result ≡ asked_by self.now.unit.hand self.now.kept }
+    {
+        match &self.kept {
+            None => self.unit.in_hand().copied(),
+            Some(_) => None,
+        }
+    }
+
+    // The core makes a turn.
+    fn turn(&mut self) -> Result<Outcome, UnitFault>
+        ensures outcome { SeatMeets (seat_outcome (Event.Turn self.old.unit.core) self.old) result self.old self.new }
+        ensures same { SameUnit self.old.unit self.new.unit }
+        ensures goes { SeatGoes (Event.Turn self.old.unit.core) self.old result self.new }
+    {
+        self.unit.replays();
+        self.unit.turn()
+    }
+
+    // The core takes the reply that is kept for it.
+    fn take(&mut self) -> Result<Outcome, UnitFault>
+        ensures outcome { SeatMeets (seat_outcome (Event.Take self.old.unit.core) self.old) result self.old self.new }
+        ensures same { SameUnit self.old.unit self.new.unit }
+        ensures goes { SeatGoes (Event.Take self.old.unit.core) self.old result self.new }
+    {
+        let Seat { unit, kept } = self;
+        let Some(reply) = &kept.as_ref().copied() else {
+            return Ok(Outcome::NoEffect);
+        };
+        unit.replays();
+        let outcome = unit.take(reply)?;
+        *kept = None;
+        Ok(outcome)
+    }
+
+    // This recall comes to the core.
+    fn recall(&mut self, recall: &Recall) -> Result<Outcome, UnitFault>
+        ensures outcome { SeatMeets (seat_outcome (Event.Recall self.old.unit.core recall.now) self.old) result self.old self.new }
+        ensures same { SameUnit self.old.unit self.new.unit }
+        ensures goes { SeatGoes (Event.Recall self.old.unit.core recall.now) self.old result self.new }
+    {
+        self.unit.recall(recall)
+    }
+
+    // The core evicts the line of an address.
+    fn evict(&mut self, addr: Addr) -> Result<Outcome, UnitFault>
+        ensures outcome { SeatMeets (seat_outcome (Event.Evict self.old.unit.core addr) self.old) result self.old self.new }
+        ensures same { SameUnit self.old.unit self.new.unit }
+        ensures goes { SeatGoes (Event.Evict self.old.unit.core addr) self.old result self.new }
+    {
+        self.unit.evict(addr)
+    }
+
+    // The core increments its stamp.
+    fn increment(&mut self) -> Result<Outcome, UnitFault>
+        ensures outcome { SeatMeets (seat_outcome (Event.Increment self.old.unit.core) self.old) result self.old self.new }
+        ensures same { SameUnit self.old.unit self.new.unit }
+        ensures goes { SeatGoes (Event.Increment self.old.unit.core) self.old result self.new }
+    {
+        self.unit.increment()
+    }
+}

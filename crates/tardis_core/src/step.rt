@@ -1,0 +1,100 @@
+//! One event.
+
+ghost use Rattle.std.specs.Prelude.{◌≡◌, true, Some};
+ghost use Rattle.tardis_core.specs.Machine.{core_event, is_alone};
+ghost use Rattle.tardis_core.specs.Steps.{Meets, MachineGoes, alone, spill_told, step_outcome};
+
+use super::event::Event;
+use super::fault::CoreFault;
+use super::machine::Core;
+use core_unit::{Outcome, addr_of};
+use mem_op::{Addr, CoreId};
+
+impl Core {
+    /// Performs an event: its outcome, or NoEffect where it doesn't apply, and then nothing changes.
+    /// It doesn't apply where the core isn't there, a message in hand bars it, or Serve finds no
+    /// message without a reply, Take no reply, Recall no Exclusive line, Evict no line or Spill no
+    /// Shared line.
+    ///
+    /// The refusals, in this order: of a core 14 BadReply, 13 TranscriptFull where an entry is due and
+    /// doesn't fit, 4 StampLimit or 5 RankLimit of the operation or the recall, 4 StampLimit of the
+    /// self-increment, 10 OutOfMemory; of a slice 11 NotOwner, 4 StampLimit, 12 HistoryFull,
+    /// 10 OutOfMemory. They change nothing.
+    pub fn step(&mut self, event: Event) -> Result<Outcome, CoreFault>
+        // The event leads there by the relation of the machine, and NoEffect comes exactly where it
+        // doesn't apply.
+        ensures goes { MachineGoes event self.old result self.new }
+
+        // Which line goes follows from the order of use and of service. Each refusal comes exactly
+        // where it is due; 10 comes only in place of a step.
+        ensures outcome { Meets (step_outcome self.old event) result self.old self.new }
+    {
+        match &event {
+            Event::Serve(core) => self.serve(*core),
+            Event::Spill(addr) => self.spill(*addr),
+            Event::Turn(core) => self.alone(*core, &event),
+            Event::Take(core) => self.alone(*core, &event),
+            Event::Recall(core, _) => self.alone(*core, &event),
+            Event::Evict(core, _) => self.alone(*core, &event),
+            Event::Increment(core) => self.alone(*core, &event),
+        }
+    }
+
+    // An event of a core alone.
+    fn alone(&mut self, core: CoreId, event: &Event) -> Result<Outcome, CoreFault>
+        requires own { core_event event.now ≡ Some core }
+        requires alone { is_alone event.now ≡ true }
+        ensures outcome { Meets (alone self.old core event.now) result self.old self.new }
+        ensures goes { MachineGoes event.now self.old result self.new }
+    {
+        let Core { seats, .. } = self;
+        let Some(seat) = seats.get_mut(core.get() as usize) else {
+            return Ok(Outcome::NoEffect);
+        };
+        Ok(seat.step(event)?)
+    }
+
+    // A slice serves the core's message in hand.
+    fn serve(&mut self, core: CoreId) -> Result<Outcome, CoreFault>
+        ensures outcome { Meets (step_outcome self.old (Event.Serve core)) result self.old self.new }
+        ensures goes { MachineGoes (Event.Serve core) self.old result self.new }
+    {
+        let Core {
+            config,
+            seats,
+            slices,
+        } = self;
+        let Some(seat) = seats.get_mut(core.get() as usize) else {
+            return Ok(Outcome::NoEffect);
+        };
+        let Some(message) = &seat.asking() else {
+            return Ok(Outcome::NoEffect);
+        };
+        let slice = &mut slices[config.slice_of(addr_of(message))];
+        let reply = &slice.handle(core, message)?;
+        seat.kept = Some(*reply);
+        Ok(Outcome::Served(*reply))
+    }
+
+    // A slice evicts the line of an address, where it is Shared.
+    fn spill(&mut self, addr: Addr) -> Result<Outcome, CoreFault>
+        ensures outcome { Meets (step_outcome self.old (Event.Spill addr)) result self.old self.new }
+        ensures goes { MachineGoes (Event.Spill addr) self.old result self.new }
+    {
+        let Core { config, slices, .. } = self;
+        let slice = &mut slices[config.slice_of(addr)];
+        let went = slice.evict(addr)?;
+        Ok(spill_told(went))
+    }
+}
+
+// What a spill tells: whether a line went to memory.
+fn spill_told(went: bool) -> Outcome
+    ensures { result ≡ spill_told went }
+{
+    if went {
+        Outcome::Spilled
+    } else {
+        Outcome::NoEffect
+    }
+}

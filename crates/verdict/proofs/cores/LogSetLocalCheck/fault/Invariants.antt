@@ -1,7 +1,0 @@
--- The least fault so far is that of the cores so far.
-use Rattle.std.proofs.Common.{◌≡◌, take}
-use Rattle.verdict.specs.CoreFaultsOf.{least_of_cores}
-use Rattle.verdict.proofs.cores.LogSetLocalCheck.fault.Given as goal
-
-abbrev pub invariant-loop-core : goal.invariant-loop-core
-invariant-loop-core l = l.least ≡ least_of_cores l.self (take l.core-index l.cores)

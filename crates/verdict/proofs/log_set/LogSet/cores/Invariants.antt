@@ -1,7 +1,0 @@
--- Each core before `number` stands in the list.
-use Rattle.std.proofs.Common.{ℕ, ◌<◌}
-use Rattle.line_stamps.specs.Ordered.{In}
-use Rattle.verdict.proofs.log_set.LogSet.cores.Given as goal
-
-abbrev pub invariant-loop-number : goal.invariant-loop-number
-invariant-loop-number l = (core : ℕ) → core < l.number → In core l.cores.items

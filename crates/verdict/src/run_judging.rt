@@ -1,0 +1,93 @@
+//! The judge of a set of log files against the programs of its cores.
+
+ghost use Rattle.std.specs.Prelude.{◌≡◌, ◌≢◌, ◌↔◌, ℕ, List, All, length, IfErr, IfOk, IsErrOf, OnOk};
+ghost use Rattle.core_program.specs.Shape.{IsProgram};
+ghost use Rattle.log_file.specs.Sets.{ReaderFailed, TellEach};
+ghost use Rattle.verdict.specs.Counts.{IsBadCount, IsInRange, IsOutOfRange};
+ghost use Rattle.verdict.specs.Judgement.{IsRunAnswerTo, IsYes, SpellConsistentSet, SpellFlatRun};
+ghost use Rattle.verdict.specs.declared.judge_fault.Count.TheVariants.{Files, Workers, Programs};
+ghost use Rattle.verdict.specs.declared.judge_fault.JudgeFault.TheVariants.{BadConfig, Read};
+
+use crate::answer::Verdict;
+use crate::counts::check_counts;
+use crate::judge_fault::{Count, JudgeFault};
+use crate::judging::answer_to;
+use address_check::Gate;
+use core_program::ProgramSet;
+use log_file::ByteSource;
+use std::alloc::Global;
+use std::thread::Threads;
+
+/// The verdict against the programs that the cores ran, or why there is none.
+fn run_answer_to<R: Threads + Sync, S: ByteSource, G: Gate + Sync>(
+    rt: &R,
+    alloc: Global,
+    programs: &ProgramSet,
+    readers: &mut [S],
+    workers: usize,
+    gate: &G,
+) -> Result<Verdict, JudgeFault>
+    ensures files { IsErrOf result (BadConfig Files) ↔ IsOutOfRange (length readers.old) }
+    ensures workers { IsErrOf result (BadConfig Workers)
+        ↔ (IsInRange (length readers.old) × IsOutOfRange workers) }
+    ensures programs { IsErrOf result (BadConfig Programs)
+        ↔ (IsInRange (length readers.old) × IsInRange workers
+        × (length programs.now ≢ length readers.old)) }
+    ensures unread { IfErr result (λ fault. IsBadCount fault → readers.new ≡ readers.old) }
+    ensures exact { (texts : List (List ℕ)) × TellEach S.remaining readers.old texts
+        × IsRunAnswerTo programs.now texts result }
+    ensures read { IfErr result (λ fault. (file : ℕ) → fault ≡ Read file
+        → ReaderFailed S.failed readers.old readers.new file) }
+    ensures each { OnOk result (All IsProgram programs.now
+        × (length programs.now ≡ length readers.old)) }
+{
+    check_counts(readers.len(), workers)?;
+    if programs.len() != readers.len() {
+        return Err(JudgeFault::BadConfig(Count::Programs));
+    }
+    answer_to(rt, alloc, Some(programs), readers, workers, gate)
+}
+
+/// The verdict on the set of logs that the readers give, against the programs that its cores ran:
+/// file `k` is the log of core `k`, which ran program `k`. A set that gets Yes is sequentially
+/// consistent, and one memory that runs the programs, a core at a time, performs just its operations.
+///
+/// It reads and works as `judge` does. A core's log has to be that of its program: else the answer is
+/// No by CORE-ORDER where a log falls, and by PROGRAM where none does.
+///
+/// Refusals: those of `judge`, and 6 BadConfig behind its own where there aren't as many programs as
+/// files.
+pub fn judge_run<R: Threads + Sync, S: ByteSource, G: Gate + Sync>(
+    rt: &R,
+    alloc: Global,
+    programs: &ProgramSet,
+    readers: &mut [S],
+    workers: usize,
+    gate: &G,
+) -> Result<Verdict, JudgeFault>
+    // 6 comes exactly where a count is out of range, and nothing is read then.
+    ensures files { IsErrOf result (BadConfig Files) ↔ IsOutOfRange (length readers.old) }
+    ensures workers { IsErrOf result (BadConfig Workers)
+        ↔ (IsInRange (length readers.old) × IsOutOfRange workers) }
+    ensures programs { IsErrOf result (BadConfig Programs)
+        ↔ (IsInRange (length readers.old) × IsInRange workers
+        × (length programs.now ≢ length readers.old)) }
+    ensures unread { IfErr result (λ fault. IsBadCount fault → readers.new ≡ readers.old) }
+
+    // The readers tell texts, and the answer is the verdict on the set that these spell, against the
+    // programs, or their first fault. It names no number of workers.
+    ensures exact { (texts : List (List ℕ)) × TellEach S.remaining readers.old texts
+        × IsRunAnswerTo programs.now texts result }
+    ensures read { IfErr result (λ fault. (file : ℕ) → fault ≡ Read file
+        → ReaderFailed S.failed readers.old readers.new file) }
+
+    // Where the answer is Yes, the set that the texts spell is sequentially consistent.
+    ensures sound { (texts : List (List ℕ)) × TellEach S.remaining readers.old texts
+        × IfOk result (λ verdict. IsYes verdict → SpellConsistentSet texts) }
+
+    // And some whole run of the flat machine performs just its operations, each with its answer.
+    ensures flat { (texts : List (List ℕ)) × TellEach S.remaining readers.old texts
+        × IfOk result (λ verdict. IsYes verdict → SpellFlatRun programs.now texts) }
+{
+    run_answer_to(rt, alloc, programs, readers, workers, gate)
+}
