@@ -1,5 +1,5 @@
 -- What the reading of the words gives, by the cases of its parts.
-use Rattle.std.proofs.Common.{◌≡◌, ◌∙◌, ◌<◌, ◌^◌, ap, sym, subst, refl, ℕ, List, [], Option, None, Some, Result, Ok, Err, Bor, inl, inr, map, option_map}
+use Rattle.std.proofs.Common.{◌≡◌, ◌∙◌, ap, subst, refl, ℕ, List, [], Option, None, Some, Result, Ok, Err, Bor, inl, inr, option_map}
 use Rattle.std.specs.Prelude.{unwrap_or}
 use Rattle.std.specs.Str.Parse.{ParsesUnsigned}
 use Rattle.clap.specs.Faults.{fault_of}
@@ -8,7 +8,7 @@ use Rattle.clap.specs.Matches.{ReadsOne}
 use Rattle.clap.specs.Words.{Text, kind_of}
 use Rattle.clap.specs.declared.error.Error.{Error}
 use Rattle.clap.specs.declared.error.kind.ErrorKind.TheVariants as kind
-use Rattle.command_line.specs.Asking.{IsCount, IsRefusalOf, texts}
+use Rattle.command_line.specs.Asking.{IsNumberOf, IsRefusalOf, texts}
 use Rattle.command_line.specs.Grammar.{tardis}
 use Rattle.command_line.specs.declared.refusal.Refusal.{Refusal}
 use Rattle.command_line.specs.declared.refusal.Refusal.TheVariants.{Usage, OutOfMemory}
@@ -22,16 +22,16 @@ refused words kinds error (Usage text) is (inl out) memory =
     cc
 refused words kinds error (Usage text) is (inr among) memory = λ none. subst (IsAmong (kind_of error)) (is ∙ none) among
 
--- the text of a number, read and then 1 where it is none
-pub counted : {E : Type 0} (gives : List ℕ → Result ℕ E → Type 0) → ((t : List ℕ) (x : Result ℕ E) → gives t x → ParsesUnsigned 64 10 t x)
-    → (o : Option Text) (r : Option ℕ) → (o ≡ None → r ≡ None) → ((t : Text) → o ≡ Some t → ReadsOne gives t r) → IsCount o (unwrap_or r 1)
-counted gives parses None r none some = rw (none refl) refl
-counted gives parses (Some t) None none some =
+-- the text of a number, read
+pub numbered : {E : Type 0} (gives : List ℕ → Result ℕ E → Type 0) → ((t : List ℕ) (x : Result ℕ E) → gives t x → ParsesUnsigned 64 10 t x)
+    → (o : Option Text) (r : Option ℕ) → (o ≡ None → r ≡ None) → ((t : Text) → o ≡ Some t → ReadsOne gives t r) → IsNumberOf o r
+numbered gives parses None r none some = none refl
+numbered gives parses (Some t) None none some =
     let failed = some t refl in
     inr (parses t (Err failed.0) failed.1, refl)
-counted gives parses (Some t) (Some n) none some =
+numbered gives parses (Some t) (Some n) none some =
     let parsed = parses t (Ok n) (some t refl) in
-    inl (parsed.0, parsed.1)
+    inl (parsed.0, ap (λ (k : ℕ). Some k) parsed.1)
 
 -- the texts of what there is, or none
 pub texts_or_none : (found : Option (Bor (List (Bor Text)))) (none : Bor (List (Bor Text))) → none.now ≡ []

@@ -8,8 +8,10 @@ use Rattle.command_line.specs.Grammar.{tardis}
 use Rattle.command_line.specs.declared.refusal.Refusal.{Refusal}
 use Rattle.command_line.specs.declared.refusal.Refusal.TheVariants.{Usage, OutOfMemory}
 use Rattle.command_line.specs.declared.request.Check.{Check}
+use Rattle.command_line.specs.declared.request.Limits.{Limits}
 use Rattle.command_line.specs.declared.request.Request.{Request}
 use Rattle.command_line.specs.declared.request.Request.TheVariants as request
+use Rattle.command_line.specs.declared.request.Sim.{Sim}
 
 -- the texts of words
 abbrev pub texts : List (Bor Text) → List Text
@@ -19,10 +21,14 @@ texts = map (λ word. word.now)
 abbrev pub IsNumber : Text → Type 0
 IsNumber text = IsNumeral 10 (without_leading_plus text) × (digits_value 10 (without_leading_plus text) < 2 ^ 64)
 
--- the count that an option gives: 1 where it isn't there, or has no number
-abbrev pub IsCount : Option Text → ℕ → Type 0
-IsCount None n = n ≡ 1
-IsCount (Some text) n = (IsNumber text × (n ≡ digits_value 10 (without_leading_plus text))) ⊎ ((¬ (IsNumber text)) × (n ≡ 1))
+-- the number that an option gives: none where the option isn't there, or has no number
+abbrev pub IsNumberOf : Option Text → Option ℕ → Type 0
+IsNumberOf None number = number ≡ None
+IsNumberOf (Some text) number = (IsNumber text × (number ≡ Some (digits_value 10 (without_leading_plus text)))) ⊎ ((¬ (IsNumber text)) × (number ≡ None))
+
+-- the same, with a number in place of none
+abbrev pub IsCountOr : ℕ → Option Text → ℕ → Type 0
+IsCountOr default text n = (number : Option ℕ) × IsNumberOf text number × (n ≡ unwrap_or number default)
 
 -- the text of a word, where there is one
 abbrev pub text_of : Option (Bor Text) → Option Text
@@ -30,16 +36,35 @@ text_of = option_map (λ word. word.now)
 
 -- a check of the files that were given, by the workers and against the programs that were given
 pub record IsCheck (rows : List Row) (check : Check) : Type 0 where
-  pub workers : IsCount (one_of (codes "workers") rows) check.workers
+  pub workers : IsCountOr 1 (one_of (codes "workers") rows) check.workers
   pub program : text_of check.program ≡ first_of (codes "program") rows
   pub files : texts check.files.items ≡ unwrap_or (all_of (codes "FILE") rows) []
 
-abbrev pub IsAskedBy : List Row → Request → Type 0
-IsAskedBy rows (request.Check check) = IsCheck rows check
+-- the numbers of the machine that were given, or those that stand in place of each that wasn't
+pub record AreLimits (rows : List Row) (limits : Limits) : Type 0 where
+  pub slices : IsCountOr 1 (one_of (codes "slices") rows) limits.slices
+  pub lease : IsCountOr 10 (one_of (codes "lease") rows) limits.lease
+  pub period : IsCountOr 100 (one_of (codes "period") rows) limits.period
+  pub cache_lines : IsCountOr 64 (one_of (codes "cache") rows) limits.cache_lines
+  pub slice_lines : IsCountOr 64 (one_of (codes "slice-lines") rows) limits.slice_lines
+  pub inbox : IsCountOr 8 (one_of (codes "inbox") rows) limits.inbox
+
+-- a run of the programs of the file that was given, by the numbers, the schedule and the seed that were given
+pub record IsSim (rows : List Row) (sim : Sim) : Type 0 where
+  pub limits : AreLimits rows sim.limits
+  pub schedule : text_of sim.schedule ≡ first_of (codes "schedule") rows
+  pub seed : IsNumberOf (one_of (codes "seed") rows) sim.seed
+  pub programs : sim.programs.now ≡ unwrap_or (first_of (codes "PROGRAMS") rows) []
+  pub out : sim.out.now ≡ unwrap_or (first_of (codes "OUT") rows) []
+
+-- the request is that of the subcommand of this name, by these arguments
+abbrev pub IsAskedBy : Text × List Row → Request → Type 0
+IsAskedBy named (request.Check check) = (named.0 ≡ codes "check") × IsCheck named.1 check
+IsAskedBy named (request.Sim sim) = (named.0 ≡ codes "sim") × IsSim named.1 sim
 
 -- the request is that of the subcommand that the words name, by its arguments there
 abbrev pub Asks : List Text → Request → Type 0
-Asks words asked = (rows : List Row) × (option_map (λ subcommand. subcommand.1) (subcommand_of tardis words) ≡ Some rows) × IsAskedBy rows asked
+Asks words asked = (named : Text × List Row) × (subcommand_of tardis words ≡ Some named) × IsAskedBy named asked
 
 -- the words are a command line of the program
 abbrev pub IsCommandLine : List Text → Type 0

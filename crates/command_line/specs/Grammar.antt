@@ -1,5 +1,5 @@
 -- The command line of the program: its subcommands, and the arguments of each.
-use Rattle.std.specs.Prelude.{◌-◌, ◌^◌, ℕ, Some, true, codes}
+use Rattle.std.specs.Prelude.{Some, true, codes}
 use Rattle.clap.specs.Lexer.{usize_max}
 use Rattle.clap.specs.Simple.{on_top}
 use Rattle.clap.specs.Words.{App, Rule, Text, new_app, new_rule, with_rule, with_subcommand}
@@ -35,6 +35,31 @@ with_check_options app = with_rule (with_rule app (number_option (codes "workers
 abbrev pub check : App
 check = with_rule (with_check_options (new_app (codes "check"))) files
 
+-- a name that has to be there
+abbrev pub name : Text → Rule
+name place = record (new_rule place) { required = true; action = Some Set }
+
+abbrev pub with_number : App → Text → App
+with_number app option = with_rule app (number_option option)
+
+-- [--slices N] [--lease N] [--period N] [--cache N] [--slice-lines N] [--inbox N]
+abbrev pub with_limits : App → App
+with_limits app =
+    with_number (with_number (with_number (with_number (with_number (with_number app
+    (codes "slices")) (codes "lease")) (codes "period")) (codes "cache")) (codes "slice-lines")) (codes "inbox")
+
+-- [--schedule F] [--seed N]
+abbrev pub with_sim_options : App → App
+with_sim_options app = with_rule (with_rule app (file_option (codes "schedule"))) (number_option (codes "seed"))
+
+-- PROGRAMS OUT
+abbrev pub with_names : App → App
+with_names app = with_rule (with_rule app (name (codes "PROGRAMS"))) (name (codes "OUT"))
+
+-- tardis sim [--slices N] [--lease N] [--period N] [--cache N] [--slice-lines N] [--inbox N] [--schedule F] [--seed N] PROGRAMS OUT
+abbrev pub sim : App
+sim = with_names (with_sim_options (with_limits (new_app (codes "sim"))))
+
 -- the program, which is never called without a subcommand
 abbrev pub tardis : App
-tardis = with_subcommand (on_top (λ top. record top { subcommand_required = true }) (new_app (codes "tardis"))) check.top
+tardis = with_subcommand (with_subcommand (on_top (λ top. record top { subcommand_required = true }) (new_app (codes "tardis"))) check.top) sim.top

@@ -5,6 +5,8 @@
 pub enum Request<'a> {
     /// The verdict on a set of logs.
     Check(Check<'a>),
+    /// A run of the machine, one event after the other.
+    Sim(Sim<'a>),
 }
 
 /// Asks for the verdict on a set of logs.
@@ -16,4 +18,36 @@ pub struct Check<'a> {
     pub program: Option<&'a str>,
     /// The names of its files, that of core 0 first.
     pub files: Vec<&'a str>,
+}
+
+/// Asks for a run of the machine, one event after the other, and its logs.
+#[derive(Debug, Drop)]
+pub struct Sim<'a> {
+    /// The numbers of the machine.
+    pub limits: Limits,
+    /// The name of the file of the schedule that is followed first, where one is given.
+    pub schedule: Option<&'a str>,
+    /// What the rounds behind the schedule are drawn from, where it is given.
+    pub seed: Option<u64>,
+    /// The name of the file of the programs.
+    pub programs: &'a str,
+    /// What the names of the logs begin with.
+    pub out: &'a str,
+}
+
+/// The numbers of the machine.
+#[derive(Clone, Copy, Debug, PartialEq, Eq)]
+pub struct Limits {
+    /// How many slices there are.
+    pub slices: u64,
+    /// The lease of a read.
+    pub lease: u64,
+    /// How many operations a core performs between two self-increments.
+    pub period: u64,
+    /// How many lines a private cache holds.
+    pub cache_lines: u64,
+    /// How many lines a slice holds.
+    pub slice_lines: u64,
+    /// How many recalls an inbox holds.
+    pub inbox: u64,
 }

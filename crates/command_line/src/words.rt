@@ -1,16 +1,15 @@
 //! Reads the words of a command line.
 
-ghost use Rattle.std.specs.Prelude.{◌≡◌, IfOk, MatchResult, [], codes, false, unwrap_or};
-ghost use Rattle.clap.specs.Words.{all_of, app_of, first_of, found_of, kind_of, one_of, rows_of, rule_of};
-ghost use Rattle.clap.specs.declared.builder.command.Command.TheViews.{out-Command as fields_of};
+ghost use Rattle.std.specs.Prelude.{◌≡◌, IfOk, MatchResult, [], codes, unwrap_or};
+ghost use Rattle.clap.specs.Words.{all_of, first_of, found_of, kind_of, one_of, rows_of};
 ghost use Rattle.clap.specs.declared.error.kind.ErrorKind.TheVariants as kind;
 ghost use Rattle.command_line.specs.Asking as asking;
-ghost use Rattle.command_line.specs.Grammar as grammar;
 
+use super::grammar::tardis;
 use super::refusal::Refusal;
-use super::request::{Check, Request};
+use super::request::{Check, Limits, Request, Sim};
 use clap::error::ErrorKind;
-use clap::{Arg, ArgAction, ArgMatches, Command, Error, value_parser};
+use clap::{ArgMatches, Error};
 use std::alloc::{AllocError, Global};
 
 /// What the words ask for, of which the first is the program's own name. Numbers are those of a
@@ -25,78 +24,13 @@ pub fn read<'a>(alloc: Global, words: &'a [&'a str]) -> Result<Request<'a>, Refu
         Ok(matches) => matches,
         Err(error) => return Err(refusal(alloc, &error)),
     };
-    let Some((_, check)) = matches.subcommand() else {
+    let Some((name, asked)) = matches.subcommand() else {
         unreachable!()
     };
-    Ok(Request::Check(check_of(alloc, check)?))
-}
-
-/// The program's command line.
-fn tardis<'a>(alloc: Global) -> Result<Command<'a>, AllocError>
-    ensures app { IfOk result (λ command. app_of command ≡ grammar.tardis) }
-    ensures local { IfOk result (λ command. (fields_of command).has_globals ≡ false) }
-{
-    Command::new(alloc, "tardis")
-        .about("Judges the consistency logs of a multiprocessor")
-        .subcommand_required(true)
-        .subcommand(check(alloc)?)
-}
-
-/// The subcommand that judges a set of logs.
-fn check<'a>(alloc: Global) -> Result<Command<'a>, AllocError>
-    ensures app { IfOk result (λ command. app_of command ≡ grammar.check) }
-    ensures local { IfOk result (λ command. (fields_of command).has_globals ≡ false) }
-{
-    let command = Command::new(alloc, "check").about(
-        "Tells whether a set of logs, one of each core, is consistent",
-    );
-    with_check_options(alloc, command)?.arg(files(alloc).help("The logs, that of core 0 first"))
-}
-
-/// A command with the options of a check.
-fn with_check_options<'a>(alloc: Global, command: Command<'a>) -> Result<Command<'a>, AllocError>
-    ensures app { IfOk result (λ made. app_of made
-        ≡ grammar.with_check_options (app_of command.entry)) }
-    ensures local { (fields_of command.entry).has_globals ≡ false
-        → IfOk result (λ made. (fields_of made).has_globals ≡ false) }
-{
-    command
-        .arg(number(alloc, "workers").help("How many workers judge, 1 where it isn't given"))?
-        .arg(file(alloc, "program").help("The programs that the cores ran"))
-}
-
-/// An option that takes a number.
-fn number<'a>(alloc: Global, name: &'a str) -> Arg<'a>
-    ensures rule { rule_of result ≡ grammar.number_option name.entry.now }
-    ensures local { result.global ≡ false }
-{
-    Arg::new(alloc, name)
-        .long(name)
-        .value_name("N")
-        .value_parser(value_parser!(u64))
-        .action(ArgAction::Set)
-}
-
-/// An option that takes the name of a file.
-fn file<'a>(alloc: Global, name: &'a str) -> Arg<'a>
-    ensures rule { rule_of result ≡ grammar.file_option name.entry.now }
-    ensures local { result.global ≡ false }
-{
-    Arg::new(alloc, name)
-        .long(name)
-        .value_name("F")
-        .action(ArgAction::Set)
-}
-
-/// One file or more.
-fn files<'a>(alloc: Global) -> Arg<'a>
-    ensures rule { rule_of result ≡ grammar.files }
-    ensures local { result.global ≡ false }
-{
-    Arg::new(alloc, "FILE")
-        .required(true)
-        .num_args(1..)
-        .action(ArgAction::Append)
+    if name == "sim" {
+        return Ok(Request::Sim(sim_of(asked)));
+    }
+    Ok(Request::Check(check_of(alloc, asked)?))
 }
 
 /// What the words after `check` ask for.
@@ -104,17 +38,51 @@ fn check_of<'a>(alloc: Global, matches: &ArgMatches<'a>) -> Result<Check<'a>, Al
     ensures { IfOk result (asking.IsCheck (rows_of (found_of matches.now))) }
 {
     Ok(Check {
-        workers: count_of(matches, "workers"),
+        workers: count_of(matches, "workers", 1),
         program: name_of(matches, "program"),
         files: files_of(alloc, matches)?,
     })
 }
 
-/// The number that an option gives, 1 where it isn't there.
-fn count_of(matches: &ArgMatches<'_>, name: &str) -> u64
-    ensures { asking.IsCount (one_of name.now (rows_of (found_of matches.now))) result }
+/// What the words after `sim` ask for.
+fn sim_of<'a>(matches: &ArgMatches<'a>) -> Sim<'a>
+    ensures { asking.IsSim (rows_of (found_of matches.now)) result }
 {
-    matches.get_one(name).unwrap_or(1)
+    Sim {
+        limits: limits_of(matches),
+        schedule: name_of(matches, "schedule"),
+        seed: number_of(matches, "seed"),
+        programs: word_of(matches, "PROGRAMS"),
+        out: word_of(matches, "OUT"),
+    }
+}
+
+/// The numbers of the machine.
+fn limits_of(matches: &ArgMatches<'_>) -> Limits
+    ensures { asking.AreLimits (rows_of (found_of matches.now)) result }
+{
+    Limits {
+        slices: count_of(matches, "slices", 1),
+        lease: count_of(matches, "lease", 10),
+        period: count_of(matches, "period", 100),
+        cache_lines: count_of(matches, "cache", 64),
+        slice_lines: count_of(matches, "slice-lines", 64),
+        inbox: count_of(matches, "inbox", 8),
+    }
+}
+
+/// The number that an option gives, or this one where the option isn't there.
+fn count_of(matches: &ArgMatches<'_>, name: &str, default: u64) -> u64
+    ensures { asking.IsCountOr default (one_of name.now (rows_of (found_of matches.now))) result }
+{
+    number_of(matches, name).unwrap_or(default)
+}
+
+/// The number that an option gives, or none where the option isn't there.
+fn number_of(matches: &ArgMatches<'_>, name: &str) -> Option<u64>
+    ensures { asking.IsNumberOf (one_of name.now (rows_of (found_of matches.now))) result }
+{
+    matches.get_one(name)
 }
 
 /// The name of the file that an option gives, or none where the option isn't there.
@@ -122,6 +90,13 @@ fn name_of<'a>(matches: &ArgMatches<'a>, option: &str) -> Option<&'a str>
     ensures { asking.text_of result ≡ first_of option.now (rows_of (found_of matches.now)) }
 {
     matches.get_str(option)
+}
+
+/// The word that stands in this place. It is always there.
+fn word_of<'a>(matches: &ArgMatches<'a>, place: &str) -> &'a str
+    ensures { result.now ≡ unwrap_or (first_of place.now (rows_of (found_of matches.now))) [] }
+{
+    name_of(matches, place).unwrap_or("")
 }
 
 /// The names of the files.

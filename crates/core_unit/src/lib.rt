@@ -19,3 +19,6 @@ pub use fault::UnitFault;
 pub use message::addr_of;
 pub use outcome::Outcome;
 pub use unit::CoreUnit;
+
+#[cfg(test)]
+mod tests;

@@ -2,7 +2,7 @@
 
 ghost use Rattle.std.specs.Prelude.{◌≡◌, ◌≤◌, [], length, Some, None, IfOk, IfErr};
 ghost use Rattle.std.specs.Option.{option_copied};
-ghost use Rattle.core_program.specs.Running.{start_of};
+ghost use Rattle.core_program.specs.Running.{IsAtRest, start_of};
 ghost use Rattle.private_cache.specs.Steps.{empty_cache, IsLeastExclusive};
 ghost use Rattle.core_unit.specs.Kept.{Replays};
 ghost use Rattle.core_unit.specs.declared.fault.UnitFault.TheVariants.{OutOfMemory};
@@ -169,10 +169,11 @@ impl CoreUnit {
         self.cache.least_exclusive()
     }
 
-    /// Does nothing: it tells that the state is the replay of the transcript, and that the cache has
-    /// room for as many lines as the configuration says.
+    /// Does nothing: it tells that the state is the replay of the transcript, that the program rests,
+    /// and that the cache has room for as many lines as the configuration says.
     pub fn replays(&self)
         ensures replays { Replays self.now }
+        ensures rests { IsAtRest self.now.program self.now.state }
         ensures capacity { self.now.cache.capacity ≡ self.now.config.cache_lines }
     {
         let _ = &self.core;

@@ -16,7 +16,7 @@ use Rattle.verdict.specs.declared.judge_fault.Count.TheVariants.{Files, Workers,
 use Rattle.verdict.specs.declared.judge_fault.JudgeFault.{JudgeFault}
 use Rattle.verdict.specs.declared.judge_fault.JudgeFault.TheVariants.{BadConfig, Log, Read, OutOfMemory}
 use Rattle.tardis_command.specs.declared.fault.CommandFault.{CommandFault}
-use Rattle.tardis_command.specs.declared.fault.CommandFault.TheVariants.{Judge, Programs, ProgramsUnread, Output}
+use Rattle.tardis_command.specs.declared.fault.CommandFault.TheVariants.{Judge, Config, Programs, ProgramsUnread, Schedule, ScheduleUnread, Simulation, LogUnwritten, Output}
 use Rattle.tardis_command.specs.Checking.{Against, AreInRange, AreNotAsMany, AreSourcesOf, AreTextsOf, IsAnswerAgainst, IsChecked, IsCheckedAgainst, IsFaultOfPrograms, IsUnprogrammed}
 
 -- the next file's source, behind those of the files in front of it
@@ -111,4 +111,9 @@ unprogrammed told asked name (Judge OutOfMemory) range some h = tt
 unprogrammed told asked name (Judge (Log file line fault)) range some h = absurd cc
 unprogrammed told asked name (Judge (Read file)) range some h = absurd cc
 unprogrammed told asked name (Judge (BadConfig count)) range some h = absurd cc
+unprogrammed told asked name (Config reason) range some h = absurd h
+unprogrammed told asked name (Schedule reason) range some h = absurd h
+unprogrammed told asked name ScheduleUnread range some h = absurd h
+unprogrammed told asked name (Simulation reason) range some h = absurd h
+unprogrammed told asked name (LogUnwritten file) range some h = absurd h
 unprogrammed told asked name Output range some h = absurd h

@@ -4,17 +4,15 @@ use Rattle.std.specs.Io.KnownBytes.{Keeps}
 use Rattle.std.proofs.KnownBytes.{Appends-nil}
 use Rattle.command_line.specs.Asking.{Asks, IsCommandLine}
 use Rattle.command_line.specs.declared.request.Request.{Request}
-use Rattle.command_line.specs.declared.request.Check.{Check}
 use Rattle.command_line.specs.declared.request.Request.TheVariants as request
-use Rattle.verdict.specs.Texts.{verdict_text}
-use Rattle.verdict.specs.declared.answer.Verdict.{Verdict}
 use Rattle.verdict.specs.declared.judge_fault.JudgeFault.TheVariants.{BadConfig, Log, Read, OutOfMemory}
-use Rattle.tardis_command.specs.Checking.{IsChecked}
+use Rattle.tardis_command.specs.Answers.{answer_status, answer_text}
+use Rattle.tardis_command.specs.declared.answer.Answer.{Answer}
 use Rattle.tardis_command.specs.Printing.{IsUnprinted}
-use Rattle.tardis_command.specs.Endings.{Answered, Ending, EndsBy, HasFailed, IsAnswered, IsDoneBy, Misused, OutputAt, Refused, Sink, Takes, Unprinted, line, status_of, verdict_status}
+use Rattle.tardis_command.specs.Endings.{Answered, Ending, EndsBy, HasFailed, IsAnswered, IsDoneBy, Misused, OutputAt, Refused, IsAnswerTo, Sink, Takes, Unprinted, line, status_of}
 use Rattle.tardis_command.specs.Faults.{command_fault_text, fault_status}
 use Rattle.tardis_command.specs.declared.fault.CommandFault.{CommandFault}
-use Rattle.tardis_command.specs.declared.fault.CommandFault.TheVariants.{Judge, Programs, ProgramsUnread, Output}
+use Rattle.tardis_command.specs.declared.fault.CommandFault.TheVariants.{Judge, Config, Programs, ProgramsUnread, Schedule, ScheduleUnread, Simulation, LogUnwritten, Output}
 
 pub kept : (contents : Option (List ℕ)) → Keeps contents contents
 kept None = tt
@@ -23,23 +21,33 @@ kept (Some bytes) = refl
 -- standard output holds what it held, or failed, where there was no verdict to print or it wasn't printed whole
 unless_failed : (old new : Sink) (fault : CommandFault) (ending : Ending) → IsAnswered ending (Err fault) → OutputAt old new ending
     → Keeps old.contents new.contents ⊎ HasFailed old new
-unless_failed old new fault (Answered verdict) answered output = cc
-unless_failed old new fault (Unprinted verdict) answered output = inr output.0
+unless_failed old new fault (Answered answer) answered output = cc
+unless_failed old new fault (Unprinted answer) answered output = inr output.0
 unless_failed old new fault (Refused reason) answered output = output
 unless_failed old new fault (Misused text) answered output = absurd answered
 
--- a verdict whose line wasn't printed
-pub unprinted : (told : List ℕ → Option (List ℕ)) (asked : Check) (verdict : Verdict) (out out' : Sink) (fault : CommandFault)
-    → IsChecked told asked (Ok verdict) → IsUnprinted out out' (line (verdict_text verdict)) fault
-    → (ending : Ending) × IsAnswered ending (Err fault) × IsDoneBy told (request.Check asked) out out' ending
-unprinted told asked verdict out out' Output checked failed = (Unprinted verdict, refl, (checked, failed))
-unprinted told asked verdict out out' (Judge OutOfMemory) checked same =
-    (Refused (Judge OutOfMemory), refl, (tt, subst (λ (s : Sink). Keeps out.contents s.contents ⊎ HasFailed out s) (sym same) (inl (kept out.contents))))
-unprinted told asked verdict out out' (Judge (BadConfig count)) checked never = absurd never
-unprinted told asked verdict out out' (Judge (Log file place fault)) checked never = absurd never
-unprinted told asked verdict out out' (Judge (Read file)) checked never = absurd never
-unprinted told asked verdict out out' (Programs reason) checked never = absurd never
-unprinted told asked verdict out out' ProgramsUnread checked never = absurd never
+-- want of memory may end whatever was asked
+memory_ends : (told : List ℕ → Option (List ℕ)) (asked : Request) → IsAnswerTo told asked (Err (Judge OutOfMemory))
+memory_ends told (request.Check check) = tt
+memory_ends told (request.Sim sim) = tt
+
+-- an answer whose line wasn't printed
+pub unprinted : (told : List ℕ → Option (List ℕ)) (asked : Request) (answer : Answer) (out out' : Sink) (fault : CommandFault)
+    → IsAnswerTo told asked (Ok answer) → IsUnprinted out out' (line (answer_text answer)) fault
+    → (ending : Ending) × IsAnswered ending (Err fault) × IsDoneBy told asked out out' ending
+unprinted told asked answer out out' Output answered failed = (Unprinted answer, refl, (answered, failed))
+unprinted told asked answer out out' (Judge OutOfMemory) answered same =
+    (Refused (Judge OutOfMemory), refl, (memory_ends told asked, subst (λ (s : Sink). Keeps out.contents s.contents ⊎ HasFailed out s) (sym same) (inl (kept out.contents))))
+unprinted told asked answer out out' (Judge (BadConfig count)) answered never = absurd never
+unprinted told asked answer out out' (Judge (Log file place fault)) answered never = absurd never
+unprinted told asked answer out out' (Judge (Read file)) answered never = absurd never
+unprinted told asked answer out out' (Config reason) answered never = absurd never
+unprinted told asked answer out out' (Programs reason) answered never = absurd never
+unprinted told asked answer out out' ProgramsUnread answered never = absurd never
+unprinted told asked answer out out' (Schedule reason) answered never = absurd never
+unprinted told asked answer out out' ScheduleUnread answered never = absurd never
+unprinted told asked answer out out' (Simulation reason) answered never = absurd never
+unprinted told asked answer out out' (LogUnwritten file) answered never = absurd never
 
 module _ (told : List ℕ → Option (List ℕ)) (words : List (List ℕ)) (out err : Sink) where
   pub ends_misused : (err' : Sink) (text : List ℕ) → ¬ (IsCommandLine words) → Takes err err' text
@@ -52,10 +60,10 @@ module _ (told : List ℕ → Option (List ℕ)) (words : List (List ℕ)) (out 
 
   pub ends_answered : (asked : Request) (ending : Ending) (out' : Sink) (status : ℕ) → Asks words asked → IsAnswered ending (Ok status)
       → IsDoneBy told asked out out' ending → EndsAt out' err status
-  ends_answered asked (Answered verdict) out' status asks answered done =
-      let same : status ≡ verdict_status verdict = cc in
-      (Answered verdict, same, record { end = (asked, asks, done.0); output = done.1; complaint = inl (Appends-nil err.contents) })
-  ends_answered asked (Unprinted verdict) out' status asks answered done = cc
+  ends_answered asked (Answered answer) out' status asks answered done =
+      let same : status ≡ answer_status answer = cc in
+      (Answered answer, same, record { end = (asked, asks, done.0); output = done.1; complaint = inl (Appends-nil err.contents) })
+  ends_answered asked (Unprinted answer) out' status asks answered done = cc
   ends_answered asked (Refused fault) out' status asks answered done = cc
   ends_answered asked (Misused text) out' status asks answered done = absurd answered
 
@@ -68,10 +76,10 @@ module _ (told : List ℕ → Option (List ℕ)) (words : List (List ℕ)) (out 
   ends_told : (asked : Request) (ending : Ending) (fault : CommandFault) (out' err' : Sink) (status : ℕ) → Asks words asked
       → IsAnswered ending (Err fault) → IsDoneBy told asked out out' ending → Takes err err' (line (command_fault_text fault))
       → status ≡ fault_status fault → EndsAt out' err' status
-  ends_told asked (Answered verdict) fault out' err' status asks answered done takes same = cc
-  ends_told asked (Unprinted verdict) fault out' err' status asks answered done takes same =
+  ends_told asked (Answered answer) fault out' err' status asks answered done takes same = cc
+  ends_told asked (Unprinted answer) fault out' err' status asks answered done takes same =
       let is : fault ≡ Output = cc in (
-        Unprinted verdict,
+        Unprinted answer,
         same ∙ ap fault_status is,
         record {
           end = (asked, asks, done.0);

@@ -14,7 +14,7 @@ use Rattle.verdict.specs.declared.judge_fault.Count.TheVariants.{Files, Workers,
 use Rattle.verdict.specs.declared.judge_fault.JudgeFault.{JudgeFault}
 use Rattle.verdict.specs.declared.judge_fault.JudgeFault.TheVariants.{BadConfig, Log, Read, OutOfMemory}
 use Rattle.tardis_command.specs.declared.fault.CommandFault.{CommandFault}
-use Rattle.tardis_command.specs.declared.fault.CommandFault.TheVariants.{Judge, Programs, ProgramsUnread, Output}
+use Rattle.tardis_command.specs.declared.fault.CommandFault.TheVariants.{Judge, Config, Programs, ProgramsUnread, Schedule, ScheduleUnread, Simulation, LogUnwritten, Output}
 
 -- these are sources of the files of these names: each tells the bytes that the folder tells
 abbrev pub AreSourcesOf : {S : Type 0} → (List ℕ → Option (List ℕ)) → (S → Option (List ℕ)) → List S → List (Bor (List ℕ)) → Type 0
@@ -59,6 +59,11 @@ abbrev pub IsUnprogrammed : (List ℕ → Option (List ℕ)) → List ℕ → Co
 IsUnprogrammed told name (Programs fault) = IsTextFault told name fault
 IsUnprogrammed told name ProgramsUnread = ⊤
 IsUnprogrammed told name (Judge fault) = fault ≡ OutOfMemory
+IsUnprogrammed told name (Config fault) = ⊥
+IsUnprogrammed told name (Schedule fault) = ⊥
+IsUnprogrammed told name ScheduleUnread = ⊥
+IsUnprogrammed told name (Simulation fault) = ⊥
+IsUnprogrammed told name (LogUnwritten file) = ⊥
 IsUnprogrammed told name Output = ⊥
 
 -- ---- the answer
@@ -94,6 +99,11 @@ IsChecked told asked (Err (Judge (BadConfig ProgramCount))) = Against told asked
 IsChecked told asked (Err (Judge OutOfMemory)) = ⊤
 IsChecked told asked (Err (Programs fault)) = AreInRange asked × IsFaultOfPrograms told asked.program fault
 IsChecked told asked (Err ProgramsUnread) = AreInRange asked × IsSome asked.program
+IsChecked told asked (Err (Config fault)) = ⊥
+IsChecked told asked (Err (Schedule fault)) = ⊥
+IsChecked told asked (Err ScheduleUnread) = ⊥
+IsChecked told asked (Err (Simulation fault)) = ⊥
+IsChecked told asked (Err (LogUnwritten file)) = ⊥
 IsChecked told asked (Err Output) = ⊥
 
 -- ---- what a Yes says

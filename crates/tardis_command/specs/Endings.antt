@@ -1,24 +1,25 @@
 -- How a call of the program ends.
-use Rattle.std.specs.Prelude.{◌≡◌, ◌≤◌, ◌⊎◌, ℕ, List, [], ◌∷◌, ◌++◌, Option, Result, Ok, Err, length, take}
+use Rattle.std.specs.Prelude.{◌≡◌, ◌≤◌, ◌⊎◌, ⊤, ℕ, List, [], ◌∷◌, ◌++◌, Option, Result, Ok, Err, length, take}
 use Rattle.std.specs.Io.KnownBytes.{Appends, Keeps}
 use Rattle.command_line.specs.Asking.{Asks, IsCommandLine}
 use Rattle.command_line.specs.declared.request.Request.{Request}
-use Rattle.command_line.specs.declared.request.Request.TheVariants.{Check}
+use Rattle.command_line.specs.declared.request.Request.TheVariants.{Check, Sim}
 use Rattle.log_file.specs.Devices.{Failed}
-use Rattle.verdict.specs.Texts.{verdict_text}
-use Rattle.verdict.specs.declared.answer.Verdict.{Verdict}
-use Rattle.verdict.specs.declared.answer.Verdict.TheVariants.{Yes, No}
 use Rattle.verdict.specs.declared.judge_fault.JudgeFault.TheVariants.{OutOfMemory}
+use Rattle.tardis_command.specs.Answers.{answer_status, answer_text}
 use Rattle.tardis_command.specs.Checking.{FilesAreConsistent, FilesRunFlat, IsChecked}
 use Rattle.tardis_command.specs.Faults.{command_fault_text, fault_status}
+use Rattle.tardis_command.specs.Simulating.{IsRun}
+use Rattle.tardis_command.specs.declared.answer.Answer.{Answer}
+use Rattle.tardis_command.specs.declared.answer.Answer.TheVariants.{Judged, Done}
 use Rattle.tardis_command.specs.declared.fault.CommandFault.{CommandFault}
 use Rattle.tardis_command.specs.declared.fault.CommandFault.TheVariants.{Judge, Output}
 
--- by a verdict, by one that couldn't be printed, by a refusal, or with what the user is told of words that
+-- by an answer, by one that couldn't be printed, by a refusal, or with what the user is told of words that
 -- are no command line
 pub data Ending : Type 0 where
-  Answered : Verdict → Ending
-  Unprinted : Verdict → Ending
+  Answered : Answer → Ending
+  Unprinted : Answer → Ending
   Refused : CommandFault → Ending
   Misused : List ℕ → Ending
 
@@ -26,32 +27,37 @@ pub data Ending : Type 0 where
 abbrev pub line : List ℕ → List ℕ
 line text = text ++ 10 ∷ []
 
-abbrev pub verdict_status : Verdict → ℕ
-verdict_status (Yes count) = 0
-verdict_status (No fault) = 1
-
 -- the exit status
 abbrev pub status_of : Ending → ℕ
-status_of (Answered verdict) = verdict_status verdict
-status_of (Unprinted verdict) = fault_status Output
+status_of (Answered answer) = answer_status answer
+status_of (Unprinted answer) = fault_status Output
 status_of (Refused fault) = fault_status fault
 status_of (Misused text) = 3
 
 -- what standard error is told
 abbrev pub complaint_of : Ending → List ℕ
-complaint_of (Answered verdict) = []
-complaint_of (Unprinted verdict) = line (command_fault_text Output)
+complaint_of (Answered answer) = []
+complaint_of (Unprinted answer) = line (command_fault_text Output)
 complaint_of (Refused fault) = line (command_fault_text fault)
 complaint_of (Misused text) = text
 
 -- ---- why
 
+-- this may be the answer to what was asked, or why there is none
+abbrev pub IsAnswerTo : (List ℕ → Option (List ℕ)) → Request → Result Answer CommandFault → Type 0
+IsAnswerTo told (Check asked) (Ok (Judged verdict)) = IsChecked told asked (Ok verdict)
+IsAnswerTo told (Check asked) (Ok (Done count)) = ⊥
+IsAnswerTo told (Check asked) (Err fault) = IsChecked told asked (Err fault)
+IsAnswerTo told (Sim asked) (Ok (Judged verdict)) = ⊥
+IsAnswerTo told (Sim asked) (Ok (Done count)) = IsRun told asked (Ok count)
+IsAnswerTo told (Sim asked) (Err fault) = IsRun told asked (Err fault)
+
 -- what was asked may end so
 abbrev pub IsEndOf : (List ℕ → Option (List ℕ)) → Request → Ending → Type 0
-IsEndOf told (Check asked) (Answered verdict) = IsChecked told asked (Ok verdict)
-IsEndOf told (Check asked) (Unprinted verdict) = IsChecked told asked (Ok verdict)
-IsEndOf told (Check asked) (Refused fault) = IsChecked told asked (Err fault)
-IsEndOf told (Check asked) (Misused text) = ⊥
+IsEndOf told asked (Answered answer) = IsAnswerTo told asked (Ok answer)
+IsEndOf told asked (Unprinted answer) = IsAnswerTo told asked (Ok answer)
+IsEndOf told asked (Refused fault) = IsAnswerTo told asked (Err fault)
+IsEndOf told asked (Misused text) = ⊥
 
 -- the words ask for something of which this holds
 abbrev pub AskFor : List (List ℕ) → (Request → Type 0) → Type 0
@@ -61,16 +67,18 @@ AskFor words Holds = (asked : Request) × Asks words asked × Holds asked
 abbrev pub IsEnd : (List ℕ → Option (List ℕ)) → List (List ℕ) → Ending → Type 0
 IsEnd told words (Misused text) = ¬ (IsCommandLine words)
 IsEnd told words (Refused fault) = AskFor words (λ asked. IsEndOf told asked (Refused fault)) ⊎ (fault ≡ Judge OutOfMemory)
-IsEnd told words (Answered verdict) = AskFor words (λ asked. IsEndOf told asked (Answered verdict))
-IsEnd told words (Unprinted verdict) = AskFor words (λ asked. IsEndOf told asked (Unprinted verdict))
+IsEnd told words (Answered answer) = AskFor words (λ asked. IsEndOf told asked (Answered answer))
+IsEnd told words (Unprinted answer) = AskFor words (λ asked. IsEndOf told asked (Unprinted answer))
 
--- the files that were asked for spell a set whose operations are sequentially consistent
+-- where a check was asked for, its files spell a set whose operations are sequentially consistent
 abbrev pub AreConsistent : (List ℕ → Option (List ℕ)) → Request → Type 0
 AreConsistent told (Check asked) = FilesAreConsistent told asked
+AreConsistent told (Sim asked) = ⊤
 
 -- and, where they were checked against programs, some whole run of these on the flat machine performs just its operations
 abbrev pub RunFlat : (List ℕ → Option (List ℕ)) → Request → Type 0
 RunFlat told (Check asked) = FilesRunFlat told asked
+RunFlat told (Sim asked) = ⊤
 
 -- ---- the two outputs
 
@@ -92,10 +100,10 @@ TakesBeginning old new text = (n : ℕ) × (n ≤ length text) × Appends old.co
 abbrev pub Takes : Sink → Sink → List ℕ → Type 0
 Takes old new text = Appends old.contents new.contents text ⊎ (HasFailed old new × TakesBeginning old new text)
 
--- standard output takes the line of a verdict, or fails behind a beginning of it, or holds what it held
+-- standard output takes the line of an answer, or fails behind a beginning of it, or holds what it held
 abbrev pub OutputAt : Sink → Sink → Ending → Type 0
-OutputAt old new (Answered verdict) = Appends old.contents new.contents (line (verdict_text verdict))
-OutputAt old new (Unprinted verdict) = HasFailed old new × TakesBeginning old new (line (verdict_text verdict))
+OutputAt old new (Answered answer) = Appends old.contents new.contents (line (answer_text answer))
+OutputAt old new (Unprinted answer) = HasFailed old new × TakesBeginning old new (line (answer_text answer))
 OutputAt old new (Refused fault) = Keeps old.contents new.contents ⊎ HasFailed old new
 OutputAt old new (Misused text) = Keeps old.contents new.contents
 
@@ -107,10 +115,10 @@ IsDoneBy told asked out out' ending = IsEndOf told asked ending × OutputAt out 
 
 -- how an ending is answered: by an exit status, or by a fault
 abbrev pub IsAnswered : Ending → Result ℕ CommandFault → Type 0
-IsAnswered (Answered verdict) answer = answer ≡ Ok (verdict_status verdict)
-IsAnswered (Unprinted verdict) answer = answer ≡ Err Output
-IsAnswered (Refused fault) answer = answer ≡ Err fault
-IsAnswered (Misused text) answer = ⊥
+IsAnswered (Answered answer) came = came ≡ Ok (answer_status answer)
+IsAnswered (Unprinted answer) came = came ≡ Err Output
+IsAnswered (Refused fault) came = came ≡ Err fault
+IsAnswered (Misused text) came = ⊥
 
 -- a call with these words ended so, and left standard output and standard error so
 pub record EndsBy (told : List ℕ → Option (List ℕ)) (words : List (List ℕ)) (out out' err err' : Sink) (ending : Ending) : Type 0 where

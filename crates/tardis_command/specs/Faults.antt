@@ -1,13 +1,19 @@
 -- The texts and the exit statuses of refusals.
 use Rattle.std.specs.Prelude.{ℕ, List, ◌++◌, codes}
+use Rattle.std.specs.Fmt.{decimal}
 use Rattle.core_program.specs.FaultTexts.{fault_text as program_fault_text}
 use Rattle.core_program.specs.declared.fault.ProgramFault.{ProgramFault}
 use Rattle.core_program.specs.declared.fault.ProgramFault.TheVariants.{BadLine, TooLong, SkipPastEnd, OutOfMemory as NoMemory}
+use Rattle.lease_rule.specs.Faults.{fault_text as config_fault_text}
+use Rattle.schedule.specs.FaultTexts.{fault_text as schedule_line_text}
+use Rattle.schedule.specs.declared.fault.ScheduleFault.{ScheduleFault}
+use Rattle.schedule.specs.declared.fault.ScheduleFault.TheVariants.{BadScheduleLine, OutOfMemory as NoScheduleMemory}
+use Rattle.simulation.specs.Faults.{fault_text as simulation_fault_text}
 use Rattle.verdict.specs.Texts.{judge_fault_text}
 use Rattle.verdict.specs.declared.judge_fault.JudgeFault.{JudgeFault}
 use Rattle.verdict.specs.declared.judge_fault.JudgeFault.TheVariants.{BadConfig, Log, Read, OutOfMemory}
 use Rattle.tardis_command.specs.declared.fault.CommandFault.{CommandFault}
-use Rattle.tardis_command.specs.declared.fault.CommandFault.TheVariants.{Judge, Programs, ProgramsUnread, Output}
+use Rattle.tardis_command.specs.declared.fault.CommandFault.TheVariants.{Judge, Config, Programs, ProgramsUnread, Schedule, ScheduleUnread, Simulation, LogUnwritten, Output}
 
 -- want of memory is told as everywhere
 abbrev pub programs_fault_text : ProgramFault → List ℕ
@@ -16,10 +22,19 @@ programs_fault_text (BadLine line) = codes "refused: programs " ++ program_fault
 programs_fault_text (TooLong line) = codes "refused: programs " ++ program_fault_text (TooLong line)
 programs_fault_text (SkipPastEnd line) = codes "refused: programs " ++ program_fault_text (SkipPastEnd line)
 
+abbrev pub schedule_fault_text : ScheduleFault → List ℕ
+schedule_fault_text NoScheduleMemory = codes "refused: 10 OutOfMemory"
+schedule_fault_text (BadScheduleLine line) = codes "refused: schedule " ++ schedule_line_text (BadScheduleLine line)
+
 abbrev pub command_fault_text : CommandFault → List ℕ
 command_fault_text (Judge fault) = codes "refused: " ++ judge_fault_text fault
 command_fault_text (Programs fault) = programs_fault_text fault
 command_fault_text ProgramsUnread = codes "refused: programs: 28 Read"
+command_fault_text (Config fault) = codes "refused: " ++ config_fault_text fault
+command_fault_text (Schedule fault) = schedule_fault_text fault
+command_fault_text ScheduleUnread = codes "refused: schedule: 28 Read"
+command_fault_text (Simulation fault) = codes "refused: " ++ simulation_fault_text fault
+command_fault_text (LogUnwritten file) = codes "refused: file " ++ (decimal file ++ codes ": 29 Write")
 command_fault_text Output = codes "refused: output: 29 Write"
 
 abbrev pub judge_fault_status : JudgeFault → ℕ
@@ -34,8 +49,17 @@ programs_fault_status (BadLine line) = 2
 programs_fault_status (TooLong line) = 2
 programs_fault_status (SkipPastEnd line) = 2
 
+abbrev pub schedule_fault_status : ScheduleFault → ℕ
+schedule_fault_status NoScheduleMemory = 4
+schedule_fault_status (BadScheduleLine line) = 2
+
 abbrev pub fault_status : CommandFault → ℕ
 fault_status (Judge fault) = judge_fault_status fault
 fault_status (Programs fault) = programs_fault_status fault
+fault_status (Config fault) = 3
 fault_status ProgramsUnread = 4
+fault_status (Schedule fault) = schedule_fault_status fault
+fault_status ScheduleUnread = 4
+fault_status (Simulation fault) = 4
+fault_status (LogUnwritten file) = 4
 fault_status Output = 4

@@ -1,4 +1,6 @@
+pub mod Answers
 pub mod Checking
 pub mod Endings
 pub mod Faults
 pub mod Printing
+pub mod Simulating

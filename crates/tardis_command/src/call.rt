@@ -2,25 +2,28 @@
 
 ghost use Rattle.std.specs.Prelude.{◌≡◌, IfOk};
 ghost use Rattle.command_line.specs.Asking.{texts};
-ghost use Rattle.tardis_command.specs.Checking.{FilesAreConsistent, FilesRunFlat};
+ghost use Rattle.tardis_command.specs.Answers.{answer_status};
 ghost use Rattle.tardis_command.specs.Endings as endings;
 
+use crate::answer::Answer;
 use crate::check::check;
 use crate::fault::CommandFault;
 use crate::folder::Folder;
-use crate::output::{print_verdict, refuse, tell};
-use command_line::{Check, Refusal, Request, read};
+use crate::output::{print_answer, refuse, tell};
+use crate::run::run;
+use command_line::{Refusal, Request, read};
 use log_file::ByteSink;
 use std::alloc::Global;
 use std::thread::Threads;
-use verdict::{JudgeFault, Verdict};
+use verdict::JudgeFault;
 
 /// The exit status of a call whose words are no command line of the program.
 const USAGE: u8 = 3;
 
 /// Does what the words of a command line ask for, of which the first is the program's own name, and
-/// answers the exit status: 0 for Yes, 1 for No, 2 where a log is refused, 3 where the words are or
-/// a count is out of range, else 4. A verdict goes to standard output, all else to standard error.
+/// answers the exit status: 0 for Yes or done, 1 for No, 2 where a log, the programs or the schedule
+/// are refused, 3 where the words are or a number is out of range, else 4. An answer goes to standard
+/// output, all else to standard error.
 pub fn command<R: Threads + Sync, F: Folder, O: ByteSink, E: ByteSink>(
     rt: &R,
     alloc: Global,
@@ -56,7 +59,7 @@ pub fn command<R: Threads + Sync, F: Folder, O: ByteSink, E: ByteSink>(
     }
 }
 
-/// Does what was asked, and answers the exit status.
+/// Does what was asked, prints the answer and answers the exit status.
 fn perform<R: Threads + Sync, F: Folder, O: ByteSink>(
     rt: &R,
     alloc: Global,
@@ -73,39 +76,26 @@ fn perform<R: Threads + Sync, F: Folder, O: ByteSink>(
     ensures flat { IfOk result (λ status. status ≡ 0
         → endings.RunFlat (F.told folder.old) request.now) }
 {
-    match request {
-        Request::Check(asked) => perform_check(rt, alloc, asked, folder, out),
-    }
+    let answer = answer(rt, alloc, request, folder)?;
+    print_answer(alloc, out, &answer)?;
+    Ok(answer.status())
 }
 
-/// Prints the verdict on the files of a set, and answers its exit status.
-fn perform_check<R: Threads + Sync, F: Folder, O: ByteSink>(
+/// The answer to what was asked.
+fn answer<R: Threads + Sync, F: Folder>(
     rt: &R,
     alloc: Global,
-    asked: &Check<'_>,
-    folder: &F,
-    out: &mut O,
-) -> Result<u8, CommandFault>
-    ensures exact { (ending : endings.Ending) × endings.IsAnswered ending result
-        × endings.IsDoneBy (F.told folder.now) (Request.Check asked.now)
-        (endings.sink_of O.contents O.failed out.old)
-        (endings.sink_of O.contents O.failed out.new) ending }
-    ensures sound { IfOk result (λ status. status ≡ 0
-        → FilesAreConsistent (F.told folder.now) asked.now) }
-    ensures flat { IfOk result (λ status. status ≡ 0
-        → FilesRunFlat (F.told folder.now) asked.now) }
+    request: &Request<'_>,
+    folder: &mut F,
+) -> Result<Answer, CommandFault>
+    ensures exact { endings.IsAnswerTo (F.told folder.old) request.now result }
+    ensures sound { IfOk result (λ answer. answer_status answer ≡ 0
+        → endings.AreConsistent (F.told folder.old) request.now) }
+    ensures flat { IfOk result (λ answer. answer_status answer ≡ 0
+        → endings.RunFlat (F.told folder.old) request.now) }
 {
-    let verdict = check(rt, alloc, folder, asked)?;
-    print_verdict(alloc, out, verdict)?;
-    Ok(status(&verdict))
-}
-
-/// The exit status of a verdict: 0 for Yes, 1 for No.
-fn status(verdict: &Verdict) -> u8
-    ensures { result ≡ endings.verdict_status verdict.now }
-{
-    match verdict {
-        Verdict::Yes(_) => 0,
-        Verdict::No(_) => 1,
+    match request {
+        Request::Check(asked) => Ok(Answer::Judged(check(rt, alloc, folder, asked)?)),
+        Request::Sim(asked) => Ok(Answer::Done(run(alloc, folder, asked)?)),
     }
 }

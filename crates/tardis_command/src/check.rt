@@ -1,17 +1,15 @@
 //! The check of the logs of a set.
 
-ghost use Rattle.std.specs.Prelude.{ℕ, List, IfErr, IfOk, None, Some, length};
-ghost use Rattle.core_program.specs.Answers.{SpellsSet};
-ghost use Rattle.log_file.specs.Devices.{Tells};
+ghost use Rattle.std.specs.Prelude.{IfErr, IfOk, None, Some, length};
 ghost use Rattle.verdict.specs.Judgement.{IsYes};
 ghost use Rattle.tardis_command.specs.Checking as checking;
 
 use crate::fault::CommandFault;
 use crate::folder::Folder;
 use crate::gate::OpenGate;
+use crate::text::read_programs;
 use command_line::Check;
 use core_program::ProgramSet;
-use log_file::{ReadFault, read_all};
 use std::alloc::Global;
 use std::thread::Threads;
 use verdict::{JudgeFault, Verdict, check_counts, judge, judge_run};
@@ -87,30 +85,6 @@ fn judge_run_files<R: Threads + Sync, F: Folder>(
         workers,
         &OpenGate,
     )
-}
-
-/// The programs in a file of the folder: 28 where it can't be opened or read.
-fn read_programs<F: Folder>(
-    alloc: Global,
-    folder: &F,
-    name: &str,
-) -> Result<ProgramSet, CommandFault>
-    ensures ok { IfOk result (λ programs. (text : List ℕ) × Tells (F.told folder.now name.now) text
-        × SpellsSet text programs) }
-    ensures err { IfErr result (checking.IsUnprogrammed (F.told folder.now) name.now) }
-{
-    let Ok(mut source) = folder.open_file(name) else {
-        return Err(CommandFault::ProgramsUnread);
-    };
-    let text = match read_all(alloc, &mut source) {
-        Ok(text) => text,
-        Err(ReadFault::Read) => return Err(CommandFault::ProgramsUnread),
-        Err(ReadFault::OutOfMemory) => {
-            return Err(CommandFault::Judge(JudgeFault::OutOfMemory));
-        }
-    };
-    let programs = ProgramSet::parse(alloc, text.as_slice())?;
-    Ok(programs)
 }
 
 /// Opens the files of these names in their order: 28 for the first that can't be opened.

@@ -2,11 +2,14 @@
 
 ghost use Rattle.std.specs.Prelude.{◌≡◌};
 ghost use Rattle.tardis_command.specs.Faults.{fault_status};
-ghost use Rattle.tardis_command.specs.declared.fault.CommandFault.TheVariants.{Judge, Output, Programs};
+ghost use Rattle.tardis_command.specs.declared.fault.CommandFault.TheVariants.{Config, Judge, Output, Programs, Schedule, Simulation};
 ghost use Rattle.verdict.specs.declared.judge_fault.JudgeFault.TheVariants.{OutOfMemory};
 
 use core_program::ProgramFault;
+use lease_rule::BadConfig;
 use log_file::WriteFailed;
+use schedule::ScheduleFault;
+use simulation::SimulationFault;
 use std::alloc::AllocError;
 use std::fmt;
 use std::fmt::Display;
@@ -16,19 +19,29 @@ use verdict::JudgeFault;
 /// Why a command was refused.
 #[derive(Clone, Copy, Debug, PartialEq, Eq, Error)]
 pub enum CommandFault {
-    /// There is no verdict.
+    /// There is no verdict, or a growth was refused.
     Judge(JudgeFault),
+    /// A number of the configuration is out of its range.
+    Config(BadConfig),
     /// The file of the programs is none of a set of programs.
     Programs(ProgramFault),
     /// The file of the programs can't be opened, or a read of it failed.
     ProgramsUnread,
+    /// The file of the schedule is none.
+    Schedule(ScheduleFault),
+    /// The file of the schedule can't be opened, or a read of it failed.
+    ScheduleUnread,
+    /// The simulation isn't ended.
+    Simulation(SimulationFault),
+    /// The log of this file can't be written.
+    LogUnwritten { file: usize },
     /// Standard output failed.
     Output,
 }
 
 impl CommandFault {
-    /// The exit status: 2 where a log or the programs were refused, 3 where a count is out of range,
-    /// else 4.
+    /// The exit status: 2 where a log, the programs or the schedule were refused, 3 where a count or a
+    /// number of the configuration is out of range, else 4.
     pub fn status(&self) -> u8
         ensures { result ≡ fault_status self.now }
     {
@@ -36,9 +49,14 @@ impl CommandFault {
             CommandFault::Judge(JudgeFault::Log { .. }) => 2,
             CommandFault::Judge(JudgeFault::BadConfig(_)) => 3,
             CommandFault::Judge(JudgeFault::Read { .. } | JudgeFault::OutOfMemory) => 4,
+            CommandFault::Config(_) => 3,
             CommandFault::Programs(ProgramFault::OutOfMemory) => 4,
             CommandFault::Programs(_) => 2,
-            CommandFault::ProgramsUnread | CommandFault::Output => 4,
+            CommandFault::Schedule(ScheduleFault::OutOfMemory) => 4,
+            CommandFault::Schedule(_) => 2,
+            CommandFault::ProgramsUnread | CommandFault::ScheduleUnread => 4,
+            CommandFault::Simulation(_) | CommandFault::LogUnwritten { .. } => 4,
+            CommandFault::Output => 4,
         }
     }
 }
@@ -57,6 +75,14 @@ impl Display for CommandFault {
             }
             CommandFault::Programs(fault) => write!(f, "refused: programs {fault}"),
             CommandFault::ProgramsUnread => f.write_str("refused: programs: 28 Read"),
+            CommandFault::Config(fault) => write!(f, "refused: {fault}"),
+            CommandFault::Schedule(ScheduleFault::OutOfMemory) => {
+                f.write_str("refused: 10 OutOfMemory")
+            }
+            CommandFault::Schedule(fault) => write!(f, "refused: schedule {fault}"),
+            CommandFault::ScheduleUnread => f.write_str("refused: schedule: 28 Read"),
+            CommandFault::Simulation(fault) => write!(f, "refused: {fault}"),
+            CommandFault::LogUnwritten { file } => write!(f, "refused: file {file}: 29 Write"),
             CommandFault::Output => f.write_str("refused: output: 29 Write"),
         }
     }
@@ -75,6 +101,30 @@ impl From<ProgramFault> for CommandFault {
 
     fn from(reason: ProgramFault) -> CommandFault {
         CommandFault::Programs(reason)
+    }
+}
+
+impl From<BadConfig> for CommandFault {
+    ghost from_gives = { λ reason fault. fault ≡ Config reason };
+
+    fn from(reason: BadConfig) -> CommandFault {
+        CommandFault::Config(reason)
+    }
+}
+
+impl From<ScheduleFault> for CommandFault {
+    ghost from_gives = { λ reason fault. fault ≡ Schedule reason };
+
+    fn from(reason: ScheduleFault) -> CommandFault {
+        CommandFault::Schedule(reason)
+    }
+}
+
+impl From<SimulationFault> for CommandFault {
+    ghost from_gives = { λ reason fault. fault ≡ Simulation reason };
+
+    fn from(reason: SimulationFault) -> CommandFault {
+        CommandFault::Simulation(reason)
     }
 }
 

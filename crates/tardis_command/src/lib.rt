@@ -1,16 +1,22 @@
 //! The program's commands over any folder and any output.
 #![tactic(auto)]
 
+mod answer;
 mod call;
 mod check;
 mod fault;
 mod folder;
 mod gate;
 mod output;
+mod run;
+mod text;
 
+pub use answer::Answer;
 pub use call::command;
 pub use fault::CommandFault;
 pub use folder::Folder;
 
+#[cfg(test)]
+mod sim_tests;
 #[cfg(test)]
 mod tests;

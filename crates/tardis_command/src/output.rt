@@ -2,32 +2,33 @@
 
 ghost use Rattle.std.specs.Prelude.{◌≡◌, ◌⊎◌, IfErr, OnOk};
 ghost use Rattle.std.specs.Io.KnownBytes.{Appends};
-ghost use Rattle.verdict.specs.Texts.{verdict_text};
 ghost use Rattle.verdict.specs.declared.judge_fault.JudgeFault.TheVariants.{OutOfMemory};
+ghost use Rattle.tardis_command.specs.Answers.{answer_text};
 ghost use Rattle.tardis_command.specs.Endings as endings;
 ghost use Rattle.tardis_command.specs.Faults as faults;
 ghost use Rattle.tardis_command.specs.Printing as printing;
 ghost use Rattle.tardis_command.specs.declared.fault.CommandFault.TheVariants.{Judge};
 
+use crate::answer::Answer;
 use crate::fault::CommandFault;
 use log_file::{ByteSink, write_all};
 use std::alloc::Global;
-use verdict::{JudgeFault, Verdict};
+use verdict::JudgeFault;
 
-/// Prints the line of a verdict: 29 where standard output fails, and then it took a beginning of it.
-pub(crate) fn print_verdict<O: ByteSink>(
+/// Prints the line of an answer: 29 where standard output fails, and then it took a beginning of it.
+pub(crate) fn print_answer<O: ByteSink>(
     alloc: Global,
     out: &mut O,
-    verdict: Verdict,
+    answer: &Answer,
 ) -> Result<(), CommandFault>
     ensures ok { OnOk result (Appends (O.contents out.old) (O.contents out.new)
-        (endings.line (verdict_text verdict))) }
+        (endings.line (answer_text answer.now))) }
     ensures err { IfErr result (printing.IsUnprinted
         (endings.sink_of O.contents O.failed out.old)
         (endings.sink_of O.contents O.failed out.new)
-        (endings.line (verdict_text verdict))) }
+        (endings.line (answer_text answer.now))) }
 {
-    let line = format!(in alloc; "{verdict}\n")?;
+    let line = format!(in alloc; "{answer}\n")?;
     write_all(out, line.as_bytes())?;
     Ok(())
 }

@@ -505,7 +505,7 @@ fn most_files(rt: HostRuntime) -> Result<(), Fail> {
 }
 
 /// The logs of a set, by the records of each core.
-fn logs_of(alloc: Global, records: &[&[&str]]) -> Result<Vec<Vec<u8>>, Fail> {
+pub(super) fn logs_of(alloc: Global, records: &[&[&str]]) -> Result<Vec<Vec<u8>>, Fail> {
     let mut logs = Vec::new(alloc);
     let cores = records.len();
     for (core, lines) in records.iter().enumerate() {

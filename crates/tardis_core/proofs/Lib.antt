@@ -5,3 +5,6 @@ pub mod Placed
 pub mod Reached
 pub mod Serving
 pub mod Takes
+pub mod RoundRuns
+pub mod Stages
+pub mod Works

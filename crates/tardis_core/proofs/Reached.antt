@@ -24,7 +24,7 @@ may_refuse (Refuses due) f p q m = let e = m.0 in cc
 may_refuse (Answers y t) f p q m = let e = m.0 in absurd (cc)
 may_refuse (Steps y t) f p q m = m.0
 
-run_from-push : (p : CoreParts) (events : List Event) (e : Event)
+pub run_from-push : (p : CoreParts) (events : List Event) (e : Event)
     → run_from p (events ++ e ∷ []) ≡ option_and_then (λ q. behind (step_outcome q e)) (run_from p events)
 run_from-push p [] e = only (behind (step_outcome p e))
   where

@@ -5,6 +5,7 @@ mod event;
 mod fault;
 mod machine;
 mod opening;
+pub mod rounds;
 mod running;
 mod seat;
 mod step;
@@ -14,3 +15,6 @@ pub use event::Event;
 pub use fault::CoreFault;
 pub use machine::Core;
 pub use running::{RunFault, run};
+
+#[cfg(test)]
+mod tests;

@@ -82,12 +82,12 @@ last_value-map addr k es =
     ∙ ap value_or_zero (find-map (is_store_to addr) operation (reverse (take k es)))
     ∙ value_of_option (last_store addr k es)
 
-store_to : (addr : ℕ) (act : Act) (a v : ℕ) → is_store_to addr (operation_by act a v) ≡ (is_store act && (a == addr))
+pub store_to : (addr : ℕ) (act : Act) (a v : ℕ) → is_store_to addr (operation_by act a v) ≡ (is_store act && (a == addr))
 store_to addr (Load source) a v = refl
 store_to addr Store a v = refl
 
 -- the last store before a load in the order of keys is the greatest earlier store of the set
-last_is_right : (logs : List (List Record)) (e : Entry) (k : ℕ) → slice_get (by_key logs) k ≡ Some e → (r : Option Entry) → IsGreatest entry_cmp (λ x. is_store_to e.logged.addr (operation x)) (take k (by_key logs)) r → IsGreatest entry_cmp (is_earlier_store e) (entries logs) r
+pub last_is_right : (logs : List (List Record)) (e : Entry) (k : ℕ) → slice_get (by_key logs) k ≡ Some e → (r : Option Entry) → IsGreatest entry_cmp (λ x. is_store_to e.logged.addr (operation x)) (take k (by_key logs)) r → IsGreatest entry_cmp (is_earlier_store e) (entries logs) r
 last_is_right logs e k here None h = none
   where
     none : (x : Entry) → In x (entries logs) → is_earlier_store e x ≡ false

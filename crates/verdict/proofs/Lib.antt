@@ -3,7 +3,9 @@ pub mod CoreFacts
 pub mod FlatAnswers
 pub mod FlatRuns
 pub mod FlatSoFar
+pub mod KeyPass
 pub mod Lists
+pub mod Merging
 pub mod OneAnswer
 pub mod Paths
 pub mod ProgramFacts

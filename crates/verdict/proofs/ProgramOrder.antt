@@ -69,7 +69,7 @@ less_index i j h = grind (arith, nat_tests)
 pub tied_core : (c d : ℕ) → c ≡ d → nat_cmp c d ≡ Equal
 tied_core c d h = subst (λ x. nat_cmp c x ≡ Equal) h (tied_itself nat_cmp_total c)
 
-log_of : (logs : List (List Record)) (id : OpId) (r : Record) → record_at logs id ≡ Some r → (log : List Record) × (slice_get logs id.core ≡ Some log) × (slice_get log id.index ≡ Some r)
+pub log_of : (logs : List (List Record)) (id : OpId) (r : Record) → record_at logs id ≡ Some r → (log : List Record) × (slice_get logs id.core ≡ Some log) × (slice_get log id.index ≡ Some r)
 log_of logs id r h = go (slice_get logs id.core) refl h
   where
     go : (o : Option (List Record)) → slice_get logs id.core ≡ o → option_and_then (λ l. slice_get l id.index) o ≡ Some r → (log : List Record) × (slice_get logs id.core ≡ Some log) × (slice_get log id.index ≡ Some r)
@@ -77,7 +77,7 @@ log_of logs id r h = go (slice_get logs id.core) refl h
     go (Some log) e t = (log, e, t)
 
 -- of two entries of a core the one of lesser key has the lesser index
-keeps_order : (logs : List (List Record)) → NoCoreFault logs → (a b : Entry) → In a (entries logs) → In b (entries logs) → is_lt (entry_cmp a b) ≡ true → a.id.core ≡ b.id.core → a.id.index < b.id.index
+pub keeps_order : (logs : List (List Record)) → NoCoreFault logs → (a b : Entry) → In a (entries logs) → In b (entries logs) → is_lt (entry_cmp a b) ≡ true → a.id.core ≡ b.id.core → a.id.index < b.id.index
 keeps_order logs none a b p q before one_core = elim (cases_lt a.id.index b.id.index) [ inl l ↦ l | inr l ↦ above l ]
   where
     above : b.id.index ≤ a.id.index → a.id.index < b.id.index

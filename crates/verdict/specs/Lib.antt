@@ -8,6 +8,7 @@ pub mod Faults
 pub mod FlatMachine
 pub mod Judgement
 pub mod Laws
+pub mod Merging
 pub mod SetFaults
 pub mod Texts
 pub mod VerdictOf

@@ -7,14 +7,17 @@ mod counts;
 mod fault;
 mod judge_fault;
 mod judging;
+mod key_order;
 mod laws;
 mod log_set;
+mod merge;
 mod replay;
 mod rule;
 mod run_judging;
 #[cfg(test)]
 mod tests;
 mod verdict_on;
+mod words;
 
 pub use answer::Verdict;
 pub use counts::check_counts;

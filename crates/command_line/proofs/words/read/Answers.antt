@@ -1,14 +1,44 @@
-use Rattle.std.proofs.Common.{◌∙◌, ap, sym}
+use Rattle.std.proofs.Common.{◌≡◌, ◌∙◌, ap, sym, true, false, [], inl, inr}
+use Rattle.std.specs.Prelude.{codes}
+use Rattle.std.proofs.lemmas.Slice.Eq.{bytes_eq-Decides}
 use Rattle.clap.specs.Faults.{fault_of, is_simple_and_free}
 use Rattle.clap.specs.Words.{App}
 use Rattle.command_line.specs.Asking.{texts}
 use Rattle.command_line.proofs.Reading.{refused}
+use Rattle.command_line.proofs.Subcommands.{names_own, both_found, found_named}
+use Rattle.command_line.specs.Grammar.{tardis}
 use Rattle.command_line.proofs.words.read.Goals as goal
 
 pub returns-in-Err-clause-request : goal.returns-in-Err-clause-request
 returns-in-Err-clause-request c =
     refused (texts c.args.words.now) _ c.in-Err.error c.refusal.result (ap (λ (app : App). fault_of app (texts c.args.words.now)) c.in_ok-tardis.ensures.app)
     (c.in-Err.ensures.kinds (ap is_simple_and_free c.in_ok-tardis.ensures.app)) c.refusal.ensures
+
+pub returns-then-eq-clause-request : goal.returns-then-eq-clause-request
+returns-then-eq-clause-request c =
+    let words = texts c.args.words.now in
+    let found = both_found _ _ _ c.in-Some.name.now _ c.in-Some.ensures.name c.in-Some.ensures.rows in
+    let named = found_named _ words c.in-Ok.matches _ c.in_ok-tardis.ensures.app c.in-Ok.ensures.matches found in
+    let is_sim = (bytes_eq-Decides c.in-Some.name.now (codes "sim")).0 (sym c.eq.ensures ∙ c.if-eq.true) in
+    (_, named, (is_sim, c.sim_of.ensures))
+
+pub returns-then-eq-clause-usage : goal.returns-then-eq-clause-usage
+returns-then-eq-clause-usage c =
+    sym (ap (λ (app : App). fault_of app (texts c.args.words.now)) c.in_ok-tardis.ensures.app)
+    ∙ c.in-Ok.ensures.kinds (ap is_simple_and_free c.in_ok-tardis.ensures.app)
+
+pub returns-clause-request : goal.returns-clause-request
+returns-clause-request c =
+    let words = texts c.args.words.now in
+    let found = both_found _ _ _ c.in-Some.name.now _ c.in-Some.ensures.name c.in-Some.ensures.rows in
+    let named = found_named _ words c.in-Ok.matches _ c.in_ok-tardis.ensures.app c.in-Ok.ensures.matches found in
+    let quiet : fault_of tardis words ≡ [] =
+    sym (ap (λ (app : App). fault_of app words) c.in_ok-tardis.ensures.app) ∙ c.in-Ok.ensures.kinds (ap is_simple_and_free c.in_ok-tardis.ensures.app) in
+    let is_check : c.in-Some.name.now ≡ codes "check" = elim (names_own words _ quiet named) [
+      | inl is ↦ is
+      | inr is ↦ absurd (let wrong : true ≡ false = sym ((bytes_eq-Decides c.in-Some.name.now (codes "sim")).1 is) ∙ sym c.eq.ensures ∙ c.if-eq.false in cc)
+    ] in
+    (_, named, (is_check, c.in_ok-check_of.ensures))
 
 pub returns-clause-usage : goal.returns-clause-usage
 returns-clause-usage c =

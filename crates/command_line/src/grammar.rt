@@ -1,0 +1,177 @@
+//! The program's command line: its subcommands, and the arguments of each.
+
+ghost use Rattle.std.specs.Prelude.{◌≡◌, IfOk, false};
+ghost use Rattle.clap.specs.Words.{app_of, rule_of, with_rule};
+ghost use Rattle.clap.specs.declared.builder.command.Command.TheViews.{out-Command as fields_of};
+ghost use Rattle.command_line.specs.Grammar as grammar;
+
+use clap::{Arg, ArgAction, Command, value_parser};
+use std::alloc::{AllocError, Global};
+
+/// The program's command line.
+pub(crate) fn tardis<'a>(alloc: Global) -> Result<Command<'a>, AllocError>
+    ensures app { IfOk result (λ command. app_of command ≡ grammar.tardis) }
+    ensures local { IfOk result (λ command. (fields_of command).has_globals ≡ false) }
+{
+    Command::new(alloc, "tardis")
+        .about("Runs a multiprocessor, and judges consistency logs")
+        .subcommand_required(true)
+        .subcommand(check(alloc)?)?
+        .subcommand(sim(alloc)?)
+}
+
+/// The subcommand that judges a set of logs.
+fn check<'a>(alloc: Global) -> Result<Command<'a>, AllocError>
+    ensures app { IfOk result (λ command. app_of command ≡ grammar.check) }
+    ensures local { IfOk result (λ command. (fields_of command).has_globals ≡ false) }
+{
+    let command = Command::new(alloc, "check").about(
+        "Tells whether a set of logs, one of each core, is consistent",
+    );
+    with_check_options(alloc, command)?.arg(files(alloc).help("The logs, that of core 0 first"))
+}
+
+/// A command with the options of a check.
+fn with_check_options<'a>(alloc: Global, command: Command<'a>) -> Result<Command<'a>, AllocError>
+    ensures app { IfOk result (λ made. app_of made
+        ≡ grammar.with_check_options (app_of command.entry)) }
+    ensures local { (fields_of command.entry).has_globals ≡ false
+        → IfOk result (λ made. (fields_of made).has_globals ≡ false) }
+{
+    command
+        .arg(number(alloc, "workers").help("How many workers judge, 1 where it isn't given"))?
+        .arg(file(alloc, "program").help("The programs that the cores ran"))
+}
+
+/// The subcommand that runs the machine, one event after the other.
+fn sim<'a>(alloc: Global) -> Result<Command<'a>, AllocError>
+    ensures app { IfOk result (λ command. app_of command ≡ grammar.sim) }
+    ensures local { IfOk result (λ command. (fields_of command).has_globals ≡ false) }
+{
+    let command = Command::new(alloc, "sim").about(
+        "Runs core programs, one event after the other, and writes a log of each core",
+    );
+    let command = with_limits(alloc, command)?;
+    with_names(alloc, with_sim_options(alloc, command)?)
+}
+
+/// A command with the options that give the numbers of the machine.
+fn with_limits<'a>(alloc: Global, command: Command<'a>) -> Result<Command<'a>, AllocError>
+    ensures app { IfOk result (λ made. app_of made
+        ≡ grammar.with_limits (app_of command.entry)) }
+    ensures local { (fields_of command.entry).has_globals ≡ false
+        → IfOk result (λ made. (fields_of made).has_globals ≡ false) }
+{
+    let command = with_number(alloc, command, "slices", "How many slices, 1 by default")?;
+    let command = with_number(
+        alloc,
+        command,
+        "lease",
+        "The lease of a read, 10 by default",
+    )?;
+    let command = with_number(
+        alloc,
+        command,
+        "period",
+        "How many operations until a core's stamp goes up by itself, 100 by default",
+    )?;
+    let command = with_number(
+        alloc,
+        command,
+        "cache",
+        "The lines of a private cache, 64 by default",
+    )?;
+    let command = with_number(
+        alloc,
+        command,
+        "slice-lines",
+        "The lines of a slice, 64 by default",
+    )?;
+    with_number(
+        alloc,
+        command,
+        "inbox",
+        "The recalls of an inbox, 8 by default",
+    )
+}
+
+/// A command with the options that say which event is next.
+fn with_sim_options<'a>(alloc: Global, command: Command<'a>) -> Result<Command<'a>, AllocError>
+    ensures app { IfOk result (λ made. app_of made
+        ≡ grammar.with_sim_options (app_of command.entry)) }
+    ensures local { (fields_of command.entry).has_globals ≡ false
+        → IfOk result (λ made. (fields_of made).has_globals ≡ false) }
+{
+    command
+        .arg(file(alloc, "schedule").help("The schedule that is followed first"))?
+        .arg(number(alloc, "seed").help("What the rounds behind it are drawn from"))
+}
+
+/// A command with the names of the programs and of the logs.
+fn with_names<'a>(alloc: Global, command: Command<'a>) -> Result<Command<'a>, AllocError>
+    ensures app { IfOk result (λ made. app_of made
+        ≡ grammar.with_names (app_of command.entry)) }
+    ensures local { (fields_of command.entry).has_globals ≡ false
+        → IfOk result (λ made. (fields_of made).has_globals ≡ false) }
+{
+    command
+        .arg(name(alloc, "PROGRAMS").help("The programs of the cores"))?
+        .arg(name(alloc, "OUT").help("What the names of the logs begin with"))
+}
+
+/// A command with an option that takes a number.
+fn with_number<'a>(
+    alloc: Global,
+    command: Command<'a>,
+    name: &'a str,
+    help: &'a str,
+) -> Result<Command<'a>, AllocError>
+    ensures app { IfOk result (λ made. app_of made
+        ≡ with_rule (app_of command.entry) (grammar.number_option name.entry.now)) }
+    ensures local { (fields_of command.entry).has_globals ≡ false
+        → IfOk result (λ made. (fields_of made).has_globals ≡ false) }
+{
+    command.arg(number(alloc, name).help(help))
+}
+
+/// An option that takes a number.
+fn number<'a>(alloc: Global, name: &'a str) -> Arg<'a>
+    ensures rule { rule_of result ≡ grammar.number_option name.entry.now }
+    ensures local { result.global ≡ false }
+{
+    Arg::new(alloc, name)
+        .long(name)
+        .value_name("N")
+        .value_parser(value_parser!(u64))
+        .action(ArgAction::Set)
+}
+
+/// An option that takes the name of a file.
+fn file<'a>(alloc: Global, name: &'a str) -> Arg<'a>
+    ensures rule { rule_of result ≡ grammar.file_option name.entry.now }
+    ensures local { result.global ≡ false }
+{
+    Arg::new(alloc, name)
+        .long(name)
+        .value_name("F")
+        .action(ArgAction::Set)
+}
+
+/// One file or more.
+fn files<'a>(alloc: Global) -> Arg<'a>
+    ensures rule { rule_of result ≡ grammar.files }
+    ensures local { result.global ≡ false }
+{
+    Arg::new(alloc, "FILE")
+        .required(true)
+        .num_args(1..)
+        .action(ArgAction::Append)
+}
+
+/// A name that has to be there.
+fn name<'a>(alloc: Global, name: &'a str) -> Arg<'a>
+    ensures rule { rule_of result ≡ grammar.name name.entry.now }
+    ensures local { result.global ≡ false }
+{
+    Arg::new(alloc, name).required(true).action(ArgAction::Set)
+}

@@ -1,0 +1,9 @@
+-- The text of a fault: the line where there is one, a number and a name.
+use Rattle.std.specs.Prelude.{ℕ, List, ◌++◌, codes}
+use Rattle.std.specs.Fmt.{decimal}
+use Rattle.schedule.specs.declared.fault.ScheduleFault.{ScheduleFault}
+use Rattle.schedule.specs.declared.fault.ScheduleFault.TheVariants.{BadScheduleLine, OutOfMemory}
+
+abbrev pub fault_text : ScheduleFault → List ℕ
+fault_text (BadScheduleLine line) = codes "line " ++ (decimal line ++ codes ": 40 BadScheduleLine")
+fault_text OutOfMemory = codes "10 OutOfMemory"

@@ -1,0 +1,6 @@
+pub mod Answers
+pub mod FaultTexts
+pub mod Grammar
+pub mod Laws
+pub mod Lines
+pub mod Reading

@@ -1,0 +1,49 @@
+//! Why bytes are no schedule.
+
+ghost use Rattle.std.specs.Prelude.{◌≡◌};
+ghost use Rattle.schedule.specs.declared.fault.ScheduleFault.TheVariants.{OutOfMemory};
+
+use std::alloc::{AllocError, AllocFailed};
+use std::fmt;
+use std::fmt::Display;
+use thiserror::Error;
+
+/// Why bytes are no schedule.
+#[derive(Clone, Copy, Debug, PartialEq, Eq, Error)]
+pub enum ScheduleFault {
+    /// This line, counted from 1, is the first that is no command's, that names a core that isn't
+    /// there, or that has no line feed.
+    BadScheduleLine { line: u64 },
+    /// A growth was refused.
+    OutOfMemory,
+}
+
+impl Display for ScheduleFault {
+    ghost use Rattle.std.specs.Prelude.{Some};
+    ghost use Rattle.schedule.specs.FaultTexts.{fault_text};
+
+    ghost output = { λ fault. Some (fault_text fault) };
+
+    fn fmt<W: fmt::Write>(&self, f: &mut fmt::Formatter<W>) -> fmt::Result {
+        match self {
+            ScheduleFault::BadScheduleLine { line } => write!(f, "line {line}: 40 BadScheduleLine"),
+            ScheduleFault::OutOfMemory => f.write_str("10 OutOfMemory"),
+        }
+    }
+}
+
+impl<T: Drop> From<AllocFailed<T>> for ScheduleFault {
+    ghost from_gives = { λ _ fault. fault ≡ OutOfMemory };
+
+    fn from(_: AllocFailed<T>) -> ScheduleFault {
+        ScheduleFault::OutOfMemory
+    }
+}
+
+impl From<AllocError> for ScheduleFault {
+    ghost from_gives = { λ _ fault. fault ≡ OutOfMemory };
+
+    fn from(_: AllocError) -> ScheduleFault {
+        ScheduleFault::OutOfMemory
+    }
+}

@@ -1,0 +1,55 @@
+//! Reads the text of a schedule.
+
+ghost use Rattle.std.specs.Prelude.{◌≡◌, ◌≤◌, ◌∷◌, ◌++◌, IfSome, IsNone, MatchResult};
+ghost use Rattle.schedule.specs.Answers.{CommandInFront, NoCommandInFront, IsFault, Spells};
+ghost use Rattle.schedule.specs.Lines.{IsOneLine};
+
+use super::command::Command;
+use super::fault::ScheduleFault;
+use super::reading::read_command;
+use memchr::memchr;
+use std::alloc::Global;
+
+/// The commands whose text this is, one a line, each line ended by a line feed, for so many cores.
+/// BadScheduleLine at the first line that is no command's, that names a core that isn't there, or
+/// that has no line feed.
+pub fn parse(alloc: Global, text: &[u8], cores: usize) -> Result<Vec<Command>, ScheduleFault>
+    requires { cores ≤ 64 }
+    ensures { MatchResult result
+        (λ commands. Spells cores text.now commands.items)
+        (λ fault. IsFault cores text.now fault) }
+{
+    let mut commands = Vec::new(alloc);
+    let mut rest = text;
+    while let Some((command, behind)) = next_command(cores, rest) {
+        commands.push(command)?;
+        rest = behind;
+    }
+    if !rest.is_empty() {
+        return Err(ScheduleFault::BadScheduleLine {
+            line: commands.len() as u64 + 1,
+        });
+    }
+    Ok(commands)
+}
+
+/// The command whose line is the first, and the bytes behind it; None where the first line is no
+/// command's, or has no line feed.
+fn next_command(cores: usize, text: &[u8]) -> Option<(Command, &[u8])>
+    requires { cores ≤ 64 }
+    ensures found { IfSome result (λ read. CommandInFront cores read.0 text.now read.1.now) }
+    ensures none { IsNone result → NoCommandInFront cores text.now }
+{
+    let (line, rest) = next_line(text)?;
+    Some((read_command(cores, line)?, rest))
+}
+
+/// The first line, without its line feed, and the bytes behind it; None where no line feed is there.
+fn next_line(text: &[u8]) -> Option<(&[u8], &[u8])>
+    ensures found { IfSome result (λ split.
+        IsOneLine split.0.now × (text.now ≡ split.0.now ++ 10 ∷ split.1.now)) }
+    ensures none { IsNone result → IsOneLine text.now }
+{
+    let at = memchr(b'\n', text)?;
+    Some((&text[..at], &text[at + 1..]))
+}

@@ -1,0 +1,3 @@
+mod Drawn
+mod Draws
+mod Progress

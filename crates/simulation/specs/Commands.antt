@@ -1,0 +1,82 @@
+-- What the commands of a schedule do, one after the other.
+use Rattle.std.specs.Prelude.{◌≡◌, ℕ, List, [], ◌∷◌, ◌++◌, Some, slice_get, take}
+use Rattle.core_unit.specs.declared.outcome.Outcome.{Outcome}
+use Rattle.schedule.specs.declared.command.Command.{Command}
+use Rattle.schedule.specs.declared.command.Command.TheVariants as command
+use Rattle.tardis_core.specs.Machine.{slice_number}
+use Rattle.tardis_core.specs.Parts.{CoreParts}
+use Rattle.tardis_core.specs.Rounds.{IsCauseOf, IsFinished, IsFinishFault, IsOpFault, IsOpIfLeft, IsRefusedRound, IsRound, Makes}
+use Rattle.tardis_core.specs.Runs.{MayRefuse}
+use Rattle.tardis_core.specs.Steps.{step_outcome}
+use Rattle.tardis_core.specs.declared.event.Event.{Event}
+use Rattle.tardis_core.specs.declared.event.Event.TheVariants as event
+use Rattle.tardis_core.specs.declared.fault.CoreFault.{CoreFault}
+use Rattle.tardis_core.specs.declared.rounds.fault.RoundFault.{RoundFault}
+use Rattle.simulation.specs.declared.fault.SimulationFault.{SimulationFault}
+use Rattle.simulation.specs.declared.fault.SimulationFault.TheVariants.{Core, Slice}
+
+-- ---- a command
+
+-- the event leads from p to q, with whatever outcome
+abbrev pub Happens : CoreParts → Event → CoreParts → Type 0
+Happens p e q = (o : Outcome) × Makes p e o q
+
+-- the command leads from p to q
+abbrev pub Obeys : CoreParts → Command → CoreParts → Type 0
+Obeys p (command.Turn c) q = Happens p (event.Turn c) q
+Obeys p (command.Serve c) q = Happens p (event.Serve c) q
+Obeys p (command.Take c) q = Happens p (event.Take c) q
+Obeys p (command.Recall x) q = Happens p (event.Recall x.owner x) q
+Obeys p (command.Evict c a) q = Happens p (event.Evict c a) q
+Obeys p (command.Spill a) q = Happens p (event.Spill a) q
+Obeys p (command.Bump c) q = Happens p (event.Increment c) q
+Obeys p (command.Round c) q = IsRound c p q
+Obeys p (command.Op c) q = IsOpIfLeft c p q
+Obeys p (command.Finish c) q = IsFinished c p q
+
+-- ---- a command that is refused
+
+-- a core's fault is this
+abbrev pub IsOfCore : (RoundFault → Type 0) → SimulationFault → Type 0
+IsOfCore IsFault fault = (r : RoundFault) × (fault ≡ Core r) × IsFault r
+
+-- core c's event is refused in p
+abbrev pub IsRefusedEvent : CoreParts → Event → ℕ → RoundFault → Type 0
+IsRefusedEvent p e c fault = (fault.core ≡ c) × IsCauseOf (step_outcome p e) fault.fault
+
+abbrev pub IsRefusedAt : CoreParts → Event → ℕ → CoreParts → SimulationFault → Type 0
+IsRefusedAt p e c q fault = (q ≡ p) × IsOfCore (IsRefusedEvent p e c) fault
+
+-- the spill of address a is refused in p
+abbrev pub IsRefusedSpill : CoreParts → ℕ → SimulationFault → Type 0
+IsRefusedSpill p a fault = (cause : CoreFault) × (fault ≡ Slice (slice_number p.config a) cause) × MayRefuse (step_outcome p (event.Spill a)) cause
+
+-- the command led from p to q, where it is refused so
+abbrev pub IsRefusedCommand : CoreParts → Command → CoreParts → SimulationFault → Type 0
+IsRefusedCommand p (command.Turn c) q fault = IsRefusedAt p (event.Turn c) c q fault
+IsRefusedCommand p (command.Serve c) q fault = IsRefusedAt p (event.Serve c) c q fault
+IsRefusedCommand p (command.Take c) q fault = IsRefusedAt p (event.Take c) c q fault
+IsRefusedCommand p (command.Recall x) q fault = IsRefusedAt p (event.Recall x.owner x) x.owner q fault
+IsRefusedCommand p (command.Evict c a) q fault = IsRefusedAt p (event.Evict c a) c q fault
+IsRefusedCommand p (command.Spill a) q fault = (q ≡ p) × IsRefusedSpill p a fault
+IsRefusedCommand p (command.Bump c) q fault = IsRefusedAt p (event.Increment c) c q fault
+IsRefusedCommand p (command.Round c) q fault = IsOfCore (IsRefusedRound c p q) fault
+IsRefusedCommand p (command.Op c) q fault = IsOfCore (IsOpFault c p q) fault
+IsRefusedCommand p (command.Finish c) q fault = IsOfCore (IsFinishFault c p q) fault
+
+-- ---- commands one after the other
+
+-- the commands lead, one by one, from p to the last state
+pub data Follows (p : CoreParts) : List Command → CoreParts → Type 0 where
+  no_command : Follows p [] p
+  one_more : (commands : List Command) (command : Command) (q t : CoreParts) → Follows p commands q → Obeys q command t →
+      Follows p (commands ++ command ∷ []) t
+
+-- the commands before one lead from p to where it begins, and it is refused in q
+pub record IsUnfollowed (p : CoreParts) (commands : List Command) (q : CoreParts) (fault : SimulationFault) : Type 0 where
+  pub at : ℕ
+  pub command : Command
+  pub stands : slice_get commands at ≡ Some command
+  pub between : CoreParts
+  pub followed : Follows p (take at commands) between
+  pub refused : IsRefusedCommand between command q fault

@@ -1,0 +1,5 @@
+pub mod Commands
+pub mod Drawing
+pub mod Faults
+pub mod Finishing
+pub mod Simulating

@@ -1,0 +1,32 @@
+-- A whole simulation.
+use Rattle.std.specs.Prelude.{◌⊎◌, ℕ, List, Option, None, Some}
+use Rattle.schedule.specs.declared.command.Command.{Command}
+use Rattle.tardis_core.specs.Parts.{CoreParts}
+use Rattle.simulation.specs.Commands.{Follows, IsUnfollowed}
+use Rattle.simulation.specs.Drawing.{IsDrawFault, IsDrawnOut}
+use Rattle.simulation.specs.Finishing.{FinishesAll, IsUnfinished}
+use Rattle.simulation.specs.declared.fault.SimulationFault.{SimulationFault}
+
+-- behind the schedule all cores come to their ends: by the draws of a seed, or without one in their order
+abbrev pub IsEnded : Option ℕ → CoreParts → CoreParts → Type 0
+IsEnded None p q = FinishesAll p q
+IsEnded (Some seed) p q = IsDrawnOut seed p q
+
+abbrev pub IsUnended : Option ℕ → CoreParts → CoreParts → SimulationFault → Type 0
+IsUnended None p q fault = IsUnfinished p q fault
+IsUnended (Some seed) p q fault = IsDrawFault seed p q fault
+
+-- the schedule's commands and then the ends of all cores lead from p to q
+pub record IsSimulated (commands : List Command) (seed : Option ℕ) (p q : CoreParts) : Type 0 where
+  pub between : CoreParts
+  pub followed : Follows p commands between
+  pub ended : IsEnded seed between q
+
+-- the simulation comes to q, where a command is refused, or the cores don't come to their ends
+pub record IsUnendedBehind (commands : List Command) (seed : Option ℕ) (p q : CoreParts) (fault : SimulationFault) : Type 0 where
+  pub between : CoreParts
+  pub followed : Follows p commands between
+  pub unended : IsUnended seed between q fault
+
+abbrev pub IsSimulationFault : List Command → Option ℕ → CoreParts → CoreParts → SimulationFault → Type 0
+IsSimulationFault commands seed p q fault = IsUnfollowed p commands q fault ⊎ IsUnendedBehind commands seed p q fault

@@ -1,0 +1,92 @@
+//! Rounds of drawn cores.
+
+ghost use Rattle.std.specs.Prelude.{◌≡◌, ◌<◌, ◌≤◌, ◌⊎◌, length, slice_set, IfErr, OnOk, MatchResult};
+ghost use Rattle.simulation.specs.Drawing.{IsDrawFault, IsDrawnOut, cores_left, waited};
+ghost use Rattle.tardis_core.specs.Parts.{world};
+ghost use Rattle.tardis_core.specs.Rounds.{IsRefusedRound, IsRound};
+ghost use Rattle.tardis_core.specs.Works.{log_at};
+ghost use Rattle.tardis_core.specs.declared.rounds.fault.RoundCause.TheVariants.{GaveUp};
+
+use super::fault::SimulationFault;
+use mem_op::CoreId;
+use rand_core::SeedableRng;
+use rand_pcg::Pcg32;
+use std::alloc::{AllocError, Global};
+use tardis_core::Core;
+use tardis_core::rounds::{RoundCause, RoundFault, has_next, pick, round};
+
+/// After so many rounds that were drawn for it since its last operation a core gives up.
+const MOST_ROUNDS: u16 = 1_000;
+
+/// Draws a core with an operation left for each round, until none is left.
+pub(crate) fn draw_out(alloc: Global, machine: &mut Core, seed: u64) -> Result<(), SimulationFault>
+    ensures { MatchResult result
+        (λ _. IsDrawnOut seed machine.old machine.new)
+        (λ fault. IsDrawFault seed machine.old machine.new fault) }
+{
+    let mut generator = Pcg32::seed_from_u64(seed);
+    let mut waits = [0; 64];
+    let mut left = Vec::new(alloc);
+    list_cores_left(machine, &mut left)?;
+    while !left.is_empty() {
+        let core = pick(&mut generator, left.as_slice());
+        drawn_round(machine, core, &mut waits)?;
+        list_cores_left(machine, &mut left)?;
+    }
+    Ok(())
+}
+
+/// Makes a round of a core that was drawn: 30 GaveUp where it is its 1,000th since its last
+/// operation and brings none.
+fn drawn_round(machine: &mut Core, core: CoreId, waits: &mut [u16; 64]) -> Result<(), RoundFault>
+    ensures round { OnOk result (IsRound core machine.old machine.new) }
+    ensures waits { OnOk result
+        (waits.new ≡ slice_set waits.old core (waited waits.old core machine.old machine.new)) }
+    ensures few { OnOk result (waited waits.old core machine.old machine.new < 1000) }
+    ensures fault { IfErr result (λ fault. IsRefusedRound core machine.old machine.new fault
+        ⊎ (IsRound core machine.old machine.new
+        × (1000 ≤ waited waits.old core machine.old machine.new)
+        × (fault ≡ record { core = core; fault = GaveUp }))) }
+{
+    let before = performed(machine, core);
+    round(machine, core)?;
+    let wait = &mut waits[core.get() as usize];
+    if before < performed(machine, core) {
+        *wait = 0;
+        return Ok(());
+    }
+    if *wait >= MOST_ROUNDS - 1 {
+        return Err(RoundFault {
+            core,
+            fault: RoundCause::GaveUp,
+        });
+    }
+    *wait += 1;
+    Ok(())
+}
+
+/// How many operations a core has performed.
+fn performed(machine: &Core, core: CoreId) -> usize
+    ensures { result ≡ length (log_at (world machine.now) core) }
+{
+    let Some(unit) = machine.unit(core) else {
+        return 0;
+    };
+    unit.log().len()
+}
+
+/// Makes a list that of the cores that haven't ended, in ascending order.
+fn list_cores_left(machine: &Core, left: &mut Vec<CoreId>) -> Result<(), AllocError>
+    ensures { OnOk result (left.new.items ≡ cores_left (world machine.now)) }
+{
+    left.clear();
+    for number in 0..64 {
+        let Ok(core) = CoreId::new(number) else {
+            unreachable!()
+        };
+        if has_next(machine, core) {
+            left.push(core)?;
+        }
+    }
+    Ok(())
+}

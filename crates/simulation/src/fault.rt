@@ -1,0 +1,62 @@
+//! Why a simulation isn't ended.
+
+ghost use Rattle.std.specs.Prelude.{◌≡◌};
+ghost use Rattle.simulation.specs.declared.fault.SimulationFault.TheVariants.{Core, OutOfMemory};
+
+use core_unit::UnitFault;
+use manager_slice::SliceFault;
+use std::alloc::AllocError;
+use std::fmt;
+use std::fmt::Display;
+use tardis_core::CoreFault;
+use tardis_core::rounds::RoundFault;
+use thiserror::Error;
+
+/// Why a simulation isn't ended.
+#[derive(Clone, Copy, Debug, PartialEq, Eq, Error)]
+pub enum SimulationFault {
+    /// An event of a core is refused, or 30 GaveUp: 1,000 rounds of it brought no operation.
+    Core(RoundFault),
+    /// The spill of a slice of this number is refused.
+    Slice { number: usize, fault: CoreFault },
+    /// A growth was refused beside the machine.
+    OutOfMemory,
+}
+
+impl Display for SimulationFault {
+    ghost use Rattle.std.specs.Prelude.{Some};
+    ghost use Rattle.simulation.specs.Faults.{fault_text};
+
+    ghost output = { λ fault. Some (fault_text fault) };
+
+    fn fmt<W: fmt::Write>(&self, f: &mut fmt::Formatter<W>) -> fmt::Result {
+        match self {
+            SimulationFault::Core(stopped) => {
+                write!(f, "core {}: {}", stopped.core.get(), stopped.fault)
+            }
+            SimulationFault::Slice {
+                fault: CoreFault::Unit(UnitFault::OutOfMemory)
+                | CoreFault::Slice(SliceFault::OutOfMemory),
+                ..
+            } => f.write_str("10 OutOfMemory"),
+            SimulationFault::Slice { number, fault } => write!(f, "slice {number}: {fault}"),
+            SimulationFault::OutOfMemory => f.write_str("10 OutOfMemory"),
+        }
+    }
+}
+
+impl From<RoundFault> for SimulationFault {
+    ghost from_gives = { λ reason fault. fault ≡ Core reason };
+
+    fn from(reason: RoundFault) -> SimulationFault {
+        SimulationFault::Core(reason)
+    }
+}
+
+impl From<AllocError> for SimulationFault {
+    ghost from_gives = { λ _ fault. fault ≡ OutOfMemory };
+
+    fn from(_refused: AllocError) -> SimulationFault {
+        SimulationFault::OutOfMemory
+    }
+}

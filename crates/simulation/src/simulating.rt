@@ -1,0 +1,41 @@
+//! A whole simulation.
+
+ghost use Rattle.std.specs.Prelude.{MatchResult};
+ghost use Rattle.simulation.specs.Simulating.{IsEnded, IsSimulated, IsSimulationFault, IsUnended};
+
+use super::commands::follow;
+use super::drawing::draw_out;
+use super::fault::SimulationFault;
+use super::finishing::finish_all;
+use schedule::Command;
+use std::alloc::Global;
+use tardis_core::Core;
+
+/// Does what the commands say, and then takes all cores to the ends of their programs: by rounds of
+/// cores that are drawn with a seed, or without one core 0 first, then core 1, and so on. The first
+/// refusal ends it, and what was done before stands.
+pub fn simulate(
+    alloc: Global,
+    machine: &mut Core,
+    commands: &[Command],
+    seed: Option<u64>,
+) -> Result<(), SimulationFault>
+    ensures { MatchResult result
+        (λ _. IsSimulated commands.now seed machine.old machine.new)
+        (λ fault. IsSimulationFault commands.now seed machine.old machine.new fault) }
+{
+    follow(machine, commands)?;
+    end_all(alloc, machine, seed)
+}
+
+/// Takes all cores to the ends of their programs.
+fn end_all(alloc: Global, machine: &mut Core, seed: Option<u64>) -> Result<(), SimulationFault>
+    ensures { MatchResult result
+        (λ _. IsEnded seed machine.old machine.new)
+        (λ fault. IsUnended seed machine.old machine.new fault) }
+{
+    match seed {
+        Some(seed) => draw_out(alloc, machine, seed),
+        None => finish_all(machine),
+    }
+}

@@ -1,0 +1,117 @@
+-- What the running of programs answers.
+use Rattle.std.specs.Prelude.{◌≡◌, ◌<◌, ⊤, ℕ, zero, suc, ◌+◌, List, [], length, Option, None, Some, Result, Ok, Err, IsSome, slice_get}
+use Rattle.std.specs.Option.{option_map_or}
+use Rattle.std.specs.Borrow.{Bor}
+use Rattle.command_line.specs.declared.request.Sim.{Sim}
+use Rattle.lease_rule.specs.ConfigParts.{ConfigParts}
+use Rattle.lease_rule.specs.Ranges.{first_bad}
+use Rattle.core_program.specs.Answers.{SpellsSet}
+use Rattle.core_program.specs.declared.instruction.Instruction.{Instruction}
+use Rattle.log_file.specs.Devices.{Tells}
+use Rattle.schedule.specs.Answers.{IsFault as IsScheduleFault, Spells as SpellsSchedule}
+use Rattle.schedule.specs.declared.command.Command.{Command}
+use Rattle.schedule.specs.declared.fault.ScheduleFault.{ScheduleFault}
+use Rattle.tardis_core.specs.Machine.{World}
+use Rattle.tardis_core.specs.Opening.{opening_parts}
+use Rattle.tardis_core.specs.Parts.{CoreParts, world}
+use Rattle.simulation.specs.Simulating.{IsSimulated, IsSimulationFault}
+use Rattle.verdict.specs.declared.judge_fault.JudgeFault.TheVariants.{BadConfig, Log, Read, OutOfMemory}
+use Rattle.tardis_command.specs.Checking.{IsTextFault}
+use Rattle.tardis_command.specs.declared.fault.CommandFault.{CommandFault}
+use Rattle.tardis_command.specs.declared.fault.CommandFault.TheVariants.{Judge, Config, Programs, ProgramsUnread, Schedule, ScheduleUnread, Simulation, LogUnwritten, Output}
+
+-- ---- what was asked for
+
+-- the numbers of the machine; the turns are those that are left to it
+abbrev pub config_of : Sim → ConfigParts
+config_of asked = record {
+  slices = asked.limits.slices;
+  lease = asked.limits.lease;
+  period = asked.limits.period;
+  cache_lines = asked.limits.cache_lines;
+  slice_lines = asked.limits.slice_lines;
+  inbox = asked.limits.inbox;
+  turns = 10000000;
+}
+
+-- these are the programs in the file of this name
+abbrev pub AreProgramsIn : (List ℕ → Option (List ℕ)) → List ℕ → List (List Instruction) → Type 0
+AreProgramsIn told name programs = (text : List ℕ) × Tells (told name) text × SpellsSet text programs
+
+-- the commands that the text of the schedule spells for so many cores; none where no schedule was given
+abbrev pub AreCommandsOf : (List ℕ → Option (List ℕ)) → Option (Bor (List ℕ)) → ℕ → List Command → Type 0
+AreCommandsOf told None cores commands = commands ≡ []
+AreCommandsOf told (Some name) cores commands = (text : List ℕ) × Tells (told name.now) text × SpellsSchedule cores text commands
+
+-- why the text of the schedule is none for so many cores
+abbrev pub IsFaultOfSchedule : (List ℕ → Option (List ℕ)) → Option (Bor (List ℕ)) → ℕ → ScheduleFault → Type 0
+IsFaultOfSchedule told None cores fault = ⊥
+IsFaultOfSchedule told (Some name) cores fault = (text : List ℕ) × Tells (told name.now) text × IsScheduleFault cores text fault
+
+-- why there is no schedule: the text of its file, or it can't be read, or memory ran out
+abbrev pub IsUnscheduled : (List ℕ → Option (List ℕ)) → Option (Bor (List ℕ)) → ℕ → CommandFault → Type 0
+IsUnscheduled told name cores (Schedule fault) = IsFaultOfSchedule told name cores fault
+IsUnscheduled told name cores ScheduleUnread = IsSome name
+IsUnscheduled told name cores (Judge fault) = fault ≡ OutOfMemory
+IsUnscheduled told name cores (Config fault) = ⊥
+IsUnscheduled told name cores (Programs fault) = ⊥
+IsUnscheduled told name cores ProgramsUnread = ⊥
+IsUnscheduled told name cores (Simulation fault) = ⊥
+IsUnscheduled told name cores (LogUnwritten file) = ⊥
+IsUnscheduled told name cores Output = ⊥
+
+-- ---- what it came to
+
+-- how many operations core c has performed
+abbrev pub performed_by : World → ℕ → ℕ
+performed_by w c = option_map_or (λ u. length u.log) (slice_get w.cores c) 0
+
+-- how many the first cores have performed, so many of them
+abbrev pub performed_below : World → ℕ → ℕ
+performed_below w zero = 0
+performed_below w (suc c) = performed_below w c + performed_by w c
+
+-- a log of so many can't be written, or memory ran out
+abbrev pub IsUnwritten : ℕ → CommandFault → Type 0
+IsUnwritten cores (LogUnwritten file) = file < cores
+IsUnwritten cores (Judge fault) = fault ≡ OutOfMemory
+IsUnwritten cores (Config fault) = ⊥
+IsUnwritten cores (Programs fault) = ⊥
+IsUnwritten cores ProgramsUnread = ⊥
+IsUnwritten cores (Schedule fault) = ⊥
+IsUnwritten cores ScheduleUnread = ⊥
+IsUnwritten cores (Simulation fault) = ⊥
+IsUnwritten cores Output = ⊥
+
+-- the configuration is in range, and something holds of the programs
+abbrev pub Programmed : (List ℕ → Option (List ℕ)) → Sim → (List (List Instruction) → Type 0) → Type 0
+Programmed told asked Holds = (first_bad (config_of asked) ≡ None) × (programs : List (List Instruction)) × AreProgramsIn told asked.programs.now programs × Holds programs
+
+-- and of the machine to which the simulation of their schedule led
+abbrev pub Scheduled : (List ℕ → Option (List ℕ)) → Sim → (List (List Instruction) → List Command → Type 0) → Type 0
+Scheduled told asked Holds =
+    Programmed told asked (λ programs. (commands : List Command) × AreCommandsOf told asked.schedule (length programs) commands × Holds programs commands)
+
+-- the simulation ended in a machine of which this holds
+abbrev pub EndsIn : Sim → List (List Instruction) → List Command → (CoreParts → Type 0) → Type 0
+EndsIn asked programs commands Holds = (q : CoreParts) × IsSimulated commands asked.seed (opening_parts programs (config_of asked)) q × Holds q
+
+-- The number of operations that the programs performed, or why there is none. The configuration is looked at first, then
+-- the programs, then the schedule; what a simulation is refused for is told before a log that can't be written.
+abbrev pub IsRun : (List ℕ → Option (List ℕ)) → Sim → Result ℕ CommandFault → Type 0
+IsRun told asked (Ok count) =
+    Scheduled told asked (λ programs commands. EndsIn asked programs commands (λ q. count ≡ performed_below (world q) (length programs)))
+IsRun told asked (Err (Config fault)) = first_bad (config_of asked) ≡ Some fault
+IsRun told asked (Err (Programs fault)) = (first_bad (config_of asked) ≡ None) × IsTextFault told asked.programs.now fault
+IsRun told asked (Err ProgramsUnread) = first_bad (config_of asked) ≡ None
+IsRun told asked (Err (Schedule fault)) = Programmed told asked (λ programs. IsFaultOfSchedule told asked.schedule (length programs) fault)
+IsRun told asked (Err ScheduleUnread) = Programmed told asked (λ programs. IsSome asked.schedule)
+IsRun told asked (Err (Simulation fault)) =
+    Scheduled told asked (λ programs commands. (q : CoreParts) × IsSimulationFault commands asked.seed (opening_parts programs (config_of asked)) q fault)
+IsRun told asked (Err (LogUnwritten file)) =
+    Scheduled told asked (λ programs commands. EndsIn asked programs commands (λ q. file < length programs))
+IsRun told asked (Err (Judge OutOfMemory)) = ⊤
+IsRun told asked (Err (Judge (BadConfig count))) = ⊥
+IsRun told asked (Err (Judge (Log file line fault))) = ⊥
+IsRun told asked (Err (Judge (Read file))) = ⊥
+IsRun told asked (Err Output) = ⊥

@@ -1,0 +1,43 @@
+//! What a command comes to.
+
+ghost use Rattle.std.specs.Prelude.{◌≡◌};
+ghost use Rattle.tardis_command.specs.Answers.{answer_status};
+
+use std::fmt;
+use std::fmt::Display;
+use verdict::Verdict;
+
+/// What a command comes to.
+#[derive(Clone, Copy, Debug, PartialEq, Eq)]
+pub enum Answer {
+    /// The verdict on a set of logs.
+    Judged(Verdict),
+    /// Programs were run to their ends, and have performed so many operations.
+    Done(u64),
+}
+
+impl Answer {
+    /// The exit status: 1 for No, else 0.
+    pub fn status(&self) -> u8
+        ensures { result ≡ answer_status self.now }
+    {
+        match self {
+            Answer::Judged(Verdict::No(_)) => 1,
+            Answer::Judged(Verdict::Yes(_)) | Answer::Done(_) => 0,
+        }
+    }
+}
+
+impl Display for Answer {
+    ghost use Rattle.std.specs.Prelude.{Some};
+    ghost use Rattle.tardis_command.specs.Answers.{answer_text};
+
+    ghost output = { λ answer. Some (answer_text answer) };
+
+    fn fmt<W: fmt::Write>(&self, f: &mut fmt::Formatter<W>) -> fmt::Result {
+        match self {
+            Answer::Judged(verdict) => write!(f, "{verdict}"),
+            Answer::Done(operations) => write!(f, "done: {operations} operations"),
+        }
+    }
+}

@@ -1,0 +1,154 @@
+//! Programs run on the core machine.
+
+ghost use Rattle.std.specs.Prelude.{◌≡◌, ◌≤◌, ◌<◌, length, IfErr, IfOk, MatchResult, None, Some};
+ghost use Rattle.lease_rule.specs.Ranges.{first_bad};
+ghost use Rattle.tardis_core.specs.Parts.{world};
+ghost use Rattle.tardis_command.specs.Simulating as simulating;
+
+use crate::fault::CommandFault;
+use crate::folder::Folder;
+use crate::text::{read_programs, read_text};
+use command_line::Sim;
+use lease_rule::{BadConfig, Config};
+use log_file::{MemSink, ReadFault, write_log};
+use log_record::Record;
+use mem_op::CoreId;
+use schedule::{Command, parse};
+use simulation::simulate;
+use std::alloc::Global;
+use tardis_core::Core;
+use verdict::JudgeFault;
+
+/// How many turns a core has for an operation, where it runs as a thread; a simulation has no use
+/// for them.
+const TURNS: u64 = 10_000_000;
+
+/// Runs the programs in a file of the folder by a schedule and then to their ends, and writes the log
+/// of each core, also where a fault ends the run. The number of operations that were performed, or
+/// why there is none.
+pub(crate) fn run<F: Folder>(
+    alloc: Global,
+    folder: &mut F,
+    asked: &Sim<'_>,
+) -> Result<u64, CommandFault>
+    ensures { simulating.IsRun (F.told folder.old) asked.now result }
+{
+    let config = config_of(asked)?;
+    let programs = read_programs(alloc, folder, asked.programs)?;
+    let commands = read_schedule(alloc, folder, asked.schedule, programs.len())?;
+    let Ok(mut machine) = Core::new(alloc, &programs, &config) else {
+        return Err(CommandFault::Judge(JudgeFault::OutOfMemory));
+    };
+    let ended = simulate(alloc, &mut machine, commands.as_slice(), asked.seed);
+    let written = write_logs(alloc, folder, asked.out, &machine, programs.len());
+    ended?;
+    written
+}
+
+/// The configuration that was asked for.
+fn config_of(asked: &Sim<'_>) -> Result<Config, BadConfig>
+    ensures { MatchResult result
+        (λ config. (config ≡ simulating.config_of asked.now)
+        × (first_bad (simulating.config_of asked.now) ≡ None))
+        (λ fault. first_bad (simulating.config_of asked.now) ≡ Some fault) }
+{
+    Config::new(
+        asked.limits.slices,
+        asked.limits.lease,
+        asked.limits.period,
+        asked.limits.cache_lines,
+        asked.limits.slice_lines,
+        asked.limits.inbox,
+        TURNS,
+    )
+}
+
+/// The commands in a file of the folder, for so many cores; none where no name is given.
+fn read_schedule<F: Folder>(
+    alloc: Global,
+    folder: &F,
+    name: Option<&str>,
+    cores: usize,
+) -> Result<Vec<Command>, CommandFault>
+    requires { cores ≤ 64 }
+    ensures ok { IfOk result (λ commands.
+        simulating.AreCommandsOf (F.told folder.now) name.entry cores commands.items) }
+    ensures err { IfErr result (simulating.IsUnscheduled (F.told folder.now) name.entry cores) }
+{
+    let Some(name) = name else {
+        return Ok(Vec::new(alloc));
+    };
+    let text = match read_text(alloc, folder, name) {
+        Ok(text) => text,
+        Err(ReadFault::Read) => return Err(CommandFault::ScheduleUnread),
+        Err(ReadFault::OutOfMemory) => {
+            return Err(CommandFault::Judge(JudgeFault::OutOfMemory));
+        }
+    };
+    let commands = parse(alloc, text.as_slice(), cores)?;
+    Ok(commands)
+}
+
+/// Writes the log of each core, of so many, and answers how many operations they have performed. The
+/// first log that can't be written ends it.
+fn write_logs<F: Folder>(
+    alloc: Global,
+    folder: &mut F,
+    out: &str,
+    machine: &Core,
+    cores: usize,
+) -> Result<u64, CommandFault>
+    requires { cores ≤ 64 }
+    ensures ok { IfOk result (λ count.
+        count ≡ simulating.performed_below (world machine.now) cores) }
+    ensures err { IfErr result (simulating.IsUnwritten cores) }
+{
+    let mut count = 0;
+    for number in 0..cores {
+        let Ok(core) = CoreId::new(number as u64) else {
+            unreachable!()
+        };
+        let records = log_of(machine, core);
+        write_log_of(alloc, folder, out, core, cores, records)?;
+        count += records.len() as u64;
+    }
+    Ok(count)
+}
+
+/// The records of a core.
+fn log_of(machine: &Core, core: CoreId) -> &[Record]
+    ensures performed { length result.now ≡ simulating.performed_by (world machine.now) core }
+    ensures few { length result.now ≤ 1048576 }
+{
+    let Some(unit) = machine.unit(core) else {
+        return &[];
+    };
+    unit.log()
+}
+
+/// Writes the log of a core, of so many: its name is that of the logs, a dot and the core's number.
+fn write_log_of<F: Folder>(
+    alloc: Global,
+    folder: &mut F,
+    out: &str,
+    core: CoreId,
+    cores: usize,
+    records: &[Record],
+) -> Result<(), CommandFault>
+    requires core { core < cores }
+    requires cores { cores ≤ 64 }
+    requires few { length records.now ≤ 1048576 }
+    ensures err { IfErr result (simulating.IsUnwritten cores) }
+{
+    let name = format!(in alloc; "{out}.{}", core.get())?;
+    let mut text = MemSink::new(alloc, &[]);
+    if write_log(alloc, &mut text, core, cores as u64, records).is_err() {
+        return Err(CommandFault::Judge(JudgeFault::OutOfMemory));
+    }
+    match folder.put(name.as_str(), text.bytes()) {
+        Ok(()) => Ok(()),
+        Err(_) => Err(CommandFault::LogUnwritten {
+            file: core.get() as usize,
+        }),
+    }
+}

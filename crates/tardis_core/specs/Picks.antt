@@ -1,0 +1,16 @@
+-- Draws of a core by a generator.
+use Rattle.std.specs.Prelude.{◌≡◌, ℕ, ◌%◌, List, length, Some, slice_get}
+use Rattle.rand_pcg.specs.Lcg.{Lcg}
+use Rattle.rand_pcg.specs.Pcg.{pcg32}
+
+-- a generator's next word
+abbrev pub word : Lcg → ℕ
+word g = (pcg32 g).0
+
+-- the generator behind it
+abbrev pub one_word_on : Lcg → Lcg
+one_word_on g = (pcg32 g).1
+
+-- the word modulo the count is where the core stands among these
+abbrev pub IsPick : Lcg → List ℕ → ℕ → Type 0
+IsPick g cores core = slice_get cores (word g % length cores) ≡ Some core

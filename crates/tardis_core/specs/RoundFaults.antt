@@ -1,0 +1,9 @@
+-- The texts of the faults of rounds: a number and a name.
+use Rattle.std.specs.Prelude.{ℕ, List, codes}
+use Rattle.tardis_core.specs.Faults as core
+use Rattle.tardis_core.specs.declared.rounds.fault.RoundCause.{RoundCause}
+use Rattle.tardis_core.specs.declared.rounds.fault.RoundCause.TheVariants as cause
+
+abbrev pub cause_text : RoundCause → List ℕ
+cause_text cause.GaveUp = codes "30 GaveUp"
+cause_text (cause.Core fault) = core.fault_text fault

@@ -1,0 +1,53 @@
+-- How far each core of the machine has come, as those see it who make its events.
+use Rattle.std.specs.Prelude.{◌≡◌, ℕ, ◌-◌, ◌<◌, Bool, true, false, List, [], ◌∷◌, ◌++◌, length, Option, Some, None, is_some, slice_get}
+use Rattle.std.specs.Option.{option_map_or}
+use Rattle.line_stamps.specs.declared.message.Message.{Message}
+use Rattle.line_stamps.specs.declared.message.Reply.{Reply}
+use Rattle.log_record.specs.declared.record.Record.{Record}
+use Rattle.core_unit.specs.Core.{next_of}
+use Rattle.tardis_core.specs.Machine.{World}
+use Rattle.tardis_core.specs.declared.rounds.hand.Hand.{Hand}
+use Rattle.tardis_core.specs.declared.rounds.hand.Hand.TheVariants as hand
+
+-- ---- what core c has in hand
+
+abbrev pub hand_of : Option Message → Option Reply → Hand
+hand_of None kept = hand.Empty
+hand_of (Some m) None = hand.Asking
+hand_of (Some m) (Some x) = hand.Answered
+
+abbrev pub hand_at : World → ℕ → Hand
+hand_at w c = option_map_or (λ u. hand_of u.hand u.kept) (slice_get w.cores c) hand.Absent
+
+-- ---- its operations
+
+-- an operation of core c is left; none is where its program has ended or the core isn't there
+abbrev pub has_next : World → ℕ → Bool
+has_next w c = option_map_or (λ u. is_some (next_of u)) (slice_get w.cores c) false
+
+-- the operations that core c has performed; none where it isn't there
+abbrev pub log_at : World → ℕ → List Record
+log_at w c = option_map_or (λ u. u.log) (slice_get w.cores c) []
+
+-- how many instructions of core c are left
+abbrev pub left_at : World → ℕ → ℕ
+left_at w c = option_map_or (λ u. length u.program - u.state.position) (slice_get w.cores c) 0
+
+-- from w to t core c performed one operation; then it has no message in hand
+pub record HasPerformed (c : ℕ) (w t : World) : Type 0 where
+  pub had_next : has_next w c ≡ true
+  pub made : Record
+  pub log : log_at t c ≡ log_at w c ++ made ∷ []
+  pub left : left_at t c < left_at w c
+  pub hand : hand_at t c ≡ hand.Empty
+
+-- from w to t it performed none
+pub record SameWork (c : ℕ) (w t : World) : Type 0 where
+  pub next : has_next t c ≡ has_next w c
+  pub log : log_at t c ≡ log_at w c
+  pub left : left_at t c ≡ left_at w c
+
+-- whether it performed one
+abbrev pub Worked : ℕ → Bool → World → World → Type 0
+Worked c false w t = SameWork c w t
+Worked c true w t = HasPerformed c w t

@@ -1,0 +1,14 @@
+//! Rounds: how a core's operations are performed one after another, each by the events that are due.
+
+mod draw;
+mod fault;
+mod hand;
+mod ops;
+mod stages;
+#[cfg(test)]
+mod tests;
+
+pub use draw::pick;
+pub use fault::{RoundCause, RoundFault};
+pub use hand::has_next;
+pub use ops::{finish, op, round};

@@ -1,0 +1,39 @@
+//! Why a round, an operation or a program isn't ended.
+
+use crate::fault::CoreFault;
+use mem_op::CoreId;
+use std::fmt;
+use std::fmt::Display;
+use thiserror::Error;
+
+/// Why a round, an operation or a program isn't ended.
+#[derive(Clone, Copy, Debug, PartialEq, Eq, Error)]
+pub enum RoundCause {
+    /// The core made 1,000 rounds for one operation.
+    GaveUp,
+    /// An event is refused.
+    Core(CoreFault),
+}
+
+impl Display for RoundCause {
+    ghost use Rattle.std.specs.Prelude.{Some};
+    ghost use Rattle.tardis_core.specs.RoundFaults.{cause_text};
+
+    ghost output = { λ cause. Some (cause_text cause) };
+
+    fn fmt<W: fmt::Write>(&self, f: &mut fmt::Formatter<W>) -> fmt::Result {
+        match self {
+            RoundCause::GaveUp => f.write_str("30 GaveUp"),
+            RoundCause::Core(fault) => write!(f, "{fault}"),
+        }
+    }
+}
+
+/// Whose event or operation it is that isn't ended, and why.
+#[derive(Clone, Copy, Debug, PartialEq, Eq)]
+pub struct RoundFault {
+    /// The core whose event is refused, or that gave up.
+    pub core: CoreId,
+    /// Why.
+    pub fault: RoundCause,
+}
