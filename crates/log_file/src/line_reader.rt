@@ -1,6 +1,6 @@
 //! A log read line by line.
 
-ghost use Rattle.std.specs.Prelude.{◌≡◌, ◌<◌, ◌≤◌, [], ◌++◌, List, IfOk, IfErr, OnOk, MatchResult};
+ghost use Rattle.std.specs.Prelude.{◌≡◌, ◌<◌, ◌≤◌, [], ◌++◌, List, IfOk, IfErr, OnOk, MatchResult, length};
 ghost use Rattle.log_record.specs.declared.record.Record.{Record};
 ghost use Rattle.log_file.specs.Answers.{IsFaultOf};
 ghost use Rattle.log_file.specs.Log.{Spells};
@@ -32,6 +32,14 @@ pub(crate) struct LineReader {
     progress: Progress,
     /// The bytes of the line that isn't whole yet.
     begun: ArrayVec<u8, LINE_LIMIT>,
+}
+
+/// The bytes that were begun, or else the line.
+fn begun_or<'a>(begun: &'a [u8], line: &'a [u8]) -> &'a [u8]
+    ensures none { begun.now ≡ [] → result.now ≡ line.now }
+    ensures some { 0 < length begun.now → result.now ≡ begun.now }
+{
+    if begun.is_empty() { line } else { begun }
 }
 
 impl LineReader {
@@ -83,11 +91,12 @@ impl LineReader {
             logged self.new.progress) }
         ensures refused { IfErr result (IsLineRefused self.old part.now) }
     {
-        if self.begun.is_empty() {
-            return self.progress.take_line(part);
+        if !self.begun.is_empty() {
+            self.begin(part)?;
         }
-        self.begin(part)?;
-        let logged = self.progress.take_line(self.begun.as_slice())?;
+        let logged = self
+            .progress
+            .take_line(begun_or(self.begun.as_slice(), part))?;
         self.begun.clear();
         Ok(logged)
     }

@@ -1,2 +1,4 @@
 mod Checks
 mod Ends
+mod Logs
+mod Runs

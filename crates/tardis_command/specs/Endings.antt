@@ -1,5 +1,5 @@
 -- How a call of the program ends.
-use Rattle.std.specs.Prelude.{◌≡◌, ◌≤◌, ◌⊎◌, ⊤, ℕ, List, [], ◌∷◌, ◌++◌, Option, Result, Ok, Err, length, take}
+use Rattle.std.specs.Prelude.{◌≡◌, ◌<◌, ◌≤◌, ◌⊎◌, ⊤, ℕ, List, [], ◌∷◌, ◌++◌, Option, Result, Ok, Err, length, take}
 use Rattle.std.specs.Io.KnownBytes.{Appends, Keeps}
 use Rattle.command_line.specs.Asking.{Asks, IsCommandLine}
 use Rattle.command_line.specs.declared.request.Request.{Request}
@@ -9,6 +9,7 @@ use Rattle.verdict.specs.declared.judge_fault.JudgeFault.TheVariants.{OutOfMemor
 use Rattle.tardis_command.specs.Answers.{answer_status, answer_text}
 use Rattle.tardis_command.specs.Checking.{FilesAreConsistent, FilesRunFlat, IsChecked}
 use Rattle.tardis_command.specs.Faults.{command_fault_text, fault_status}
+use Rattle.tardis_command.specs.Logs.{log_name}
 use Rattle.tardis_command.specs.Simulating.{IsRun}
 use Rattle.tardis_command.specs.declared.answer.Answer.{Answer}
 use Rattle.tardis_command.specs.declared.answer.Answer.TheVariants.{Judged, Done}
@@ -43,32 +44,32 @@ complaint_of (Misused text) = text
 
 -- ---- why
 
--- this may be the answer to what was asked, or why there is none
-abbrev pub IsAnswerTo : (List ℕ → Option (List ℕ)) → Request → Result Answer CommandFault → Type 0
-IsAnswerTo told (Check asked) (Ok (Judged verdict)) = IsChecked told asked (Ok verdict)
-IsAnswerTo told (Check asked) (Ok (Done count)) = ⊥
-IsAnswerTo told (Check asked) (Err fault) = IsChecked told asked (Err fault)
-IsAnswerTo told (Sim asked) (Ok (Judged verdict)) = ⊥
-IsAnswerTo told (Sim asked) (Ok (Done count)) = IsRun told asked (Ok count)
-IsAnswerTo told (Sim asked) (Err fault) = IsRun told asked (Err fault)
+-- this may be the answer to what was asked, or why there is none; the folder told `told` before and tells `told'` behind
+abbrev pub IsAnswerTo : (List ℕ → Option (List ℕ)) → (List ℕ → Option (List ℕ)) → Request → Result Answer CommandFault → Type 0
+IsAnswerTo told told' (Check asked) (Ok (Judged verdict)) = IsChecked told asked (Ok verdict)
+IsAnswerTo told told' (Check asked) (Ok (Done count)) = ⊥
+IsAnswerTo told told' (Check asked) (Err fault) = IsChecked told asked (Err fault)
+IsAnswerTo told told' (Sim asked) (Ok (Judged verdict)) = ⊥
+IsAnswerTo told told' (Sim asked) (Ok (Done count)) = IsRun told told' asked (Ok count)
+IsAnswerTo told told' (Sim asked) (Err fault) = IsRun told told' asked (Err fault)
 
 -- what was asked may end so
-abbrev pub IsEndOf : (List ℕ → Option (List ℕ)) → Request → Ending → Type 0
-IsEndOf told asked (Answered answer) = IsAnswerTo told asked (Ok answer)
-IsEndOf told asked (Unprinted answer) = IsAnswerTo told asked (Ok answer)
-IsEndOf told asked (Refused fault) = IsAnswerTo told asked (Err fault)
-IsEndOf told asked (Misused text) = ⊥
+abbrev pub IsEndOf : (List ℕ → Option (List ℕ)) → (List ℕ → Option (List ℕ)) → Request → Ending → Type 0
+IsEndOf told told' asked (Answered answer) = IsAnswerTo told told' asked (Ok answer)
+IsEndOf told told' asked (Unprinted answer) = IsAnswerTo told told' asked (Ok answer)
+IsEndOf told told' asked (Refused fault) = IsAnswerTo told told' asked (Err fault)
+IsEndOf told told' asked (Misused text) = ⊥
 
 -- the words ask for something of which this holds
 abbrev pub AskFor : List (List ℕ) → (Request → Type 0) → Type 0
 AskFor words Holds = (asked : Request) × Asks words asked × Holds asked
 
 -- a call with these words may end so; memory may run out before it is known what they ask for
-abbrev pub IsEnd : (List ℕ → Option (List ℕ)) → List (List ℕ) → Ending → Type 0
-IsEnd told words (Misused text) = ¬ (IsCommandLine words)
-IsEnd told words (Refused fault) = AskFor words (λ asked. IsEndOf told asked (Refused fault)) ⊎ (fault ≡ Judge OutOfMemory)
-IsEnd told words (Answered answer) = AskFor words (λ asked. IsEndOf told asked (Answered answer))
-IsEnd told words (Unprinted answer) = AskFor words (λ asked. IsEndOf told asked (Unprinted answer))
+abbrev pub IsEnd : (List ℕ → Option (List ℕ)) → (List ℕ → Option (List ℕ)) → List (List ℕ) → Ending → Type 0
+IsEnd told told' words (Misused text) = ¬ (IsCommandLine words)
+IsEnd told told' words (Refused fault) = AskFor words (λ asked. IsEndOf told told' asked (Refused fault)) ⊎ (fault ≡ Judge OutOfMemory)
+IsEnd told told' words (Answered answer) = AskFor words (λ asked. IsEndOf told told' asked (Answered answer))
+IsEnd told told' words (Unprinted answer) = AskFor words (λ asked. IsEndOf told told' asked (Unprinted answer))
 
 -- where a check was asked for, its files spell a set whose operations are sequentially consistent
 abbrev pub AreConsistent : (List ℕ → Option (List ℕ)) → Request → Type 0
@@ -79,6 +80,15 @@ AreConsistent told (Sim asked) = ⊤
 abbrev pub RunFlat : (List ℕ → Option (List ℕ)) → Request → Type 0
 RunFlat told (Check asked) = FilesRunFlat told asked
 RunFlat told (Sim asked) = ⊤
+
+-- the name of a log that was asked for
+abbrev pub IsLogName : Request → List ℕ → Type 0
+IsLogName (Check asked) name = ⊥
+IsLogName (Sim asked) name = (c : ℕ) × (c < 64) × (name ≡ log_name asked.out.now c)
+
+-- what the folder tells of other names is what it told
+abbrev pub KeepsFiles : (List ℕ → Option (List ℕ)) → (List ℕ → Option (List ℕ)) → (List ℕ → Type 0) → Type 0
+KeepsFiles told told' IsLog = (name : List ℕ) → ¬ (IsLog name) → told' name ≡ told name
 
 -- ---- the two outputs
 
@@ -110,8 +120,8 @@ OutputAt old new (Misused text) = Keeps old.contents new.contents
 -- ---- all of it
 
 -- what was asked ended so, and left standard output so
-abbrev pub IsDoneBy : (List ℕ → Option (List ℕ)) → Request → Sink → Sink → Ending → Type 0
-IsDoneBy told asked out out' ending = IsEndOf told asked ending × OutputAt out out' ending
+abbrev pub IsDoneBy : (List ℕ → Option (List ℕ)) → (List ℕ → Option (List ℕ)) → Request → Sink → Sink → Ending → Type 0
+IsDoneBy told told' asked out out' ending = IsEndOf told told' asked ending × OutputAt out out' ending
 
 -- how an ending is answered: by an exit status, or by a fault
 abbrev pub IsAnswered : Ending → Result ℕ CommandFault → Type 0
@@ -120,8 +130,8 @@ IsAnswered (Unprinted answer) came = came ≡ Err Output
 IsAnswered (Refused fault) came = came ≡ Err fault
 IsAnswered (Misused text) came = ⊥
 
--- a call with these words ended so, and left standard output and standard error so
-pub record EndsBy (told : List ℕ → Option (List ℕ)) (words : List (List ℕ)) (out out' err err' : Sink) (ending : Ending) : Type 0 where
-  pub end : IsEnd told words ending
+-- a call with these words ended so, and left the folder, standard output and standard error so
+pub record EndsBy (told told' : List ℕ → Option (List ℕ)) (words : List (List ℕ)) (out out' err err' : Sink) (ending : Ending) : Type 0 where
+  pub end : IsEnd told told' words ending
   pub output : OutputAt out out' ending
   pub complaint : Takes err err' (complaint_of ending)

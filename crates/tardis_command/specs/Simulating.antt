@@ -1,5 +1,5 @@
 -- What the running of programs answers.
-use Rattle.std.specs.Prelude.{◌≡◌, ◌<◌, ⊤, ℕ, zero, suc, ◌+◌, List, [], length, Option, None, Some, Result, Ok, Err, IsSome, slice_get}
+use Rattle.std.specs.Prelude.{◌≡◌, ⊤, ℕ, zero, suc, ◌+◌, List, [], length, Option, None, Some, Result, Ok, Err, IsSome, slice_get}
 use Rattle.std.specs.Option.{option_map_or}
 use Rattle.std.specs.Borrow.{Bor}
 use Rattle.command_line.specs.declared.request.Sim.{Sim}
@@ -17,6 +17,7 @@ use Rattle.tardis_core.specs.Parts.{CoreParts, world}
 use Rattle.simulation.specs.Simulating.{IsSimulated, IsSimulationFault}
 use Rattle.verdict.specs.declared.judge_fault.JudgeFault.TheVariants.{BadConfig, Log, Read, OutOfMemory}
 use Rattle.tardis_command.specs.Checking.{IsTextFault}
+use Rattle.tardis_command.specs.Logs.{ArePut, ArePutAsFar, ArePutUpTo}
 use Rattle.tardis_command.specs.declared.fault.CommandFault.{CommandFault}
 use Rattle.tardis_command.specs.declared.fault.CommandFault.TheVariants.{Judge, Config, Programs, ProgramsUnread, Schedule, ScheduleUnread, Simulation, LogUnwritten, Output}
 
@@ -71,17 +72,17 @@ abbrev pub performed_below : World → ℕ → ℕ
 performed_below w zero = 0
 performed_below w (suc c) = performed_below w c + performed_by w c
 
--- a log of so many can't be written, or memory ran out
-abbrev pub IsUnwritten : ℕ → CommandFault → Type 0
-IsUnwritten cores (LogUnwritten file) = file < cores
-IsUnwritten cores (Judge fault) = fault ≡ OutOfMemory
-IsUnwritten cores (Config fault) = ⊥
-IsUnwritten cores (Programs fault) = ⊥
-IsUnwritten cores ProgramsUnread = ⊥
-IsUnwritten cores (Schedule fault) = ⊥
-IsUnwritten cores ScheduleUnread = ⊥
-IsUnwritten cores (Simulation fault) = ⊥
-IsUnwritten cores Output = ⊥
+-- a core's log can't be written, of whose number this holds, or memory ran out
+abbrev pub IsUnwritten : (ℕ → Type 0) → CommandFault → Type 0
+IsUnwritten Holds (LogUnwritten file) = Holds file
+IsUnwritten Holds (Judge fault) = fault ≡ OutOfMemory
+IsUnwritten Holds (Config fault) = ⊥
+IsUnwritten Holds (Programs fault) = ⊥
+IsUnwritten Holds ProgramsUnread = ⊥
+IsUnwritten Holds (Schedule fault) = ⊥
+IsUnwritten Holds ScheduleUnread = ⊥
+IsUnwritten Holds (Simulation fault) = ⊥
+IsUnwritten Holds Output = ⊥
 
 -- the configuration is in range, and something holds of the programs
 abbrev pub Programmed : (List ℕ → Option (List ℕ)) → Sim → (List (List Instruction) → Type 0) → Type 0
@@ -97,21 +98,27 @@ abbrev pub EndsIn : Sim → List (List Instruction) → List Command → (CorePa
 EndsIn asked programs commands Holds = (q : CoreParts) × IsSimulated commands asked.seed (opening_parts programs (config_of asked)) q × Holds q
 
 -- The number of operations that the programs performed, or why there is none. The configuration is looked at first, then
--- the programs, then the schedule; what a simulation is refused for is told before a log that can't be written.
-abbrev pub IsRun : (List ℕ → Option (List ℕ)) → Sim → Result ℕ CommandFault → Type 0
-IsRun told asked (Ok count) =
-    Scheduled told asked (λ programs commands. EndsIn asked programs commands (λ q. count ≡ performed_below (world q) (length programs)))
-IsRun told asked (Err (Config fault)) = first_bad (config_of asked) ≡ Some fault
-IsRun told asked (Err (Programs fault)) = (first_bad (config_of asked) ≡ None) × IsTextFault told asked.programs.now fault
-IsRun told asked (Err ProgramsUnread) = first_bad (config_of asked) ≡ None
-IsRun told asked (Err (Schedule fault)) = Programmed told asked (λ programs. IsFaultOfSchedule told asked.schedule (length programs) fault)
-IsRun told asked (Err ScheduleUnread) = Programmed told asked (λ programs. IsSome asked.schedule)
-IsRun told asked (Err (Simulation fault)) =
-    Scheduled told asked (λ programs commands. (q : CoreParts) × IsSimulationFault commands asked.seed (opening_parts programs (config_of asked)) q fault)
-IsRun told asked (Err (LogUnwritten file)) =
-    Scheduled told asked (λ programs commands. EndsIn asked programs commands (λ q. file < length programs))
-IsRun told asked (Err (Judge OutOfMemory)) = ⊤
-IsRun told asked (Err (Judge (BadConfig count))) = ⊥
-IsRun told asked (Err (Judge (Log file line fault))) = ⊥
-IsRun told asked (Err (Judge (Read file))) = ⊥
-IsRun told asked (Err Output) = ⊥
+-- the programs, then the schedule; what a simulation is refused for is told before a log that can't be written. The
+-- folder told `told` before and tells `told'` behind: the logs of the machine to which the simulation came, all of them or
+-- those in front of the first one that can't be written.
+abbrev pub IsRun : (List ℕ → Option (List ℕ)) → (List ℕ → Option (List ℕ)) → Sim → Result ℕ CommandFault → Type 0
+IsRun told told' asked (Ok count) =
+    Scheduled told asked (λ programs commands. EndsIn asked programs commands (λ q.
+    (count ≡ performed_below (world q) (length programs)) × ArePut told told' asked.out.now (length programs) (world q)))
+IsRun told told' asked (Err (Config fault)) = first_bad (config_of asked) ≡ Some fault
+IsRun told told' asked (Err (Programs fault)) = (first_bad (config_of asked) ≡ None) × IsTextFault told asked.programs.now fault
+IsRun told told' asked (Err ProgramsUnread) = first_bad (config_of asked) ≡ None
+IsRun told told' asked (Err (Schedule fault)) = Programmed told asked (λ programs. IsFaultOfSchedule told asked.schedule (length programs) fault)
+IsRun told told' asked (Err ScheduleUnread) = Programmed told asked (λ programs. IsSome asked.schedule)
+IsRun told told' asked (Err (Simulation fault)) =
+    Scheduled told asked (λ programs commands. (q : CoreParts)
+    × IsSimulationFault commands asked.seed (opening_parts programs (config_of asked)) q fault
+    × ArePutAsFar told told' asked.out.now (length programs) (world q))
+IsRun told told' asked (Err (LogUnwritten file)) =
+    Scheduled told asked (λ programs commands. EndsIn asked programs commands (λ q.
+    ArePutUpTo told told' asked.out.now (length programs) (world q) file))
+IsRun told told' asked (Err (Judge OutOfMemory)) = ⊤
+IsRun told told' asked (Err (Judge (BadConfig count))) = ⊥
+IsRun told told' asked (Err (Judge (Log file line fault))) = ⊥
+IsRun told told' asked (Err (Judge (Read file))) = ⊥
+IsRun told told' asked (Err Output) = ⊥

@@ -23,7 +23,7 @@ const USAGE: u8 = 3;
 /// Does what the words of a command line ask for, of which the first is the program's own name, and
 /// answers the exit status: 0 for Yes or done, 1 for No, 2 where a log, the programs or the schedule
 /// are refused, 3 where the words are or a number is out of range, else 4. An answer goes to standard
-/// output, all else to standard error.
+/// output, all else to standard error; in the folder nothing but the logs of a run is put.
 pub fn command<R: Threads + Sync, F: Folder, O: ByteSink, E: ByteSink>(
     rt: &R,
     alloc: Global,
@@ -33,11 +33,13 @@ pub fn command<R: Threads + Sync, F: Folder, O: ByteSink, E: ByteSink>(
     err: &mut E,
 ) -> u8
     ensures ends { (ending : endings.Ending) × (result ≡ endings.status_of ending)
-        × endings.EndsBy (F.told folder.old) (texts words.entry.now)
+        × endings.EndsBy (F.told folder.old) (F.told folder.new) (texts words.entry.now)
         (endings.sink_of O.contents O.failed out.old)
         (endings.sink_of O.contents O.failed out.new)
         (endings.sink_of E.contents E.failed err.old)
         (endings.sink_of E.contents E.failed err.new) ending }
+    ensures files { endings.KeepsFiles (F.told folder.old) (F.told folder.new)
+        (λ name. endings.AskFor (texts words.entry.now) (λ asked. endings.IsLogName asked name)) }
     ensures sound { result ≡ 0 → endings.AskFor (texts words.entry.now)
         (endings.AreConsistent (F.told folder.old)) }
     ensures flat { result ≡ 0 → endings.AskFor (texts words.entry.now)
@@ -68,9 +70,11 @@ fn perform<R: Threads + Sync, F: Folder, O: ByteSink>(
     out: &mut O,
 ) -> Result<u8, CommandFault>
     ensures exact { (ending : endings.Ending) × endings.IsAnswered ending result
-        × endings.IsDoneBy (F.told folder.old) request.now
+        × endings.IsDoneBy (F.told folder.old) (F.told folder.new) request.now
         (endings.sink_of O.contents O.failed out.old)
         (endings.sink_of O.contents O.failed out.new) ending }
+    ensures files { endings.KeepsFiles (F.told folder.old) (F.told folder.new)
+        (endings.IsLogName request.now) }
     ensures sound { IfOk result (λ status. status ≡ 0
         → endings.AreConsistent (F.told folder.old) request.now) }
     ensures flat { IfOk result (λ status. status ≡ 0
@@ -88,7 +92,9 @@ fn answer<R: Threads + Sync, F: Folder>(
     request: &Request<'_>,
     folder: &mut F,
 ) -> Result<Answer, CommandFault>
-    ensures exact { endings.IsAnswerTo (F.told folder.old) request.now result }
+    ensures exact { endings.IsAnswerTo (F.told folder.old) (F.told folder.new) request.now result }
+    ensures files { endings.KeepsFiles (F.told folder.old) (F.told folder.new)
+        (endings.IsLogName request.now) }
     ensures sound { IfOk result (λ answer. answer_status answer ≡ 0
         → endings.AreConsistent (F.told folder.old) request.now) }
     ensures flat { IfOk result (λ answer. answer_status answer ≡ 0

@@ -1,6 +1,6 @@
 //! Files by their names.
 
-ghost use Rattle.std.specs.Prelude.{◌≡◌, ℕ, List, Option, None, Some, IfOk, IfSome, OnOk};
+ghost use Rattle.std.specs.Prelude.{◌≡◌, ◌≢◌, ℕ, List, Option, None, Some, IfOk, IfSome, OnOk};
 ghost use Rattle.log_file.specs.Devices.{Tells};
 
 use log_file::{ByteSource, ReadFailed, WriteFailed};
@@ -20,7 +20,9 @@ pub trait Folder {
             (λ bytes. Self.Source.remaining source ≡ Some bytes)) };
 
     /// Puts a file of these bytes under a name, in place of any that is there; 29 Write where that
-    /// fails.
+    /// fails. What the folder tells of other names stays.
     fn put(&mut self, name: &str, bytes: &[u8]) -> Result<(), WriteFailed>
-        ensures { OnOk result (Tells (told self.new name.now) bytes.now) };
+        ensures bytes { OnOk result (Tells (told self.new name.now) bytes.now) }
+        ensures others { (other : List ℕ) → other ≢ name.now
+            → told self.new other ≡ told self.old other };
 }

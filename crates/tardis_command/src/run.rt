@@ -1,8 +1,12 @@
 //! Programs run on the core machine.
 
-ghost use Rattle.std.specs.Prelude.{◌≡◌, ◌≤◌, ◌<◌, length, IfErr, IfOk, MatchResult, None, Some};
+ghost use Rattle.std.specs.Prelude.{◌≡◌, ◌≢◌, ◌≤◌, ◌<◌, ℕ, List, length, IfErr, IfOk, OnOk, MatchResult, None, Some};
 ghost use Rattle.lease_rule.specs.Ranges.{first_bad};
+ghost use Rattle.log_file.specs.Devices.{Tells};
+ghost use Rattle.log_file.specs.Log.{spelling};
 ghost use Rattle.tardis_core.specs.Parts.{world};
+ghost use Rattle.tardis_core.specs.Works.{log_at};
+ghost use Rattle.tardis_command.specs.Logs as logs;
 ghost use Rattle.tardis_command.specs.Simulating as simulating;
 
 use crate::fault::CommandFault;
@@ -31,7 +35,8 @@ pub(crate) fn run<F: Folder>(
     folder: &mut F,
     asked: &Sim<'_>,
 ) -> Result<u64, CommandFault>
-    ensures { simulating.IsRun (F.told folder.old) asked.now result }
+    ensures exact { simulating.IsRun (F.told folder.old) (F.told folder.new) asked.now result }
+    ensures files { logs.KeepsOthers (F.told folder.old) (F.told folder.new) asked.now.out.now 64 }
 {
     let config = config_of(asked)?;
     let programs = read_programs(alloc, folder, asked.programs)?;
@@ -101,7 +106,12 @@ fn write_logs<F: Folder>(
     requires { cores ≤ 64 }
     ensures ok { IfOk result (λ count.
         count ≡ simulating.performed_below (world machine.now) cores) }
-    ensures err { IfErr result (simulating.IsUnwritten cores) }
+    ensures logs { OnOk result (logs.ArePut (F.told folder.old) (F.told folder.new) out.now cores
+        (world machine.now)) }
+    ensures err { IfErr result (simulating.IsUnwritten (logs.ArePutUpTo (F.told folder.old)
+        (F.told folder.new) out.now cores (world machine.now))) }
+    ensures far { logs.ArePutAsFar (F.told folder.old) (F.told folder.new) out.now cores
+        (world machine.now) }
 {
     let mut count = 0;
     for number in 0..cores {
@@ -117,6 +127,7 @@ fn write_logs<F: Folder>(
 
 /// The records of a core.
 fn log_of(machine: &Core, core: CoreId) -> &[Record]
+    ensures records { result.now ≡ log_at (world machine.now) core }
     ensures performed { length result.now ≡ simulating.performed_by (world machine.now) core }
     ensures few { length result.now ≤ 1048576 }
 {
@@ -138,7 +149,11 @@ fn write_log_of<F: Folder>(
     requires core { core < cores }
     requires cores { cores ≤ 64 }
     requires few { length records.now ≤ 1048576 }
-    ensures err { IfErr result (simulating.IsUnwritten cores) }
+    ensures ok { OnOk result (Tells (F.told folder.new (logs.log_name out.now core))
+        (spelling core cores records.now)) }
+    ensures others { (name : List ℕ) → name ≢ logs.log_name out.now core
+        → F.told folder.new name ≡ F.told folder.old name }
+    ensures err { IfErr result (simulating.IsUnwritten (λ file. file ≡ core)) }
 {
     let name = format!(in alloc; "{out}.{}", core.get())?;
     let mut text = MemSink::new(alloc, &[]);

@@ -13,7 +13,7 @@ use Rattle.tardis_core.specs.Parts.{CoreParts, world, IsMachine}
 use Rattle.tardis_core.specs.SeatParts.{SeatParts}
 use Rattle.tardis_core.specs.Seats.{SeatGoes, SeatMeets, SeatOutcome, seat_outcome, seen}
 use Rattle.tardis_core.specs.Seats as seat
-use Rattle.tardis_core.specs.Steps.{Meets, MachineGoes, alone, core_outcome, is_memory, with_seat}
+use Rattle.tardis_core.specs.Steps.{Meets, MachineGoes, alone, core_outcome, with_seat}
 use Rattle.tardis_core.specs.declared.event.Event.{Event}
 use Rattle.tardis_core.specs.declared.event.Event.TheVariants as event
 use Rattle.tardis_core.specs.declared.fault.CoreFault.{CoreFault}
@@ -97,7 +97,7 @@ module _ (p : CoreParts) (c : ℕ) where
         by_outcome : (x : SeatOutcome) → SeatMeets x (Err f) s t → Meets (core_outcome p c x) (Err (Unit f)) p (with_seat p c t)
         by_outcome (seat.Refuses y) m = ((let q = m.0 in let same : f ≡ y = cc in ap (λ z. Err (Unit z)) same), ap (with_seat p c) m.1 ∙ back)
         by_outcome (seat.Answers y u) m = let q = m.0 in absurd (cc)
-        by_outcome (seat.Steps y u) m = (ap (λ z. is_memory (Unit z)) m.0, ap (with_seat p c) m.1 ∙ back)
+        by_outcome (seat.Steps y u) m = (ap (λ z. Unit z) m.0, ap (with_seat p c) m.1 ∙ back)
 
     same_after : (e : Event) (f : UnitFault) (t : SeatParts) → SeatMeets (seat_outcome e s) (Err f) s t → t ≡ s
     same_after e f t met = by_outcome (seat_outcome e s) met

@@ -17,12 +17,12 @@ use Rattle.tardis_core.specs.declared.fault.CoreFault.{CoreFault}
 pub behind_met : (x : StepOutcome) (o : Outcome) (p q : CoreParts) → Meets x (Ok o) p q → behind x ≡ Some q
 behind_met (Refuses f) o p q m = let e = m.0 in absurd (cc)
 behind_met (Answers y t) o p q m = ap (λ z. Some z) (sym m.1)
-behind_met (Steps y t) o p q m = ap (λ z. Some z) (sym m.1)
+behind_met (Steps w y t) o p q m = ap (λ z. Some z) (sym m.1)
 
 pub may_refuse : (x : StepOutcome) (f : CoreFault) (p q : CoreParts) → Meets x (Err f) p q → MayRefuse x f
 may_refuse (Refuses due) f p q m = let e = m.0 in cc
 may_refuse (Answers y t) f p q m = let e = m.0 in absurd (cc)
-may_refuse (Steps y t) f p q m = m.0
+may_refuse (Steps w y t) f p q m = m.0
 
 pub run_from-push : (p : CoreParts) (events : List Event) (e : Event)
     → run_from p (events ++ e ∷ []) ≡ option_and_then (λ q. behind (step_outcome q e)) (run_from p events)

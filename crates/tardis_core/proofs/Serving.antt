@@ -17,7 +17,7 @@ use Rattle.tardis_core.specs.Machine.{World, Leads, serves, spills, no_effect, i
 use Rattle.tardis_core.specs.Parts.{CoreParts, world, IsMachine}
 use Rattle.tardis_core.specs.SeatParts.{SeatParts}
 use Rattle.tardis_core.specs.Seats.{asked_by, seen}
-use Rattle.tardis_core.specs.Steps.{Meets, MachineGoes, is_memory, served_outcome, spill_told, spilled_outcome, step_outcome, with_seat}
+use Rattle.tardis_core.specs.Steps.{Meets, MachineGoes, served_outcome, spill_told, spilled_outcome, step_outcome, with_seat}
 use Rattle.tardis_core.specs.declared.event.Event.TheVariants as event
 use Rattle.tardis_core.specs.declared.fault.CoreFault.TheVariants.{Slice as FromSlice}
 use Rattle.std.specs.Bool.{OnTrue}
@@ -122,7 +122,7 @@ module _ (p : CoreParts) (k : IsMachine p) (c : ℕ) (s : SeatParts) (there : sl
         by_outcome : (o : slice.Outcome Reply) → slice.Meets o (Err f) sl t → Meets (served_outcome p c s (slice_number p.config (addr_of m)) sl o) (Err (FromSlice f)) p (refused_at t)
         by_outcome (slice.Refuses g) w = ((let same : f ≡ g = (let q = w.0 in cc) in ap (λ z. Err (FromSlice z)) same), both_back t w.1)
         by_outcome (slice.Answers y) w = let q = w.0 in absurd (cc)
-        by_outcome (slice.Steps y entries state) w = (ap (λ z. is_memory (FromSlice z)) w.0, both_back t w.1)
+        by_outcome (slice.Steps y entries state) w = (ap (λ z. FromSlice z) w.0, both_back t w.1)
 
     unserved_bars : is_barred p.config (world p) (event.Serve c) ≡ false
     unserved_bars = let facts = asked_facts s.unit.hand s.kept m asked in serve_barred_is ∙ rw (facts.0, facts.1) refl
@@ -182,7 +182,7 @@ module _ (p : CoreParts) (k : IsMachine p) (a n : ℕ) (n_is : n ≡ slice_numbe
       by_outcome : (o : slice.Outcome Bool) → slice.Meets o (Err f) sl t → Meets (spilled_outcome p (slice_number p.config a) sl o) (Err (FromSlice f)) p (with_slice_parts p k n sl at t)
       by_outcome (slice.Refuses g) w = ((let same : f ≡ g = (let q = w.0 in cc) in ap (λ z. Err (FromSlice z)) same), slice_back t w.1)
       by_outcome (slice.Answers y) w = let q = w.0 in absurd (cc)
-      by_outcome (slice.Steps y entries state) w = (ap (λ z. is_memory (FromSlice z)) w.0, slice_back t w.1)
+      by_outcome (slice.Steps y entries state) w = (ap (λ z. FromSlice z) w.0, slice_back t w.1)
 
   spill_barred_is : is_barred p.config (world p) (event.Spill a) ≡ not (is_some_shared (lookup (nat_eq a) sl.state.lines))
   spill_barred_is =

@@ -14,18 +14,18 @@ use Rattle.tardis_core.specs.declared.running.RunFault.{RunFault}
 abbrev pub behind : StepOutcome → Option CoreParts
 behind (Refuses fault) = None
 behind (Answers o q) = Some q
-behind (Steps o q) = Some q
+behind (Steps wanting o q) = Some q
 
 -- the machine behind these events, and None where one of them is refused
 abbrev pub run_from : CoreParts → List Event → Option CoreParts
 run_from p [] = Some p
 run_from p (e ∷ events) = option_and_then (λ q. run_from q events) (behind (step_outcome p e))
 
--- an event that comes to this may be refused so: for the cause that is due, or for want of memory in place of a step
+-- an event that comes to this may be refused so: for the cause that is due, or for the step's own want of memory
 abbrev pub MayRefuse : StepOutcome → CoreFault → Type 0
 MayRefuse (Refuses due) fault = fault ≡ due
 MayRefuse (Answers o q) fault = ⊥
-MayRefuse (Steps o q) fault = is_memory fault ≡ true
+MayRefuse (Steps wanting o q) fault = fault ≡ wanting
 
 -- the events before this one are a run, and it is refused where they lead
 pub record IsRefusedAt (programs : List (List Instruction)) (g : ConfigParts) (events : List Event) (at : ℕ) (fault : CoreFault) : Type 0 where

@@ -26,8 +26,8 @@ pub data StepOutcome : Type 0 where
   Refuses : CoreFault → StepOutcome
   -- an outcome that takes no memory, and the machine behind it
   Answers : Outcome → CoreParts → StepOutcome
-  -- an outcome that makes an entry, and the machine behind it
-  Steps : Outcome → CoreParts → StepOutcome
+  -- an outcome that makes an entry, and the machine behind it; this fault tells a want of memory for it
+  Steps : CoreFault → Outcome → CoreParts → StepOutcome
 
 -- 10 OutOfMemory, of a core or of a slice
 abbrev pub is_memory : CoreFault → Bool
@@ -35,20 +35,20 @@ is_memory (Unit unit_fault.OutOfMemory) = true
 is_memory (Slice slice_fault.OutOfMemory) = true
 is_memory fault = false
 
--- the event, with this result, led from p to q as the outcome says; only for want of memory may a step be refused
+-- the event, with this result, led from p to q as the outcome says; a step may be refused only by its own want of memory
 abbrev pub Meets : StepOutcome → Result Outcome CoreFault → CoreParts → CoreParts → Type 0
 Meets (Refuses fault) r p q = (r ≡ Err fault) × (q ≡ p)
 Meets (Answers o t) r p q = (r ≡ Ok o) × (q ≡ t)
-Meets (Steps o t) r p q = MatchResult r (λ x. (x ≡ o) × (q ≡ t)) (λ fault. (is_memory fault ≡ true) × (q ≡ p))
+Meets (Steps wanting o t) r p q = MatchResult r (λ x. (x ≡ o) × (q ≡ t)) (λ fault. (fault ≡ wanting) × (q ≡ p))
 
 abbrev pub with_seat : CoreParts → ℕ → SeatParts → CoreParts
 with_seat p c s = record p { seats = slice_set p.seats c s }
 
--- core c's seat comes to this
+-- core c's seat comes to this; the memory that it wants is the core's
 abbrev pub core_outcome : CoreParts → ℕ → SeatOutcome → StepOutcome
 core_outcome p c (seat.Refuses fault) = Refuses (Unit fault)
 core_outcome p c (seat.Answers o s) = Answers o (with_seat p c s)
-core_outcome p c (seat.Steps o s) = Steps o (with_seat p c s)
+core_outcome p c (seat.Steps o s) = Steps (Unit unit_fault.OutOfMemory) o (with_seat p c s)
 
 -- a core that isn't there does nothing
 abbrev pub seated : (SeatParts → StepOutcome) → CoreParts → Option SeatParts → StepOutcome
@@ -64,12 +64,12 @@ at_slice comes p (Some s) = comes s
 abbrev pub with_entries : CoreParts → ℕ → SliceParts → List HistoryEntry → SliceState → CoreParts
 with_entries p n s entries state = record p { slices = slice_set p.slices n (record s { state = state; history = s.history ++ entries }) }
 
--- core c's message comes to this at slice n
+-- core c's message comes to this at slice n; the memory that it wants is the slice's
 abbrev pub served_outcome : CoreParts → ℕ → SeatParts → ℕ → SliceParts → slice.Outcome Reply → StepOutcome
 served_outcome p c seated_at n s (slice.Refuses fault) = Refuses (Slice fault)
 served_outcome p c seated_at n s (slice.Answers x) = Answers (Served x) (with_seat p c (record seated_at { kept = Some x }))
 served_outcome p c seated_at n s (slice.Steps x entries state) =
-    Steps (Served x) (with_entries (with_seat p c (record seated_at { kept = Some x })) n s entries state)
+    Steps (Slice slice_fault.OutOfMemory) (Served x) (with_entries (with_seat p c (record seated_at { kept = Some x })) n s entries state)
 
 -- a message that has no reply yet is served
 abbrev pub serve_outcome : CoreParts → ℕ → SeatParts → Option Message → StepOutcome
@@ -82,10 +82,11 @@ serve_outcome p c seated_at (Some m) =
 abbrev pub spill_told : Bool → Outcome
 spill_told went = if went then Spilled else NoEffect
 
+-- a spill comes to this at slice n; the memory that it wants is the slice's
 abbrev pub spilled_outcome : CoreParts → ℕ → SliceParts → slice.Outcome Bool → StepOutcome
 spilled_outcome p n s (slice.Refuses fault) = Refuses (Slice fault)
 spilled_outcome p n s (slice.Answers went) = Answers (spill_told went) p
-spilled_outcome p n s (slice.Steps went entries state) = Steps (spill_told went) (with_entries p n s entries state)
+spilled_outcome p n s (slice.Steps went entries state) = Steps (Slice slice_fault.OutOfMemory) (spill_told went) (with_entries p n s entries state)
 
 -- an event of core c alone
 abbrev pub alone : CoreParts → ℕ → Event → StepOutcome

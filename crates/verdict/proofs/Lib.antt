@@ -7,6 +7,8 @@ pub mod KeyPass
 pub mod Lists
 pub mod Merging
 pub mod OneAnswer
+pub mod Own
+pub mod Parts
 pub mod Paths
 pub mod ProgramFacts
 pub mod ProgramOrder

@@ -1,5 +1,5 @@
--- The records of a set, taken one at a time in the order of their keys.
-use Rattle.std.specs.Prelude.{◌≡◌, ◌≤◌, ◌<◌, ◌+◌, ◌*◌, ℕ, Bool, true, false, ◌&&◌, ◌==◌, if◌then◌else◌, List, Option, Some, None, find, reverse, take, drop, length, slice_get, slice_index}
+-- The records of a set at a worker's own addresses, taken one at a time in the order of their keys.
+use Rattle.std.specs.Prelude.{◌≡◌, ◌≤◌, ◌<◌, ◌+◌, ◌*◌, ℕ, Bool, true, false, ◌&&◌, ◌==◌, if◌then◌else◌, List, [], ◌∷◌, ◌++◌, Option, Some, None, find, reverse, take, drop, length, slice_get, slice_index}
 use Rattle.mem_op.specs.declared.id.Source.{Source}
 use Rattle.mem_op.specs.declared.id.Source.TheVariants.{Init, Store as From}
 use Rattle.mem_op.specs.Consistency.{is_same_id}
@@ -10,7 +10,7 @@ use Rattle.log_record.specs.Entries.{entries, record_at}
 use Rattle.address_check.specs.declared.fault.AddressRule.{AddressRule}
 use Rattle.address_check.specs.declared.fault.AddressRule.TheVariants.{Source as WrongSource, Value as WrongValue}
 use Rattle.address_check.specs.AddressFaults.{is_store, value_from, address_fault}
-use Rattle.verdict.specs.ByKey.{by_key}
+use Rattle.verdict.specs.Parts.{own_by_key}
 
 -- (ts, rank) as one number
 abbrev pub moment : Record → ℕ
@@ -22,11 +22,18 @@ abbrev pub IsFrontNumber : Option Record → ℕ → Type 0
 IsFrontNumber None n = n ≡ 340282366920938463463374607431768211455
 IsFrontNumber (Some r) n = (n ≡ moment r) × (r.ts ≤ 281474976710656) × (r.rank < 4294967296)
 
--- the first k records by key were taken: of each core those below its next index, and `fronts` has the numbers of those that
--- come next
-pub record Stands (logs : List (List Record)) (k : ℕ) (next fronts : List ℕ) : Type 0 where
-  pub taken : (e : Entry) → In e (take k (by_key logs)) → e.id.index < slice_index next e.id.core
-  pub left : (e : Entry) → In e (drop k (by_key logs)) → slice_index next e.id.core ≤ e.id.index
+-- the place of the first own record of a log at or behind `from`, or one past the log
+pub record IsNextOf (own : ℕ → Bool) (log : List Record) (from next : ℕ) : Type 0 where
+  pub behind : from ≤ next
+  pub passed : (j : ℕ) (r : Record) → from ≤ j → j < next → slice_get log j ≡ Some r → own r.addr ≡ false
+  pub stops : (r : Record) → slice_get log next ≡ Some r → own r.addr ≡ true
+
+-- the first k own records by key were taken: of each core those below its next index. An own record stands there, or the log
+-- has ended, and `fronts` has the numbers of those.
+pub record Stands (own : ℕ → Bool) (logs : List (List Record)) (k : ℕ) (next fronts : List ℕ) : Type 0 where
+  pub taken : (e : Entry) → In e (take k (own_by_key own logs)) → e.id.index < slice_index next e.id.core
+  pub left : (e : Entry) → In e (drop k (own_by_key own logs)) → slice_index next e.id.core ≤ e.id.index
+  pub stops : (core : ℕ) (r : Record) → record_at logs (record { core = core; index = slice_index next core }) ≡ Some r → own r.addr ≡ true
   pub nexts : length next ≡ length logs
   pub many : length fronts ≡ length logs
   pub numbers : (core : ℕ) → core < length logs →
@@ -61,10 +68,14 @@ broken_by source value from word =
     then (if value == word then None else Some WrongValue)
     else Some WrongSource
 
--- none of the first k records by key has an address fault
-abbrev pub CleanSoFar : List (List Record) → ℕ → Type 0
-CleanSoFar logs k = (e : Entry) → In e (take k (by_key logs)) → address_fault (entries logs) e ≡ None
+-- none of the first k own records by key has an address fault
+abbrev pub CleanSoFar : (ℕ → Bool) → List (List Record) → ℕ → Type 0
+CleanSoFar own logs k = (e : Entry) → In e (take k (own_by_key own logs)) → address_fault (entries logs) e ≡ None
 
--- so many records by key, behind the first k
-abbrev pub batch_of : List (List Record) → ℕ → ℕ → List Entry
-batch_of logs k many = take many (drop k (by_key logs))
+-- so many own records by key, behind the first k
+abbrev pub batch_of : (ℕ → Bool) → List (List Record) → ℕ → ℕ → List Entry
+batch_of own logs k many = take many (drop k (own_by_key own logs))
+
+-- own record k was taken, and stands behind the batch
+abbrev pub IsTaken : (ℕ → Bool) → List (List Record) → ℕ → List Entry → List Entry → Type 0
+IsTaken own logs k batch longer = (e : Entry) × (slice_get (own_by_key own logs) k ≡ Some e) × (longer ≡ batch ++ e ∷ [])

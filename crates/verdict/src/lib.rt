@@ -1,16 +1,17 @@
 //! The verdict on a set of logs.
 #![tactic(auto)]
 
+mod addresses;
 mod answer;
 mod cores;
 mod counts;
 mod fault;
 mod judge_fault;
 mod judging;
-mod key_order;
 mod laws;
 mod log_set;
 mod merge;
+mod part;
 mod replay;
 mod rule;
 mod run_judging;

@@ -61,13 +61,4 @@ impl LogSet {
     {
         self.logs.as_slice()
     }
-
-    /// The logs, in the order of their cores, for keeps.
-    pub(crate) fn into_logs(self) -> Vec<Vec<Record>>
-        ensures logs { record_lists result.items ≡ self }
-        ensures cores { vec_len result ≤ 64 }
-        ensures records { All (λ log. vec_len log ≤ 1048576) result.items }
-    {
-        self.logs
-    }
 }

@@ -1,34 +1,49 @@
-//! The records of a set in the order of their keys, taken from the fronts of the logs.
+//! The records at a worker's own addresses in the order of their keys, taken from the fronts of the
+//! logs.
 
-ghost use Rattle.std.specs.Prelude.{◌≡◌, ◌<◌, ◌≤◌, ◌+◌, ℕ, IfOk, None, OnOk, Some, All, [], length, slice_get, slice_index, vec_len};
-ghost use Rattle.log_record.specs.Entries.{entries, record_lists, record_at};
+ghost use Rattle.std.specs.Prelude.{◌≡◌, ◌<◌, ◌≤◌, ◌+◌, ℕ, true, false, IfOk, None, OnOk, All, length, slice_get, slice_index, vec_len};
+ghost use Rattle.log_record.specs.Entries.{record_lists};
 ghost use Rattle.core_check.specs.CoreFaults.{least_core_fault};
-ghost use Rattle.verdict.specs.ByKey.{by_key};
-ghost use Rattle.verdict.specs.Merging.{IsFrontNumber, Stands, batch_of};
+ghost use Rattle.verdict.specs.Merging.{IsFrontNumber, IsNextOf, IsTaken, Stands, batch_of};
+ghost use Rattle.verdict.specs.Parts.{is_own, own_by_key};
 
+use crate::part::Part;
 use log_record::{Entry, Record};
 use mem_op::{CoreId, OpId, OpIndex};
 use std::alloc::{AllocError, Global};
 
+/// How many records are taken before they are looked at: each goes faster by itself.
+const BATCH: usize = 4_096;
+
 /// How far the logs of a set were taken, in the order of their keys.
 #[derive(Drop)]
 pub(crate) struct Merge {
-    /// How many records were taken.
+    /// How many own records were taken.
     taken: usize,
-    /// How many of each log.
+    /// The index of each log's front, the first own record that wasn't taken.
     next: Vec<usize>,
-    /// The number of each log's front, the first record that wasn't taken.
+    /// The number of each log's front.
     fronts: Vec<u128>,
 }
 
-/// The record at an index of a core's log, if it is there.
-fn record_at(logs: &[Vec<Record>], core: usize, index: usize) -> Option<Record>
-    ensures { result ≡ record_at (record_lists logs.now) (record { core = core; index = index }) }
+/// The index of the first own record of a log at or behind `from`, or one past the log.
+fn next_of(log: &[Record], part: Part, from: usize) -> usize
+    ensures { IsNextOf (is_own part.workers part.number) log.now from result }
 {
-    match logs.get(core) {
-        Some(log) => log.get(index).copied(),
-        None => None,
+    for next in from..log.len() {
+        let logged = &log[next];
+        if part.has(logged.addr) {
+            return next;
+        }
     }
+    from.max(log.len())
+}
+
+/// The record at an index of a log, if it is there.
+fn record_at(log: &[Record], index: usize) -> Option<Record>
+    ensures { result ≡ slice_get log.now index }
+{
+    log.get(index).copied()
 }
 
 /// The number of a log's front: its stamp and rank as one number, or the greatest of all where the
@@ -65,51 +80,59 @@ fn first_core(fronts: &[u128]) -> usize
     first
 }
 
-/// The numbers of the first records of the logs.
-fn first_numbers(alloc: Global, logs: &[Vec<Record>]) -> Result<Vec<u128>, AllocError>
-    ensures many { IfOk result (λ fronts. vec_len fronts ≡ length logs.now) }
-    ensures numbers { IfOk result (λ fronts. (core : ℕ) → core < length logs.now →
-        IsFrontNumber (record_at (record_lists logs.now) (record { core = core; index = 0 }))
-        (slice_index fronts.items core)) }
-{
-    let mut fronts = Vec::new(alloc);
-    for core in 0..logs.len() {
-        fronts.push(front_number(record_at(logs, core, 0)))?;
-    }
-    Ok(fronts)
-}
-
 impl Merge {
     /// Nothing taken of these logs.
-    pub(crate) fn new(alloc: Global, logs: &[Vec<Record>]) -> Result<Merge, AllocError>
+    pub(crate) fn new(alloc: Global, logs: &[Vec<Record>], part: Part) -> Result<Merge, AllocError>
         ensures taken { IfOk result (λ merge. merge.taken ≡ 0) }
-        ensures stands { IfOk result (λ merge.
-            Stands (record_lists logs.now) merge.taken merge.next.items merge.fronts.items) }
+        ensures stands { IfOk result (λ merge. Stands (is_own part.workers part.number)
+            (record_lists logs.now) merge.taken merge.next.items merge.fronts.items) }
     {
+        let mut next = Vec::new(alloc);
+        let mut fronts = Vec::new(alloc);
+        for log in logs {
+            let log = log.as_slice();
+            let first = next_of(log, part, 0);
+            next.push(first)?;
+            fronts.push(front_number(record_at(log, first)))?;
+        }
         Ok(Merge {
             taken: 0,
-            next: vec![in alloc; 0; logs.len()]?,
-            fronts: first_numbers(alloc, logs)?,
+            next,
+            fronts,
         })
     }
 
-    /// Takes the record of least key of those that are left. No log falls.
-    fn take_first(&mut self, logs: &[Vec<Record>]) -> Entry
+    /// Takes the own record of least key of those that are left, and puts it behind the batch. False
+    /// where none is left. No log falls. Err where memory was refused.
+    fn take_first(
+        &mut self,
+        logs: &[Vec<Record>],
+        part: Part,
+        batch: &mut Vec<Entry>,
+    ) -> Result<bool, AllocError>
+        requires some { 0 < length logs.now }
         requires cores { length logs.now ≤ 64 }
         requires records { All (λ log. vec_len log ≤ 1048576) logs.now }
         requires ordered { least_core_fault (record_lists logs.now) ≡ None }
-        requires stands { Stands (record_lists logs.now) self.old.taken
-            self.old.next.items self.old.fronts.items }
-        requires more { self.old.taken < length (entries (record_lists logs.now)) }
-        ensures taken { self.new.taken ≡ self.old.taken + 1 }
-        ensures stands { Stands (record_lists logs.now) self.new.taken
-            self.new.next.items self.new.fronts.items }
-        ensures entry { slice_get (by_key (record_lists logs.now)) self.old.taken ≡ Some result }
+        requires stands { Stands (is_own part.workers part.number) (record_lists logs.now)
+            self.old.taken self.old.next.items self.old.fronts.items }
+        ensures stands { OnOk result (Stands (is_own part.workers part.number)
+            (record_lists logs.now) self.new.taken self.new.next.items self.new.fronts.items) }
+        ensures taken { IfOk result (λ some. some ≡ true → self.new.taken ≡ self.old.taken + 1) }
+        ensures entry { IfOk result (λ some. some ≡ true
+            → IsTaken (is_own part.workers part.number) (record_lists logs.now) self.old.taken
+            batch.old.items batch.new.items) }
+        ensures all { IfOk result (λ some. some ≡ false
+            → length (own_by_key (is_own part.workers part.number) (record_lists logs.now))
+            ≤ self.old.taken) }
+        ensures kept { IfOk result (λ some. some ≡ false → self.new.taken ≡ self.old.taken) }
+        ensures batch { IfOk result (λ some. some ≡ false → batch.new.items ≡ batch.old.items) }
     {
         let place = first_core(self.fronts.as_slice());
+        let log = logs[place].as_slice();
         let taken = self.next[place];
-        let Some(logged) = record_at(logs, place, taken) else {
-            unreachable!()
+        let Some(logged) = record_at(log, taken) else {
+            return Ok(false);
         };
         let Ok(core) = CoreId::new(place as u64) else {
             unreachable!()
@@ -117,40 +140,49 @@ impl Merge {
         let Ok(index) = OpIndex::new(taken as u64) else {
             unreachable!()
         };
-        self.taken += 1;
-        self.next[place] = taken + 1;
-        self.fronts[place] = front_number(record_at(logs, place, taken + 1));
-        Entry {
+        batch.push(Entry {
             id: OpId { core, index },
             logged,
-        }
+        })?;
+        let next = next_of(log, part, taken + 1);
+        self.taken += 1;
+        self.next[place] = next;
+        self.fronts[place] = front_number(record_at(log, next));
+        Ok(true)
     }
 
-    /// Takes so many records, in the order of their keys, and puts them into the empty batch. Err where
+    /// Takes a batch of own records, in the order of their keys. False where none was left. Err where
     /// memory was refused.
     pub(crate) fn take_batch(
         &mut self,
         logs: &[Vec<Record>],
-        many: usize,
+        part: Part,
         batch: &mut Vec<Entry>,
-    ) -> Result<(), AllocError>
+    ) -> Result<bool, AllocError>
+        requires some { 0 < length logs.now }
         requires cores { length logs.now ≤ 64 }
         requires records { All (λ log. vec_len log ≤ 1048576) logs.now }
         requires ordered { least_core_fault (record_lists logs.now) ≡ None }
-        requires stands { Stands (record_lists logs.now) self.old.taken
-            self.old.next.items self.old.fronts.items }
-        requires more { self.old.taken + many ≤ length (entries (record_lists logs.now)) }
-        requires empty { batch.old.items ≡ [] }
-        ensures taken { OnOk result (self.new.taken ≡ self.old.taken + many) }
-        ensures stands { OnOk result (Stands (record_lists logs.now) self.new.taken
-            self.new.next.items self.new.fronts.items) }
+        requires stands { Stands (is_own part.workers part.number) (record_lists logs.now)
+            self.old.taken self.old.next.items self.old.fronts.items }
+        ensures stands { OnOk result (Stands (is_own part.workers part.number)
+            (record_lists logs.now) self.new.taken self.new.next.items self.new.fronts.items) }
+        ensures taken { OnOk result
+            (self.new.taken ≡ self.old.taken + length batch.new.items) }
         ensures batch { OnOk result (batch.new.items
-            ≡ batch_of (record_lists logs.now) self.old.taken many) }
+            ≡ batch_of (is_own part.workers part.number) (record_lists logs.now) self.old.taken
+            (length batch.new.items)) }
+        ensures some { IfOk result (λ some. some ≡ true → 0 < length batch.new.items) }
+        ensures all { IfOk result (λ some. some ≡ false
+            → length (own_by_key (is_own part.workers part.number) (record_lists logs.now))
+            ≤ self.old.taken) }
     {
-        for i in 0..many {
-            let Entry { id, logged } = self.take_first(logs);
-            batch.push(Entry { id, logged })?;
+        batch.clear();
+        for i in 0..BATCH {
+            if !self.take_first(logs, part, batch)? {
+                return Ok(i > 0);
+            }
         }
-        Ok(())
+        Ok(true)
     }
 }

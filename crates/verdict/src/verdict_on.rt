@@ -6,19 +6,18 @@ ghost use Rattle.verdict.specs.CoreFaultsOf.{given};
 ghost use Rattle.verdict.specs.Counts.{IsInRange};
 ghost use Rattle.verdict.specs.VerdictOf.{verdict_by, verdict_with};
 
+use crate::addresses::{count, fault_of_addresses};
 use crate::answer::Verdict;
 use crate::cores::CoreCheck;
 use crate::fault::Fault;
-use crate::key_order::{count, fault_by_key};
 use crate::log_set::LogSet;
-use address_check::{AddressIndex, Gate, Phase};
+use address_check::Gate;
 use core_program::ProgramSet;
 use std::alloc::{AllocError, Global};
 use std::thread::Threads;
 
 /// The verdict on a set, against the programs of its cores where they are given: each core alone
 /// first, and where none has a fault, each address alone. Err where memory was refused.
-#[tactic(auto, using(crate::proofs::Bridge::no_log_falls))]
 pub(crate) fn verdict_on<R: Threads + Sync, G: Gate + Sync>(
     rt: &R,
     alloc: Global,
@@ -34,24 +33,7 @@ pub(crate) fn verdict_on<R: Threads + Sync, G: Gate + Sync>(
     if let Some(fault) = cores.least_fault(rt, alloc, gate, workers)? {
         return Ok(Verdict::No(Fault::from(fault)));
     }
-    if workers == 1 {
-        return verdict_by_one(alloc, &set, gate);
-    }
-    let index = AddressIndex::build(rt, alloc, set.into_logs())?;
-    match index.least_fault(rt, alloc, gate, workers)? {
-        Some(fault) => Ok(Verdict::No(Fault::from(fault))),
-        None => Ok(Verdict::Yes(index.all().len())),
-    }
-}
-
-/// The verdict on a set of which no core has a fault, by the calling thread alone: it looks at the
-/// records in the order of their keys. Err where memory was refused.
-fn verdict_by_one<G: Gate>(alloc: Global, set: &LogSet, gate: &G) -> Result<Verdict, AllocError>
-    requires ordered { least_core_fault set.now ≡ None }
-    ensures { IfOk result (λ verdict. verdict ≡ verdict_with None set.now) }
-{
-    gate.enter(Phase::Addresses, 1);
-    match fault_by_key(alloc, set.logs())? {
+    match fault_of_addresses(rt, alloc, gate, &set, workers)? {
         Some(fault) => Ok(Verdict::No(Fault::from(fault))),
         None => Ok(Verdict::Yes(count(set.logs()))),
     }

@@ -1,13 +1,13 @@
 //! The words of memory along the order of keys, and the check of loads against them.
 
-ghost use Rattle.std.specs.Prelude.{◌≡◌, ◌<◌, ◌+◌, ℕ, [], ◌∷◌, ◌++◌, List, IfOk, MatchOption, Some, take, length, slice_get};
+ghost use Rattle.std.specs.Prelude.{◌≡◌, ◌<◌, ◌+◌, ℕ, Bool, [], ◌∷◌, ◌++◌, List, IfOk, MatchOption, Some, take, length, slice_get};
 ghost use Rattle.mem_op.specs.declared.id.Source.TheVariants.{Init};
 ghost use Rattle.log_record.specs.declared.record.Entry.{Entry};
 ghost use Rattle.log_record.specs.declared.record.Record.{Record};
 ghost use Rattle.log_record.specs.Entries.{entries};
-ghost use Rattle.address_check.specs.AddressFaults.{act_fault, fault_by, least_address_fault};
-ghost use Rattle.verdict.specs.ByKey.{by_key};
+ghost use Rattle.address_check.specs.AddressFaults.{act_fault, fault_by};
 ghost use Rattle.verdict.specs.Merging.{CleanSoFar, Holds, batch_of, broken_by, last_store_to};
+ghost use Rattle.verdict.specs.Parts.{least_own_fault, own_by_key};
 
 use crate::replay::zeros;
 use address_check::{AddressFault, AddressRule};
@@ -97,15 +97,15 @@ impl Words {
     pub(crate) fn perform_batch(&mut self, batch: &[Entry]) -> Option<AddressFault>
         requires words { length self.old.values.items ≡ 65536 }
         requires origins { length self.old.sources.items ≡ 65536 }
-        ensures { (logs : List (List Record)) (k : ℕ)
-            → Holds self.old.values.items self.old.sources.items (take k (by_key logs))
-            → CleanSoFar logs k
-            → batch.now ≡ batch_of logs k (length batch.now)
+        ensures { (own : ℕ → Bool) (logs : List (List Record)) (k : ℕ)
+            → Holds self.old.values.items self.old.sources.items (take k (own_by_key own logs))
+            → CleanSoFar own logs k
+            → batch.now ≡ batch_of own logs k (length batch.now)
             → MatchOption result
             (Holds self.new.values.items self.new.sources.items
-            (take (k + length batch.now) (by_key logs))
-            × CleanSoFar logs (k + length batch.now))
-            (λ fault. Some fault ≡ least_address_fault (entries logs)) }
+            (take (k + length batch.now) (own_by_key own logs))
+            × CleanSoFar own logs (k + length batch.now))
+            (λ fault. Some fault ≡ least_own_fault own (entries logs)) }
     {
         for entry in batch {
             let fault = self.perform(entry);

@@ -1,41 +1,84 @@
--- The core of least number has the next record.
-use Rattle.std.proofs.Common.{◌<◌, ◌∙◌, sym, arith, rules}
+-- The core of least number has the next own record.
+use Rattle.std.proofs.Common.{◌<◌, ◌∙◌, sym, subst, arith, rules, length}
 use Rattle.log_record.specs.Entries.{record_lists}
+use Rattle.verdict.specs.Merging.{IsFrontNumber}
+use Rattle.verdict.specs.Parts.{is_own, own_by_key}
 use Rattle.verdict.proofs.KeyPass.{entries-few}
-use Rattle.verdict.proofs.Merging.{ChosenAt, chosen_at, is_there, advanced, entry_taken, index_small}
+use Rattle.verdict.proofs.Lists.{within}
+use Rattle.verdict.proofs.Merging.{FoundAt, found_at, all_taken, advanced, entry_taken, index_small, log_is, place_within}
+use Rattle.verdict.proofs.Own.{own-few}
 use Rattle.verdict.proofs.merge.Merge.take_first.Goals as goal
 
-pub unreachable-requires : goal.unreachable-requires
-unreachable-requires c =
-    let self = c.args.self.now in
+pub returns-in_default-clause-all : goal.returns-in_default-clause-all
+returns-in_default-clause-all c e =
+    let own = is_own c.args.part.workers c.args.part.number in
     let logs = record_lists c.args.logs.now in
+    let self = c.args.self.now in
     let f = c.first_core-place in
-    let at : ChosenAt logs self.taken f.result c.index-taken.result.now self.next.items self.fronts.items =
-    chosen_at logs self.taken f.result c.index-taken.result.now self.next.items self.fronts.items c.as_slice.result.now c.requires.ordered c.requires.stands c.requires.more c.as_slice.ensures.value f.ensures.within f.ensures.least f.ensures.first c.index-taken.ensures in
-    is_there logs self.taken f.result c.index-taken.result.now self.next.items self.fronts.items c.record_at.result at c.record_at.ensures c.in_default.is
+    let taken = c.index-taken.result.now in
+    let log = c.as_slice-log.result.now in
+    let place : f.result < length c.args.logs.now = place_within own c.args.logs.now self.taken f.result self.next.items self.fronts.items c.as_slice.result.now c.requires.stands c.as_slice.ensures.value f.ensures.within in
+    let at : FoundAt logs f.result taken self.next.items self.fronts.items log =
+    found_at own logs self.taken f.result taken self.next.items self.fronts.items c.as_slice.result.now log c.requires.stands c.as_slice.ensures.value f.ensures.within f.ensures.least f.ensures.first c.index-taken.ensures
+    (log_is c.args.logs.now f.result c.index-logs-place.result log place c.index-logs-place.is c.as_slice-log.ensures.value) in
+    all_taken own logs self.taken f.result taken self.next.items self.fronts.items log c.requires.ordered c.requires.stands at (sym c.record_at.ensures ∙ c.in_default.is)
 
 pub unreachable-requires-in_default-new-2 : goal.unreachable-requires-in_default-new-2
 unreachable-requires-in_default-new-2 c =
-    let small : c.index-taken.result.now < 1048576 = index_small c.args.logs.now c.first_core-place.result c.index-taken.result.now c.in-Some.logged c.requires.records (sym c.record_at.ensures ∙ c.in-Some.is) in
+    let self = c.args.self.now in
+    let f = c.first_core-place in
+    let place : f.result < length c.args.logs.now = place_within (is_own c.args.part.workers c.args.part.number) c.args.logs.now self.taken f.result self.next.items self.fronts.items c.as_slice.result.now c.requires.stands c.as_slice.ensures.value f.ensures.within in
+    let small : c.index-taken.result.now < 1048576 =
+    index_small c.args.logs.now f.result c.index-taken.result.now c.index-logs-place.result c.as_slice-log.result.now c.in-Some.logged c.requires.records place c.index-logs-place.is c.as_slice-log.ensures.value (sym c.record_at.ensures ∙ c.in-Some.is) in
     search rules
 
 pub overflow_add-self : goal.overflow_add-self
-overflow_add-self c = let few = entries-few c.args.logs.now c.requires.cores c.requires.records in let more = c.requires.more in omega arith
+overflow_add-self c =
+    let own = is_own c.args.part.workers c.args.part.number in
+    let logs = record_lists c.args.logs.now in
+    let self = c.args.self.now in
+    let f = c.first_core-place in
+    let taken = c.index-taken.result.now in
+    let log = c.as_slice-log.result.now in
+    let place : f.result < length c.args.logs.now = place_within own c.args.logs.now self.taken f.result self.next.items self.fronts.items c.as_slice.result.now c.requires.stands c.as_slice.ensures.value f.ensures.within in
+    let at : FoundAt logs f.result taken self.next.items self.fronts.items log =
+    found_at own logs self.taken f.result taken self.next.items self.fronts.items c.as_slice.result.now log c.requires.stands c.as_slice.ensures.value f.ensures.within f.ensures.least f.ensures.first c.index-taken.ensures
+    (log_is c.args.logs.now f.result c.index-logs-place.result log place c.index-logs-place.is c.as_slice-log.ensures.value) in
+    let there = sym c.record_at.ensures ∙ c.in-Some.is in
+    let next = entry_taken own logs self.taken f.result taken self.next.items self.fronts.items log c.requires.ordered c.requires.stands at c.in-Some.logged there c.in-Ok.core c.in-Ok-new.index c.in-Ok.ensures.0 c.in-Ok-new.ensures.0 in
+    let k = within (own_by_key own logs) self.taken _ next in
+    let few = own-few own logs in
+    let all = entries-few c.args.logs.now c.requires.cores c.requires.records in
+    omega arith
 
 pub returns-clause-stands : goal.returns-clause-stands
 returns-clause-stands c =
-    let self = c.args.self.now in
+    let own = is_own c.args.part.workers c.args.part.number in
     let logs = record_lists c.args.logs.now in
+    let self = c.args.self.now in
     let f = c.first_core-place in
-    let at : ChosenAt logs self.taken f.result c.index-taken.result.now self.next.items self.fronts.items =
-    chosen_at logs self.taken f.result c.index-taken.result.now self.next.items self.fronts.items c.as_slice.result.now c.requires.ordered c.requires.stands c.requires.more c.as_slice.ensures.value f.ensures.within f.ensures.least f.ensures.first c.index-taken.ensures in
-    advanced logs self.taken f.result c.index-taken.result.now c.front_number.result self.next.items self.fronts.items c.record_at-2.result c.requires.stands at c.record_at-2.ensures c.front_number.ensures
+    let taken = c.index-taken.result.now in
+    let log = c.as_slice-log.result.now in
+    let place : f.result < length c.args.logs.now = place_within own c.args.logs.now self.taken f.result self.next.items self.fronts.items c.as_slice.result.now c.requires.stands c.as_slice.ensures.value f.ensures.within in
+    let at : FoundAt logs f.result taken self.next.items self.fronts.items log =
+    found_at own logs self.taken f.result taken self.next.items self.fronts.items c.as_slice.result.now log c.requires.stands c.as_slice.ensures.value f.ensures.within f.ensures.least f.ensures.first c.index-taken.ensures
+    (log_is c.args.logs.now f.result c.index-logs-place.result log place c.index-logs-place.is c.as_slice-log.ensures.value) in
+    let there = sym c.record_at.ensures ∙ c.in-Some.is in
+    advanced own logs self.taken f.result taken self.next.items self.fronts.items log c.requires.ordered c.requires.stands at c.in-Some.logged there c.front_number.result c.next_of-next.result c.next_of-next.ensures
+    (subst (λ o. IsFrontNumber o c.front_number.result) c.record_at-2.ensures c.front_number.ensures)
 
 pub returns-clause-entry : goal.returns-clause-entry
-returns-clause-entry c =
-    let self = c.args.self.now in
+returns-clause-entry c e =
+    let own = is_own c.args.part.workers c.args.part.number in
     let logs = record_lists c.args.logs.now in
+    let self = c.args.self.now in
     let f = c.first_core-place in
-    let at : ChosenAt logs self.taken f.result c.index-taken.result.now self.next.items self.fronts.items =
-    chosen_at logs self.taken f.result c.index-taken.result.now self.next.items self.fronts.items c.as_slice.result.now c.requires.ordered c.requires.stands c.requires.more c.as_slice.ensures.value f.ensures.within f.ensures.least f.ensures.first c.index-taken.ensures in
-    entry_taken logs self.taken f.result c.index-taken.result.now c.in-Ok.core c.in-Ok-new.index self.next.items self.fronts.items c.in-Some.logged at c.in-Ok.ensures.0 c.in-Ok-new.ensures.0 (sym c.record_at.ensures ∙ c.in-Some.is)
+    let taken = c.index-taken.result.now in
+    let log = c.as_slice-log.result.now in
+    let place : f.result < length c.args.logs.now = place_within own c.args.logs.now self.taken f.result self.next.items self.fronts.items c.as_slice.result.now c.requires.stands c.as_slice.ensures.value f.ensures.within in
+    let at : FoundAt logs f.result taken self.next.items self.fronts.items log =
+    found_at own logs self.taken f.result taken self.next.items self.fronts.items c.as_slice.result.now log c.requires.stands c.as_slice.ensures.value f.ensures.within f.ensures.least f.ensures.first c.index-taken.ensures
+    (log_is c.args.logs.now f.result c.index-logs-place.result log place c.index-logs-place.is c.as_slice-log.ensures.value) in
+    let there = sym c.record_at.ensures ∙ c.in-Some.is in
+    let next = entry_taken own logs self.taken f.result taken self.next.items self.fronts.items log c.requires.ordered c.requires.stands at c.in-Some.logged there c.in-Ok.core c.in-Ok-new.index c.in-Ok.ensures.0 c.in-Ok-new.ensures.0 in
+    (_, next, c.in_ok-push.ensures.items)

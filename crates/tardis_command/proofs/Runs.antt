@@ -1,0 +1,40 @@
+-- How a run ends behind its simulation.
+use Rattle.std.proofs.Common.{◌≡◌, ℕ, List, length}
+use Rattle.std.specs.Prelude.{Option, None, Result, Ok, Err, IfOk, IfErr, OnOk}
+use Rattle.command_line.specs.declared.request.Sim.{Sim}
+use Rattle.lease_rule.specs.Ranges.{first_bad}
+use Rattle.core_program.specs.declared.instruction.Instruction.{Instruction}
+use Rattle.schedule.specs.declared.command.Command.{Command}
+use Rattle.simulation.specs.Simulating.{IsSimulated, IsSimulationFault}
+use Rattle.simulation.specs.declared.fault.SimulationFault.{SimulationFault}
+use Rattle.tardis_core.specs.Opening.{opening_parts}
+use Rattle.tardis_core.specs.Parts.{CoreParts, world}
+use Rattle.verdict.specs.declared.judge_fault.JudgeFault.TheVariants.{BadConfig, Log, Read, OutOfMemory}
+use Rattle.tardis_command.specs.Logs.{ArePut, ArePutAsFar, ArePutUpTo}
+use Rattle.tardis_command.specs.Simulating.{AreCommandsOf, AreProgramsIn, IsRun, IsUnwritten, config_of, performed_below}
+use Rattle.tardis_command.specs.declared.fault.CommandFault.{CommandFault}
+use Rattle.tardis_command.specs.declared.fault.CommandFault.TheVariants.{Judge, Config, Programs, ProgramsUnread, Schedule, ScheduleUnread, Simulation, LogUnwritten, Output}
+
+module _ (told told' : List ℕ → Option (List ℕ)) (asked : Sim) (programs : List (List Instruction)) (commands : List Command) (q : CoreParts)
+    (sound : first_bad (config_of asked) ≡ None) (read : AreProgramsIn told asked.programs.now programs)
+    (parsed : AreCommandsOf told asked.schedule (length programs) commands) where
+  pub faulted : (fault : SimulationFault) → IsSimulationFault commands asked.seed (opening_parts programs (config_of asked)) q fault
+      → ArePutAsFar told told' asked.out.now (length programs) (world q) → IsRun told told' asked (Err (Simulation fault))
+  faulted fault is far = (sound, programs, read, (commands, parsed, (q, is, far)))
+
+  pub ended : IsSimulated commands asked.seed (opening_parts programs (config_of asked)) q → (written : Result ℕ CommandFault)
+      → IfOk written (λ count. count ≡ performed_below (world q) (length programs)) → OnOk written (ArePut told told' asked.out.now (length programs) (world q))
+      → IfErr written (IsUnwritten (ArePutUpTo told told' asked.out.now (length programs) (world q))) → IsRun told told' asked written
+  ended simulated (Ok count) counted put unwritten = (sound, programs, read, (commands, parsed, (q, simulated, (counted, put))))
+  ended simulated (Err (LogUnwritten file)) counted put unwritten = (sound, programs, read, (commands, parsed, (q, simulated, unwritten)))
+  ended simulated (Err (Judge OutOfMemory)) counted put unwritten = tt
+  ended simulated (Err (Judge (BadConfig count))) counted put unwritten = absurd cc
+  ended simulated (Err (Judge (Log file line fault))) counted put unwritten = absurd cc
+  ended simulated (Err (Judge (Read file))) counted put unwritten = absurd cc
+  ended simulated (Err (Config fault)) counted put unwritten = absurd unwritten
+  ended simulated (Err (Programs fault)) counted put unwritten = absurd unwritten
+  ended simulated (Err ProgramsUnread) counted put unwritten = absurd unwritten
+  ended simulated (Err (Schedule fault)) counted put unwritten = absurd unwritten
+  ended simulated (Err ScheduleUnread) counted put unwritten = absurd unwritten
+  ended simulated (Err (Simulation fault)) counted put unwritten = absurd unwritten
+  ended simulated (Err Output) counted put unwritten = absurd unwritten
