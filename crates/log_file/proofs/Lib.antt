@@ -16,5 +16,6 @@ pub mod Settled
 pub mod Spelled
 pub mod Standing
 pub mod Steps
+pub mod TakenParts
 pub mod Walk
 pub mod Writing

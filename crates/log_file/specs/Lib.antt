@@ -1,4 +1,5 @@
 pub mod Answers
+pub mod Chunks
 pub mod Devices
 pub mod Faults
 pub mod Feeding

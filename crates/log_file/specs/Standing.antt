@@ -103,6 +103,18 @@ pub record Takes (old : LineReader) (records : List Record) (bytes : List ℕ) (
   pub stands : Stands new after
   pub text : read_text new after ≡ read_text old records ++ bytes
 
+-- the reader stands between the records of a log that has room for so many more
+pub record HasRoom (s : LineReader) (many : ℕ) : Type 0 where
+  pub phase : s.progress.phase ≡ phase.Records
+  pub between : s.begun.items ≡ []
+  pub room : s.progress.count + many ≤ record_limit
+
+-- it stands so many records further on
+pub record IsPassed (old : LineReader) (many : ℕ) (new : LineReader) : Type 0 where
+  pub had_room : HasRoom old many
+  pub progress : new.progress ≡ record old.progress { count = old.progress.count + many }
+  pub between : new.begun.items ≡ []
+
 -- the bytes that were read have a first fault with these behind them, however they go on
 abbrev pub IsSettledWith : LineReader → List Record → List ℕ → LogFault → Type 0
 IsSettledWith s records bytes fault = IsSettled s.progress.core s.progress.cores (read_text s records ++ bytes) fault

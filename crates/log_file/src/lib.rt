@@ -3,6 +3,7 @@
 
 mod byte_sink;
 mod byte_source;
+mod chunks;
 mod device_fault;
 mod fault;
 mod from_read;
@@ -23,6 +24,7 @@ mod read_fault;
 mod set;
 mod set_fault;
 mod step;
+mod taking;
 mod write;
 mod write_fault;
 
@@ -51,3 +53,5 @@ pub use write_fault::WriteFault;
 
 #[cfg(test)]
 mod tests;
+#[cfg(test)]
+mod workers_tests;

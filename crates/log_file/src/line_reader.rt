@@ -1,15 +1,16 @@
 //! A log read line by line.
 
-ghost use Rattle.std.specs.Prelude.{◌≡◌, ◌<◌, ◌≤◌, [], ◌++◌, List, IfOk, IfErr, OnOk, MatchResult, length};
+ghost use Rattle.std.specs.Prelude.{◌≡◌, ◌≢◌, ◌<◌, ◌≤◌, true, false, [], ◌++◌, List, IfOk, IfErr, IfSome, IsNone, OnOk, MatchResult, length};
 ghost use Rattle.log_record.specs.declared.record.Record.{Record};
+ghost use Rattle.log_file.specs.declared.phase.Phase.TheVariants as phase;
 ghost use Rattle.log_file.specs.Answers.{IsFaultOf};
 ghost use Rattle.log_file.specs.Log.{Spells};
 ghost use Rattle.log_file.specs.Standing.{IsInRange, SameLog, IsBehind, IsTooFar, IsPartRefused, IsLineRefused};
-ghost use Rattle.log_file.specs.Standing.{Stands, IsSettledWith, TakesNext, read_text};
+ghost use Rattle.log_file.specs.Standing.{HasRoom, IsPassed, Stands, IsSettledWith, TakesNext, read_text};
 
 use crate::fault::Fault;
 use crate::log_fault::LogFault;
-use crate::one_line::LINE_LIMIT;
+use crate::one_line::{LINE_LIMIT, RECORD_LIMIT};
 use crate::phase::Phase;
 use crate::progress::Progress;
 use arrayvec::ArrayVec;
@@ -60,6 +61,35 @@ impl LineReader {
                 count: 0,
             },
             begun: ArrayVec::new(),
+        }
+    }
+
+    /// A reader of some log, behind its header. What a header says has no part in records.
+    pub(crate) fn behind_a_header() -> LineReader
+        ensures progress { result.progress ≡ record { core = 0; cores = 1; phase = phase.Records; count = 0 } }
+        ensures none_begun { result.begun.items ≡ [] }
+    {
+        LineReader {
+            progress: Progress {
+                core: 0,
+                cores: 1,
+                phase: Phase::Records,
+                count: 0,
+            },
+            begun: ArrayVec::new(),
+        }
+    }
+
+    /// The bytes of the line that isn't whole yet, where the header or a record was read last.
+    pub(crate) fn begun_line(&self) -> Option<&[u8]>
+        ensures some { IfSome result (λ begun. (begun.now ≡ self.now.begun.items)
+            × (self.now.progress.phase ≡ phase.Records)) }
+        ensures none { IsNone result → self.now.progress.phase ≢ phase.Records }
+    {
+        if self.progress.phase == Phase::Records {
+            Some(self.begun.as_slice())
+        } else {
+            None
         }
     }
 
@@ -120,6 +150,24 @@ impl LineReader {
             logged,
             taken: at + 1,
         }))
+    }
+
+    /// Passes over the lines of so many records. False, and then nothing changes, where the reader
+    /// doesn't stand between a log's records, or the log has no room for so many.
+    pub(crate) fn pass(&mut self, records: usize) -> bool
+        requires { IsInRange self.old.progress }
+        ensures same { SameLog self.old.progress self.new.progress }
+        ensures in_range { IsInRange self.new.progress }
+        ensures passed { result ≡ true → IsPassed self.old records self.new }
+        ensures kept { result ≡ false → (self.new ≡ self.old) × (¬ HasRoom self.old records) }
+    {
+        let progress = &mut self.progress;
+        let room = RECORD_LIMIT - progress.count;
+        if progress.phase != Phase::Records || !self.begun.is_empty() || records as u64 > room {
+            return false;
+        }
+        progress.count += records as u64;
+        true
     }
 
     /// Whether the log is whole; Truncated at the line that the bytes end in, where it isn't.

@@ -1,15 +1,16 @@
 //! A log read in pieces.
 
-ghost use Rattle.std.specs.Prelude.{◌≡◌, ◌<◌, ◌≤◌, ◌^◌, [], Ok, OnOk, MatchResult};
+ghost use Rattle.std.specs.Prelude.{◌≡◌, ◌<◌, ◌≤◌, ◌^◌, [], Ok, OnOk};
 ghost use Rattle.log_file.specs.Feeding.{Feeds, Finishes, IsOpen, fed_len};
-ghost use Rattle.log_file.specs.Standing.{IsInRange, IsSettledWith, SameLog, Stands, Takes};
 
 use crate::line_reader::LineReader;
 use crate::log_fault::LogFault;
+use crate::taking::{take_piece, take_piece_by};
 use log_record::Record;
 use mem_op::CoreId;
 use std::alloc::Global;
 use std::marker::Model;
+use std::thread::Threads;
 
 /// Reads the log of one core, fed in pieces of any cutting.
 #[derive(Drop)]
@@ -29,30 +30,6 @@ impl Model for LogReader {
     ghost view = { feeding_of };
 
     ghost invariant = { IsKept };
-}
-
-/// Takes all of a piece, and keeps its records.
-fn take_piece(
-    lines: &mut LineReader,
-    records: &mut Vec<Record>,
-    piece: &[u8],
-) -> Result<(), LogFault>
-    requires in_range { IsInRange lines.old.progress }
-    requires stands { Stands lines.old records.old.items }
-    ensures same { SameLog lines.old.progress lines.new.progress }
-    ensures in_range { IsInRange lines.new.progress }
-    ensures taken { MatchResult result
-        (λ _. Takes lines.old records.old.items piece.now lines.new records.new.items)
-        (IsSettledWith lines.old records.old.items piece.now) }
-{
-    let mut rest = piece;
-    while let Some(line) = lines.next_line(rest)? {
-        if let Some(logged) = line.logged {
-            records.push(logged)?;
-        }
-        rest = &rest[line.taken..];
-    }
-    Ok(())
 }
 
 impl LogReader {
@@ -88,6 +65,42 @@ impl LogReader {
             self.fault = Some(fault);
         }
         outcome
+    }
+
+    /// Takes the next bytes as `feed` does; so many workers read their lines at once.
+    pub fn feed_by<R: Threads + Sync>(
+        &mut self,
+        rt: &R,
+        alloc: Global,
+        piece: &[u8],
+        workers: usize,
+    ) -> Result<(), LogFault>
+        requires { 0 < workers }
+        ensures core { self.new.core ≡ self.old.core }
+        ensures cores { self.new.cores ≡ self.old.cores }
+        ensures fed { Feeds self.old.core self.old.cores
+            self.old.fed piece.now result self.new.fed }
+        ensures at_once { OnOk result (IsOpen self.new.core self.new.cores self.new.fed) }
+        ensures bounded { OnOk result (fed_len self.new.fed < 2 ^ 27) }
+    {
+        if workers == 1 {
+            return self.feed(piece);
+        }
+        if let Some(fault) = self.fault {
+            return Err(fault);
+        }
+        let shared = take_piece_by(
+            rt,
+            alloc,
+            &mut self.lines,
+            &mut self.records,
+            piece,
+            workers,
+        );
+        if let Err(fault) = shared {
+            self.fault = Some(fault);
+        }
+        shared
     }
 
     /// The log of the bytes that were fed, or their first fault.

@@ -1,6 +1,6 @@
 //! A log read from a device.
 
-ghost use Rattle.std.specs.Prelude.{◌≡◌, ◌<◌, ◌≤◌, ◌^◌, ℕ, List, IsErrOf};
+ghost use Rattle.std.specs.Prelude.{◌≡◌, ◌<◌, ◌≤◌, ◌^◌, ℕ, List, [], Ok, IsErrOf, length};
 ghost use Rattle.log_file.specs.Devices.{Failed, Tells};
 ghost use Rattle.log_file.specs.Answers.{IsReadAnswer};
 
@@ -10,20 +10,71 @@ use crate::log_reader::LogReader;
 use log_record::Record;
 use mem_op::CoreId;
 use std::alloc::Global;
+use std::thread::Threads;
 
-/// The most bytes of a piece.
+/// The most bytes of a piece that the calling thread takes alone: they stay near the processor.
 const PIECE: usize = 65_536;
 
+/// The most bytes of a piece whose lines several workers read: enough to be worth their threads.
+const SHARED_PIECE: usize = 2_097_152;
+
+/// How many of the workers take a piece of so many bytes: a short one isn't worth their threads.
+fn takers(bytes: usize, workers: usize) -> usize
+    requires { 0 < workers }
+    ensures { 0 < result }
+{
+    if bytes < PIECE { 1 } else { workers }
+}
+
+/// The most bytes of a piece, for so many workers.
+fn piece_len(workers: usize) -> usize
+    ensures { 0 < result }
+{
+    if workers == 1 { PIECE } else { SHARED_PIECE }
+}
+
+/// The log that a reader answers that was fed nothing, when it is fed all that the source has,
+/// through this buffer.
+fn read_through<R: Threads + Sync, S: ByteSource>(
+    rt: &R,
+    alloc: Global,
+    source: &mut S,
+    mut reader: LogReader,
+    buf: &mut [u8],
+    workers: usize,
+) -> Result<Vec<Record>, LogFault>
+    requires fed { reader.fed ≡ Ok [] }
+    requires room { 0 < length buf.old }
+    requires workers { 0 < workers }
+    ensures answer { (bytes : List ℕ) × Tells (S.remaining source.old) bytes
+        × IsReadAnswer reader.core reader.cores bytes result }
+    ensures read { IsErrOf result LogFault.Read →
+        Failed (S.failed source.old) (S.failed source.new) }
+    ensures quiet { ¬ IsErrOf result LogFault.Read → S.failed source.new ≡ S.failed source.old }
+{
+    loop {
+        let count = source.read(buf)?;
+        if count == 0 {
+            return reader.finish();
+        }
+        reader.feed_by(rt, alloc, &buf[..count], takers(count, workers))?;
+    }
+}
+
 /// The log of this core of so many that the source's bytes spell, or their first fault. 10 comes
-/// where a growth was refused, 28 where a read failed.
-pub fn read_log<S: ByteSource>(
+/// where a growth was refused, 28 where a read failed. The calling thread reads the source; the
+/// lines of each piece are read by so many workers at once, and the answer doesn't depend on how many.
+pub fn read_log<R: Threads + Sync, S: ByteSource>(
+    rt: &R,
     alloc: Global,
     source: &mut S,
     core: CoreId,
     cores: u64,
+    workers: usize,
 ) -> Result<Vec<Record>, LogFault>
     requires core { core < cores }
     requires cores { cores ≤ 64 }
+    requires workers { 0 < workers }
     // There are bytes, those that the source tells, of which this is the answer.
     ensures answer { (bytes : List ℕ) × Tells (S.remaining source.old) bytes
         × IsReadAnswer core cores bytes result }
@@ -33,13 +84,7 @@ pub fn read_log<S: ByteSource>(
     // And no failed read is passed over.
     ensures quiet { ¬ IsErrOf result LogFault.Read → S.failed source.new ≡ S.failed source.old }
 {
-    let mut reader = LogReader::new(alloc, core, cores);
-    let mut buf = [0u8; PIECE];
-    loop {
-        let count = source.read(&mut buf)?;
-        if count == 0 {
-            return reader.finish();
-        }
-        reader.feed(&buf[..count])?;
-    }
+    let reader = LogReader::new(alloc, core, cores);
+    let mut buf = vec![in alloc; 0u8; piece_len(workers)]?;
+    read_through(rt, alloc, source, reader, buf.as_mut_slice(), workers)
 }

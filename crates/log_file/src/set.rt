@@ -1,6 +1,6 @@
 //! A set of logs read from devices.
 
-ghost use Rattle.std.specs.Prelude.{◌≡◌, ◌+◌, ◌≤◌, ℕ, List, All, drop, length, vec_len, IfOk, IfErr};
+ghost use Rattle.std.specs.Prelude.{◌≡◌, ◌+◌, ◌<◌, ◌≤◌, ℕ, List, All, drop, length, vec_len, IfOk, IfErr};
 ghost use Rattle.log_file.specs.Sets.{IsSetAnswer, ReaderFailed, TellEach};
 
 use crate::byte_source::ByteSource;
@@ -10,15 +10,20 @@ use crate::set_fault::SetFault;
 use log_record::Record;
 use mem_op::CoreId;
 use std::alloc::Global;
+use std::thread::Threads;
 
 /// The logs of a set, one from each reader in their order, or the fault of the first file that has
 /// one. File k is to be the log of core k, and the cores as many as the readers. 10 comes where a
-/// growth was refused, 28 where a read failed.
-pub fn read_set<S: ByteSource>(
+/// growth was refused, 28 where a read failed. The calling thread reads the files; so many workers
+/// read their lines, and the answer doesn't depend on how many.
+pub fn read_set<R: Threads + Sync, S: ByteSource>(
+    rt: &R,
     alloc: Global,
     readers: &mut [S],
+    workers: usize,
 ) -> Result<Vec<Vec<Record>>, SetFault>
-    requires { length readers.old ≤ 64 }
+    requires readers { length readers.old ≤ 64 }
+    requires workers { 0 < workers }
     // There are texts, those that the readers tell, of which this is the answer.
     ensures answer { (texts : List (List ℕ)) × TellEach S.remaining readers.old texts
         × IsSetAnswer texts result }
@@ -37,7 +42,7 @@ pub fn read_set<S: ByteSource>(
         let Ok(core) = CoreId::new(file as u64) else {
             unreachable!();
         };
-        let log = match read_log(alloc, reader, core, cores) {
+        let log = match read_log(rt, alloc, reader, core, cores, workers) {
             Ok(log) => log,
             Err(fault) => return Err(SetFault { file, fault }),
         };

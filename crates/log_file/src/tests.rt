@@ -6,18 +6,24 @@ use std::alloc::Global;
 use std::io;
 use std::io::{ErrorKind, Read, Write};
 use std::test::Fail;
+use std::thread::Threads;
 
 /// A log of 65 bytes: a store, a load and a store.
 const THREE_RECORDS: &str =
     "tardis-log 1 core 0 of 1\nS 5 7 1 0\nL 5 7 1 1 0.0\nS 5 8 1 1\nend 3\n";
 
 /// How many records the bytes of core 0 of 1 spell, read from a source that follows the steps.
-fn read(alloc: Global, text: &str, steps: &[Step]) -> Result<usize, LogFault> {
+fn read<R: Threads + Sync>(
+    rt: &R,
+    alloc: Global,
+    text: &str,
+    steps: &[Step],
+) -> Result<usize, LogFault> {
     let Ok(core) = CoreId::new(0) else {
         return Err(LogFault::Read);
     };
     let mut source = MemSource::new(text.as_bytes(), steps);
-    Ok(read_log(alloc, &mut source, core, 1)?.len())
+    Ok(read_log(rt, alloc, &mut source, core, 1, 1)?.len())
 }
 
 /// The same of the bytes fed one by one, and whether each call after a fault answered that fault.
@@ -51,10 +57,10 @@ fn logs_are_read(rt: HostRuntime) {
             1,
         ),
     ] {
-        assert_eq!(rt; read(rt.alloc(), text, &[]), Ok(records), "at {text}");
+        assert_eq!(rt; read(&rt, rt.alloc(), text, &[]), Ok(records), "at {text}");
         let steps = [Step::Move(0), Step::Move(29), Step::Move(2)];
         assert_eq!(rt;
-            read(rt.alloc(), text, &steps),
+            read(&rt, rt.alloc(), text, &steps),
             Ok(records),
             "cut at {text}"
         );
@@ -131,7 +137,7 @@ fn faults_are_told(rt: HostRuntime) {
     ];
     for (text, line, fault) in table {
         let expected = Err(LogFault::At(line, fault));
-        assert_eq!(rt; read(rt.alloc(), text, &[]), expected, "at {text}");
+        assert_eq!(rt; read(&rt, rt.alloc(), text, &[]), expected, "at {text}");
         assert_eq!(rt;
             feed_bytes(rt.alloc(), text),
             (expected, true),
@@ -146,7 +152,7 @@ fn each_beginning_of_a_log_is_cut_off(rt: HostRuntime) {
     let mut begun = String::new(rt.alloc());
     for c in THREE_RECORDS.chars() {
         let expected = Err(LogFault::At(line, Fault::Truncated));
-        assert_eq!(rt; read(rt.alloc(), &begun, &[]), expected, "at {begun}");
+        assert_eq!(rt; read(&rt, rt.alloc(), &begun, &[]), expected, "at {begun}");
         assert_eq!(rt;
             feed_bytes(rt.alloc(), &begun),
             (expected, true),
@@ -199,7 +205,11 @@ fn a_failed_read_is_told(rt: HostRuntime) {
         let mut steps = [Step::Move(6); 12];
         steps[k] = Step::Fail;
         let expected = if k < 11 { Err(LogFault::Read) } else { Ok(3) };
-        assert_eq!(rt; read(rt.alloc(), THREE_RECORDS, &steps), expected, "at {k}");
+        assert_eq!(rt;
+            read(&rt, rt.alloc(), THREE_RECORDS, &steps),
+            expected,
+            "at {k}"
+        );
     }
 }
 
@@ -248,7 +258,8 @@ fn pieces_are_read_together(rt: HostRuntime) -> Result<(), Fail> {
 }
 
 /// How many logs a set of two spells, and how many reads of its second file failed.
-fn read_two<'a>(
+fn read_two<'a, R: Threads + Sync>(
+    rt: &R,
     alloc: Global,
     zero: &'a str,
     one: &'a str,
@@ -258,7 +269,7 @@ fn read_two<'a>(
         MemSource::new(zero.as_bytes(), steps),
         MemSource::new(one.as_bytes(), steps),
     ];
-    let answer = match read_set(alloc, &mut readers) {
+    let answer = match read_set(rt, alloc, &mut readers, 1) {
         Ok(logs) => Ok(logs.len()),
         Err(fault) => Err(fault),
     };
@@ -299,7 +310,7 @@ fn sets_are_read(rt: HostRuntime) {
         ),
     ] {
         assert_eq!(rt;
-            read_two(rt.alloc(), zero, one, &[]),
+            read_two(&rt, rt.alloc(), zero, one, &[]),
             (expected, 0),
             "at {zero}, {one}"
         );
@@ -311,7 +322,10 @@ fn sets_are_read(rt: HostRuntime) {
         file: 1,
         fault: LogFault::Read,
     });
-    assert_eq!(rt; read_two(rt.alloc(), first, longer, &steps), (failed, 1));
+    assert_eq!(rt;
+        read_two(&rt, rt.alloc(), first, longer, &steps),
+        (failed, 1)
+    );
 }
 
 #[test]

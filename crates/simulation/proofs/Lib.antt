@@ -1,3 +1,4 @@
 mod Drawn
 mod Draws
+mod Left
 mod Progress

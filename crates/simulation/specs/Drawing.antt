@@ -1,5 +1,6 @@
 -- Rounds of drawn cores.
-use Rattle.std.specs.Prelude.{◌≡◌, ℕ, zero, suc, ◌+◌, ◌<◌, ◌≤◌, nat_lt, if◌then◌else◌, List, [], ◌∷◌, ◌++◌, length, replicate, get_or, slice_set}
+use Rattle.std.specs.Prelude.{◌≡◌, ℕ, zero, suc, ◌+◌, ◌<◌, ◌≤◌, nat_eq, nat_lt, Bool, not, if◌then◌else◌, List, [], ◌∷◌, ◌++◌, length, replicate, get_or, slice_set}
+use Rattle.std.specs.List.{filter}
 use Rattle.rand_core.specs.Pcg32Seed.{pcg32_seed}
 use Rattle.rand_pcg.specs.Lcg.{Lcg}
 use Rattle.rand_pcg.specs.Pcg.{pcg32_of_seed}
@@ -23,6 +24,13 @@ left_below w (suc c) = left_below w c ++ (if has_next w c then c ∷ [] else [])
 -- all that haven't ended; there are 64 at most
 unfoldable pub cores_left : World → List ℕ
 cores_left w = left_below w 64
+
+-- the cores but this
+abbrev pub is_other : ℕ → ℕ → Bool
+is_other core other = not (nat_eq other core)
+
+abbrev pub without : ℕ → List ℕ → List ℕ
+without core cores = filter (is_other core) cores
 
 -- ---- the rounds that are drawn
 
@@ -61,10 +69,10 @@ pub record IsDrawnOut (seed : ℕ) (p q : CoreParts) : Type 0 where
   pub none_left : cores_left (world q) ≡ []
 
 -- The draws of a seed lead from p to a state in which a core is drawn whose round is refused, or is its 1,000th without an operation;
--- or memory runs out behind one.
+-- or memory runs out before the first.
 pub data IsDrawFault (seed : ℕ) (p q : CoreParts) (fault : SimulationFault) : Type 0 where
   stopped : (draws : Draws) (between : CoreParts) (c : ℕ) → Leads (draws_of seed) p draws between →
       IsPick draws.generator (cores_left (world between)) c → IsOfCore (IsRefusedRound c between q) fault → IsDrawFault seed p q fault
   gave_up : (draws : Draws) (between : CoreParts) (c : ℕ) → Leads (draws_of seed) p draws between → IsDrawnRound draws between c q →
       1000 ≤ waited draws.waits c between q → fault ≡ Core (record { core = c; fault = cause.GaveUp }) → IsDrawFault seed p q fault
-  no_memory : (draws : Draws) → Leads (draws_of seed) p draws q → fault ≡ OutOfMemory → IsDrawFault seed p q fault
+  no_memory : q ≡ p → fault ≡ OutOfMemory → IsDrawFault seed p q fault

@@ -1,10 +1,10 @@
 //! Rounds of drawn cores.
 
-ghost use Rattle.std.specs.Prelude.{◌≡◌, ◌<◌, ◌≤◌, ◌⊎◌, length, slice_set, IfErr, OnOk, MatchResult};
-ghost use Rattle.simulation.specs.Drawing.{IsDrawFault, IsDrawnOut, cores_left, waited};
+ghost use Rattle.std.specs.Prelude.{◌≡◌, ◌<◌, ◌≤◌, ◌⊎◌, if◌then◌else◌, length, slice_set, IfOk, IfErr, OnOk, MatchResult};
+ghost use Rattle.simulation.specs.Drawing.{IsDrawFault, IsDrawnOut, cores_left, waited, without};
 ghost use Rattle.tardis_core.specs.Parts.{world};
 ghost use Rattle.tardis_core.specs.Rounds.{IsRefusedRound, IsRound};
-ghost use Rattle.tardis_core.specs.Works.{log_at};
+ghost use Rattle.tardis_core.specs.Works.{has_next, log_at};
 ghost use Rattle.tardis_core.specs.declared.rounds.fault.RoundCause.TheVariants.{GaveUp};
 
 use super::fault::SimulationFault;
@@ -26,12 +26,11 @@ pub(crate) fn draw_out(alloc: Global, machine: &mut Core, seed: u64) -> Result<(
 {
     let mut generator = Pcg32::seed_from_u64(seed);
     let mut waits = [0; 64];
-    let mut left = Vec::new(alloc);
-    list_cores_left(machine, &mut left)?;
+    let mut left = list_cores_left(alloc, machine)?;
     while !left.is_empty() {
         let core = pick(&mut generator, left.as_slice());
         drawn_round(machine, core, &mut waits)?;
-        list_cores_left(machine, &mut left)?;
+        strike_if_ended(machine, core, &mut left);
     }
     Ok(())
 }
@@ -75,11 +74,11 @@ fn performed(machine: &Core, core: CoreId) -> usize
     unit.log().len()
 }
 
-/// Makes a list that of the cores that haven't ended, in ascending order.
-fn list_cores_left(machine: &Core, left: &mut Vec<CoreId>) -> Result<(), AllocError>
-    ensures { OnOk result (left.new.items ≡ cores_left (world machine.now)) }
+/// The cores that haven't ended, in ascending order.
+fn list_cores_left(alloc: Global, machine: &Core) -> Result<Vec<CoreId>, AllocError>
+    ensures { IfOk result (λ left. left.items ≡ cores_left (world machine.now)) }
 {
-    left.clear();
+    let mut left = Vec::new(alloc);
     for number in 0..64 {
         let Ok(core) = CoreId::new(number) else {
             unreachable!()
@@ -88,5 +87,15 @@ fn list_cores_left(machine: &Core, left: &mut Vec<CoreId>) -> Result<(), AllocEr
             left.push(core)?;
         }
     }
-    Ok(())
+    Ok(left)
+}
+
+/// Strikes a core off a list where it has ended.
+fn strike_if_ended(machine: &Core, core: CoreId, left: &mut Vec<CoreId>)
+    ensures { left.new.items ≡ (if has_next (world machine.now) core then left.old.items
+        else without core left.old.items) }
+{
+    if !has_next(machine, core) {
+        left.retain(|other| *other != core);
+    }
 }

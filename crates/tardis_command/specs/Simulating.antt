@@ -99,8 +99,8 @@ EndsIn asked programs commands Holds = (q : CoreParts) × IsSimulated commands a
 
 -- The number of operations that the programs performed, or why there is none. The configuration is looked at first, then
 -- the programs, then the schedule; what a simulation is refused for is told before a log that can't be written. The
--- folder told `told` before and tells `told'` behind: the logs of the machine to which the simulation came, all of them or
--- those in front of the first one that can't be written.
+-- folder told `told` before and tells `told'` behind: the logs of the machine to which the simulation came. Behind a log that
+-- can't be written they are those in front of it, and behind a fault of the simulation all, or those of the first cores.
 abbrev pub IsRun : (List ℕ → Option (List ℕ)) → (List ℕ → Option (List ℕ)) → Sim → Result ℕ CommandFault → Type 0
 IsRun told told' asked (Ok count) =
     Scheduled told asked (λ programs commands. EndsIn asked programs commands (λ q.

@@ -2,6 +2,7 @@
 //! logs.
 
 ghost use Rattle.std.specs.Prelude.{◌≡◌, ◌<◌, ◌≤◌, ◌+◌, ℕ, true, false, IfOk, None, OnOk, All, length, slice_get, slice_index, vec_len};
+ghost use Rattle.std.specs.Option.{option_copied};
 ghost use Rattle.log_record.specs.Entries.{record_lists};
 ghost use Rattle.core_check.specs.CoreFaults.{least_core_fault};
 ghost use Rattle.verdict.specs.Merging.{IsFrontNumber, IsNextOf, IsTaken, Stands, batch_of};
@@ -40,16 +41,16 @@ fn next_of(log: &[Record], part: Part, from: usize) -> usize
 }
 
 /// The record at an index of a log, if it is there.
-fn record_at(log: &[Record], index: usize) -> Option<Record>
-    ensures { result ≡ slice_get log.now index }
+fn record_at(log: &[Record], index: usize) -> Option<&Record>
+    ensures { option_copied result ≡ slice_get log.now index }
 {
-    log.get(index).copied()
+    log.get(index)
 }
 
 /// The number of a log's front: its stamp and rank as one number, or the greatest of all where the
 /// log has no more records. To compare these takes no branch.
-fn front_number(front: Option<Record>) -> u128
-    ensures { IsFrontNumber front result }
+fn front_number(front: Option<&Record>) -> u128
+    ensures { IsFrontNumber (option_copied front.entry) result }
 {
     match front {
         Some(logged) => {
@@ -142,7 +143,7 @@ impl Merge {
         };
         batch.push(Entry {
             id: OpId { core, index },
-            logged,
+            logged: *logged,
         })?;
         let next = next_of(log, part, taken + 1);
         self.taken += 1;

@@ -4,17 +4,18 @@ use Rattle.simulation.specs.Drawing.{Leads, draws_of, no_round, one_more, no_mem
 use Rattle.simulation.specs.declared.fault.SimulationFault.TheVariants.{Core, OutOfMemory}
 use Rattle.simulation.proofs.Drawn.{drawn_fault}
 use Rattle.simulation.proofs.Draws.{patience_ends}
+use Rattle.simulation.proofs.Left.{left_behind}
 use Rattle.simulation.proofs.drawing.draw_out.Goals as goal
 
-pub returns-in_err-list_cores_left : goal.returns-in_err-list_cores_left
-returns-in_err-list_cores_left c =
+pub returns-in_err-left : goal.returns-in_err-left
+returns-in_err-left c =
     let is : c.from_residual.result ≡ Err OutOfMemory = search rules in
-    rw is (no_memory (draws_of c.args.seed) no_round refl)
+    rw is (no_memory refl refl)
 
 pub loop-generator-init : goal.loop-generator-init
 loop-generator-init c = record {
   leads = subst (λ (g : Lcg). Leads (draws_of c.args.seed) c.args.machine.now (record { generator = g; waits = _ }) c.args.machine.now) (sym c.seed_from_u64-generator.ensures) no_round;
-  left = c.in_ok-list_cores_left.ensures;
+  left = c.in_ok-left.ensures;
   long = refl;
 }
 
@@ -40,15 +41,6 @@ loop-generator-preserved c =
     record {
       leads = rw (c.pick-core.ensures.moves, did.waits) (one_more _ c.loop-generator.machine c.pick-core.result c.drawn_round.new.machine c.loop-generator.invariant.leads
           (record { drawn = picked; round = did.round }) did.few);
-      left = c.in_ok-list_cores_left-2.ensures;
+      left = c.strike_if_ended.ensures ∙ rw c.loop-generator.invariant.left (sym (left_behind c.pick-core.result c.loop-generator.machine c.drawn_round.new.machine did.round));
       long = search rules;
     }
-
-pub returns-in_err-list_cores_left-2 : goal.returns-in_err-list_cores_left-2
-returns-in_err-list_cores_left-2 c =
-    let did = c.in_ok-drawn_round.ensures in
-    let among = c.as_slice.ensures.value ∙ c.loop-generator.invariant.left in
-    let picked = rw among at c.pick-core.ensures.core in
-    let is : c.from_residual-in_err-list_cores_left-2.result ≡ Err OutOfMemory = search rules in
-    rw is (no_memory _ (one_more _ c.loop-generator.machine c.pick-core.result c.drawn_round.new.machine c.loop-generator.invariant.leads
-    (record { drawn = picked; round = did.round }) did.few) refl)

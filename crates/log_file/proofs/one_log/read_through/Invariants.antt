@@ -2,11 +2,11 @@
 use Rattle.std.proofs.Common.{◌≡◌, ◌-◌, ◌<◌, ◌^◌, Ok, List, ℕ}
 use Rattle.std.specs.Io.KnownBytes.{Consumes}
 use Rattle.log_file.specs.Feeding.{fed_len}
-use Rattle.log_file.proofs.one_log.read_log.Given as goal
+use Rattle.log_file.proofs.one_log.read_through.Given as goal
 
 abbrev pub invariant-loop-reader : goal.invariant-loop-reader
 invariant-loop-reader g l =
-    (l.reader.core ≡ l.fn.core) × (l.reader.cores ≡ l.cores)
+    (l.reader.core ≡ l.fn.reader.core) × (l.reader.cores ≡ l.fn.reader.cores)
     × ((given : List ℕ) × (l.reader.fed ≡ Ok given)
     × Consumes (g.S.ByteSource.remaining l.fn.source) (g.S.ByteSource.remaining l.source) given)
     × (fed_len l.reader.fed < 2 ^ 27)

@@ -1,0 +1,187 @@
+-- Bytes that are taken one part after another.
+use Rattle.std.proofs.Common.{◌≡◌, ◌≢◌, ℕ, ◌+◌, ◌-◌, ◌<◌, Bool, true, false, nat_eq, List, [], ◌∷◌, ◌++◌, length, map, take, drop, refl, sym, ap, subst, ◌∙◌, append_assoc, append-nil, length-append, arith}
+use Rattle.std.specs.Borrow.{Bor}
+use Rattle.std.specs.Prelude.{Result, Ok, Err, MatchResult, slice_index_or}
+use Rattle.std.specs.List.{AllByRecursion, flat_map}
+use Rattle.std.proofs.lemmas.List.{append_cancel_left, get_or_append_left, get_or_default, map-append, take-append-drop, take_all, take_more}
+use Rattle.std.proofs.Math.Seq.{get_or-append_seam, take-append_seam}
+use Rattle.std.proofs.lemmas.Grind.{flat_map-append}
+use Rattle.log_record.specs.declared.record.Record.{Record}
+use Rattle.log_record.specs.Line.{record_text, header_text, Fits}
+use Rattle.log_file.specs.declared.log_fault.LogFault.{LogFault}
+use Rattle.log_file.specs.declared.phase.Phase.TheVariants as phase
+use Rattle.log_file.specs.declared.progress.Progress.{Progress}
+use Rattle.log_file.specs.declared.line_reader.LineReader.{LineReader}
+use Rattle.log_file.specs.declared.chunks.Front.{Front}
+use Rattle.log_file.specs.Chunks.{AreFirstFronts, HasFront, records_text}
+use Rattle.log_file.specs.Feeding.{IsSettled}
+use Rattle.log_file.specs.Log.{IsLog, begun, text_of, with_lf}
+use Rattle.log_file.specs.Standing.{IsPassed, IsSettledWith, IsSound, SameLog, Stands, Takes, read_text}
+use Rattle.log_file.proofs.Settled.{settled_front}
+
+-- ---- one part after another
+
+pub takes_more : (old mid new : LineReader) (rs ms ns : List Record) (a b : List ℕ) → Takes old rs a mid ms → Takes mid ms b new ns
+    → Takes old rs (a ++ b) new ns
+takes_more old mid new rs ms ns a b first second = record {
+  stands = second.stands;
+  text = second.text ∙ ap (λ (xs : List ℕ). xs ++ b) first.text ∙ append_assoc (read_text old rs) a b;
+}
+
+pub settled_more : (old mid : LineReader) (rs ms : List Record) (a b : List ℕ) (f : LogFault) → Takes old rs a mid ms
+    → SameLog old.progress mid.progress → IsSettledWith mid ms b f → IsSettledWith old rs (a ++ b) f
+settled_more old mid rs ms a b f first same settled =
+    let text = ap (λ (xs : List ℕ). xs ++ b) first.text ∙ append_assoc (read_text old rs) a b in
+    subst (λ (xs : List ℕ). IsSettled old.progress.core old.progress.cores xs f) text
+    (subst (λ (k : ℕ). IsSettled old.progress.core k (read_text mid ms ++ b) f) same.cores
+    (subst (λ (k : ℕ). IsSettled k mid.progress.cores (read_text mid ms ++ b) f) same.core settled))
+
+-- what settles a front settles the whole
+pub settled_longer : (old : LineReader) (rs : List Record) (a b : List ℕ) (f : LogFault) → IsSettledWith old rs a f → IsSettledWith old rs (a ++ b) f
+settled_longer old rs a b f settled =
+    subst (λ (xs : List ℕ). IsSettled old.progress.core old.progress.cores xs f) (append_assoc (read_text old rs) a b)
+    (settled_front old.progress.core old.progress.cores (read_text old rs ++ a) b f settled)
+
+-- the answer to the second part is that to both
+pub answer_more : {E : Type 0} (old mid new : LineReader) (rs ms ns : List Record) (a b bytes : List ℕ) (r : Result E LogFault) → a ++ b ≡ bytes
+    → Takes old rs a mid ms → SameLog old.progress mid.progress
+    → MatchResult r (λ _. Takes mid ms b new ns) (IsSettledWith mid ms b)
+    → MatchResult r (λ _. Takes old rs bytes new ns) (IsSettledWith old rs bytes)
+answer_more old mid new rs ms ns a b bytes (Ok x) is first same second = subst (λ (xs : List ℕ). Takes old rs xs new ns) is (takes_more old mid new rs ms ns a b first second)
+answer_more old mid new rs ms ns a b bytes (Err f) is first same second = subst (λ (xs : List ℕ). IsSettledWith old rs xs f) is (settled_more old mid rs ms a b f first same second)
+
+-- ---- the records at the front of a chunk
+
+all_append : (xs ys : List Record) → AllByRecursion Fits xs → AllByRecursion Fits ys → AllByRecursion Fits (xs ++ ys)
+all_append [] ys p q = q
+all_append (x ∷ xs) ys p q = (p.0, all_append xs ys p.1 q)
+
+begun_more : (core cores : ℕ) (rs found : List Record) → text_of (begun core cores (rs ++ found)) ≡ text_of (begun core cores rs) ++ records_text found
+begun_more core cores rs found =
+    ap (λ (ls : List (List ℕ)). with_lf (header_text 1 core cores) ++ text_of ls) (map-append record_text rs found)
+    ∙ ap (λ (xs : List ℕ). with_lf (header_text 1 core cores) ++ xs) (flat_map-append with_lf (map record_text rs) (map record_text found))
+    ∙ sym (append_assoc (with_lf (header_text 1 core cores)) (text_of (map record_text rs)) (records_text found))
+
+-- passing over the lines of records takes them
+pub passed_takes : (old new : LineReader) (rs found : List Record) → Stands old rs → IsPassed old (length found) new → AllByRecursion Fits found
+    → Takes old rs (records_text found) new (rs ++ found)
+passed_takes old new rs found stands passed fit =
+    let room = passed.had_room in
+    let p = old.progress in
+    let log : IsLog p.core p.cores rs = subst (λ q. IsSound q p.core p.cores rs old.begun.items) room.phase stands.sound in
+    let more : IsLog p.core p.cores (rs ++ found) = record {
+      core_fits = log.core_fits;
+      cores_fit = log.cores_fit;
+      few = omega (arith, length-append rs found, room.room, stands.count);
+      each_fits = all_append rs found log.each_fits fit;
+    } in
+    let phase_is : new.progress.phase ≡ phase.Records = ap (λ (n : Progress). n.phase) passed.progress ∙ room.phase in
+    let core_is : new.progress.core ≡ p.core = ap (λ (n : Progress). n.core) passed.progress in
+    let cores_is : new.progress.cores ≡ p.cores = ap (λ (n : Progress). n.cores) passed.progress in
+    record {
+      stands = record {
+        sound = rw (phase_is, core_is, cores_is) more;
+        count = omega (arith, ap (λ (n : Progress). n.count) passed.progress, stands.count, length-append rs found);
+        one = rw passed.between (λ k d lt. absurd (omega arith));
+        short = rw passed.between (omega arith);
+      };
+      text =
+          rw (phase_is, core_is, cores_is, passed.between, room.phase, room.between)
+          (append-nil (text_of (begun p.core p.cores (rs ++ found))) ∙ begun_more p.core p.cores rs found
+          ∙ ap (λ (xs : List ℕ). xs ++ records_text found) (sym (append-nil (text_of (begun p.core p.cores rs)))));
+    }
+
+pub front_takes : (old new : LineReader) (rs : List Record) (chunk : List ℕ) (front : Front) → Stands old rs → HasFront chunk front
+    → IsPassed old (length front.records.items) new → Takes old rs (take front.taken chunk) new (rs ++ front.records.items)
+front_takes old new rs chunk front stands has passed =
+    subst (λ (xs : List ℕ). Takes old rs xs new (rs ++ front.records.items)) (sym has.lines)
+    (passed_takes old new rs front.records.items stands passed has.fit)
+
+-- ---- chunk after chunk
+
+abbrev flat : List (Bor (List ℕ)) → List ℕ
+flat chunks = flat_map (λ chunk. chunk.now) chunks
+
+flat_next : (chunks : List (Bor (List ℕ))) (i : ℕ) (d : Bor (List ℕ)) → i < length chunks
+    → flat (take (i + 1) chunks) ≡ flat (take i chunks) ++ (slice_index_or chunks i d).now
+flat_next chunks i d below =
+    ap flat (take_more chunks i d below) ∙ flat_map-append (λ chunk. chunk.now) (take i chunks) (slice_index_or chunks i d ∷ [])
+    ∙ ap (λ (xs : List ℕ). flat (take i chunks) ++ xs) (append-nil (slice_index_or chunks i d).now)
+
+flat_rest : (chunks : List (Bor (List ℕ))) (i : ℕ) → flat (take i chunks) ++ flat (drop i chunks) ≡ flat chunks
+flat_rest chunks i = sym (flat_map-append (λ chunk. chunk.now) (take i chunks) (drop i chunks)) ∙ ap flat (take-append-drop i chunks)
+
+pub chunk_taken : (old mid new : LineReader) (rs ms ns : List Record) (chunks : List (Bor (List ℕ))) (i : ℕ) (d : Bor (List ℕ)) → i < length chunks
+    → Takes old rs (flat (take i chunks)) mid ms → Takes mid ms (slice_index_or chunks i d).now new ns
+    → Takes old rs (flat (take (i + 1) chunks)) new ns
+chunk_taken old mid new rs ms ns chunks i d below first second =
+    subst (λ (xs : List ℕ). Takes old rs xs new ns) (sym (flat_next chunks i d below)) (takes_more old mid new rs ms ns _ _ first second)
+
+pub chunk_settled : (old mid : LineReader) (rs ms : List Record) (chunks : List (Bor (List ℕ))) (i : ℕ) (d : Bor (List ℕ)) (f : LogFault) → i < length chunks
+    → Takes old rs (flat (take i chunks)) mid ms → SameLog old.progress mid.progress
+    → IsSettledWith mid ms (slice_index_or chunks i d).now f → IsSettledWith old rs (flat chunks) f
+chunk_settled old mid rs ms chunks i d f below first same settled =
+    subst (λ (xs : List ℕ). IsSettledWith old rs xs f) (flat_rest chunks (i + 1))
+    (settled_longer old rs (flat (take (i + 1) chunks)) (flat (drop (i + 1) chunks)) f
+    (subst (λ (xs : List ℕ). IsSettledWith old rs xs f) (sym (flat_next chunks i d below))
+    (settled_more old mid rs ms (flat (take i chunks)) (slice_index_or chunks i d).now f first same settled)))
+
+pub all_taken : (old new : LineReader) (rs ns : List Record) (chunks : List (Bor (List ℕ))) (i : ℕ) → i ≡ length chunks
+    → Takes old rs (flat (take i chunks)) new ns → Takes old rs (flat chunks) new ns
+all_taken old new rs ns chunks i is taken =
+    subst (λ (xs : List (Bor (List ℕ))). Takes old rs (flat xs) new ns) (ap (λ (k : ℕ). take k chunks) is ∙ take_all (length chunks) chunks (omega arith)) taken
+
+-- ---- what a worker reads of a chunk
+
+-- the records that were read behind a header, and the line that was begun
+pub read_front : (old new : LineReader) (chunk : List ℕ) (records : List Record) → old.progress ≡ record { core = 0; cores = 1; phase = phase.Records; count = 0 }
+    → old.begun.items ≡ [] → SameLog old.progress new.progress → new.progress.phase ≡ phase.Records → Takes old [] chunk new records
+    → (chunk ≡ records_text records ++ new.begun.items) × AllByRecursion Fits records
+read_front old new chunk records progress none same phase_is takes =
+    let core_is : new.progress.core ≡ 0 = same.core ∙ ap (λ (n : Progress). n.core) progress in
+    let cores_is : new.progress.cores ≡ 1 = same.cores ∙ ap (λ (n : Progress). n.cores) progress in
+    let log : IsLog new.progress.core new.progress.cores records = subst (λ q. IsSound q new.progress.core new.progress.cores records new.begun.items) phase_is takes.stands.sound in
+    let header = with_lf (header_text 1 0 1) in
+    let text : ((header ++ records_text records) ++ new.begun.items) ≡ (((header ++ []) ++ []) ++ chunk) = rw (phase_is, core_is, cores_is, progress, none) at takes.text in
+    let behind : header ++ (records_text records ++ new.begun.items) ≡ header ++ chunk =
+    sym (append_assoc header (records_text records) new.begun.items) ∙ text
+    ∙ ap (λ (xs : List ℕ). xs ++ chunk) (append-nil (header ++ []) ∙ append-nil header) in
+    (sym (append_cancel_left header (records_text records ++ new.begun.items) chunk behind), log.each_fits)
+
+pub has_front : (chunk begun : List ℕ) (records : List Record) (front : Front) → chunk ≡ records_text records ++ begun → AllByRecursion Fits records
+    → front.records.items ≡ records → front.taken ≡ length chunk - length begun → HasFront chunk front
+has_front chunk begun records front is fit same taken =
+    let long : length chunk ≡ length (records_text records) + length begun = ap length is ∙ length-append (records_text records) begun in
+    let many : front.taken ≡ length (records_text records) = omega (arith, taken, long) in
+    record {
+      within = omega (arith, many, long);
+      lines = rw (many, is, same) (take-append_seam (records_text records) begun);
+      fit = rw same fit;
+    }
+
+pub no_front : (chunk : List ℕ) (front : Front) → front.records.items ≡ [] → front.taken ≡ 0 → HasFront chunk front
+no_front chunk front none zero = record {
+  within = omega (arith, zero);
+  lines = rw (none, zero) refl;
+  fit = rw none tt;
+}
+
+-- ---- the fronts of all chunks
+
+pub one_more_front : (chunks : List (Bor (List ℕ))) (fronts : List Front) (front : Front) (last : ℕ) (e : Bor (List ℕ)) → last < length chunks
+    → AreFirstFronts last chunks fronts → HasFront (slice_index_or chunks last e).now front → AreFirstFronts (last + 1) chunks (fronts ++ front ∷ [])
+one_more_front chunks fronts front last e below earlier has = (omega (arith, length-append fronts (front ∷ []), earlier.0), λ k c d within. go k c d within (nat_eq k last) refl)
+  where
+    go : (k : ℕ) (c : Bor (List ℕ)) (d : Front) → k < last + 1 → (b : Bool) → nat_eq k last ≡ b
+        → HasFront (slice_index_or chunks k c).now (slice_index_or (fronts ++ front ∷ []) k d)
+    go k c d within true is =
+        let same : k ≡ last = search arith in
+        let chunk : slice_index_or chunks last c ≡ slice_index_or chunks last e = get_or_default chunks last c e below in
+        let seam : slice_index_or (fronts ++ front ∷ []) (length fronts) d ≡ front = get_or-append_seam fronts front [] d in
+        let here : slice_index_or (fronts ++ front ∷ []) last d ≡ front = ap (λ (n : ℕ). slice_index_or (fronts ++ front ∷ []) n d) (sym earlier.0) ∙ seam in
+        rw (same, chunk, here) has
+    go k c d within false is =
+        let other : k ≢ last = search arith in
+        let before : k < last = omega (arith, within, other) in
+        let left : slice_index_or (fronts ++ front ∷ []) k d ≡ slice_index_or fronts k d = get_or_append_left fronts (front ∷ []) d k (omega (arith, before, earlier.0)) in
+        rw left (earlier.1 k c d before)
