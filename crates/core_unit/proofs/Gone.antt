@@ -1,6 +1,7 @@
 -- What an eviction tells of the line that went.
-use Rattle.std.proofs.Common.{◌≡◌, ℕ, Bool, true, false, not, refl}
+use Rattle.std.proofs.Common.{◌≡◌, ℕ, Bor, Bool, true, false, not, refl}
 use Rattle.std.specs.Prelude.{Option, Some, None}
+use Rattle.std.specs.Option.{is_some, option_copied}
 use Rattle.line_stamps.specs.declared.line.Line.{Line}
 use Rattle.line_stamps.specs.declared.message.Message.{Message}
 use Rattle.line_stamps.specs.declared.message.Message.TheVariants.{FlushRep}
@@ -37,3 +38,8 @@ was_nothing a (Some (Exclusive modified l)) e = absurd (cc)
 pub not_both : (b : Bool) → false ≡ not b → b ≡ false → ⊥
 not_both true e f = absurd (cc)
 not_both false e f = absurd (cc)
+
+-- Where nothing is lent out, nothing is there.
+pub nothing_lent : {T : Type 0} → (lent : Option (Bor T)) → option_copied lent ≡ None → is_some lent ≡ false
+nothing_lent None e = refl
+nothing_lent (Some x) e = absurd (cc)

@@ -10,7 +10,6 @@ use Rattle.line_stamps.specs.declared.message.Recall.{Recall}
 use Rattle.line_stamps.specs.declared.message.Reply.{Reply}
 use Rattle.line_stamps.specs.declared.message.Reply.TheVariants as reply
 use Rattle.private_cache.specs.Answers.{past_limit, hit_fault, give_fault, give_back}
-use Rattle.private_cache.specs.CacheParts.{CacheParts}
 use Rattle.private_cache.specs.Steps.{line_at, used, without, after_recall, has_room, fill_line, least_recently_used}
 use Rattle.private_cache.specs.Table.{Hit, recalled}
 use Rattle.private_cache.specs.declared.held.Held.{Held}

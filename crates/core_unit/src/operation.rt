@@ -56,20 +56,23 @@ impl CoreUnit {
             (λ look. (look ≡ look_of u (Op.Load addr) hit) × (hit_fault hit ≡ None))
             (λ fault. hit_fault hit ≡ Some fault) }
     {
-        match &self.cache.peek_load(addr, self.pts, self.r)? {
-            Load::Hit {
-                value,
-                source,
-                stamp,
-                rank,
-            } => Ok(Look::Hit(Record {
+        match &self.cache.peek_load(addr, self.pts, self.r) {
+            Ok(
+                Load::Hit {
+                    value,
+                    source,
+                    stamp,
+                    rank,
+                },
+            ) => Ok(Look::Hit(Record {
                 value: *value,
                 ts: *stamp,
                 rank: *rank,
                 addr,
                 act: Act::Load(*source),
             })),
-            Load::Miss(request) => Ok(Look::Miss(*request)),
+            Ok(Load::Miss(request)) => Ok(Look::Miss(*request)),
+            Err(fault) => Err(*fault),
         }
     }
 
@@ -80,15 +83,16 @@ impl CoreUnit {
             (λ look. (look ≡ look_of u (Op.Store addr value) hit) × (hit_fault hit ≡ None))
             (λ fault. hit_fault hit ≡ Some fault) }
     {
-        match &self.cache.peek_store(addr, self.pts, self.r)? {
-            Store::Hit { stamp, rank } => Ok(Look::Hit(Record {
+        match &self.cache.peek_store(addr, self.pts, self.r) {
+            Ok(Store::Hit { stamp, rank }) => Ok(Look::Hit(Record {
                 value,
                 ts: *stamp,
                 rank: *rank,
                 addr,
                 act: Act::Store,
             })),
-            Store::Miss(request) => Ok(Look::Miss(*request)),
+            Ok(Store::Miss(request)) => Ok(Look::Miss(*request)),
+            Err(fault) => Err(*fault),
         }
     }
 }

@@ -18,6 +18,10 @@ use private_cache::PrivateCache;
 use std::alloc::Global;
 use std::marker::Model;
 
+/// How many entries an operation makes whose line another core wants too: the line comes, the
+/// operation is performed, the line is given back, and that is taken.
+const OPERATION_ENTRIES: usize = 4;
+
 /// A core with its program. It is always in the state to which its transcript leads, entry by entry
 /// through the table of the private cache, from the start of its program; a request in hand is the
 /// miss of its next operation, and no entry. While a message is in hand, no call but `take` has an
@@ -97,6 +101,10 @@ impl CoreUnit {
     {
         let state = ProgramState::new(&program);
         let cache = PrivateCache::new(alloc, config)?;
+        // Jumps only skip, so there are at most as many operations as instructions.
+        let operations = program.instructions().len();
+        let transcript = Vec::with_capacity(alloc, operations * OPERATION_ENTRIES)?;
+        let log = Vec::with_capacity(alloc, operations)?;
         Ok(CoreUnit {
             core,
             program,
@@ -106,8 +114,8 @@ impl CoreUnit {
             r: Rank::ZERO,
             cache,
             hand: None,
-            transcript: Vec::new(alloc),
-            log: Vec::new(alloc),
+            transcript,
+            log,
         })
     }
 

@@ -67,7 +67,7 @@ impl LogReader {
         outcome
     }
 
-    /// Takes the next bytes as `feed` does; so many workers read their lines at once.
+    /// Takes the next bytes as `feed` does; so many workers read their lines at once. 0 counts as 1.
     pub fn feed_by<R: Threads + Sync>(
         &mut self,
         rt: &R,
@@ -75,7 +75,6 @@ impl LogReader {
         piece: &[u8],
         workers: usize,
     ) -> Result<(), LogFault>
-        requires { 0 < workers }
         ensures core { self.new.core ≡ self.old.core }
         ensures cores { self.new.cores ≡ self.old.cores }
         ensures fed { Feeds self.old.core self.old.cores
@@ -83,7 +82,7 @@ impl LogReader {
         ensures at_once { OnOk result (IsOpen self.new.core self.new.cores self.new.fed) }
         ensures bounded { OnOk result (fed_len self.new.fed < 2 ^ 27) }
     {
-        if workers == 1 {
+        if workers <= 1 {
             return self.feed(piece);
         }
         if let Some(fault) = self.fault {

@@ -19,10 +19,7 @@ const PIECE: usize = 65_536;
 const SHARED_PIECE: usize = 2_097_152;
 
 /// How many of the workers take a piece of so many bytes: a short one isn't worth their threads.
-fn takers(bytes: usize, workers: usize) -> usize
-    requires { 0 < workers }
-    ensures { 0 < result }
-{
+fn takers(bytes: usize, workers: usize) -> usize {
     if bytes < PIECE { 1 } else { workers }
 }
 
@@ -30,7 +27,7 @@ fn takers(bytes: usize, workers: usize) -> usize
 fn piece_len(workers: usize) -> usize
     ensures { 0 < result }
 {
-    if workers == 1 { PIECE } else { SHARED_PIECE }
+    if workers <= 1 { PIECE } else { SHARED_PIECE }
 }
 
 /// The log that a reader answers that was fed nothing, when it is fed all that the source has,
@@ -45,7 +42,6 @@ fn read_through<R: Threads + Sync, S: ByteSource>(
 ) -> Result<Vec<Record>, LogFault>
     requires fed { reader.fed ≡ Ok [] }
     requires room { 0 < length buf.old }
-    requires workers { 0 < workers }
     ensures answer { (bytes : List ℕ) × Tells (S.remaining source.old) bytes
         × IsReadAnswer reader.core reader.cores bytes result }
     ensures read { IsErrOf result LogFault.Read →
@@ -63,7 +59,8 @@ fn read_through<R: Threads + Sync, S: ByteSource>(
 
 /// The log of this core of so many that the source's bytes spell, or their first fault. 10 comes
 /// where a growth was refused, 28 where a read failed. The calling thread reads the source; the
-/// lines of each piece are read by so many workers at once, and the answer doesn't depend on how many.
+/// lines of each piece are read by so many workers at once (0 counts as 1), and the answer doesn't
+/// depend on how many.
 pub fn read_log<R: Threads + Sync, S: ByteSource>(
     rt: &R,
     alloc: Global,
@@ -74,7 +71,6 @@ pub fn read_log<R: Threads + Sync, S: ByteSource>(
 ) -> Result<Vec<Record>, LogFault>
     requires core { core < cores }
     requires cores { cores ≤ 64 }
-    requires workers { 0 < workers }
     // There are bytes, those that the source tells, of which this is the answer.
     ensures answer { (bytes : List ℕ) × Tells (S.remaining source.old) bytes
         × IsReadAnswer core cores bytes result }

@@ -1,6 +1,6 @@
 //! A set of logs read from devices.
 
-ghost use Rattle.std.specs.Prelude.{◌≡◌, ◌+◌, ◌<◌, ◌≤◌, ℕ, List, All, drop, length, vec_len, IfOk, IfErr};
+ghost use Rattle.std.specs.Prelude.{◌≡◌, ◌+◌, ◌≤◌, ℕ, List, All, drop, length, vec_len, IfOk, IfErr};
 ghost use Rattle.log_file.specs.Sets.{IsSetAnswer, ReaderFailed, TellEach};
 
 use crate::byte_source::ByteSource;
@@ -15,15 +15,14 @@ use std::thread::Threads;
 /// The logs of a set, one from each reader in their order, or the fault of the first file that has
 /// one. File k is to be the log of core k, and the cores as many as the readers. 10 comes where a
 /// growth was refused, 28 where a read failed. The calling thread reads the files; so many workers
-/// read their lines, and the answer doesn't depend on how many.
+/// read their lines (0 counts as 1), and the answer doesn't depend on how many.
 pub fn read_set<R: Threads + Sync, S: ByteSource>(
     rt: &R,
     alloc: Global,
     readers: &mut [S],
     workers: usize,
 ) -> Result<Vec<Vec<Record>>, SetFault>
-    requires readers { length readers.old ≤ 64 }
-    requires workers { 0 < workers }
+    requires { length readers.old ≤ 64 }
     // There are texts, those that the readers tell, of which this is the answer.
     ensures answer { (texts : List (List ℕ)) × TellEach S.remaining readers.old texts
         × IsSetAnswer texts result }

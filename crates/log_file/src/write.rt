@@ -2,13 +2,13 @@
 
 ghost use Rattle.std.specs.Prelude.{◌≡◌, ◌<◌, ◌≤◌, ℕ, length, take, OnOk, IsErrOf, string_bytes};
 ghost use Rattle.std.specs.Io.KnownBytes.{Appends};
-ghost use Rattle.log_record.specs.Line.{Fits};
+ghost use Rattle.log_record.specs.Line.{Fits, record_text};
 ghost use Rattle.log_file.specs.Devices.{Failed};
 ghost use Rattle.log_file.specs.Log.{IsLog, spelling, with_lf};
 
 use crate::byte_sink::{ByteSink, write_all};
 use crate::write_fault::WriteFault;
-use log_record::{Act, Record, print_end, print_header, print_line};
+use log_record::{Act, Record, print_end, print_header};
 use mem_op::{CoreId, Source};
 use std::alloc::Global;
 
@@ -38,9 +38,10 @@ pub fn write_log<W: ByteSink>(
     ensures quiet { ¬ IsErrOf result WriteFault.Write → W.failed sink.new ≡ W.failed sink.old }
 {
     write_line(sink, print_header(alloc, core, cores)?)?;
+    let mut line = String::new(alloc);
     for logged in records {
         in_range(logged);
-        write_line(sink, print_line(alloc, logged)?)?;
+        write_record(sink, &mut line, logged)?;
     }
     write_line(sink, print_end(alloc, records.len() as u64)?)
 }
@@ -59,6 +60,26 @@ fn write_line<W: ByteSink>(sink: &mut W, mut line: String) -> Result<(), WriteFa
     line.push('\n')?;
     write_all(sink, line.as_bytes())?;
     Ok(())
+}
+
+// Writes the line of a record with its line feed, through this text, whatever stood in it.
+fn write_record<W: ByteSink>(
+    sink: &mut W,
+    line: &mut String,
+    logged: &Record,
+) -> Result<(), WriteFault>
+    ensures written { OnOk result
+        (Appends (W.contents sink.old) (W.contents sink.new) (with_lf (record_text logged.now))) }
+    ensures begun { (n : ℕ) × (n ≤ length (with_lf (record_text logged.now)))
+        × Appends (W.contents sink.old) (W.contents sink.new)
+        (take n (with_lf (record_text logged.now))) }
+    ensures failed { IsErrOf result WriteFault.Write →
+        Failed (W.failed sink.old) (W.failed sink.new) }
+    ensures quiet { ¬ IsErrOf result WriteFault.Write → W.failed sink.new ≡ W.failed sink.old }
+{
+    line.clear();
+    line.writeln(logged)?;
+    Ok(write_all(sink, line.as_bytes())?)
 }
 
 // Does nothing: it tells that the numbers of a record are in range.

@@ -3,6 +3,7 @@
 ghost use Rattle.std.specs.Prelude.{◌≡◌, ◌∷◌, [], nat_eq, length, IfOk, OnOk, OnErr};
 ghost use Rattle.std.specs.List.{IsDistinct};
 ghost use Rattle.std.specs.Map.{lookup, remove_entry, keys_of};
+ghost use Rattle.std.specs.Option.{option_copied};
 ghost use Rattle.manager_slice.specs.Lines.{giving_way};
 
 use super::managed::ManagedLine;
@@ -47,10 +48,10 @@ impl ServedLines {
     }
 
     /// The line of an address, if it is there. It isn't served by this.
-    pub fn get(&self, addr: Addr) -> Option<ManagedLine>
-        ensures { result ≡ lookup (nat_eq addr) self.now }
+    pub fn get(&self, addr: Addr) -> Option<&ManagedLine>
+        ensures { option_copied result ≡ lookup (nat_eq addr) self.now }
     {
-        self.lines.peek(&addr).copied()
+        self.lines.peek(&addr)
     }
 
     /// The line that gives way to another one: the least recently served Shared line, or else the least recently served.

@@ -92,7 +92,7 @@ fn give_back_row(
 ) -> Result<Row, SliceFault>
     ensures { result ≡ give_back_row from line.now (lookup (nat_eq addr) state.now.lines) }
 {
-    let Some(ManagedLine::Exclusive(owner)) = &state.lines.get(addr) else {
+    let Some(ManagedLine::Exclusive(owner)) = state.lines.get(addr) else {
         return Err(SliceFault::NotOwner);
     };
     if *owner != from {
@@ -109,7 +109,7 @@ fn request_row(config: &Config, state: &SliceState, request: &Request) -> Result
     ensures { result ≡ request_row config.now state.now request.now
         (lookup (nat_eq request.now.addr) state.now.lines) }
 {
-    match &state.lines.get(request.addr) {
+    match state.lines.get(request.addr) {
         Some(ManagedLine::Exclusive(owner)) => recall_row(config, request, *owner),
         Some(ManagedLine::Shared(line)) => answer_row(config, request, &None, line),
         None => absent_row(config, state, request),

@@ -136,13 +136,16 @@ impl ManagerSlice {
             ↔ (handle_outcome self.old from message.now ≡ Answers (Busy x)) }
         ensures refused { OnErr result (self.new ≡ self.old) }
     {
-        match &row_of(&self.config, &self.state, from, message)? {
-            Row::Recalled(recall) => Ok(Reply::Busy(*recall)),
-            Row::Answered {
-                evicted,
-                reply,
-                line,
-            } => {
+        match &row_of(&self.config, &self.state, from, message) {
+            Err(fault) => Err(*fault),
+            Ok(Row::Recalled(recall)) => Ok(Reply::Busy(*recall)),
+            Ok(
+                Row::Answered {
+                    evicted,
+                    reply,
+                    line,
+                },
+            ) => {
                 self.answer(from, message, evicted, reply, line)?;
                 Ok(*reply)
             }
@@ -162,7 +165,7 @@ impl ManagerSlice {
         ensures refused { OnErr result (self.new ≡ self.old) }
     {
         let ManagerSlice { state, history, .. } = self;
-        let Some(ManagedLine::Shared(line)) = &state.lines.get(addr) else {
+        let Some(ManagedLine::Shared(line)) = &state.lines.get(addr).copied() else {
             return Ok(false);
         };
         reserve(history, 1)?;

@@ -3,6 +3,7 @@
 ghost use Rattle.std.specs.Prelude.{◌≡◌, ◌<◌, ◌↔◌, IsTrue, IsSome, IsNone, IfSome, IsSomeAnd, IsOk, IfOk, IfErr, OnOk, OnErr, MatchResult, ℕ};
 ghost use Rattle.mem_op.specs.declared.id.Source.{Source};
 ghost use Rattle.std.specs.FinMap as map;
+ghost use Rattle.std.specs.Option.{option_copied};
 
 use super::answer::{Evicted, Load, Store};
 use super::fault::FillFault;
@@ -57,10 +58,10 @@ impl PrivateCache {
     }
 
     /// The line of the address, if it is there. No memory.
-    pub fn line(&self, addr: Addr) -> Option<Held>
-        ensures { result ≡ line_at self.now addr }
+    pub fn line(&self, addr: Addr) -> Option<&Held>
+        ensures { option_copied result ≡ line_at self.now addr }
     {
-        self.lines.peek(&addr).copied()
+        self.lines.peek(&addr)
     }
 
     // The address, which is there or has room, gets this line and becomes the most recently used.
@@ -130,7 +131,7 @@ impl PrivateCache {
             (λ load. (load ≡ load_answer addr pts held hit) × (hit_fault hit ≡ None))
             (λ fault. hit_fault hit ≡ Some fault) }
     {
-        let held = &self.line(addr);
+        let held = self.line(addr);
         let miss = Message::ShReq {
             addr,
             copy: copy_of(held),
@@ -171,7 +172,7 @@ impl PrivateCache {
         ensures err { OnErr result (self.new ≡ self.old) }
     {
         let load = self.peek_load(addr, pts, r)?;
-        if let (Load::Hit { stamp, .. }, Some(held)) = (&load, &self.line(addr)) {
+        if let (Load::Hit { stamp, .. }, Some(held)) = (&load, &self.line(addr).copied()) {
             self.touch(addr, &held.read_at(*stamp));
         }
         Ok(load)
@@ -185,7 +186,7 @@ impl PrivateCache {
             (λ store. (store ≡ store_answer addr held hit) × (hit_fault hit ≡ None))
             (λ fault. hit_fault hit ≡ Some fault) }
     {
-        let held = &self.line(addr);
+        let held = self.line(addr);
         let Some(Held::Exclusive { modified, line }) = held else {
             return Ok(Store::Miss(Message::ExReq {
                 addr,
@@ -288,7 +289,7 @@ impl PrivateCache {
             (λ fault. give_fault given ≡ Some fault) }
     {
         let addr = recall.addr;
-        let Some(Held::Exclusive { line, .. }) = &self.line(addr) else {
+        let Some(Held::Exclusive { line, .. }) = &self.line(addr).copied() else {
             return Ok(None);
         };
         match recall.kind {
@@ -332,7 +333,7 @@ impl PrivateCache {
     pub fn fits(&self, addr: Addr, reply: &Reply) -> bool
         ensures { IsTrue result ↔ IsSome (fill_line self.now addr reply.now) }
     {
-        self.has_room(addr) && filled(&self.line(addr), reply).is_some()
+        self.has_room(addr) && filled(self.line(addr), reply).is_some()
     }
 
     /// Fills a reply in at `addr`, and makes its line the most recently used. 14 BadReply where the
@@ -350,7 +351,7 @@ impl PrivateCache {
         if !self.has_room(addr) {
             return Err(FillFault::BadReply);
         }
-        let Some(held) = &filled(&self.line(addr), reply) else {
+        let Some(held) = &filled(self.line(addr), reply) else {
             return Err(FillFault::BadReply);
         };
         self.put(addr, held)

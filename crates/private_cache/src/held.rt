@@ -1,6 +1,7 @@
 //! A line of a private cache.
 
 ghost use Rattle.std.specs.Prelude.{◌≡◌, Some, None};
+ghost use Rattle.std.specs.Option.{option_copied};
 ghost use Rattle.private_cache.specs.Table.{line_of, is_shared, copy_of, with_rts, read_at, filled, renewed};
 
 use line_stamps::{Line, Reply, Stamp};
@@ -50,8 +51,8 @@ impl Held {
 }
 
 /// The `wts` of the copy that a request tells of.
-pub(crate) fn copy_of(held: &Option<Held>) -> Option<Stamp>
-    ensures { result ≡ copy_of held.now }
+pub(crate) fn copy_of(held: Option<&Held>) -> Option<Stamp>
+    ensures { result ≡ copy_of (option_copied held.entry) }
 {
     match held {
         None => None,
@@ -70,8 +71,8 @@ fn renewed(line: &Line, rts: Stamp) -> Option<Line>
 }
 
 /// The line after a reply; none where the reply doesn't fit it.
-pub(crate) fn filled(held: &Option<Held>, reply: &Reply) -> Option<Held>
-    ensures { result ≡ filled held.now reply.now }
+pub(crate) fn filled(held: Option<&Held>, reply: &Reply) -> Option<Held>
+    ensures { result ≡ filled (option_copied held.entry) reply.now }
 {
     let copy = match held {
         None => None,

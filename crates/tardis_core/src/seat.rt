@@ -1,6 +1,7 @@
 //! Seats of cores.
 
 ghost use Rattle.std.specs.Prelude.{◌≡◌, true, Some};
+ghost use Rattle.std.specs.Option.{option_copied};
 ghost use Rattle.core_unit.specs.Parts.{SameUnit};
 ghost use Rattle.tardis_core.specs.Machine.{core_event, is_alone};
 ghost use Rattle.tardis_core.specs.Seats.{SeatMeets, SeatGoes, asked_by, seat_outcome};
@@ -55,11 +56,11 @@ impl Seat {
     }
 
     /// The message in the core's hand, where it has no reply yet.
-    pub(crate) fn asking(&self) -> Option<Message>
-        ensures { result ≡ asked_by self.now.unit.hand self.now.kept }
+    pub(crate) fn asking(&self) -> Option<&Message>
+        ensures { option_copied result ≡ asked_by self.now.unit.hand self.now.kept }
     {
         match &self.kept {
-            None => self.unit.in_hand().copied(),
+            None => self.unit.in_hand(),
             Some(_) => None,
         }
     }
@@ -81,7 +82,7 @@ impl Seat {
         ensures goes { SeatGoes (Event.Take self.old.unit.core) self.old result self.new }
     {
         let Seat { unit, kept } = self;
-        let Some(reply) = &kept.as_ref().copied() else {
+        let Some(reply) = kept else {
             return Ok(Outcome::NoEffect);
         };
         unit.replays();

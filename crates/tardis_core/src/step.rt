@@ -68,7 +68,7 @@ impl Core {
         let Some(seat) = seats.get_mut(core.get() as usize) else {
             return Ok(Outcome::NoEffect);
         };
-        let Some(message) = &seat.asking() else {
+        let Some(message) = seat.asking() else {
             return Ok(Outcome::NoEffect);
         };
         let slice = &mut slices[config.slice_of(addr_of(message))];

@@ -8,21 +8,14 @@ use Rattle.log_file.proofs.Devices.{appends_more}
 use Rattle.log_file.proofs.Writing.{IsFront, begun_front, next_front, end_joined, front_taken, line_taken, text_next, fits_next}
 use Rattle.log_file.proofs.write.write_log.Goals as goal
 
-pub returns-in_err-print_line-clause-begun : goal.returns-in_err-print_line-clause-begun
-returns-in_err-print_line-clause-begun g c =
+pub returns-in_err-write_record-clause-begun : goal.returns-in_err-write_record-clause-begun
+returns-in_err-write_record-clause-begun g c =
     let held = g.W.ByteSink.contents in
-    front_taken (held c.args.sink.now) (held c.loop-logged.sink) _ _
-    (begun_front c.args.core c.args.cores c.args.records.now c.loop-logged.logged-index) c.loop-logged.invariant.written
-
-pub returns-in_err-write_line-2-clause-begun : goal.returns-in_err-write_line-2-clause-begun
-returns-in_err-write_line-2-clause-begun g c =
-    let held = g.W.ByteSink.contents in
-    let line = c.in_ok-print_line.ensures in
-    line_taken (held c.args.sink.now) (held c.loop-logged.sink) (held c.write_line-in-loop-logged.new.sink)
+    line_taken (held c.args.sink.now) (held c.loop-logged.sink) (held c.write_record.new.sink)
     (text_of (begun c.args.core c.args.cores (take c.loop-logged.logged-index c.args.records.now)))
     (with_lf (record_text c.logged-item.result)) (spelling c.args.core c.args.cores c.args.records.now)
     (next_front c.args.core c.args.cores c.args.records.now c.loop-logged.logged-index c.logged-item.result c.loop-logged-test.true c.logged-item.is)
-    c.loop-logged.invariant.written (rw line at c.write_line-in-loop-logged.ensures.begun)
+    c.loop-logged.invariant.written c.write_record.ensures.begun
 
 pub loop-logged-preserved : goal.loop-logged-preserved
 loop-logged-preserved g c =
@@ -32,15 +25,15 @@ loop-logged-preserved g c =
     let records = c.args.records.now in
     let i = c.loop-logged.logged-index in
     let here = c.logged-item.result in
-    let told = rw c.in_ok-print_line.ensures at c.in_ok-write_line-2.ensures.written in
+    let told = c.in_ok-write_record.ensures.written in
     record {
       written =
-          subst (λ (x : List ℕ). Appends (held c.args.sink.now) (held c.write_line-in-loop-logged.new.sink) x)
+          subst (λ (x : List ℕ). Appends (held c.args.sink.now) (held c.write_record.new.sink) x)
           (sym (text_next core cores records i here c.loop-logged-test.true c.logged-item.is))
-          (appends_more (held c.args.sink.now) (held c.loop-logged.sink) (held c.write_line-in-loop-logged.new.sink)
+          (appends_more (held c.args.sink.now) (held c.loop-logged.sink) (held c.write_record.new.sink)
           (text_of (begun core cores (take i records))) (with_lf (record_text here)) c.loop-logged.invariant.written told);
       fits = fits_next records i here c.loop-logged-test.true c.logged-item.is c.loop-logged.invariant.fits c.in_range.ensures;
-      quiet = c.in_ok-write_line-2.ensures.quiet (λ x. cc) ∙ c.loop-logged.invariant.quiet;
+      quiet = c.in_ok-write_record.ensures.quiet (λ x. cc) ∙ c.loop-logged.invariant.quiet;
     }
 
 pub returns-in_err-print_end-clause-begun : goal.returns-in_err-print_end-clause-begun

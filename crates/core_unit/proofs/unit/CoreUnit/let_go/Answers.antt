@@ -1,7 +1,7 @@
 use Rattle.std.proofs.Common.{◌<◌, length, sym, ◌∙◌, arith}
 use Rattle.private_cache.specs.Steps.{line_at}
 use Rattle.core_unit.specs.Parts.{UnitParts}
-use Rattle.core_unit.proofs.Gone.{not_both, was_owned, was_shared, was_nothing}
+use Rattle.core_unit.proofs.Gone.{not_both, nothing_lent, was_owned, was_shared, was_nothing}
 use Rattle.core_unit.proofs.Keeping.{kept_dropped, kept_flushed}
 use Rattle.core_unit.proofs.unit.CoreUnit.let_go.Goals.{in-GiveBack, in-Dropped, in-Nothing}
 use Rattle.core_unit.proofs.unit.CoreUnit.let_go.Goals as goal
@@ -24,6 +24,7 @@ invariant_of-self-2 c =
           (kept_dropped was c.self.invariant room free a gone.line gone.there)
       | in-Nothing w ↦
           let none = was_nothing a held (sym w.in-Nothing.is ∙ c.evict.ensures.answer) in
-          let gone = rw (c.line.ensures, none) at c.is_none.ensures in
+          let lent = nothing_lent c.line.result (c.line.ensures ∙ none) in
+          let gone = rw lent at c.is_none.ensures in
           absurd (not_both c.is_none.result gone c.if-is_none.false)
     ]

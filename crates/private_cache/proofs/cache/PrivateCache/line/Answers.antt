@@ -4,4 +4,4 @@ use Rattle.private_cache.proofs.cache.PrivateCache.line.Goals as goal
 
 pub returns : goal.returns
 returns c =
-    rw (← c.self.view_is) (c.copied.ensures ∙ c.peek.ensures ∙ sym (line_at-shown c.self.inside.lines c.args.addr))
+    rw (← c.self.view_is) (c.peek.ensures ∙ sym (line_at-shown c.self.inside.lines c.args.addr))
