@@ -1,4 +1,4 @@
-//! The row of the manager's table that a message meets.
+//! The row of the manager's table that a message meets. A row is wide: it is made in one place, out of line.
 
 ghost use Rattle.std.specs.Prelude.{◌≡◌, ◌+◌, ◌<◌, ◌≢◌, length, if◌then◌else◌, nat_lt, nat_eq, Some, None, IfSome};
 ghost use Rattle.std.specs.Map.{lookup};
@@ -52,6 +52,7 @@ pub(crate) enum Row {
 
 /// The row that a message meets; 11 where the line that it gives back isn't the sender's, 4 where the reply would carry a
 /// stamp above the limit.
+#[inline(never)]
 pub(crate) fn row_of(
     config: &Config,
     state: &SliceState,
@@ -60,30 +61,26 @@ pub(crate) fn row_of(
 ) -> Result<Row, SliceFault>
     ensures { result ≡ row_of config.now state.now from message.now }
 {
-    match message {
-        Message::ShReq { addr, copy, pts } => {
-            let request = Request {
-                from,
-                addr: *addr,
-                copy: *copy,
-                access: Access::Read(*pts),
-            };
-            request_row(config, state, &request)
-        }
-        Message::ExReq { addr, copy } => {
-            let request = Request {
-                from,
-                addr: *addr,
-                copy: *copy,
-                access: Access::Write,
-            };
-            request_row(config, state, &request)
-        }
-        Message::WbRep { addr, line } => give_back_row(state, from, *addr, line),
-        Message::FlushRep { addr, line } => give_back_row(state, from, *addr, line),
-    }
+    let request = match message {
+        Message::ShReq { addr, copy, pts } => Request {
+            from,
+            addr: *addr,
+            copy: *copy,
+            access: Access::Read(*pts),
+        },
+        Message::ExReq { addr, copy } => Request {
+            from,
+            addr: *addr,
+            copy: *copy,
+            access: Access::Write,
+        },
+        Message::WbRep { addr, line } => return give_back_row(state, from, *addr, line),
+        Message::FlushRep { addr, line } => return give_back_row(state, from, *addr, line),
+    };
+    request_row(config, state, &request)
 }
 
+#[inline(always)]
 fn give_back_row(
     state: &SliceState,
     from: CoreId,
@@ -105,6 +102,7 @@ fn give_back_row(
     })
 }
 
+#[inline(always)]
 fn request_row(config: &Config, state: &SliceState, request: &Request) -> Result<Row, SliceFault>
     ensures { result ≡ request_row config.now state.now request.now
         (lookup (nat_eq request.now.addr) state.now.lines) }
@@ -180,6 +178,7 @@ fn recall_row(config: &Config, request: &Request, owner: CoreId) -> Result<Row, 
     }))
 }
 
+#[inline(always)]
 fn answer_row(
     config: &Config,
     request: &Request,

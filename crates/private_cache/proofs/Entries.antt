@@ -1,13 +1,13 @@
 -- The entries of a cache by their addresses: what a put leaves, and that no address stands twice.
 use Rattle.std.proofs.Common.{◌≡◌, ℕ, ◌-◌, ◌≤◌, true, false, ◌||◌, cond, List, [], ◌∷◌, length, refl, sym, ap, nat_eq, nat_lt, Some, None, is_some, Result, Ok, Err, IsOk, OnOk, arith}
 use Rattle.std.proofs.lemmas.Grind.{common_steps}
-use Rattle.std.proofs.lemmas.Bool.{eqb-true}
+use Rattle.std.proofs.lemmas.Bool.{eqb-true, eq-eqb}
 use Rattle.std.proofs.lemmas.List.{take_all}
 use Rattle.std.specs.List.{AllByRecursion, IsDistinct}
 use Rattle.std.specs.Option.{option_map_or}
-use Rattle.std.specs.Map.{keys_of, lookup, lookup_entry, remove_entry}
+use Rattle.std.specs.Map.{keys_of, lookup, lookup_entry, remove_entry, set_value}
 use Rattle.std.specs.Set.{remove_key}
-use Rattle.lru.specs.LruCache.{LruCache, put_entries}
+use Rattle.lru.specs.LruCache.{LruCache, promoted, put_entries}
 
 module _ {V : Type 0} (a : ℕ) where
   -- where the address is there, the entry that is found has that address
@@ -21,6 +21,11 @@ module _ {V : Type 0} (a : ℕ) where
   pub put-there : (es : List (ℕ × V)) (v : V) (d : List (ℕ × V)) → is_some (lookup (nat_eq a) es) ≡ true →
       option_map_or (λ e. (e.0, v) ∷ remove_entry (nat_eq a) es) (lookup_entry (nat_eq a) es) d ≡ (a, v) ∷ remove_entry (nat_eq a) es
   put-there es v d h = rw ((found es h).1) refl
+
+  -- where it is there, it comes to the front, and then gets this line
+  pub promoted-value : (es : List (ℕ × V)) (v : V) → is_some (lookup (nat_eq a) es) ≡ true →
+      set_value (nat_eq a) (promoted (nat_eq a) es) v ≡ (a, v) ∷ remove_entry (nat_eq a) es
+  promoted-value es v h = rw ((found es h).1, eq-eqb a a refl) refl
 
   -- where it isn't, nothing is found and nothing goes
   absent : (es : List (ℕ × V)) → is_some (lookup (nat_eq a) es) ≡ false → (lookup_entry (nat_eq a) es ≡ None) × (remove_entry (nat_eq a) es ≡ es)

@@ -9,11 +9,11 @@ use Rattle.std.proofs.lemmas.List.{length-map}
 use Rattle.std.proofs.lemmas.Map.{keys-set_value}
 use Rattle.std.proofs.lemmas.Map.Entries.{lookup_from_place}
 use Rattle.std.proofs.lemmas.Option.{slice_get-map, slice_get_cases}
-use Rattle.lru.specs.LruCache.{LruCache, lru_cache, put_entries, last_entry}
+use Rattle.lru.specs.LruCache.{LruCache, lru_cache, promoted, put_entries, last_entry}
 use Rattle.private_cache.specs.declared.held.Held.{Held}
 use Rattle.private_cache.specs.CacheParts.{Lines, CacheParts}
 use Rattle.private_cache.specs.Steps.{line_at, used, kept, without, has_room, least_recently_used}
-use Rattle.private_cache.proofs.Entries.{put-front, keys-remove_entry, distinct-remove_key, distinct-front}
+use Rattle.private_cache.proofs.Entries.{promoted-value, put-front, keys-remove_entry, distinct-remove_key, distinct-front}
 use Rattle.private_cache.proofs.Lines.{lines, get-lines, lines-front, lines-set_value, lines-remove_entry, len-lines}
 
 abbrev pub shown : LruCache ℕ Held → CacheParts
@@ -43,6 +43,11 @@ module _ (c : LruCache ℕ Held) (a : ℕ) where
 
   pub shown-front : (held : Held) → shown (with_front c a held) ≡ used (shown c) a held
   shown-front held = parts _ _ _ _ c.cap (lines-front c.entries a held) (ap (λ ks. a ∷ ks) (keys-remove_entry a c.entries))
+
+  -- the entry that stands there comes to the front, and then gets this line
+  pub front_from_promoted : (held : Held) → IsSome (line_at (shown c) a) →
+      set_value (nat_eq a) (promoted (nat_eq a) c.entries) held ≡ (with_front c a held).entries
+  front_from_promoted held there = promoted-value a c.entries held (rw line_at-shown at there)
 
   pub shown-value : (held : Held) → IsSome (line_at (shown c) a) → shown (with_value c a held) ≡ kept (shown c) a held
   shown-value held there =

@@ -1,6 +1,6 @@
 //! The private cache.
 
-ghost use Rattle.std.specs.Prelude.{◌≡◌, ◌<◌, ◌↔◌, IsTrue, IsSome, IsNone, IfSome, IsSomeAnd, IsOk, IfOk, IfErr, OnOk, OnErr, MatchResult, ℕ};
+ghost use Rattle.std.specs.Prelude.{◌≡◌, ◌<◌, ◌↔◌, IsTrue, IsSome, IsNone, IfSome, IsSomeAnd, IsOk, IfOk, IfErr, OnOk, OnErr, MatchOption, MatchResult, ℕ};
 ghost use Rattle.mem_op.specs.declared.id.Source.{Source};
 ghost use Rattle.std.specs.FinMap as map;
 ghost use Rattle.std.specs.Option.{option_copied};
@@ -43,7 +43,7 @@ impl Model for PrivateCache {
 }
 
 impl PrivateCache {
-    ghost use Rattle.private_cache.specs.Table.{load_hit, store_hit, recalled};
+    ghost use Rattle.private_cache.specs.Table.{load_hit, store_hit, read_at, recalled};
     ghost use Rattle.private_cache.specs.Steps.{empty_cache, line_at, used, kept, without, after_operation, after_recall, has_room, fill_line, least_recently_used, IsLeastExclusive};
     ghost use Rattle.private_cache.specs.Answers.{hit_fault, give_fault, load_answer, store_answer, recall_answer, evict_answer};
 
@@ -84,7 +84,20 @@ impl PrivateCache {
         requires { IsSome (line_at self.old addr) }
         ensures { self.new ≡ used self.old addr held.now }
     {
-        let _ = self.put(addr, held);
+        if let Some(place) = self.lines.get_mut(&addr) {
+            *place = *held;
+        }
+    }
+
+    // A load of this stamp uses the line of the address, if it is there.
+    fn read(&mut self, addr: Addr, stamp: Stamp)
+        ensures { MatchOption (line_at self.old addr)
+            (self.new ≡ self.old)
+            (λ held. self.new ≡ used self.old addr (read_at held stamp)) }
+    {
+        if let Some(held) = self.lines.get_mut(&addr) {
+            *held = held.read_at(stamp);
+        }
     }
 
     // The address, which is there, gets this line, and the order of use stays.
@@ -124,6 +137,7 @@ impl PrivateCache {
     }
 
     /// What a load at `addr` would answer. No memory.
+    #[inline(always)]
     pub fn peek_load(&self, addr: Addr, pts: Stamp, r: Rank) -> Result<Load, StampFault>
         ensures { let held = line_at self.now addr in
             let hit = load_hit pts r held in
@@ -172,13 +186,14 @@ impl PrivateCache {
         ensures err { OnErr result (self.new ≡ self.old) }
     {
         let load = self.peek_load(addr, pts, r)?;
-        if let (Load::Hit { stamp, .. }, Some(held)) = (&load, &self.line(addr).copied()) {
-            self.touch(addr, &held.read_at(*stamp));
+        if let Load::Hit { stamp, .. } = &load {
+            self.read(addr, *stamp);
         }
         Ok(load)
     }
 
     /// What a store at `addr` would answer, whatever it stores. No memory.
+    #[inline(always)]
     pub fn peek_store(&self, addr: Addr, pts: Stamp, r: Rank) -> Result<Store, StampFault>
         ensures { (value : ℕ) (source : Source) → let held = line_at self.now addr in
             let hit = store_hit value source pts r held in

@@ -38,6 +38,7 @@ impl Model for Seat {
 
 impl Seat {
     /// An event of the core alone.
+    #[inline(always)]
     pub(crate) fn step(&mut self, event: &Event) -> Result<Outcome, UnitFault>
         requires own { core_event event.now ≡ Some self.old.unit.core }
         requires alone { is_alone event.now ≡ true }
@@ -66,6 +67,7 @@ impl Seat {
     }
 
     // The core makes a turn.
+    #[inline(always)]
     fn turn(&mut self) -> Result<Outcome, UnitFault>
         ensures outcome { SeatMeets (seat_outcome (Event.Turn self.old.unit.core) self.old) result self.old self.new }
         ensures same { SameUnit self.old.unit self.new.unit }
@@ -76,6 +78,7 @@ impl Seat {
     }
 
     // The core takes the reply that is kept for it.
+    #[inline(always)]
     fn take(&mut self) -> Result<Outcome, UnitFault>
         ensures outcome { SeatMeets (seat_outcome (Event.Take self.old.unit.core) self.old) result self.old self.new }
         ensures same { SameUnit self.old.unit self.new.unit }
@@ -92,6 +95,7 @@ impl Seat {
     }
 
     // This recall comes to the core.
+    #[inline(always)]
     fn recall(&mut self, recall: &Recall) -> Result<Outcome, UnitFault>
         ensures outcome { SeatMeets (seat_outcome (Event.Recall self.old.unit.core recall.now) self.old) result self.old self.new }
         ensures same { SameUnit self.old.unit self.new.unit }

@@ -1,4 +1,4 @@
-//! One event.
+//! One event. Where it is known which, little is left of a step: so it and what it calls for a core are inlined.
 
 ghost use Rattle.std.specs.Prelude.{◌≡◌, true, Some};
 ghost use Rattle.tardis_core.specs.Machine.{core_event, is_alone};
@@ -20,6 +20,7 @@ impl Core {
     /// doesn't fit, 4 StampLimit or 5 RankLimit of the operation or the recall, 4 StampLimit of the
     /// self-increment, 10 OutOfMemory; of a slice 11 NotOwner, 4 StampLimit, 12 HistoryFull,
     /// 10 OutOfMemory. They change nothing.
+    #[inline(always)]
     pub fn step(&mut self, event: Event) -> Result<Outcome, CoreFault>
         // The event leads there by the relation of the machine, and NoEffect comes exactly where it
         // doesn't apply.
@@ -42,6 +43,7 @@ impl Core {
     }
 
     // An event of a core alone.
+    #[inline(always)]
     fn alone(&mut self, core: CoreId, event: &Event) -> Result<Outcome, CoreFault>
         requires own { core_event event.now ≡ Some core }
         requires alone { is_alone event.now ≡ true }
@@ -56,6 +58,7 @@ impl Core {
     }
 
     // A slice serves the core's message in hand.
+    #[inline(always)]
     fn serve(&mut self, core: CoreId) -> Result<Outcome, CoreFault>
         ensures outcome { Meets (step_outcome self.old (Event.Serve core)) result self.old self.new }
         ensures goes { MachineGoes (Event.Serve core) self.old result self.new }

@@ -41,6 +41,7 @@ fn told_by(outcome: &Outcome) -> Told
 }
 
 // Makes an event of a core.
+#[inline(always)]
 fn make(machine: &mut Core, core: CoreId, event: Event) -> Result<Told, RoundFault>
     requires own { core_event event ≡ Some core }
     ensures { MatchResult result
