@@ -1,5 +1,5 @@
 -- What a call of a core unit comes to.
-use Rattle.std.specs.Prelude.{Bool, true, false, ◌≡◌, ℕ, if◌then◌else◌, nat_lt, [], ◌∷◌, ◌++◌, length, Option, Some, None, Result, Ok, Err, MatchResult}
+use Rattle.std.specs.Prelude.{Bool, true, false, ◌≡◌, ◌<◌, ◌≤◌, ◌⊎◌, ℕ, List, if◌then◌else◌, nat_lt, [], ◌∷◌, ◌++◌, length, Option, Some, None, Result, Ok, Err, MatchResult}
 use Rattle.std.specs.Option.{option_or}
 use Rattle.mem_op.specs.declared.id.Op.{Op}
 use Rattle.line_stamps.specs.declared.fault.StampFault.{StampFault}
@@ -27,7 +27,7 @@ use Rattle.core_unit.specs.declared.outcome.Outcome.TheVariants.{Performed, Drop
 pub data UnitOutcome : Type 0 where
   -- a refusal that is due
   Refuses : UnitFault → UnitOutcome
-  -- an outcome that makes no entry and takes no memory, and the unit behind it
+  -- an outcome that makes no entry and isn't refused for want of memory, and the unit behind it
   Answers : Outcome → UnitParts → UnitOutcome
   -- an outcome that makes an entry, and the unit behind it
   Steps : Outcome → UnitParts → UnitOutcome
@@ -42,6 +42,11 @@ Meets (Steps o t) r p q =
 -- the most entries of a transcript
 abbrev pub entry_limit : ℕ
 entry_limit = 1048576
+
+-- one entry more is refused for this
+abbrev pub IsLackOfRoom : List CoreEntry → UnitFault → Type 0
+IsLackOfRoom transcript fault =
+    ((fault ≡ TranscriptFull) × (entry_limit ≤ length transcript)) ⊎ ((fault ≡ OutOfMemory) × (length transcript < entry_limit))
 
 abbrev pub unless_faulty : Option StampFault → UnitOutcome → UnitOutcome
 unless_faulty None outcome = outcome

@@ -4,6 +4,7 @@ ghost use Rattle.std.specs.Prelude.{◌≡◌};
 ghost use Rattle.core_unit.specs.declared.fault.UnitFault.TheVariants.{OutOfMemory, Stamp};
 
 use line_stamps::StampFault;
+use private_cache::FillFault;
 use std::alloc::AllocError;
 use std::fmt;
 use std::fmt::Display;
@@ -51,5 +52,18 @@ impl From<StampFault> for UnitFault {
 
     fn from(limit: StampFault) -> UnitFault {
         UnitFault::Stamp(limit)
+    }
+}
+
+impl From<FillFault> for UnitFault {
+    ghost use Rattle.core_unit.specs.Faults.{of_fill};
+
+    ghost from_gives = { λ refused fault. fault ≡ of_fill refused };
+
+    fn from(refused: FillFault) -> UnitFault {
+        match refused {
+            FillFault::BadReply => UnitFault::BadReply,
+            FillFault::OutOfMemory => UnitFault::OutOfMemory,
+        }
     }
 }

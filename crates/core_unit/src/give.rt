@@ -1,20 +1,19 @@
 //! Recalls and evictions.
 
 ghost use Rattle.std.specs.Prelude.{◌≡◌, Some, None, Ok, IsNone, OnErr};
-ghost use Rattle.private_cache.specs.Answers.{give_fault, recall_answer};
 ghost use Rattle.private_cache.specs.Steps.{line_at};
 ghost use Rattle.private_cache.specs.Table.{recalled};
-ghost use Rattle.core_unit.specs.Outcomes.{Meets, eviction, evict_outcome, give_outcome, recall_outcome};
-ghost use Rattle.core_unit.specs.Parts.{SameUnit};
+ghost use Rattle.core_unit.specs.Outcomes.{IsLackOfRoom, Meets, eviction, evict_outcome, give_outcome, recall_outcome};
+ghost use Rattle.core_unit.specs.Parts.{SameUnit, UnitParts};
 
 use super::entry::CoreEntry;
 use super::fault::UnitFault;
 use super::outcome::Outcome;
-use super::transcript::{check_room, push_copy};
+use super::transcript::{make_room, push_copy};
 use super::unit::CoreUnit;
 use line_stamps::{Message, Recall};
 use mem_op::Addr;
-use private_cache::Evicted;
+use private_cache::{Evicted, PrivateCache};
 
 impl CoreUnit {
     /// Gives the recall's line back where it is there as Exclusive: Gave with the give-back, which is
@@ -31,26 +30,6 @@ impl CoreUnit {
         if self.hand.is_some() {
             return Ok(Outcome::NoEffect);
         }
-        match &self.cache.peek_recall(recall, self.config.lease()) {
-            Ok(None) => Ok(Outcome::NoEffect),
-            Ok(Some(message)) => self.give(recall, message),
-            Err(fault) => {
-                check_room(&self.transcript)?;
-                Err(UnitFault::Stamp(*fault))
-            }
-        }
-    }
-
-    // Gives a line back by this message, as the recall asks. No message is in hand.
-    fn give(&mut self, recall: &Recall, message: &Message) -> Result<Outcome, UnitFault>
-        requires free { self.old.hand ≡ None }
-        requires asked { let given = recalled recall.now self.old.config.lease (line_at self.old.cache recall.now.addr) in
-            (Some message.now ≡ recall_answer recall.now given) × (give_fault given ≡ None) }
-        ensures outcome { Meets (give_outcome self.old recall.now
-            (recalled recall.now self.old.config.lease (line_at self.old.cache recall.now.addr))) result self.old self.new }
-        ensures same { SameUnit self.old self.new }
-        ensures refused { OnErr result (self.new ≡ self.old) }
-    {
         let CoreUnit {
             config,
             cache,
@@ -58,9 +37,12 @@ impl CoreUnit {
             transcript,
             ..
         } = self;
-        check_room(transcript)?;
-        transcript.reserve(1)?;
-        let _ = cache.recall(recall, config.lease());
+        if let Err(refused) = make_room(transcript) {
+            return recall_without_room(cache, recall, config.lease(), refused);
+        }
+        let Some(message) = &cache.recall(recall, config.lease())? else {
+            return Ok(Outcome::NoEffect);
+        };
         *hand = Some(*message);
         push_copy(transcript, &CoreEntry::Gave(*message));
         Ok(Outcome::Gave(*message))
@@ -99,8 +81,7 @@ impl CoreUnit {
         if cache.line(addr).is_none() {
             return Ok(Outcome::NoEffect);
         }
-        check_room(transcript)?;
-        transcript.reserve(1)?;
+        make_room(transcript)?;
         match &cache.evict(addr) {
             Evicted::GiveBack(message) => {
                 *hand = Some(*message);
@@ -113,5 +94,26 @@ impl CoreUnit {
             }
             Evicted::Nothing => Ok(Outcome::NoEffect),
         }
+    }
+}
+
+// What a recall comes to where one entry more is refused: it has no effect all the same, or its own
+// fault comes before want of memory.
+fn recall_without_room(
+    cache: &PrivateCache,
+    recall: &Recall,
+    lease: u64,
+    refused: UnitFault,
+) -> Result<Outcome, UnitFault>
+    ensures { (p : UnitParts) → IsLackOfRoom p.transcript refused
+        → Meets (give_outcome p recall.now (recalled recall.now lease (line_at cache.now recall.now.addr))) result p p }
+{
+    match cache.peek_recall(recall, lease) {
+        Ok(None) => Ok(Outcome::NoEffect),
+        Ok(Some(_)) => Err(refused),
+        Err(fault) => match refused {
+            UnitFault::TranscriptFull => Err(refused),
+            _ => Err(UnitFault::Stamp(fault)),
+        },
     }
 }

@@ -13,7 +13,7 @@ use super::entry::CoreEntry;
 use super::fault::UnitFault;
 use super::message::{addr_of, fits, is_request};
 use super::outcome::Outcome;
-use super::transcript::{check_room, push_copy};
+use super::transcript::{make_room, push_copy};
 use super::unit::CoreUnit;
 use line_stamps::{Message, Reply};
 
@@ -57,8 +57,7 @@ impl CoreUnit {
             transcript,
             ..
         } = self;
-        check_room(transcript)?;
-        transcript.reserve(1)?;
+        make_room(transcript)?;
         *hand = None;
         push_copy(transcript, &CoreEntry::Got(*message, Reply::Taken));
         Ok(Outcome::Took)
@@ -80,14 +79,14 @@ impl CoreUnit {
             ..
         } = self;
         let addr = addr_of(message);
-        if !cache.fits(addr, reply) {
+        if let Err(refused) = make_room(transcript) {
+            // That a reply doesn't fit is told first.
+            if cache.fits(addr, reply) {
+                return Err(refused);
+            }
             return Err(UnitFault::BadReply);
         }
-        check_room(transcript)?;
-        transcript.reserve(1)?;
-        if cache.fill(addr, reply).is_err() {
-            return Err(UnitFault::OutOfMemory);
-        }
+        cache.fill(addr, reply)?;
         *hand = None;
         push_copy(transcript, &CoreEntry::Got(*message, *reply));
         Ok(Outcome::Took)

@@ -1,6 +1,7 @@
 //! Transcripts that grow.
 
-ghost use Rattle.std.specs.Prelude.{◌≡◌, ◌+◌, ◌<◌, ◌≤◌, ◌++◌, ◌∷◌, [], vec_len, vec_capacity, MatchResult, length};
+ghost use Rattle.std.specs.Prelude.{◌≡◌, ◌+◌, ◌<◌, ◌≤◌, ◌++◌, ◌∷◌, [], vec_len, vec_capacity, MatchResult, OnOk, IfErr, length};
+ghost use Rattle.core_unit.specs.Outcomes.{IsLackOfRoom};
 ghost use Rattle.core_unit.specs.declared.fault.UnitFault.TheVariants.{TranscriptFull};
 
 use super::entry::CoreEntry;
@@ -18,6 +19,19 @@ pub(crate) fn check_room(transcript: &[CoreEntry]) -> Result<(), UnitFault>
     if transcript.len() >= ENTRY_LIMIT {
         return Err(UnitFault::TranscriptFull);
     }
+    Ok(())
+}
+
+/// Makes room for an entry more: 13 TranscriptFull where it doesn't fit, or else 10 OutOfMemory. A
+/// refusal changes nothing.
+pub(crate) fn make_room(transcript: &mut Vec<CoreEntry>) -> Result<(), UnitFault>
+    ensures items { transcript.new.items ≡ transcript.old.items }
+    ensures room { OnOk result (vec_len transcript.new < vec_capacity transcript.new) }
+    ensures fits { OnOk result (length transcript.old.items < 1048576) }
+    ensures refused { IfErr result (λ fault. IsLackOfRoom transcript.old.items fault) }
+{
+    check_room(transcript)?;
+    transcript.reserve(1)?;
     Ok(())
 }
 

@@ -78,7 +78,7 @@ impl CoreUnit {
             core: *core,
             index: OpIndex::new(log.len() as u64).unwrap(),
         };
-        perform_at(cache, op, id, *pts, *r);
+        perform_at(cache, op, id, made);
         state.answer(program, made.value);
         *pts = pts_after;
         *r = r_after;

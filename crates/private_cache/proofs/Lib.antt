@@ -1,5 +1,4 @@
 pub mod Entries
 pub mod Lines
-pub mod Operations
 pub mod Shown
 pub mod Least

@@ -43,7 +43,7 @@ impl Model for PrivateCache {
 }
 
 impl PrivateCache {
-    ghost use Rattle.private_cache.specs.Table.{load_hit, store_hit, read_at, recalled};
+    ghost use Rattle.private_cache.specs.Table.{load_hit, store_hit, read_at, stored, recalled};
     ghost use Rattle.private_cache.specs.Steps.{empty_cache, line_at, used, kept, without, after_operation, after_recall, has_room, fill_line, least_recently_used, IsLeastExclusive};
     ghost use Rattle.private_cache.specs.Answers.{hit_fault, give_fault, load_answer, store_answer, recall_answer, evict_answer};
 
@@ -75,28 +75,6 @@ impl PrivateCache {
         match self.lines.put(addr, *held) {
             Ok(_) => Ok(()),
             Err(_) => Err(FillFault::OutOfMemory),
-        }
-    }
-
-    // The address, which is there and so takes no memory, gets this line and becomes the most
-    // recently used.
-    fn touch(&mut self, addr: Addr, held: &Held)
-        requires { IsSome (line_at self.old addr) }
-        ensures { self.new ≡ used self.old addr held.now }
-    {
-        if let Some(place) = self.lines.get_mut(&addr) {
-            *place = *held;
-        }
-    }
-
-    // A load of this stamp uses the line of the address, if it is there.
-    fn read(&mut self, addr: Addr, stamp: Stamp)
-        ensures { MatchOption (line_at self.old addr)
-            (self.new ≡ self.old)
-            (λ held. self.new ≡ used self.old addr (read_at held stamp)) }
-    {
-        if let Some(held) = self.lines.get_mut(&addr) {
-            *held = held.read_at(stamp);
         }
     }
 
@@ -237,19 +215,41 @@ impl PrivateCache {
     {
         let store = self.peek_store(addr, pts, r)?;
         if let Store::Hit { stamp, rank } = &store {
-            self.touch(
-                addr,
-                &Held::Exclusive {
-                    modified: true,
-                    line: Line {
-                        value,
-                        source: Source::Store(id),
-                        stamps: LineStamps::at(*stamp, *rank),
-                    },
-                },
-            );
+            self.write(addr, value, id, *stamp, *rank);
         }
         Ok(store)
+    }
+
+    /// Reads the line of the address by a load of this stamp, whose hit is known: an owner draws the
+    /// lease out to it, and the line becomes the most recently used. Nothing where no line is there.
+    /// No memory.
+    pub fn read(&mut self, addr: Addr, stamp: Stamp)
+        ensures { MatchOption (line_at self.old addr)
+            (self.new ≡ self.old)
+            (λ held. self.new ≡ used self.old addr (read_at held stamp)) }
+    {
+        if let Some(held) = self.lines.get_mut(&addr) {
+            *held = held.read_at(stamp);
+        }
+    }
+
+    /// Writes the line of the address by the store `id` of this stamp and rank, whose hit is known: the
+    /// line becomes the most recently used. Nothing where no line is there. No memory.
+    pub fn write(&mut self, addr: Addr, value: Word, id: OpId, stamp: Stamp, rank: Rank)
+        ensures { MatchOption (line_at self.old addr)
+            (self.new ≡ self.old)
+            (λ _. self.new ≡ used self.old addr (stored value (Source.Store id) stamp rank)) }
+    {
+        if let Some(held) = self.lines.get_mut(&addr) {
+            *held = Held::Exclusive {
+                modified: true,
+                line: Line {
+                    value,
+                    source: Source::Store(id),
+                    stamps: LineStamps::at(stamp, rank),
+                },
+            };
+        }
     }
 
     /// The least recently used line, which has to go before `addr` can be filled; none where `addr`

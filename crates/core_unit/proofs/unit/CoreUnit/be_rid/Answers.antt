@@ -1,4 +1,4 @@
-use Rattle.std.proofs.Common.{◌<◌, length, arith}
+use Rattle.std.proofs.Common.{◌<◌, length}
 use Rattle.core_unit.specs.Parts.{UnitParts}
 use Rattle.core_unit.proofs.Keeping.{kept_rid}
 use Rattle.core_unit.proofs.unit.CoreUnit.be_rid.Goals as goal
@@ -6,6 +6,6 @@ use Rattle.core_unit.proofs.unit.CoreUnit.be_rid.Goals as goal
 pub invariant_of-self-2 : goal.invariant_of-self-2
 invariant_of-self-2 c =
     let was : UnitParts = record { core = c.self.inside.core; program = c.self.inside.program; config = c.self.inside.config; state = c.self.inside.state; pts = c.self.inside.pts; r = c.self.inside.r; cache = c.self.inside.cache; hand = c.self.inside.hand; transcript = c.self.inside.transcript.items; log = c.self.inside.log.items } in
-    let room : length was.transcript < 1048576 = omega (arith, c.in_ok-check_room.ensures) in
+    let room : length was.transcript < 1048576 = c.in_ok-make_room.ensures.fits in
     let held_in = rw (← c.self.view_is) at c.requires.hand in
-    rw (c.push_copy.ensures.items, c.in_ok-reserve.ensures.items) (kept_rid was c.self.invariant room c.args.message.now held_in c.requires.gives)
+    rw (c.push_copy.ensures.items, c.in_ok-make_room.ensures.items) (kept_rid was c.self.invariant room c.args.message.now held_in c.requires.gives)

@@ -24,3 +24,8 @@ invariant_of-self-2 c =
     let rests = subst (λ (state : State). IsAtRest was.program state) (ap (λ (p : UnitParts). p.state) same) c.answer.ensures.rests in
     let kept = kept_performed was c.self.invariant room free c.args.op.now found.0 next found.1 rests in
     subst IsKept (sym same) kept
+
+pub returns-clause-outcome : goal.returns-clause-outcome
+returns-clause-outcome c =
+    let found = some_and (tries c.args.self.now.core (core_of c.args.self.now None) c.args.op.now) _ c.requires.hits in
+    rw found.1 (search rules)
