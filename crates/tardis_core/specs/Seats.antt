@@ -17,7 +17,7 @@ use Rattle.tardis_core.specs.declared.event.Event.TheVariants as event
 pub data SeatOutcome : Type 0 where
   -- a refusal that is due
   Refuses : UnitFault → SeatOutcome
-  -- an outcome that takes no memory, and the seat behind it
+  -- an outcome that isn't refused for want of memory, and the seat behind it
   Answers : Outcome → SeatParts → SeatOutcome
   -- an outcome that makes an entry, and the seat behind it
   Steps : Outcome → SeatParts → SeatOutcome
