@@ -49,20 +49,20 @@ fn id(index: u8) -> OpId {
 
 // A line of value 0 and no store.
 fn initial(wts: u32, rts: u32) -> Line {
-    Line {
-        value: 0,
-        source: Source::Init,
-        stamps: LineStamps::at(stamp(wts), Rank::ZERO).leased_to(stamp(rts)),
-    }
+    Line::new(
+        0,
+        Source::Init,
+        LineStamps::at(stamp(wts), Rank::ZERO).leased_to(stamp(rts)),
+    )
 }
 
 // A line that was written by core 0.
 fn stored(value: Word, index: u8, wts: u32, rts: u32, wr: u32) -> Line {
-    Line {
+    Line::new(
         value,
-        source: Source::Store(id(index)),
-        stamps: LineStamps::at(stamp(wts), rank(wr)).leased_to(stamp(rts)),
-    }
+        Source::Store(id(index)),
+        LineStamps::at(stamp(wts), rank(wr)).leased_to(stamp(rts)),
+    )
 }
 
 fn read(number: u16, copy: Option<Stamp>, pts: u32) -> Message {
@@ -387,11 +387,7 @@ fn replies_that_were_not_asked_for(rt: HostRuntime) -> Result<(), Fail> {
 fn stamps_past_the_limit(rt: HostRuntime) -> Result<(), Fail> {
     let last = Stamp::new(281_474_976_710_656)?;
     let limit = UnitFault::Stamp(StampFault::StampLimit);
-    let line = Line {
-        value: 0,
-        source: Source::Init,
-        stamps: LineStamps::at(last, Rank::ZERO),
-    };
+    let line = Line::new(0, Source::Init, LineStamps::at(last, Rank::ZERO));
     let mut unit = unit_of(rt.alloc(), b"ld r0 0\nst 0 1\n", 100, 64)?;
     meets(
         &rt,

@@ -151,12 +151,9 @@ fn fill_after(state: &SliceState, addr: Addr, victim: Addr, evicted: &Line) -> L
     ensures { result ≡ filled_line (with_line state.now.memory victim evicted.now) addr }
 {
     let line = state.memory.fill(addr);
-    let mts = line.stamps.rts.max(evicted.stamps.rts);
-    let mrank = line.stamps.wr.max(evicted.stamps.wr);
-    Line {
-        stamps: LineStamps::at(mts, mrank),
-        ..line
-    }
+    let mts = line.stamps().rts.max(evicted.stamps().rts);
+    let mrank = line.stamps().wr.max(evicted.stamps().wr);
+    line.with_stamps(LineStamps::at(mts, mrank))
 }
 
 fn recall_row(config: &Config, request: &Request, owner: CoreId) -> Result<Row, SliceFault>
@@ -190,13 +187,10 @@ fn answer_row(
     let current = is_copy(&request.copy, line);
     match &request.access {
         Access::Read(pts) => {
-            let Ok(rts) = renewed_rts(line.stamps, *pts, config.lease()) else {
+            let Ok(rts) = renewed_rts(line.stamps(), *pts, config.lease()) else {
                 return Err(SliceFault::StampLimit);
             };
-            let leased = Line {
-                stamps: line.stamps.leased_to(rts),
-                ..*line
-            };
+            let leased = line.with_stamps(line.stamps().leased_to(rts));
             let reply = if current {
                 Reply::RenewRep(rts)
             } else {
@@ -210,7 +204,7 @@ fn answer_row(
         }
         Access::Write => {
             let reply = if current {
-                Reply::UpgradeRep(line.stamps.rts)
+                Reply::UpgradeRep(line.stamps().rts)
             } else {
                 Reply::ExRep(*line)
             };
@@ -228,7 +222,7 @@ fn is_copy(copy: &Option<Stamp>, line: &Line) -> bool
     ensures { result ≡ is_copy copy.now line.now }
 {
     match copy {
-        Some(wts) => *wts == line.stamps.wts,
+        Some(wts) => *wts == line.stamps().wts,
         None => false,
     }
 }

@@ -73,23 +73,23 @@ fn flushed(number: u16, line: Line) -> Message {
 
 // The line of value 0 and no store with these stamps.
 fn line(wts: u32, rts: u32, wr: u32) -> Line {
-    Line {
-        value: 0,
-        source: Source::Init,
-        stamps: LineStamps::at(stamp(wts), rank(wr)).leased_to(stamp(rts)),
-    }
+    Line::new(
+        0,
+        Source::Init,
+        LineStamps::at(stamp(wts), rank(wr)).leased_to(stamp(rts)),
+    )
 }
 
 // The line of this value, which was stored by core 1 as its first operation.
 fn stored(value: u64, wts: u32, rts: u32, wr: u32) -> Line {
-    Line {
+    Line::new(
         value,
-        source: Source::Store(OpId {
+        Source::Store(OpId {
             core: core(1),
             index: OpIndex::new(0).unwrap(),
         }),
-        stamps: LineStamps::at(stamp(wts), rank(wr)).leased_to(stamp(rts)),
-    }
+        LineStamps::at(stamp(wts), rank(wr)).leased_to(stamp(rts)),
+    )
 }
 
 fn busy(owner: u8, number: u16, kind: RecallKind, rts: u32) -> Reply

@@ -41,11 +41,11 @@ impl MemorySlice {
             value: 0,
             source: Source::Init,
         });
-        Line {
-            value: word.value,
-            source: word.source,
-            stamps: LineStamps::at(self.mts, self.mrank),
-        }
+        Line::new(
+            word.value,
+            word.source,
+            LineStamps::at(self.mts, self.mrank),
+        )
     }
 
     /// Takes a line back: its word and source, and its lease and rank into the memory stamp and rank. It is refused, and
@@ -58,12 +58,12 @@ impl MemorySlice {
         self.words.insert(
             addr,
             StoredWord {
-                value: line.value,
-                source: line.source,
+                value: line.value(),
+                source: line.source(),
             },
         )?;
-        self.mts = self.mts.max(line.stamps.rts);
-        self.mrank = self.mrank.max(line.stamps.wr);
+        self.mts = self.mts.max(line.stamps().rts);
+        self.mrank = self.mrank.max(line.stamps().wr);
         Ok(())
     }
 }

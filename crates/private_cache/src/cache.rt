@@ -132,19 +132,16 @@ impl PrivateCache {
         let Some(held) = held else {
             return Ok(Load::Miss(miss));
         };
-        let Line {
-            value,
-            source,
-            stamps,
-        } = held.line();
+        let line = held.line();
+        let stamps = line.stamps();
         if held.is_shared() && stamps.rts < pts {
             return Ok(Load::Miss(miss));
         }
         let stamp = load_stamp(pts, stamps.wts);
         let rank = rank_of(stamp, pts, r, stamps.wts, stamps.wr)?;
         Ok(Load::Hit {
-            value: *value,
-            source: *source,
+            value: line.value(),
+            source: line.source(),
             stamp,
             rank,
         })
@@ -186,7 +183,7 @@ impl PrivateCache {
                 copy: copy_of(held),
             }));
         };
-        let stamps = line.stamps;
+        let stamps = line.stamps();
         let stamp = store_stamp(pts, stamps.rts, *modified)?;
         let rank = rank_of(stamp, pts, r, stamps.wts, stamps.wr)?;
         Ok(Store::Hit { stamp, rank })
@@ -243,11 +240,7 @@ impl PrivateCache {
         if let Some(held) = self.lines.get_mut(&addr) {
             *held = Held::Exclusive {
                 modified: true,
-                line: Line {
-                    value,
-                    source: Source::Store(id),
-                    stamps: LineStamps::at(stamp, rank),
-                },
+                line: Line::new(value, Source::Store(id), LineStamps::at(stamp, rank)),
             };
         }
     }
@@ -309,11 +302,9 @@ impl PrivateCache {
         };
         match recall.kind {
             RecallKind::WriteBack => {
-                let rts = write_back_rts(line.stamps, recall.rts, lease)?;
-                let line = Line {
-                    stamps: LineStamps { rts, ..line.stamps },
-                    ..*line
-                };
+                let stamps = line.stamps();
+                let rts = write_back_rts(stamps, recall.rts, lease)?;
+                let line = line.with_stamps(LineStamps { rts, ..stamps });
                 Ok(Some(Message::WbRep { addr, line }))
             }
             RecallKind::Flush => Ok(Some(Message::FlushRep { addr, line: *line })),

@@ -41,10 +41,7 @@ impl Held {
             Held::Shared(_) => *self,
             Held::Exclusive { modified, line } => Held::Exclusive {
                 modified: *modified,
-                line: Line {
-                    stamps: line.stamps.leased_to(t),
-                    ..*line
-                },
+                line: line.with_stamps(line.stamps().leased_to(t)),
             },
         }
     }
@@ -56,7 +53,7 @@ pub(crate) fn copy_of(held: Option<&Held>) -> Option<Stamp>
 {
     match held {
         None => None,
-        Some(held) => Some(held.line().stamps.wts),
+        Some(held) => Some(held.line().stamps().wts),
     }
 }
 
@@ -64,10 +61,7 @@ pub(crate) fn copy_of(held: Option<&Held>) -> Option<Stamp>
 fn renewed(line: &Line, rts: Stamp) -> Option<Line>
     ensures { result ≡ renewed line.now rts }
 {
-    Some(Line {
-        stamps: line.stamps.with_rts(rts)?,
-        ..*line
-    })
+    Some(line.with_stamps(line.stamps().with_rts(rts)?))
 }
 
 /// The line after a reply; none where the reply doesn't fit it.

@@ -29,11 +29,7 @@ fn id(index: u8) -> OpId {
 
 // A line of these stamps and of rank 0 that holds a value of no store.
 fn line(wts: Stamp) -> Line {
-    Line {
-        value: 0,
-        source: Source::Init,
-        stamps: LineStamps::at(wts, Rank::ZERO),
-    }
+    Line::new(0, Source::Init, LineStamps::at(wts, Rank::ZERO))
 }
 
 fn recall(kind: RecallKind, addr: Addr, rts: u8) -> Recall {
@@ -71,11 +67,11 @@ fn stores(cache: &mut PrivateCache, addr: Addr) -> bool {
 // The recall of the line, twice.
 fn writes_back(cache: &mut PrivateCache, addr: Addr) -> bool {
     let recall = recall(RecallKind::WriteBack, addr, 22);
-    let line = Line {
-        value: 2,
-        source: Source::Store(id(1)),
-        stamps: LineStamps::at(stamp(1), rank(1)).leased_to(stamp(22)),
-    };
+    let line = Line::new(
+        2,
+        Source::Store(id(1)),
+        LineStamps::at(stamp(1), rank(1)).leased_to(stamp(22)),
+    );
     let given = Some(Message::WbRep { addr, line });
     cache.recall(&recall, 10) == Ok(given) && cache.recall(&recall, 10) == Ok(None)
 }
@@ -180,10 +176,7 @@ fn texts_of_the_faults(rt: HostRuntime) -> Result<(), Fail> {
 fn stamps_and_ranks_past_their_limits(rt: HostRuntime) -> Result<(), Fail> {
     let mut cache = cache_of(rt.alloc(), 1)?;
     let stamps = LineStamps::at(Stamp::new(281_474_976_710_656)?, Rank::new(4_294_967_295)?);
-    let line = Line {
-        stamps,
-        ..line(stamp(0))
-    };
+    let line = line(stamp(0)).with_stamps(stamps);
     cache.fill(at(0), &Reply::ExRep(line))?;
     let stored = cache.store(at(0), 1, id(0), stamp(0), rank(0));
     assert_eq!(rt; stored, Err(StampFault::StampLimit));

@@ -54,22 +54,22 @@ fn id(number: u8, index: u8) -> OpId
 
 // A line of value 0 and no store.
 fn initial(wts: u32, rts: u32) -> Line {
-    Line {
-        value: 0,
-        source: Source::Init,
-        stamps: LineStamps::at(stamp(wts), Rank::ZERO).leased_to(stamp(rts)),
-    }
+    Line::new(
+        0,
+        Source::Init,
+        LineStamps::at(stamp(wts), Rank::ZERO).leased_to(stamp(rts)),
+    )
 }
 
 // A line of rank 0 that a core wrote by its first operation.
 fn stored(value: Word, by: u8, wts: u32, rts: u32) -> Line
     requires { by < 64 }
 {
-    Line {
+    Line::new(
         value,
-        source: Source::Store(id(by, 0)),
-        stamps: LineStamps::at(stamp(wts), Rank::ZERO).leased_to(stamp(rts)),
-    }
+        Source::Store(id(by, 0)),
+        LineStamps::at(stamp(wts), Rank::ZERO).leased_to(stamp(rts)),
+    )
 }
 
 fn read(number: u16, copy: Option<Stamp>, pts: u32) -> Message {

@@ -1,5 +1,4 @@
 use Rattle.std.proofs.Common.{refl, IsSome, true}
-use Rattle.mem_op.specs.declared.id.Source.TheVariants as source
 use Rattle.private_cache.specs.Steps.{line_at}
 use Rattle.private_cache.specs.declared.held.Held.{Held}
 use Rattle.private_cache.specs.declared.held.Held.TheVariants.{Exclusive}
@@ -12,7 +11,7 @@ invariant_of-self c =
     elim c.match-get_mut.branch [
       | in-Some w ↦
           let lines = c.self.inside.lines in
-          let held : Held = Exclusive true (record { value = c.args.value; source = source.Store c.args.id; stamps = w.at.result }) in
+          let held : Held = Exclusive true w.new.result in
           let found = rw w.in-Some.is at c.get_mut.ensures.value in
           let there : IsSome (line_at c.args.self.now c.args.addr) = rw (← c.self.view_is, line_at-shown lines c.args.addr, ← found) refl in
           let front = front_from_promoted lines c.args.addr held (rw (← c.self.view_is) at there) in
@@ -25,11 +24,11 @@ returns c =
     elim c.match-get_mut.branch [
       | in-Some w ↦
           let lines = c.self.inside.lines in
-          let held : Held = Exclusive true (record { value = c.args.value; source = source.Store c.args.id; stamps = w.at.result }) in
+          let held : Held = Exclusive true w.new.result in
           let found = rw w.in-Some.is at c.get_mut.ensures.value in
           let there : IsSome (line_at c.args.self.now c.args.addr) = rw (← c.self.view_is, line_at-shown lines c.args.addr, ← found) refl in
           let front = front_from_promoted lines c.args.addr held (rw (← c.self.view_is) at there) in
-          rw (← c.self.view_is, line_at-shown lines c.args.addr, ← found, ← w.at.ensures, w.self-inside-is, front)
+          rw (← c.self.view_is, line_at-shown lines c.args.addr, ← found, ← w.at.ensures, ← w.new.ensures, w.self-inside-is, front)
           (shown-front lines c.args.addr held)
       | in_default w ↦
           let none = rw w.in_default.is at c.get_mut.ensures.value in
