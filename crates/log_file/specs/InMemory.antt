@@ -1,8 +1,19 @@
 -- What clauses read of the devices in memory.
-use Rattle.std.specs.Prelude.{ℕ, List}
+use Rattle.std.specs.Prelude.{ℕ, List, Option, Some, None, slice_get}
+use Rattle.std.specs.Option.{option_map_or}
 use Rattle.log_file.specs.declared.mem_source.MemSource.{MemSource}
 use Rattle.log_file.specs.declared.mem_sink.MemSink.{MemSink}
 use Rattle.log_file.specs.declared.step.Step.{Step}
+use Rattle.log_file.specs.declared.step.Step.TheVariants.{Move, Fail}
+
+-- the limit of what a call moves by a step, none where it fails
+abbrev pub limit_by : Step → Option ℕ
+limit_by (Move limit) = Some limit
+limit_by Fail = None
+
+-- the limit by the first of the steps; behind the last one it is that of a `usize`, so that a call moves what it can
+abbrev pub limit_of : List Step → Option ℕ
+limit_of steps = option_map_or limit_by (slice_get steps 0) (Some 18446744073709551615)
 
 -- the bytes that weren't read yet
 abbrev pub bytes_left : MemSource → List ℕ

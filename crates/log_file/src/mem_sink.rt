@@ -5,7 +5,7 @@ ghost use Rattle.log_file.specs.InMemory.{bytes_taken, writes_to_come, failed_wr
 
 use crate::byte_sink::ByteSink;
 use crate::device_fault::WriteFailed;
-use crate::step::Step;
+use crate::step::{Step, take_step};
 use std::alloc::Global;
 
 /// A sink that keeps in memory what it took. Each write follows a step, and behind the last it takes
@@ -47,18 +47,9 @@ impl ByteSink for MemSink<'_> {
     ghost failed = { λ sink. sink.failures };
 
     fn write(&mut self, piece: &[u8]) -> Result<usize, WriteFailed> {
-        let limit = match self.steps.split_first() {
-            None => usize::MAX,
-            Some((step, others)) => {
-                self.steps = others;
-                match step {
-                    Step::Fail => {
-                        self.failures = self.failures.saturating_add(1);
-                        return Err(WriteFailed);
-                    }
-                    Step::Move(limit) => *limit,
-                }
-            }
+        let Some(limit) = take_step(&mut self.steps) else {
+            self.failures = self.failures.saturating_add(1);
+            return Err(WriteFailed);
         };
         let count = piece.len().min(limit.saturating_add(1));
         if self.taken.extend_from_slice(&piece[..count]).is_err() {

@@ -5,7 +5,7 @@ ghost use Rattle.log_file.specs.InMemory.{bytes_left, reads_to_come, failed_read
 
 use crate::byte_source::ByteSource;
 use crate::device_fault::ReadFailed;
-use crate::step::Step;
+use crate::step::{Step, take_step};
 
 /// A source over bytes in memory. Each read follows a step, and behind the last it gives what there
 /// is.
@@ -51,18 +51,9 @@ impl ByteSource for MemSource<'_> {
     ghost failed = { λ source. source.failures };
 
     fn read(&mut self, buf: &mut [u8]) -> Result<usize, ReadFailed> {
-        let limit = match self.steps.split_first() {
-            None => usize::MAX,
-            Some((step, others)) => {
-                self.steps = others;
-                match step {
-                    Step::Fail => {
-                        self.failures = self.failures.saturating_add(1);
-                        return Err(ReadFailed);
-                    }
-                    Step::Move(limit) => *limit,
-                }
-            }
+        let Some(limit) = take_step(&mut self.steps) else {
+            self.failures = self.failures.saturating_add(1);
+            return Err(ReadFailed);
         };
         let count = give(self.bytes, limit, buf);
         self.bytes = &self.bytes[count..];

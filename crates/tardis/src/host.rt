@@ -1,5 +1,6 @@
 //! The host's files, and its standard input under the name `/dev/stdin`.
 
+ghost use Rattle.std.specs.Prelude.{◌≡◌};
 ghost use Rattle.tardis.specs.Host.{failed_reads};
 
 use log_file::{ByteSource, FromRead, ReadFailed, WriteFailed};
@@ -10,7 +11,7 @@ use tardis_command::Folder;
 
 /// A file, or the standard input.
 #[derive(Drop)]
-pub enum HostSource {
+pub(crate) enum HostSource {
     /// A file.
     File(FromRead<File>),
     /// The standard input.
@@ -37,13 +38,15 @@ impl ByteSource for HostSource {
 
 /// The host's files by their paths.
 #[derive(Clone, Copy)]
-pub struct HostFolder<'a> {
+pub(crate) struct HostFolder<'a> {
     rt: &'a HostRuntime,
 }
 
 impl<'a> HostFolder<'a> {
     /// The files of the host.
-    pub fn new(rt: &'a HostRuntime) -> HostFolder<'a> {
+    pub(crate) fn new(rt: &'a HostRuntime) -> HostFolder<'a>
+        ensures { result.rt ≡ rt.entry }
+    {
         HostFolder { rt }
     }
 }

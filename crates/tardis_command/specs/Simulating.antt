@@ -1,6 +1,5 @@
 -- What the running of programs answers.
-use Rattle.std.specs.Prelude.{◌≡◌, ⊤, ℕ, zero, suc, ◌+◌, List, [], length, Option, None, Some, Result, Ok, Err, IsSome, slice_get}
-use Rattle.std.specs.Option.{option_map_or}
+use Rattle.std.specs.Prelude.{◌≡◌, ⊤, ℕ, zero, suc, ◌+◌, List, [], length, Option, None, Some, Result, Ok, Err, IsSome}
 use Rattle.std.specs.Borrow.{Bor}
 use Rattle.command_line.specs.declared.request.Sim.{Sim}
 use Rattle.lease_rule.specs.ConfigParts.{ConfigParts}
@@ -14,6 +13,7 @@ use Rattle.schedule.specs.declared.fault.ScheduleFault.{ScheduleFault}
 use Rattle.tardis_core.specs.Machine.{World}
 use Rattle.tardis_core.specs.Opening.{opening_parts}
 use Rattle.tardis_core.specs.Parts.{CoreParts, world}
+use Rattle.tardis_core.specs.Works.{log_at}
 use Rattle.simulation.specs.Simulating.{IsSimulated, IsSimulationFault}
 use Rattle.verdict.specs.declared.judge_fault.JudgeFault.TheVariants.{BadConfig, Log, Read, OutOfMemory}
 use Rattle.tardis_command.specs.Checking.{IsTextFault}
@@ -63,14 +63,10 @@ IsUnscheduled told name cores Output = ⊥
 
 -- ---- what it came to
 
--- how many operations core c has performed
-abbrev pub performed_by : World → ℕ → ℕ
-performed_by w c = option_map_or (λ u. length u.log) (slice_get w.cores c) 0
-
--- how many the first cores have performed, so many of them
+-- how many operations the first cores have performed, so many of them
 abbrev pub performed_below : World → ℕ → ℕ
 performed_below w zero = 0
-performed_below w (suc c) = performed_below w c + performed_by w c
+performed_below w (suc c) = performed_below w c + length (log_at w c)
 
 -- a core's log can't be written, of whose number this holds, or memory ran out
 abbrev pub IsUnwritten : (ℕ → Type 0) → CommandFault → Type 0

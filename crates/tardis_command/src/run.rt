@@ -128,7 +128,6 @@ fn write_logs<F: Folder>(
 /// The records of a core.
 fn log_of(machine: &Core, core: CoreId) -> &[Record]
     ensures records { result.now ≡ log_at (world machine.now) core }
-    ensures performed { length result.now ≡ simulating.performed_by (world machine.now) core }
     ensures few { length result.now ≤ 1048576 }
 {
     let Some(unit) = machine.unit(core) else {

@@ -81,16 +81,14 @@ fn gives_flat_answers(
 {
     let mut memory = zeros(alloc, WORDS)?;
     for id in order {
-        if let Some(found) = record_of(logs, id) {
-            let addr = found.addr.get() as usize;
-            match found.act {
-                Act::Store => memory[addr] = found.value,
-                Act::Load(_) => {
-                    if memory[addr] != found.value {
-                        return Ok(false);
-                    }
-                }
-            }
+        let Some(found) = record_of(logs, id) else {
+            continue;
+        };
+        let addr = found.addr.get() as usize;
+        match found.act {
+            Act::Store => memory[addr] = found.value,
+            Act::Load(_) if memory[addr] != found.value => return Ok(false),
+            Act::Load(_) => {}
         }
     }
     Ok(true)
