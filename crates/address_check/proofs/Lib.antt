@@ -1,7 +1,5 @@
-pub mod Apart
-pub mod Chunks
+pub mod ByAddress
 pub mod Collecting
-pub mod Cuts
 pub mod GroupPass
 pub mod Pairs
 pub mod Pieces

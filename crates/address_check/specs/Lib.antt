@@ -1,7 +1,7 @@
 pub mod AddressFaults
 pub mod AddressLaw
+pub mod ByAddress
 pub mod FaultOrder
 pub mod FaultParts
 pub mod Groups
 pub mod Piece
-pub mod Spans

@@ -15,12 +15,12 @@ fn load_fault(load: &Entry, source: &Source, right: Option<&Entry>) -> Option<Ad
 {
     let (named, value) = match (source, right) {
         (Source::Init, None) => (true, 0),
-        (Source::Store(id), Some(store)) => (*id == store.id, store.logged.value),
+        (Source::Store(id), Some(store)) => (*id == store.id(), store.value()),
         _ => (false, 0),
     };
     let rule = if !named {
         AddressRule::Source
-    } else if load.logged.value != value {
+    } else if load.value() != value {
         AddressRule::Value
     } else {
         return None;
@@ -38,7 +38,7 @@ pub fn group_fault(group: &[Entry]) -> Option<AddressFault>
 {
     let mut last = None;
     for entry in group {
-        match &entry.logged.act {
+        match &entry.act() {
             Act::Store => last = Some(entry),
             Act::Load(source) => {
                 let fault = load_fault(entry, source, last);

@@ -1,14 +1,12 @@
 //! The check of loads against stores, address by address.
 #![tactic(auto)]
 
+mod addresses;
 mod fault;
 mod gate;
 mod group;
 mod index;
 mod local_check;
-mod span;
-#[cfg(test)]
-mod tests;
 mod workers;
 
 pub use fault::{AddressFault, AddressRule};
@@ -16,5 +14,4 @@ pub use gate::{Gate, Phase};
 pub use group::group_fault;
 pub use index::AddressIndex;
 pub use local_check::{LocalCheck, lesser_fault};
-pub use span::Span;
 pub use workers::fault_by_workers;

@@ -9,6 +9,3 @@ mod words;
 pub use refusal::Refusal;
 pub use request::{Check, Limits, Request, Sim};
 pub use words::read;
-
-#[cfg(test)]
-mod tests;

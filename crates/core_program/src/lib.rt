@@ -27,6 +27,3 @@ pub use register::Register;
 pub use skip::Skip;
 pub use state::ProgramState;
 pub use text_laws::{one_fault, printed_is_read, spelled_set_is_read};
-
-#[cfg(test)]
-mod text_tests;

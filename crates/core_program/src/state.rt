@@ -134,6 +134,3 @@ impl ProgramState {
         }
     }
 }
-
-#[cfg(test)]
-mod tests;

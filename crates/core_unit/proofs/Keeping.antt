@@ -1,5 +1,6 @@
 -- What a core unit keeps through its steps.
 use Rattle.std.proofs.Common.{◌≡◌, ℕ, ◌+◌, ◌<◌, ◌≤◌, Bool, true, false, List, [], ◌∷◌, ◌++◌, length, length-append, refl, sym, ap, subst, ◌∙◌, arith}
+use Rattle.manager_slice.specs.Limits.{entry_limit}
 use Rattle.std.specs.Prelude.{Option, Some, None, ◌||◌, nat_lt, is_some}
 use Rattle.std.specs.FinMap as map
 use Rattle.mem_op.specs.declared.id.Op.{Op}
@@ -21,21 +22,16 @@ use Rattle.private_cache.specs.Steps.{line_at, used, kept, without, after_recall
 use Rattle.private_cache.specs.Table.{Hit, filled, given}
 use Rattle.private_cache.specs.declared.held.Held.{Held}
 use Rattle.private_cache.specs.declared.held.Held.TheVariants.{Shared, Exclusive}
-use Rattle.manager_slice.specs.Leads.{Leads}
-use Rattle.manager_slice.specs.Messages.{addr_of, is_request}
+use Rattle.manager_slice.proofs.Leads.{Leads-push}
+use Rattle.line_stamps.specs.Messages.{addr_of}
+use Rattle.manager_slice.specs.Messages.{is_request}
 use Rattle.core_unit.specs.Core.{Core, next_of, op_addr, tries, next_request, has_place, fits}
 use Rattle.core_unit.specs.Kept.{IsAsked, HandFits, IsKept}
 use Rattle.core_unit.specs.Outcomes.{performed, without_hand}
 use Rattle.core_unit.specs.Parts.{UnitParts, core_of, give_back_in, replayed}
-use Rattle.core_unit.specs.Replay.{CoreReplays, CoreStep, performs, drops, gives, gets, is_rid, bumps}
+use Rattle.core_unit.specs.Replay.{CoreReplays, CoreStep, performs, drops, gives, gets, is_taken, bumps}
 use Rattle.core_unit.specs.declared.entry.CoreEntry.{CoreEntry}
 use Rattle.core_unit.specs.declared.entry.CoreEntry.TheVariants as entry
-
--- one entry more
-pub leads_more : {S E : Type 0} (step : S → E → S → Type 0) (s : S) (es : List E) (m : S) (e : E) (t : S)
-    → Leads step s es m → step m e t → Leads step s (es ++ e ∷ []) t
-leads_more {S} step s [] m e t h k = (t, (let P : S → Type 0 = λ x. step x e t in subst P h k), refl)
-leads_more step s (x ∷ xs) m e t h k = (h.0, h.1, leads_more step h.0 xs m e t h.2 k)
 
 -- the message of an operation asks for its line
 pub request_addr : (u : Core) (x : Op) → addr_of (next_request u x) ≡ op_addr x
@@ -76,7 +72,7 @@ hand_asked p (FlushRep a l) u e h = tt
 pub fill_filled : (cache : CacheParts) (a : ℕ) (reply : Reply) (held : Held) → fill_line cache a reply ≡ Some held → filled (line_at cache a) reply ≡ Some held
 fill_filled cache a reply held e = grind (arith, e)
 
-module _ (p : UnitParts) (k : IsKept p) (room : length p.transcript < 1048576) where
+module _ (p : UnitParts) (k : IsKept p) (room : length p.transcript < entry_limit) where
   -- an entry more, with the unit that it leads to
   kept_by : (e : CoreEntry) (state : State) (pts r : ℕ) (cache : CacheParts) (hand : Option Message) (log : List Record)
       → let q : UnitParts = record { core = p.core; program = p.program; config = p.config; state = state; pts = pts; r = r; cache = cache; hand = hand; transcript = p.transcript ++ e ∷ []; log = log } in
@@ -85,7 +81,7 @@ module _ (p : UnitParts) (k : IsKept p) (room : length p.transcript < 1048576) w
   kept_by e state pts r cache hand log step fits rests capacity logged =
       let longer = length-append p.transcript (e ∷ []) in
       record {
-        replays = record { replay = leads_more (CoreStep p.config p.core) _ p.transcript (replayed p) e _ k.replays.replay step; hand = fits };
+        replays = record { replay = Leads-push (CoreStep p.config p.core) _ p.transcript (replayed p) e _ k.replays.replay step; hand = fits };
         rests = rests;
         capacity = capacity;
         short = omega (arith, longer);
@@ -144,19 +140,19 @@ module _ (p : UnitParts) (k : IsKept p) (room : length p.transcript < 1048576) w
   -- this message is in hand
   module _ (m : Message) (held_in : p.hand ≡ Some m) where
     -- and gives a line back
-    pub kept_rid : is_request m ≡ false → IsKept (record (without_hand p) { transcript = p.transcript ++ entry.Got m Taken ∷ [] })
-    kept_rid e = by_message m held_in e
+    pub kept_given_up : is_request m ≡ false → IsKept (record (without_hand p) { transcript = p.transcript ++ entry.Got m Taken ∷ [] })
+    kept_given_up e = by_message m held_in e
       where
-        rid : (kind : RecallKind) (a : ℕ) (l : Line) → give_back_in p.hand ≡ Some (give_back kind a l)
+        given_up : (kind : RecallKind) (a : ℕ) (l : Line) → give_back_in p.hand ≡ Some (give_back kind a l)
             → IsKept (record (without_hand p) { transcript = p.transcript ++ entry.Got (give_back kind a l) Taken ∷ [] })
-        rid kind a l same =
-            kept_by (entry.Got (give_back kind a l) Taken) p.state p.pts p.r p.cache None p.log (is_rid kind a l same) tt k.rests k.capacity (omega (arith, k.logged))
+        given_up kind a l same =
+            kept_by (entry.Got (give_back kind a l) Taken) p.state p.pts p.r p.cache None p.log (is_taken kind a l same) tt k.rests k.capacity (omega (arith, k.logged))
 
         by_message : (x : Message) → p.hand ≡ Some x → is_request x ≡ false → IsKept (record (without_hand p) { transcript = p.transcript ++ entry.Got x Taken ∷ [] })
         by_message (ShReq a copy pts) h e = absurd (cc)
         by_message (ExReq a copy) h e = absurd (cc)
-        by_message (WbRep a l) h e = rid WriteBack a l (ap give_back_in h)
-        by_message (FlushRep a l) h e = rid Flush a l (ap give_back_in h)
+        by_message (WbRep a l) h e = given_up WriteBack a l (ap give_back_in h)
+        by_message (FlushRep a l) h e = given_up Flush a l (ap give_back_in h)
 
     -- and this reply of its kind fills its line
     pub kept_taken : (reply : Reply) (held : Held) → fits m reply ≡ true → fill_line p.cache (addr_of m) reply ≡ Some held

@@ -1,5 +1,6 @@
 -- What a core unit keeps through a recall.
 use Rattle.std.proofs.Common.{◌≡◌, ◌<◌, [], ◌∷◌, ◌++◌, length, refl}
+use Rattle.manager_slice.specs.Limits.{entry_limit}
 use Rattle.std.specs.Prelude.{Option, Some, None}
 use Rattle.line_stamps.specs.declared.message.Message.{Message}
 use Rattle.line_stamps.specs.declared.message.Recall.{Recall}
@@ -15,7 +16,7 @@ use Rattle.core_unit.specs.declared.entry.CoreEntry.TheVariants as entry
 use Rattle.core_unit.proofs.Keeping.{kept_given}
 
 -- the line of a recall goes back by this message
-pub kept_recall : (p : UnitParts) (k : IsKept p) → length p.transcript < 1048576 → p.hand ≡ None → (recall : Recall) (m : Message) (cache : CacheParts)
+pub kept_recall : (p : UnitParts) (k : IsKept p) → length p.transcript < entry_limit → p.hand ≡ None → (recall : Recall) (m : Message) (cache : CacheParts)
     → let back = recalled recall p.config.lease (line_at p.cache recall.addr) in
     Some m ≡ recall_answer recall back → cache ≡ after_recall p.cache recall back
     → IsKept (record p { cache = cache; hand = Some m; transcript = p.transcript ++ entry.Gave m ∷ [] })

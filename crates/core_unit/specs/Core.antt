@@ -21,7 +21,7 @@ use Rattle.core_program.specs.Running.{next_op, answered, start_of}
 use Rattle.core_program.specs.State.{State}
 use Rattle.private_cache.specs.Answers.{give_back}
 use Rattle.private_cache.specs.CacheParts.{Lines}
-use Rattle.private_cache.specs.Table.{Hit, load_hit, store_hit, line_of, copy_of, left, put}
+use Rattle.private_cache.specs.Table.{Hit, load_hit, store_hit, copy_of, left, put}
 use Rattle.private_cache.specs.declared.held.Held.{Held}
 
 pub record Core : Type 0 where
@@ -79,19 +79,18 @@ request (op.Store a value) pts held = ExReq a (copy_of held)
 abbrev pub next_request : Core → Op → Message
 next_request u x = request x u.pts (map.get u.lines (op_addr x))
 
-abbrev pub act_of : Op → Line → Act
-act_of (op.Load a) l = act.Load l.source
-act_of (op.Store a value) l = act.Store
+-- the word of an operation that has hit: a load's is the one that it read, and a store's is its own
+abbrev pub word_of : Op → Hit → ℕ
+word_of (op.Load a) hit = hit.value
+word_of (op.Store a value) hit = value
 
--- the record of an operation that has hit: a load has the line's word, and a store has left its own there
+abbrev pub act_of : Op → Hit → Act
+act_of (op.Load a) hit = act.Load hit.source
+act_of (op.Store a value) hit = act.Store
+
+-- the record of an operation that has hit
 abbrev pub record_of : Op → Hit → Record
-record_of x hit = record {
-  value = (line_of hit.held).value;
-  ts = hit.stamp;
-  rank = hit.rank;
-  addr = op_addr x;
-  act = act_of x (line_of hit.held);
-}
+record_of x hit = record { value = word_of x hit; ts = hit.stamp; rank = hit.rank; addr = op_addr x; act = act_of x hit }
 
 -- after so many operations a core increments its stamp
 abbrev pub is_due : ConfigParts → ℕ → Bool
@@ -103,7 +102,7 @@ after_hit g u x hit =
     let due = is_due g (length u.log + 1) in
     record {
       program = u.program;
-      state = answered u.program (line_of hit.held).value u.state;
+      state = answered u.program (word_of x hit) u.state;
       pts = if due then self_increment hit.stamp else hit.stamp;
       r = if due then 0 else hit.rank;
       lines = put u.lines (op_addr x) (Some hit.held);

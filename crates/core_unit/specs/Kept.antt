@@ -5,6 +5,7 @@ use Rattle.line_stamps.specs.declared.message.Message.{Message}
 use Rattle.line_stamps.specs.declared.message.Message.TheVariants.{ShReq, ExReq, WbRep, FlushRep}
 use Rattle.lease_rule.specs.ConfigParts.{ConfigParts}
 use Rattle.core_program.specs.Running.{IsAtRest}
+use Rattle.manager_slice.specs.Limits.{entry_limit}
 use Rattle.core_unit.specs.Core.{Core, next_of, op_addr, tries, next_request, has_place}
 use Rattle.core_unit.specs.Parts.{UnitParts, core_of, replayed}
 use Rattle.core_unit.specs.Replay.{CoreReplays}
@@ -34,5 +35,5 @@ pub record IsKept (p : UnitParts) : Type 0 where
   pub replays : Replays p
   pub rests : IsAtRest p.program p.state
   pub capacity : p.cache.capacity ≡ p.config.cache_lines
-  pub short : length p.transcript ≤ 1048576
+  pub short : length p.transcript ≤ entry_limit
   pub logged : length p.log ≤ length p.transcript

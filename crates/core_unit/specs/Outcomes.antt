@@ -14,7 +14,9 @@ use Rattle.private_cache.specs.Steps.{line_at, used, without, after_recall, has_
 use Rattle.private_cache.specs.Table.{Hit, recalled}
 use Rattle.private_cache.specs.declared.held.Held.{Held}
 use Rattle.private_cache.specs.declared.held.Held.TheVariants.{Shared, Exclusive}
-use Rattle.manager_slice.specs.Messages.{addr_of, is_request}
+use Rattle.line_stamps.specs.Messages.{addr_of}
+use Rattle.manager_slice.specs.Limits.{entry_limit}
+use Rattle.manager_slice.specs.Messages.{is_request}
 use Rattle.core_unit.specs.Core.{next_of, op_addr, next_id, tries, next_request, after_hit, has_bumped, fits}
 use Rattle.core_unit.specs.Parts.{UnitParts, core_of}
 use Rattle.core_unit.specs.declared.entry.CoreEntry.{CoreEntry}
@@ -38,10 +40,6 @@ Meets (Refuses fault) r p q = (r ≡ Err fault) × (q ≡ p)
 Meets (Answers o t) r p q = (r ≡ Ok o) × (q ≡ t)
 Meets (Steps o t) r p q =
     MatchResult r (λ x. (x ≡ o) × (q ≡ t)) (λ fault. (fault ≡ OutOfMemory) × (q ≡ p))
-
--- the most entries of a transcript
-abbrev pub entry_limit : ℕ
-entry_limit = 1048576
 
 -- one entry more is refused for this
 abbrev pub IsLackOfRoom : List CoreEntry → UnitFault → Type 0

@@ -32,7 +32,7 @@ pub data CoreStep (g : ConfigParts) (c : ℕ) (u : Core) : CoreEntry → Core �
   gets : (op : Op) (reply : Reply) (held : Held) → u.hand ≡ None → next_of u ≡ Some op → tries c u op ≡ None → has_place g u (op_addr op) ≡ true →
       fits (next_request u op) reply ≡ true → filled (map.get u.lines (op_addr op)) reply ≡ Some held →
       CoreStep g c u (Got (next_request u op) reply) (has_taken u (op_addr op) held)
-  is_rid : (kind : RecallKind) (a : ℕ) (l : Line) → u.hand ≡ Some (give_back kind a l) →
+  is_taken : (kind : RecallKind) (a : ℕ) (l : Line) → u.hand ≡ Some (give_back kind a l) →
       CoreStep g c u (Got (give_back kind a l) Taken) (has_let_go u)
   bumps : u.hand ≡ None → CoreStep g c u Bumped (has_bumped u)
 

@@ -9,7 +9,7 @@ ghost use Rattle.core_unit.specs.Parts.{SameUnit, UnitParts};
 use super::entry::CoreEntry;
 use super::fault::UnitFault;
 use super::outcome::Outcome;
-use super::transcript::{make_room, push_copy};
+use super::transcript::make_room;
 use super::unit::CoreUnit;
 use line_stamps::{Message, Recall};
 use mem_op::Addr;
@@ -44,7 +44,7 @@ impl CoreUnit {
             return Ok(Outcome::NoEffect);
         };
         *hand = Some(*message);
-        push_copy(transcript, &CoreEntry::Gave(*message));
+        transcript.push_reserved(CoreEntry::Gave(*message));
         Ok(Outcome::Gave(*message))
     }
 
@@ -60,11 +60,11 @@ impl CoreUnit {
         if self.hand.is_some() {
             return Ok(Outcome::NoEffect);
         }
-        self.let_go(addr)
+        self.evict_line(addr)
     }
 
     /// Evicts the line of an address. No message is in hand.
-    pub(crate) fn let_go(&mut self, addr: Addr) -> Result<Outcome, UnitFault>
+    pub(crate) fn evict_line(&mut self, addr: Addr) -> Result<Outcome, UnitFault>
         requires { self.old.hand ≡ None }
         ensures outcome { Meets (eviction self.old (λ m. Outcome.Gave m) addr (line_at self.old.cache addr))
             result self.old self.new }
@@ -85,11 +85,11 @@ impl CoreUnit {
         match &cache.evict(addr) {
             Evicted::GiveBack(message) => {
                 *hand = Some(*message);
-                push_copy(transcript, &CoreEntry::Gave(*message));
+                transcript.push_reserved(CoreEntry::Gave(*message));
                 Ok(Outcome::Gave(*message))
             }
             Evicted::Dropped => {
-                push_copy(transcript, &CoreEntry::Dropped(addr));
+                transcript.push_reserved(CoreEntry::Dropped(addr));
                 Ok(Outcome::Dropped(addr))
             }
             Evicted::Nothing => Ok(Outcome::NoEffect),

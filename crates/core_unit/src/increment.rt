@@ -7,7 +7,7 @@ ghost use Rattle.core_unit.specs.Parts.{SameUnit};
 use super::entry::CoreEntry;
 use super::fault::UnitFault;
 use super::outcome::Outcome;
-use super::transcript::{check_room, push_copy};
+use super::transcript::check_room;
 use super::unit::CoreUnit;
 use lease_rule::self_increment;
 use line_stamps::Rank;
@@ -37,7 +37,7 @@ impl CoreUnit {
         transcript.reserve(1)?;
         *pts = after;
         *r = Rank::ZERO;
-        push_copy(transcript, &CoreEntry::Bumped);
+        transcript.push_reserved(CoreEntry::Bumped);
         Ok(Outcome::Bumped)
     }
 }

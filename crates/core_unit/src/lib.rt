@@ -16,9 +16,5 @@ mod unit;
 
 pub use entry::CoreEntry;
 pub use fault::UnitFault;
-pub use message::addr_of;
 pub use outcome::Outcome;
 pub use unit::CoreUnit;
-
-#[cfg(test)]
-mod tests;

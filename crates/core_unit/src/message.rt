@@ -1,23 +1,10 @@
 //! Messages, and the replies that they ask for.
 
 ghost use Rattle.std.specs.Prelude.{◌≡◌};
-ghost use Rattle.manager_slice.specs.Messages.{addr_of, is_request};
+ghost use Rattle.manager_slice.specs.Messages.{is_request};
 ghost use Rattle.core_unit.specs.Core.{fits};
 
 use line_stamps::{Message, Reply};
-use mem_op::Addr;
-
-/// The address of a message.
-pub fn addr_of(message: &Message) -> Addr
-    ensures { result ≡ addr_of message.now }
-{
-    match message {
-        Message::ShReq { addr, .. } => *addr,
-        Message::ExReq { addr, .. } => *addr,
-        Message::WbRep { addr, .. } => *addr,
-        Message::FlushRep { addr, .. } => *addr,
-    }
-}
 
 /// Whether a message is a request. Any other gives a line back.
 pub(crate) fn is_request(message: &Message) -> bool

@@ -1,10 +1,9 @@
 //! Operations: what a core's line makes of one, and how it is performed.
 
-ghost use Rattle.std.specs.Prelude.{◌≡◌, ℕ, ◌+◌, ◌<◌, ◌≤◌, Some, None, MatchResult, if◌then◌else◌};
+ghost use Rattle.std.specs.Prelude.{◌≡◌, None, MatchOption, MatchResult, if◌then◌else◌};
 ghost use Rattle.lease_rule.specs.Lease.{self_increment};
 ghost use Rattle.private_cache.specs.Answers.{hit_fault, past_limit};
-ghost use Rattle.private_cache.specs.Steps.{line_at, used};
-ghost use Rattle.private_cache.specs.Table.{Hit};
+ghost use Rattle.private_cache.specs.Steps.{after_operation, line_at};
 ghost use Rattle.core_unit.specs.Core.{op_addr, op_hit, is_due, next_id, record_of, tries};
 ghost use Rattle.core_unit.specs.Look.{look_of};
 ghost use Rattle.core_unit.specs.Parts.{core_of};
@@ -98,16 +97,21 @@ impl CoreUnit {
     }
 }
 
-/// Performs an operation on its line, where it is a hit, with this record.
-pub(crate) fn perform_at(cache: &mut PrivateCache, op: &Op, id: OpId, made: &Record)
-    ensures { (pts r : ℕ) (hit : Hit)
-        → op_hit op.now id pts r (line_at cache.old (op_addr op.now)) ≡ Some hit
-        → made.now ≡ record_of op.now hit
-        → cache.new ≡ used cache.old (op_addr op.now) hit.held }
+/// Performs an operation on its line, where it hits; `id` is its own. A miss, and a hit above a limit,
+/// change nothing.
+pub(crate) fn perform_at(cache: &mut PrivateCache, op: &Op, id: OpId, pts: Stamp, r: Rank)
+    ensures { let hit = op_hit op.now id pts r (line_at cache.old (op_addr op.now)) in
+        MatchOption (hit_fault hit)
+        (cache.new ≡ after_operation cache.old (op_addr op.now) hit)
+        (λ _. cache.new ≡ cache.old) }
 {
     match op {
-        Op::Load(addr) => cache.read(*addr, made.ts),
-        Op::Store(addr, value) => cache.write(*addr, *value, id, made.ts, made.rank),
+        Op::Load(addr) => {
+            let _ = cache.load(*addr, pts, r);
+        }
+        Op::Store(addr, value) => {
+            let _ = cache.store(*addr, *value, id, pts, r);
+        }
     }
 }
 

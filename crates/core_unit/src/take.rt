@@ -2,7 +2,8 @@
 
 ghost use Rattle.std.specs.Prelude.{◌≡◌, Some, OnErr, true, false};
 ghost use Rattle.private_cache.specs.Steps.{fill_line};
-ghost use Rattle.manager_slice.specs.Messages.{addr_of, is_request};
+ghost use Rattle.line_stamps.specs.Messages.{addr_of};
+ghost use Rattle.manager_slice.specs.Messages.{is_request};
 ghost use Rattle.core_unit.specs.Core.{fits};
 ghost use Rattle.core_unit.specs.Outcomes.{Meets, recorded, fill_outcome, take_outcome, without_hand};
 ghost use Rattle.core_unit.specs.Parts.{SameUnit};
@@ -11,9 +12,9 @@ ghost use Rattle.line_stamps.specs.declared.message.Reply.TheVariants.{Taken};
 
 use super::entry::CoreEntry;
 use super::fault::UnitFault;
-use super::message::{addr_of, fits, is_request};
+use super::message::{fits, is_request};
 use super::outcome::Outcome;
-use super::transcript::{make_room, push_copy};
+use super::transcript::make_room;
 use super::unit::CoreUnit;
 use line_stamps::{Message, Reply};
 
@@ -37,14 +38,14 @@ impl CoreUnit {
                 self.hand = None;
                 Ok(Outcome::Busy(*recall))
             }
-            Reply::Taken if !is_request(message) => self.be_rid(message),
+            Reply::Taken if !is_request(message) => self.end_give_back(message),
             _ if fits(message, reply) => self.fill(message, reply),
             _ => Err(UnitFault::BadReply),
         }
     }
 
-    // What was given back is taken.
-    fn be_rid(&mut self, message: &Message) -> Result<Outcome, UnitFault>
+    // What was given back is taken: the give-back is in hand no longer.
+    fn end_give_back(&mut self, message: &Message) -> Result<Outcome, UnitFault>
         requires hand { self.old.hand ≡ Some message.now }
         requires gives { is_request message.now ≡ false }
         ensures outcome { Meets (recorded self.old (entry.Got message.now Taken) None Outcome.Took (without_hand self.old))
@@ -59,7 +60,7 @@ impl CoreUnit {
         } = self;
         make_room(transcript)?;
         *hand = None;
-        push_copy(transcript, &CoreEntry::Got(*message, Reply::Taken));
+        transcript.push_reserved(CoreEntry::Got(*message, Reply::Taken));
         Ok(Outcome::Took)
     }
 
@@ -78,7 +79,7 @@ impl CoreUnit {
             transcript,
             ..
         } = self;
-        let addr = addr_of(message);
+        let addr = message.addr();
         if let Err(refused) = make_room(transcript) {
             // That a reply doesn't fit is told first.
             if cache.fits(addr, reply) {
@@ -88,7 +89,7 @@ impl CoreUnit {
         }
         cache.fill(addr, reply)?;
         *hand = None;
-        push_copy(transcript, &CoreEntry::Got(*message, *reply));
+        transcript.push_reserved(CoreEntry::Got(*message, *reply));
         Ok(Outcome::Took)
     }
 }

@@ -1,6 +1,7 @@
 //! Transcripts that grow.
 
 ghost use Rattle.std.specs.Prelude.{◌≡◌, ◌+◌, ◌<◌, ◌≤◌, ◌++◌, ◌∷◌, [], vec_len, vec_capacity, MatchResult, OnOk, IfErr, length};
+ghost use Rattle.manager_slice.specs.Limits.{entry_limit};
 ghost use Rattle.core_unit.specs.Outcomes.{IsLackOfRoom};
 ghost use Rattle.core_unit.specs.declared.fault.UnitFault.TheVariants.{TranscriptFull};
 
@@ -13,8 +14,8 @@ const ENTRY_LIMIT: usize = 1_048_576;
 /// 13 TranscriptFull where an entry more doesn't fit.
 pub(crate) fn check_room(transcript: &[CoreEntry]) -> Result<(), UnitFault>
     ensures { MatchResult result
-        (λ _. length transcript.now < 1048576)
-        (λ fault. (fault ≡ TranscriptFull) × (1048576 ≤ length transcript.now)) }
+        (λ _. length transcript.now < entry_limit)
+        (λ fault. (fault ≡ TranscriptFull) × (entry_limit ≤ length transcript.now)) }
 {
     if transcript.len() >= ENTRY_LIMIT {
         return Err(UnitFault::TranscriptFull);
@@ -27,18 +28,10 @@ pub(crate) fn check_room(transcript: &[CoreEntry]) -> Result<(), UnitFault>
 pub(crate) fn make_room(transcript: &mut Vec<CoreEntry>) -> Result<(), UnitFault>
     ensures items { transcript.new.items ≡ transcript.old.items }
     ensures room { OnOk result (vec_len transcript.new < vec_capacity transcript.new) }
-    ensures fits { OnOk result (length transcript.old.items < 1048576) }
+    ensures fits { OnOk result (length transcript.old.items < entry_limit) }
     ensures refused { IfErr result (λ fault. IsLackOfRoom transcript.old.items fault) }
 {
     check_room(transcript)?;
     transcript.reserve(1)?;
     Ok(())
-}
-
-/// Appends a copy of an item. There is room for it.
-pub(crate) fn push_copy<T: Copy>(items: &mut Vec<T>, item: &T)
-    requires { vec_len items.old < vec_capacity items.old }
-    ensures items { items.new.items ≡ items.old.items ++ item.now ∷ [] }
-{
-    items.push_reserved(*item);
 }

@@ -11,7 +11,7 @@ use super::entry::CoreEntry;
 use super::fault::UnitFault;
 use super::operation::{Look, after, op_addr, perform_at};
 use super::outcome::Outcome;
-use super::transcript::{check_room, push_copy};
+use super::transcript::check_room;
 use super::unit::CoreUnit;
 use line_stamps::Message;
 use log_record::Record;
@@ -78,12 +78,12 @@ impl CoreUnit {
             core: *core,
             index: OpIndex::new(log.len() as u64).unwrap(),
         };
-        perform_at(cache, op, id, made);
+        perform_at(cache, op, id, *pts, *r);
         state.answer(program, made.value);
         *pts = pts_after;
         *r = r_after;
-        push_copy(log, made);
-        push_copy(transcript, &CoreEntry::Performed);
+        log.push_reserved(*made);
+        transcript.push_reserved(CoreEntry::Performed);
         Ok(Outcome::Performed(id))
     }
 
@@ -104,7 +104,7 @@ impl CoreUnit {
             self.hand = Some(*request);
             return Ok(Outcome::Sent(*request));
         };
-        let gone = &self.let_go(victim)?;
+        let gone = &self.evict_line(victim)?;
         match gone {
             Outcome::Gave(message) => Ok(Outcome::Sent(*message)),
             _ => Ok(*gone),

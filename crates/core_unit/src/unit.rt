@@ -4,6 +4,7 @@ ghost use Rattle.std.specs.Prelude.{◌≡◌, ◌≤◌, [], length, Some, None
 ghost use Rattle.std.specs.Option.{option_copied};
 ghost use Rattle.core_program.specs.Running.{IsAtRest, start_of};
 ghost use Rattle.private_cache.specs.Steps.{empty_cache, IsLeastExclusive};
+ghost use Rattle.manager_slice.specs.Limits.{entry_limit};
 ghost use Rattle.core_unit.specs.Kept.{Replays};
 ghost use Rattle.core_unit.specs.declared.fault.UnitFault.TheVariants.{OutOfMemory};
 
@@ -157,7 +158,7 @@ impl CoreUnit {
     /// What it did so far, in order: at most 1,048,576 entries.
     pub fn transcript(&self) -> &[CoreEntry]
         ensures entries { result.now ≡ self.now.transcript }
-        ensures limit { length self.now.transcript ≤ 1048576 }
+        ensures limit { length self.now.transcript ≤ entry_limit }
     {
         self.transcript.as_slice()
     }
@@ -165,7 +166,7 @@ impl CoreUnit {
     /// The records of the operations that it performed, in order: at most 1,048,576.
     pub fn log(&self) -> &[Record]
         ensures records { result.now ≡ self.now.log }
-        ensures limit { length self.now.log ≤ 1048576 }
+        ensures limit { length self.now.log ≤ entry_limit }
     {
         self.log.as_slice()
     }

@@ -8,6 +8,3 @@ mod read;
 
 pub use print::print_number;
 pub use read::{after_text, read_field, read_last, read_number};
-
-#[cfg(test)]
-mod tests;

@@ -4,6 +4,7 @@ pub mod KeyParts
 pub mod Laws
 pub mod Least
 pub mod LineParts
+pub mod Messages
 pub mod Ordered
 pub mod RecallParts
 pub mod StampParts

@@ -133,9 +133,10 @@ impl Line {
         self.source
     }
 
-    /// When it was written and up to when it may be read.
+    /// When it was written and up to when it may be read, which isn't before.
     pub fn stamps(&self) -> LineStamps
-        ensures { result ≡ self.now.stamps }
+        ensures stamps { result ≡ self.now.stamps }
+        ensures ordered { result.wts ≤ result.rts }
     {
         LineStamps {
             wts: self.wts,

@@ -1,5 +1,8 @@
 //! Messages between cores and slices.
 
+ghost use Rattle.std.specs.Prelude.{◌≡◌};
+ghost use Rattle.line_stamps.specs.Messages.{addr_of};
+
 use super::line::Line;
 use super::stamp::Stamp;
 use mem_op::{Addr, CoreId};
@@ -29,6 +32,20 @@ pub enum Message {
         addr: Addr,
         line: Line,
     },
+}
+
+impl Message {
+    /// The address of its line.
+    pub fn addr(&self) -> Addr
+        ensures { result ≡ addr_of self.now }
+    {
+        match self {
+            Message::ShReq { addr, .. } => *addr,
+            Message::ExReq { addr, .. } => *addr,
+            Message::WbRep { addr, .. } => *addr,
+            Message::FlushRep { addr, .. } => *addr,
+        }
+    }
 }
 
 /// How a line is to be given back.

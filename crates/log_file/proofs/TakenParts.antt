@@ -1,10 +1,9 @@
 -- Bytes that are taken one part after another.
-use Rattle.std.proofs.Common.{◌≡◌, ◌≢◌, ℕ, ◌+◌, ◌-◌, ◌<◌, Bool, true, false, nat_eq, List, [], ◌∷◌, ◌++◌, length, map, take, drop, refl, sym, ap, subst, ◌∙◌, append_assoc, append-nil, length-append, arith}
-use Rattle.std.specs.Borrow.{Bor}
-use Rattle.std.specs.Prelude.{Result, Ok, Err, MatchResult, slice_index_or}
-use Rattle.std.specs.List.{AllByRecursion, flat_map}
-use Rattle.std.proofs.lemmas.List.{append_cancel_left, get_or_append_left, get_or_default, map-append, take-append-drop, take_all, take_more}
-use Rattle.std.proofs.Math.Seq.{get_or-append_seam, take-append_seam}
+use Rattle.std.proofs.Common.{◌≡◌, ℕ, ◌+◌, ◌-◌, List, [], ◌∷◌, ◌++◌, length, map, take, refl, sym, ap, subst, ◌∙◌, append_assoc, append-nil, length-append, arith}
+use Rattle.std.specs.Prelude.{Result, Ok, Err, MatchResult}
+use Rattle.std.specs.List.{AllByRecursion}
+use Rattle.std.proofs.lemmas.List.{append_cancel_left, map-append}
+use Rattle.std.proofs.Math.Seq.{take-append_seam}
 use Rattle.std.proofs.lemmas.Grind.{flat_map-append}
 use Rattle.log_record.specs.declared.record.Record.{Record}
 use Rattle.log_record.specs.Line.{record_text, header_text, Fits}
@@ -13,7 +12,7 @@ use Rattle.log_file.specs.declared.phase.Phase.TheVariants as phase
 use Rattle.log_file.specs.declared.progress.Progress.{Progress}
 use Rattle.log_file.specs.declared.line_reader.LineReader.{LineReader}
 use Rattle.log_file.specs.declared.chunks.Front.{Front}
-use Rattle.log_file.specs.Chunks.{AreFirstFronts, HasFront, records_text}
+use Rattle.log_file.specs.Chunks.{HasFront, records_text}
 use Rattle.log_file.specs.Feeding.{IsSettled}
 use Rattle.log_file.specs.Log.{IsLog, begun, text_of, with_lf}
 use Rattle.log_file.specs.Standing.{IsPassed, IsSettledWith, IsSound, SameLog, Stands, Takes, read_text}
@@ -97,40 +96,6 @@ front_takes old new rs chunk front stands has passed =
     subst (λ (xs : List ℕ). Takes old rs xs new (rs ++ front.records.items)) (sym has.lines)
     (passed_takes old new rs front.records.items stands passed has.fit)
 
--- ---- chunk after chunk
-
-abbrev flat : List (Bor (List ℕ)) → List ℕ
-flat chunks = flat_map (λ chunk. chunk.now) chunks
-
-flat_next : (chunks : List (Bor (List ℕ))) (i : ℕ) (d : Bor (List ℕ)) → i < length chunks
-    → flat (take (i + 1) chunks) ≡ flat (take i chunks) ++ (slice_index_or chunks i d).now
-flat_next chunks i d below =
-    ap flat (take_more chunks i d below) ∙ flat_map-append (λ chunk. chunk.now) (take i chunks) (slice_index_or chunks i d ∷ [])
-    ∙ ap (λ (xs : List ℕ). flat (take i chunks) ++ xs) (append-nil (slice_index_or chunks i d).now)
-
-flat_rest : (chunks : List (Bor (List ℕ))) (i : ℕ) → flat (take i chunks) ++ flat (drop i chunks) ≡ flat chunks
-flat_rest chunks i = sym (flat_map-append (λ chunk. chunk.now) (take i chunks) (drop i chunks)) ∙ ap flat (take-append-drop i chunks)
-
-pub chunk_taken : (old mid new : LineReader) (rs ms ns : List Record) (chunks : List (Bor (List ℕ))) (i : ℕ) (d : Bor (List ℕ)) → i < length chunks
-    → Takes old rs (flat (take i chunks)) mid ms → Takes mid ms (slice_index_or chunks i d).now new ns
-    → Takes old rs (flat (take (i + 1) chunks)) new ns
-chunk_taken old mid new rs ms ns chunks i d below first second =
-    subst (λ (xs : List ℕ). Takes old rs xs new ns) (sym (flat_next chunks i d below)) (takes_more old mid new rs ms ns _ _ first second)
-
-pub chunk_settled : (old mid : LineReader) (rs ms : List Record) (chunks : List (Bor (List ℕ))) (i : ℕ) (d : Bor (List ℕ)) (f : LogFault) → i < length chunks
-    → Takes old rs (flat (take i chunks)) mid ms → SameLog old.progress mid.progress
-    → IsSettledWith mid ms (slice_index_or chunks i d).now f → IsSettledWith old rs (flat chunks) f
-chunk_settled old mid rs ms chunks i d f below first same settled =
-    subst (λ (xs : List ℕ). IsSettledWith old rs xs f) (flat_rest chunks (i + 1))
-    (settled_longer old rs (flat (take (i + 1) chunks)) (flat (drop (i + 1) chunks)) f
-    (subst (λ (xs : List ℕ). IsSettledWith old rs xs f) (sym (flat_next chunks i d below))
-    (settled_more old mid rs ms (flat (take i chunks)) (slice_index_or chunks i d).now f first same settled)))
-
-pub all_taken : (old new : LineReader) (rs ns : List Record) (chunks : List (Bor (List ℕ))) (i : ℕ) → i ≡ length chunks
-    → Takes old rs (flat (take i chunks)) new ns → Takes old rs (flat chunks) new ns
-all_taken old new rs ns chunks i is taken =
-    subst (λ (xs : List (Bor (List ℕ))). Takes old rs (flat xs) new ns) (ap (λ (k : ℕ). take k chunks) is ∙ take_all (length chunks) chunks (omega arith)) taken
-
 -- ---- what a worker reads of a chunk
 
 -- the records that were read behind a header, and the line that was begun
@@ -165,23 +130,3 @@ no_front chunk front none zero = record {
   lines = rw (none, zero) refl;
   fit = rw none tt;
 }
-
--- ---- the fronts of all chunks
-
-pub one_more_front : (chunks : List (Bor (List ℕ))) (fronts : List Front) (front : Front) (last : ℕ) (e : Bor (List ℕ)) → last < length chunks
-    → AreFirstFronts last chunks fronts → HasFront (slice_index_or chunks last e).now front → AreFirstFronts (last + 1) chunks (fronts ++ front ∷ [])
-one_more_front chunks fronts front last e below earlier has = (omega (arith, length-append fronts (front ∷ []), earlier.0), λ k c d within. go k c d within (nat_eq k last) refl)
-  where
-    go : (k : ℕ) (c : Bor (List ℕ)) (d : Front) → k < last + 1 → (b : Bool) → nat_eq k last ≡ b
-        → HasFront (slice_index_or chunks k c).now (slice_index_or (fronts ++ front ∷ []) k d)
-    go k c d within true is =
-        let same : k ≡ last = search arith in
-        let chunk : slice_index_or chunks last c ≡ slice_index_or chunks last e = get_or_default chunks last c e below in
-        let seam : slice_index_or (fronts ++ front ∷ []) (length fronts) d ≡ front = get_or-append_seam fronts front [] d in
-        let here : slice_index_or (fronts ++ front ∷ []) last d ≡ front = ap (λ (n : ℕ). slice_index_or (fronts ++ front ∷ []) n d) (sym earlier.0) ∙ seam in
-        rw (same, chunk, here) has
-    go k c d within false is =
-        let other : k ≢ last = search arith in
-        let before : k < last = omega (arith, within, other) in
-        let left : slice_index_or (fronts ++ front ∷ []) k d ≡ slice_index_or fronts k d = get_or_append_left fronts (front ∷ []) d k (omega (arith, before, earlier.0)) in
-        rw left (earlier.1 k c d before)

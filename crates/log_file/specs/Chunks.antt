@@ -1,6 +1,5 @@
--- Chunks of a piece, and the records at their fronts.
-use Rattle.std.specs.Prelude.{◌≡◌, ℕ, ◌<◌, ◌≤◌, List, length, map, take, slice_index_or}
-use Rattle.std.specs.Borrow.{Bor}
+-- The records at the front of a chunk of a piece.
+use Rattle.std.specs.Prelude.{◌≡◌, ℕ, ◌≤◌, List, length, map, take}
 use Rattle.std.specs.List.{AllByRecursion}
 use Rattle.log_record.specs.declared.record.Record.{Record}
 use Rattle.log_record.specs.Line.{record_text, Fits}
@@ -16,14 +15,3 @@ pub record HasFront (text : List ℕ) (front : Front) : Type 0 where
   pub within : front.taken ≤ length text
   pub lines : take front.taken text ≡ records_text front.records.items
   pub fit : AllByRecursion Fits front.records.items
-
--- for each of the first chunks, so many, the records at its front
-abbrev pub AreFirstFronts : ℕ → List (Bor (List ℕ)) → List Front → Type 0
-AreFirstFronts many chunks fronts =
-    (length fronts ≡ many)
-    × ((k : ℕ) (c : Bor (List ℕ)) (d : Front) → k < many →
-    HasFront (slice_index_or chunks k c).now (slice_index_or fronts k d))
-
--- for each chunk
-abbrev pub AreFronts : List (Bor (List ℕ)) → List Front → Type 0
-AreFronts chunks fronts = AreFirstFronts (length chunks) chunks fronts

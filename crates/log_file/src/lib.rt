@@ -50,8 +50,3 @@ pub use set_fault::SetFault;
 pub use step::Step;
 pub use write::write_log;
 pub use write_fault::WriteFault;
-
-#[cfg(test)]
-mod tests;
-#[cfg(test)]
-mod workers_tests;

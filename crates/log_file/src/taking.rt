@@ -1,17 +1,16 @@
 //! How the pieces of a log are taken: by the calling thread alone, or with other workers.
 
 ghost use Rattle.std.specs.Prelude.{◌≡◌, ◌<◌, ◌≤◌, length, MatchResult};
-ghost use Rattle.std.specs.List.{flat_map};
-ghost use Rattle.log_file.specs.Chunks.{AreFronts, HasFront};
+ghost use Rattle.std.specs.Thread.{IsSync};
+ghost use Rattle.log_file.specs.Chunks.{HasFront};
 ghost use Rattle.log_file.specs.Standing.{IsInRange, IsSettledWith, SameLog, Stands, Takes};
 
-use crate::chunks::{Front, cut, fronts_of};
+use crate::chunks::{Front, cut, front_of};
 use crate::line_reader::LineReader;
 use crate::log_fault::LogFault;
 use log_record::Record;
-use memchr::memchr;
 use std::alloc::Global;
-use std::thread::Threads;
+use std::thread::{Threads, join_mut};
 
 /// Takes all of a piece, and keeps its records.
 pub(crate) fn take_piece(
@@ -61,30 +60,8 @@ fn take_front(
     take_piece(lines, records, rest)
 }
 
-/// Takes all of these chunks, whose fronts the workers have read.
-fn take_fronts(
-    lines: &mut LineReader,
-    records: &mut Vec<Record>,
-    chunks: &[&[u8]],
-    fronts: &[Front],
-) -> Result<(), LogFault>
-    requires in_range { IsInRange lines.old.progress }
-    requires stands { Stands lines.old records.old.items }
-    requires fronts { AreFronts chunks.now fronts.now }
-    ensures same { SameLog lines.old.progress lines.new.progress }
-    ensures in_range { IsInRange lines.new.progress }
-    ensures taken { MatchResult result
-        (λ _. Takes lines.old records.old.items (flat_map (λ chunk. chunk.now) chunks.now)
-        lines.new records.new.items)
-        (IsSettledWith lines.old records.old.items (flat_map (λ chunk. chunk.now) chunks.now)) }
-{
-    for i in 0..chunks.len() {
-        take_front(lines, records, chunks[i], &fronts[i])?;
-    }
-    Ok(())
-}
-
-/// Takes all of a piece, whose lines so many workers read at once, and keeps its records.
+/// Takes all of a piece, whose lines so many workers read at once, and keeps its records. The calling
+/// thread is a worker itself: it reads the first chunk, and takes the records of the others in order.
 pub(crate) fn take_piece_by<R: Threads + Sync>(
     rt: &R,
     alloc: Global,
@@ -93,7 +70,6 @@ pub(crate) fn take_piece_by<R: Threads + Sync>(
     piece: &[u8],
     workers: usize,
 ) -> Result<(), LogFault>
-    requires workers { 0 < workers }
     requires in_range { IsInRange lines.old.progress }
     requires stands { Stands lines.old records.old.items }
     ensures same { SameLog lines.old.progress lines.new.progress }
@@ -102,11 +78,28 @@ pub(crate) fn take_piece_by<R: Threads + Sync>(
         (λ _. Takes lines.old records.old.items piece.now lines.new records.new.items)
         (IsSettledWith lines.old records.old.items piece.now) }
 {
-    // The line that was begun comes first, so that workers begin with whole lines.
-    let head = memchr(b'\n', piece).map_or(piece.len(), |at| at + 1);
-    let (begun, text) = piece.split_at(head);
-    take_piece(lines, records, begun)?;
-    let chunks = cut(alloc, text, workers)?;
-    let fronts = fronts_of(rt, alloc, chunks.as_slice())?;
-    take_fronts(lines, records, chunks.as_slice(), fronts.as_slice())
+    if workers <= 1 {
+        return take_piece(lines, records, piece);
+    }
+    let others = workers - 1;
+    let share = piece.len() / workers.saturating_add(1);
+    let (earlier, last) = cut(piece, piece.len().saturating_sub(2 * share));
+    let (front, taken) = join_mut(
+        rt,
+        &mut || -> Front
+            ensures { HasFront last.entry.now result }
+        { front_of(alloc, last) },
+        &mut || -> Result<(), LogFault>
+            requires { IsSync R.row × IsInRange lines.now.progress
+                × Stands lines.now records.now.items }
+            ensures same { SameLog lines.entry.now.progress lines.exit.now.progress }
+            ensures in_range { IsInRange lines.exit.now.progress }
+            ensures taken { MatchResult result
+                (λ _. Takes lines.entry.now records.entry.now.items earlier.entry.now
+                lines.exit.now records.exit.now.items)
+                (IsSettledWith lines.entry.now records.entry.now.items earlier.entry.now) }
+        { take_piece_by(rt, alloc, lines, records, earlier, others) },
+    );
+    taken?;
+    take_front(lines, records, last, &front)
 }

@@ -21,11 +21,6 @@ use Rattle.manager_slice.specs.declared.managed.HistoryEntry.TheVariants.{Evicte
 use Rattle.manager_slice.specs.declared.managed.ManagedLine.{ManagedLine}
 use Rattle.manager_slice.specs.declared.state.SliceState.{SliceState}
 
--- entries that lead on
-pub Leads-append : {S E : Type 0} (step : S → E → S → Type 0) (s : S) (es fs : List E) (m t : S) → Leads step s es m → Leads step m fs t → Leads step s (es ++ fs) t
-Leads-append step s [] fs m t h k = subst (λ x. Leads step x fs t) h k
-Leads-append step s (e ∷ es) fs m t h k = (h.0, h.1, Leads-append step h.0 es fs m t h.2 k)
-
 -- what handles a message leads by its entries
 pub leads_by_handling : (g : ConfigParts) (s : Slice) (c : ℕ) (m : Message) (r : Reply) (es : List HistoryEntry) (t : Slice) → Handles g s c m r es t → SliceLeads g s es t
 leads_by_handling g s c m r es t (serves r' t' step) = (t', step, refl)

@@ -1,5 +1,6 @@
 -- What a slice keeps while it handles messages.
 use Rattle.std.proofs.Common.{◌≡◌, ◌≢◌, ◌↔◌, ℕ, ◌+◌, ◌≤◌, Bool, true, false, nat_le, cond, [], ◌∷◌, ◌++◌, length, nat_eq, refl, sym, ap, ◌∙◌, append-nil, length-append, arith}
+use Rattle.manager_slice.specs.Limits.{entry_limit}
 use Rattle.std.specs.Prelude.{Option, Some, None, Result, Ok, Err, IfSome, is_some}
 use Rattle.std.specs.FinMap as map
 use Rattle.std.specs.FinMap.{len-empty}
@@ -12,10 +13,12 @@ use Rattle.line_stamps.specs.declared.message.Reply.{Reply}
 use Rattle.line_stamps.specs.declared.message.Reply.TheVariants.{Busy}
 use Rattle.memory_stamp.proofs.Maps.{get-lookup}
 use Rattle.manager_slice.proofs.Entries.{distinct-removed, len-from_entries}
-use Rattle.manager_slice.proofs.Histories.{Leads-append, leads_by_handling, leads_fits, distinct-served, handled_not_busy}
+use Rattle.manager_slice.proofs.Leads.{Leads-append, Leads-push}
+use Rattle.manager_slice.proofs.Histories.{leads_by_handling, leads_fits, distinct-served, handled_not_busy}
 use Rattle.manager_slice.proofs.RowTable.{RowHolds, row_holds, slice_of-spilled}
 use Rattle.manager_slice.specs.Changes.{slice_of, after_eviction, served, spilled, entries_of}
-use Rattle.manager_slice.specs.Messages.{addr_of, is_busy_reply}
+use Rattle.line_stamps.specs.Messages.{addr_of}
+use Rattle.manager_slice.specs.Messages.{is_busy_reply}
 use Rattle.manager_slice.specs.Outcome.{Refuses, Answers, Steps, Meets, handle_outcome, row_outcome, IsEvicted, IsHandled}
 use Rattle.manager_slice.specs.Parts.{SliceParts}
 use Rattle.manager_slice.specs.Replay.{SliceStep, IsKept}
@@ -58,7 +61,7 @@ module _ (p : SliceParts) (kept : IsKept p) where
       handled_answer = record { number = refl; config = refl; entries = entries_of evicted c m r; history = refl; handles = (row_kept (Answered evicted r x) h).0 }
 
       -- and the slice is kept
-      pub kept_answer : length p.history + length (entries_of evicted c m r) ≤ 1048576 → IsKept after
+      pub kept_answer : length p.history + length (entries_of evicted c m r) ≤ entry_limit → IsKept after
       kept_answer few =
           let on = leads_by_handling p.config (slice_of p.state) c m r (entries_of evicted c m r) (slice_of after.state) (row_kept (Answered evicted r x) h).0 in
           record {
@@ -83,7 +86,7 @@ module _ (p : SliceParts) (kept : IsKept p) where
           go : (o : Result Row SliceFault) → row_of p.config p.state c m ≡ o → Meets (row_outcome p c m o) (Ok (Busy x)) p q → row_outcome p c m o ≡ Answers (Busy x)
           go (Err fault) i k = let bad = k.0 in absurd cc
           go (Ok (Recalled y)) i k = let same : Busy y ≡ Busy x = cc (k.0) in ap (λ (r : Reply). Answers r) same
-          go (Ok (Answered evicted r line)) i k = stepped (nat_le (length p.history + length (entries_of evicted c m r)) 1048576) k
+          go (Ok (Answered evicted r line)) i k = stepped (nat_le (length p.history + length (entries_of evicted c m r)) entry_limit) k
             where
               not_busy : is_busy_reply r ≡ false
               not_busy = handled_not_busy p.config (slice_of p.state) c m r (entries_of evicted c m r) _ (row_kept (Answered evicted r line) i).0 (some_entries evicted r)
@@ -109,9 +112,9 @@ module _ (p : SliceParts) (kept : IsKept p) where
     pub evicted_spill : IsEvicted p a after_spill
     evicted_spill = record { number = refl; config = refl; history = refl; evicts = goes }
 
-    pub kept_spill : length p.history + 1 ≤ 1048576 → IsKept after_spill
+    pub kept_spill : length p.history + 1 ≤ entry_limit → IsKept after_spill
     kept_spill few = record {
-      replay = Leads-append (SliceStep p.config) opening p.history (Evicted a ∷ []) (slice_of p.state) (slice_of after_spill.state) kept.replay (slice_of after_spill.state, goes, refl);
+      replay = Leads-push (SliceStep p.config) opening p.history (slice_of p.state) (Evicted a) (slice_of after_spill.state) kept.replay goes;
       distinct = distinct-removed a p.state.lines kept.distinct;
       short = rw length-append few;
       room = kept.room;

@@ -3,4 +3,5 @@ pub mod Fills
 pub mod Giving
 pub mod Histories
 pub mod Kept
+pub mod Leads
 pub mod RowTable

@@ -22,7 +22,8 @@ use Rattle.manager_slice.proofs.Entries.{from_entries-front, from_entries-remove
 use Rattle.manager_slice.proofs.Giving.{lookup-giving_way, none_shared, no_lines}
 use Rattle.manager_slice.specs.Changes.{slice_of, spilled, after_eviction, served, entries_of}
 use Rattle.manager_slice.specs.Lines.{giving_way}
-use Rattle.manager_slice.specs.Messages.{addr_of, is_request}
+use Rattle.line_stamps.specs.Messages.{addr_of}
+use Rattle.manager_slice.specs.Messages.{is_request}
 use Rattle.manager_slice.specs.Rows.{row_of, give_back_row, request_row, absent_row, recall_row, answer_row, makes_way}
 use Rattle.manager_slice.specs.Table.{Slice, met_line, with_managed, without_line, HasRoom, IsFull, evicts, Serves, takes_written_back, takes_flushed, shares, gives, IsBusy, owned_to_read, owned_to_write, full, Handles, serves, makes_room}
 use Rattle.manager_slice.specs.declared.managed.ManagedLine.{ManagedLine}

@@ -1,6 +1,7 @@
 pub mod Changes
 pub mod Faults
 pub mod Leads
+pub mod Limits
 pub mod Lines
 pub mod Messages
 pub mod Outcome

@@ -1,17 +1,11 @@
 -- Messages and replies.
-use Rattle.std.specs.Prelude.{ℕ, Bool, true, false}
+use Rattle.std.specs.Prelude.{Bool, true, false}
 use Rattle.line_stamps.specs.declared.message.Message.{Message}
 use Rattle.line_stamps.specs.declared.message.Message.TheVariants.{ShReq, ExReq, WbRep, FlushRep}
 use Rattle.line_stamps.specs.declared.message.Reply.{Reply}
 use Rattle.line_stamps.specs.declared.message.Reply.TheVariants.{ShRep, ExRep, RenewRep, UpgradeRep, Taken, Busy}
 
-abbrev pub addr_of : Message → ℕ
-addr_of (ShReq a copy pts) = a
-addr_of (ExReq a copy) = a
-addr_of (WbRep a l) = a
-addr_of (FlushRep a l) = a
-
--- the others give a line back
+-- the other messages give a line back
 abbrev pub is_request : Message → Bool
 is_request (ShReq a copy pts) = true
 is_request (ExReq a copy) = true

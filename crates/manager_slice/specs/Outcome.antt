@@ -4,8 +4,9 @@ use Rattle.std.specs.Map.{lookup}
 use Rattle.line_stamps.specs.declared.message.Message.{Message}
 use Rattle.line_stamps.specs.declared.message.Reply.{Reply}
 use Rattle.line_stamps.specs.declared.message.Reply.TheVariants.{Busy}
+use Rattle.manager_slice.specs.Limits.{entry_limit}
 use Rattle.manager_slice.specs.Changes.{after_eviction, entries_of, served, slice_of, spilled}
-use Rattle.manager_slice.specs.Messages.{addr_of}
+use Rattle.line_stamps.specs.Messages.{addr_of}
 use Rattle.manager_slice.specs.Parts.{SliceParts}
 use Rattle.manager_slice.specs.Rows.{row_of}
 use Rattle.manager_slice.specs.Table.{Evicts, Handles}
@@ -36,7 +37,7 @@ Meets (Steps x es s) r p q =
 
 -- a step, where its entries fit into the history
 abbrev pub step_of : {A : Type 0} → SliceParts → A → List HistoryEntry → SliceState → Outcome A
-step_of p x es s = if nat_le (length p.history + length es) 1048576 then Steps x es s else Refuses HistoryFull
+step_of p x es s = if nat_le (length p.history + length es) entry_limit then Steps x es s else Refuses HistoryFull
 
 abbrev pub row_outcome : SliceParts → ℕ → Message → Result Row SliceFault → Outcome Reply
 row_outcome p c m (Err fault) = Refuses fault

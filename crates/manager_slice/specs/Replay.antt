@@ -3,6 +3,7 @@ use Rattle.std.specs.Prelude.{◌≤◌, nat_eq, List, length}
 use Rattle.std.specs.List.{IsDistinct}
 use Rattle.std.specs.Map.{keys_of}
 use Rattle.lease_rule.specs.ConfigParts.{ConfigParts}
+use Rattle.manager_slice.specs.Limits.{entry_limit}
 use Rattle.manager_slice.specs.Changes.{slice_of}
 use Rattle.manager_slice.specs.Leads.{Leads}
 use Rattle.manager_slice.specs.Parts.{SliceParts}
@@ -28,5 +29,5 @@ pub record IsKept (p : SliceParts) : Type 0 where
   pub replay : Replays p
   -- no address has two lines
   pub distinct : IsDistinct nat_eq (keys_of p.state.lines)
-  pub short : length p.history ≤ 1048576
+  pub short : length p.history ≤ entry_limit
   pub room : 1 ≤ p.config.slice_lines

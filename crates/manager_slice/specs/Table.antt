@@ -15,7 +15,8 @@ use Rattle.lease_rule.specs.ConfigParts.{ConfigParts}
 use Rattle.lease_rule.specs.Lease.{renewed_rts}
 use Rattle.memory_stamp.specs.Memory.{filled_line, with_line}
 use Rattle.memory_stamp.specs.declared.memory.MemorySlice.{MemorySlice}
-use Rattle.manager_slice.specs.Messages.{addr_of, is_request}
+use Rattle.line_stamps.specs.Messages.{addr_of}
+use Rattle.manager_slice.specs.Messages.{is_request}
 use Rattle.manager_slice.specs.declared.managed.HistoryEntry.{HistoryEntry}
 use Rattle.manager_slice.specs.declared.managed.HistoryEntry.TheVariants.{Evicted, Served}
 use Rattle.manager_slice.specs.declared.managed.ManagedLine.{ManagedLine}

@@ -13,6 +13,3 @@ pub use lines::ServedLines;
 pub use managed::{HistoryEntry, ManagedLine};
 pub use slice::ManagerSlice;
 pub use state::SliceState;
-
-#[cfg(test)]
-mod tests;

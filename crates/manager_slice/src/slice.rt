@@ -9,8 +9,9 @@ ghost use Rattle.line_stamps.specs.declared.message.Reply.TheVariants.{Busy};
 ghost use Rattle.manager_slice.specs.declared.fault.SliceFault.TheVariants.{HistoryFull, OutOfMemory};
 ghost use Rattle.manager_slice.specs.declared.row.Row.TheVariants.{Answered};
 ghost use Rattle.manager_slice.specs.Changes.{entries_of, served, after_eviction};
-ghost use Rattle.manager_slice.specs.Messages.{addr_of};
+ghost use Rattle.line_stamps.specs.Messages.{addr_of};
 ghost use Rattle.manager_slice.specs.Outcome.{Answers, Meets, handle_outcome, evict_outcome, step_of, IsEvicted, IsHandled};
+ghost use Rattle.manager_slice.specs.Limits.{entry_limit};
 ghost use Rattle.manager_slice.specs.Lines.{is_some_shared};
 ghost use Rattle.manager_slice.specs.Replay.{Replays};
 ghost use Rattle.manager_slice.specs.Rows.{row_of};
@@ -107,7 +108,7 @@ impl ManagerSlice {
     /// What it did so far, in order: at most 1,048,576 entries.
     pub fn history(&self) -> &[HistoryEntry]
         ensures entries { result.now ≡ self.now.history }
-        ensures limit { length self.now.history ≤ 1048576 }
+        ensures limit { length self.now.history ≤ entry_limit }
     {
         self.history.as_slice()
     }
@@ -192,7 +193,7 @@ impl ManagerSlice {
     {
         let ManagerSlice { state, history, .. } = self;
         reserve(history, if evicted.is_some() { 2 } else { 1 })?;
-        state.serve(evicted, addr_of(message), *line)?;
+        state.serve(evicted, message.addr(), *line)?;
         append(history, evicted, from, message, reply);
         Ok(())
     }
@@ -203,9 +204,9 @@ fn reserve(history: &mut Vec<HistoryEntry>, entries: usize) -> Result<(), SliceF
     requires { entries ≤ 2 }
     ensures items { history.new.items ≡ history.old.items }
     ensures room { OnOk result (vec_len history.new + entries ≤ vec_capacity history.new) }
-    ensures fits { OnOk result (vec_len history.old + entries ≤ 1048576) }
-    ensures full { IfErr result (λ fault. ((fault ≡ HistoryFull) × (1048576 < vec_len history.old + entries))
-        ⊎ ((fault ≡ OutOfMemory) × (vec_len history.old + entries ≤ 1048576))) }
+    ensures fits { OnOk result (vec_len history.old + entries ≤ entry_limit) }
+    ensures full { IfErr result (λ fault. ((fault ≡ HistoryFull) × (entry_limit < vec_len history.old + entries))
+        ⊎ ((fault ≡ OutOfMemory) × (vec_len history.old + entries ≤ entry_limit))) }
 {
     if history.len() > HISTORY_LIMIT - entries {
         return Err(SliceFault::HistoryFull);
@@ -241,16 +242,4 @@ fn append(
         push_copy(history, &HistoryEntry::Evicted(*victim));
     }
     push_copy(history, &HistoryEntry::Served(from, *message, *reply));
-}
-
-// The address of a message.
-fn addr_of(message: &Message) -> Addr
-    ensures { result ≡ addr_of message.now }
-{
-    match message {
-        Message::ShReq { addr, .. } => *addr,
-        Message::ExReq { addr, .. } => *addr,
-        Message::WbRep { addr, .. } => *addr,
-        Message::FlushRep { addr, .. } => *addr,
-    }
 }

@@ -16,7 +16,7 @@ use Rattle.private_cache.specs.declared.answer.Store.{Store}
 use Rattle.private_cache.specs.declared.answer.Store.TheVariants as store
 use Rattle.private_cache.specs.declared.held.Held.{Held}
 use Rattle.private_cache.specs.declared.held.Held.TheVariants.{Shared, Exclusive}
-use Rattle.private_cache.specs.Table.{Hit, line_of, copy_of}
+use Rattle.private_cache.specs.Table.{Hit, copy_of}
 
 -- the limit that a stamp, or else a rank, is above
 abbrev pub past_limit : ℕ → ℕ → Option StampFault
@@ -36,8 +36,7 @@ give_fault (Some l) = past_limit l.stamps.rts 0
 -- a load by a core of stamp `pts`, of an address with this line before it
 abbrev pub load_answer : ℕ → ℕ → Option Held → Option Hit → Load
 load_answer a pts held None = load.Miss (ShReq a (copy_of held) pts)
-load_answer a pts held (Some hit) =
-    load.Hit (line_of hit.held).value (line_of hit.held).source hit.stamp hit.rank
+load_answer a pts held (Some hit) = load.Hit hit.value hit.source hit.stamp hit.rank
 
 -- a store to an address with this line before it
 abbrev pub store_answer : ℕ → Option Held → Option Hit → Store

@@ -31,8 +31,10 @@ is_shared (Exclusive modified l) = false
 abbrev pub with_rts : Line → ℕ → Line
 with_rts l rts = record l { stamps = record l.stamps { rts = rts } }
 
--- what a hit leaves of the line, and the stamp and the rank of the operation
+-- a hit: the word that was read with its source, what is left of the line, and the stamp and the rank of the operation
 pub record Hit : Type 0 where
+  pub value : ℕ
+  pub source : Source
   pub held : Held
   pub stamp : ℕ
   pub rank : ℕ
@@ -45,9 +47,9 @@ read_at (Exclusive modified l) t = Exclusive modified (with_rts l (max l.stamps.
 -- the hit of a load at this line, for a core of stamp `pts` and rank `r`
 abbrev pub loaded : ℕ → ℕ → Held → Hit
 loaded pts r held =
-    let old = (line_of held).stamps in
-    let t = load_stamp pts old.wts in
-    record { held = read_at held t; stamp = t; rank = rank_of t pts r old.wts old.wr }
+    let old = line_of held in
+    let t = load_stamp pts old.stamps.wts in
+    record { value = old.value; source = old.source; held = read_at held t; stamp = t; rank = rank_of t pts r old.stamps.wts old.stamps.wr }
 
 -- the same, and None where it is a miss
 abbrev pub load_hit : ℕ → ℕ → Option Held → Option Hit
@@ -67,7 +69,7 @@ store_hit value source pts r (Some (Shared l)) = None
 store_hit value source pts r (Some (Exclusive modified l)) =
     let t = store_stamp pts l.stamps.rts modified in
     let rank = rank_of t pts r l.stamps.wts l.stamps.wr in
-    Some (record { held = stored value source t rank; stamp = t; rank = rank })
+    Some (record { value = l.value; source = l.source; held = stored value source t rank; stamp = t; rank = rank })
 
 -- the `wts` of the copy that a request tells of
 abbrev pub copy_of : Option Held → Option ℕ

@@ -217,10 +217,9 @@ impl PrivateCache {
         Ok(store)
     }
 
-    /// Reads the line of the address by a load of this stamp, whose hit is known: an owner draws the
-    /// lease out to it, and the line becomes the most recently used. Nothing where no line is there.
-    /// No memory.
-    pub fn read(&mut self, addr: Addr, stamp: Stamp)
+    // Reads the line of the address by a load of this stamp, which hits: an owner draws the lease out
+    // to it, and the line becomes the most recently used. Nothing where no line is there.
+    fn read(&mut self, addr: Addr, stamp: Stamp)
         ensures { MatchOption (line_at self.old addr)
             (self.new ≡ self.old)
             (λ held. self.new ≡ used self.old addr (read_at held stamp)) }
@@ -230,9 +229,9 @@ impl PrivateCache {
         }
     }
 
-    /// Writes the line of the address by the store `id` of this stamp and rank, whose hit is known: the
-    /// line becomes the most recently used. Nothing where no line is there. No memory.
-    pub fn write(&mut self, addr: Addr, value: Word, id: OpId, stamp: Stamp, rank: Rank)
+    // Writes the line of the address by the store `id` of this stamp and rank, which hits: the line
+    // becomes the most recently used. Nothing where no line is there.
+    fn write(&mut self, addr: Addr, value: Word, id: OpId, stamp: Stamp, rank: Rank)
         ensures { MatchOption (line_at self.old addr)
             (self.new ≡ self.old)
             (λ _. self.new ≡ used self.old addr (stored value (Source.Store id) stamp rank)) }

@@ -11,6 +11,3 @@ pub use answer::{Evicted, Load, Store};
 pub use cache::PrivateCache;
 pub use fault::FillFault;
 pub use held::Held;
-
-#[cfg(test)]
-mod tests;

@@ -1,6 +1,6 @@
 -- What is read as a command is its line, with numbers in range, and the line of such a command is read as it.
 use Rattle.std.proofs.Common.{◌≡◌, ℕ, ◌<◌, ◌≤◌, List, ◌∷◌, ◌++◌, Option, Some, None, is_some, refl, sym, ap, subst, ◌∙◌, arith, inl, inr}
-use Rattle.std.specs.Prelude.{codes, option_map}
+use Rattle.std.specs.Prelude.{codes, min, option_map}
 use Rattle.std.proofs.lemmas.Bool.{cases_Bool, cond_below, cond-true, cond-false, ltb-true}
 use Rattle.std.proofs.Math.Dec.{ltb}
 use Rattle.decimal_text.specs.Numbers.{numeral}
@@ -45,13 +45,13 @@ front_takes limit bytes x e =
 front_again : (limit n : ℕ) (rest : List ℕ) → n < limit → (field_at 32 (numeral n ++ 32 ∷ rest) >>= front_below limit) ≡ Some (n, rest)
 front_again limit n rest lt = rw (field_again 32 n rest refl) (front_below_again limit (n, rest) lt)
 
-core_takes : (cores : ℕ) (bytes : List ℕ) (x : ℕ × List ℕ) → core_at cores bytes ≡ Some x → (bytes ≡ numeral x.0 ++ 32 ∷ x.1) × (x.0 < cores)
+core_takes : (cores : ℕ) (bytes : List ℕ) (x : ℕ × List ℕ) → core_at cores bytes ≡ Some x → (bytes ≡ numeral x.0 ++ 32 ∷ x.1) × (x.0 < min cores 64)
 unfolding core_at
-core_takes cores bytes x e = front_takes cores bytes x e
+core_takes cores bytes x e = front_takes (min cores 64) bytes x e
 
-core_again : (cores n : ℕ) (rest : List ℕ) → n < cores → core_at cores (numeral n ++ 32 ∷ rest) ≡ Some (n, rest)
+core_again : (cores n : ℕ) (rest : List ℕ) → n < min cores 64 → core_at cores (numeral n ++ 32 ∷ rest) ≡ Some (n, rest)
 unfolding core_at
-core_again cores n rest lt = front_again cores n rest lt
+core_again cores n rest lt = front_again (min cores 64) n rest lt
 
 addr_takes : (bytes : List ℕ) (x : ℕ × List ℕ) → addr_at bytes ≡ Some x → (bytes ≡ numeral x.0 ++ 32 ∷ x.1) × (x.0 < 65536)
 unfolding addr_at
@@ -70,13 +70,13 @@ last_below_takes limit bytes n e =
 last_below_again : (limit n : ℕ) → n < limit → (last_number (numeral n) >>= below limit) ≡ Some n
 last_below_again limit n lt = rw (last_again n) (below_again limit n lt)
 
-last_core_takes : (cores : ℕ) (bytes : List ℕ) (n : ℕ) → last_core cores bytes ≡ Some n → (bytes ≡ numeral n) × (n < cores)
+last_core_takes : (cores : ℕ) (bytes : List ℕ) (n : ℕ) → last_core cores bytes ≡ Some n → (bytes ≡ numeral n) × (n < min cores 64)
 unfolding last_core
-last_core_takes cores bytes n e = last_below_takes cores bytes n e
+last_core_takes cores bytes n e = last_below_takes (min cores 64) bytes n e
 
-last_core_again : (cores n : ℕ) → n < cores → last_core cores (numeral n) ≡ Some n
+last_core_again : (cores n : ℕ) → n < min cores 64 → last_core cores (numeral n) ≡ Some n
 unfolding last_core
-last_core_again cores n lt = last_below_again cores n lt
+last_core_again cores n lt = last_below_again (min cores 64) n lt
 
 last_addr_takes : (bytes : List ℕ) (n : ℕ) → last_addr bytes ≡ Some n → (bytes ≡ numeral n) × (n < 65536)
 unfolding last_addr
@@ -133,7 +133,7 @@ abbrev IsNamed : ℕ → List ℕ → List ℕ → Command → Type 0
 IsNamed cores name fields command = (name ++ fields ≡ command_text command) × Fits cores command
 
 of_core_takes : (cores : ℕ) (name bytes : List ℕ) (make : ℕ → Command) (command : Command)
-    → ((core : ℕ) → core < cores → IsNamed cores name (numeral core) (make core))
+    → ((core : ℕ) → core < min cores 64 → IsNamed cores name (numeral core) (make core))
     → of_core make cores bytes ≡ Some command → IsNamed cores name bytes command
 of_core_takes cores name bytes make command is e =
     let a = bind_some (last_core cores bytes) (λ core. Some (make core)) command e in
@@ -201,7 +201,7 @@ named_or cores name fields line other command takes else-takes e =
 
 -- a line that begins with a name and a core, or what is made of it else
 core_or : (cores : ℕ) (name : List ℕ) (make : ℕ → Command) (line : List ℕ) (other : Option Command) (command : Command)
-    → ((core : ℕ) → core < cores → IsNamed cores name (numeral core) (make core))
+    → ((core : ℕ) → core < min cores 64 → IsNamed cores name (numeral core) (make core))
     → (other ≡ Some command → IsLineOf cores line command)
     → named name (of_core make cores) line other ≡ Some command → IsLineOf cores line command
 core_or cores name make line other command is else-takes e =

@@ -1,5 +1,5 @@
 -- The texts of commands and of schedules, and which commands have a text.
-use Rattle.std.specs.Prelude.{ℕ, ◌<◌, ◌≤◌, List, [], ◌∷◌, ◌++◌, codes}
+use Rattle.std.specs.Prelude.{ℕ, ◌<◌, ◌≤◌, min, List, [], ◌∷◌, ◌++◌, codes}
 use Rattle.std.specs.List.{flat_map, join_with_byte, AllByRecursion}
 use Rattle.decimal_text.specs.Numbers.{numeral}
 use Rattle.line_stamps.specs.declared.message.RecallKind.{RecallKind}
@@ -33,18 +33,18 @@ command_text command = join_with_byte 32 (fields_of command)
 abbrev pub schedule_text : List Command → List ℕ
 schedule_text commands = flat_map (λ command. command_text command ++ 10 ∷ []) commands
 
--- the core of a command is one of so many, and its numbers are in range
+-- the core of a command is one of so many, of which there are at most 64, and its numbers are in range
 abbrev pub Fits : ℕ → Command → Type 0
-Fits cores (Turn core) = core < cores
-Fits cores (Serve core) = core < cores
-Fits cores (Take core) = core < cores
-Fits cores (Recall recall) = (recall.owner < cores) × (recall.addr < 65536) × (recall.rts ≤ 281474976710656)
-Fits cores (Evict core addr) = (core < cores) × (addr < 65536)
+Fits cores (Turn core) = core < min cores 64
+Fits cores (Serve core) = core < min cores 64
+Fits cores (Take core) = core < min cores 64
+Fits cores (Recall recall) = (recall.owner < min cores 64) × (recall.addr < 65536) × (recall.rts ≤ 281474976710656)
+Fits cores (Evict core addr) = (core < min cores 64) × (addr < 65536)
 Fits cores (Spill addr) = addr < 65536
-Fits cores (Bump core) = core < cores
-Fits cores (Round core) = core < cores
-Fits cores (Op core) = core < cores
-Fits cores (Finish core) = core < cores
+Fits cores (Bump core) = core < min cores 64
+Fits cores (Round core) = core < min cores 64
+Fits cores (Op core) = core < min cores 64
+Fits cores (Finish core) = core < min cores 64
 
 abbrev pub EachFits : ℕ → List Command → Type 0
 EachFits cores commands = AllByRecursion (Fits cores) commands

@@ -1,6 +1,6 @@
 -- Reading a line from left to right, as functions on its bytes. Private contracts cite these; the public ones
 -- speak of the texts alone.
-use Rattle.std.specs.Prelude.{ℕ, nat_lt, if◌then◌else◌, List, Option, Some, None, is_some, option_map, codes}
+use Rattle.std.specs.Prelude.{ℕ, min, nat_lt, if◌then◌else◌, List, Option, Some, None, is_some, option_map, codes}
 use Rattle.decimal_text.specs.Reading.{◌>>=◌, after, field_at, last_number}
 use Rattle.line_stamps.specs.declared.message.RecallKind.{RecallKind}
 use Rattle.line_stamps.specs.declared.message.RecallKind.TheVariants.{WriteBack, Flush}
@@ -17,7 +17,7 @@ front_below limit x = if nat_lt x.0 limit then Some x else None
 
 -- a core or an address with a space behind it
 unfoldable pub core_at : ℕ → List ℕ → Option (ℕ × List ℕ)
-core_at cores bytes = field_at 32 bytes >>= front_below cores
+core_at cores bytes = field_at 32 bytes >>= front_below (min cores 64)
 
 unfoldable pub addr_at : List ℕ → Option (ℕ × List ℕ)
 addr_at bytes = field_at 32 bytes >>= front_below 65536
@@ -35,7 +35,7 @@ kind_at bytes =
 
 -- a core, an address or a stamp that is all there is
 unfoldable pub last_core : ℕ → List ℕ → Option ℕ
-last_core cores bytes = last_number bytes >>= below cores
+last_core cores bytes = last_number bytes >>= below (min cores 64)
 
 unfoldable pub last_addr : List ℕ → Option ℕ
 last_addr bytes = last_number bytes >>= below 65536

@@ -11,6 +11,3 @@ pub use command::Command;
 pub use fault::ScheduleFault;
 pub use laws::{one_fault, spelled_is_read};
 pub use text::parse;
-
-#[cfg(test)]
-mod tests;

@@ -1,6 +1,6 @@
 //! Reads a command's line from left to right.
 
-ghost use Rattle.std.specs.Prelude.{◌≡◌, ◌≤◌};
+ghost use Rattle.std.specs.Prelude.{◌≡◌, min};
 ghost use Rattle.decimal_text.specs.Reading.{front_now};
 ghost use Rattle.schedule.specs.Reading.{below, core_at, addr_at, kind_at, last_core, last_addr, last_stamp};
 ghost use Rattle.schedule.specs.Reading.{recall_of, evict_of, command_of};
@@ -10,10 +10,9 @@ use decimal_text::{after_text, read_field, read_last};
 use line_stamps::{Recall, RecallKind, Stamp};
 use mem_op::{Addr, CoreId};
 
-/// The core of this number, where it is one of so many.
+/// The core of this number, where it is one of so many, and of 64.
 fn core_of(cores: usize, number: u64) -> Option<CoreId>
-    requires { cores ≤ 64 }
-    ensures { result ≡ below cores number }
+    ensures { result ≡ below (min cores 64) number }
 {
     let core = CoreId::new(number).ok()?;
     if number < cores as u64 {
@@ -26,7 +25,6 @@ fn core_of(cores: usize, number: u64) -> Option<CoreId>
 /// A core with a space behind it, and the bytes behind them.
 #[tactic(auto, unfolding(crate::specs::Reading::core_at))]
 fn core_field(cores: usize, bytes: &[u8]) -> Option<(CoreId, &[u8])>
-    requires { cores ≤ 64 }
     ensures { front_now result ≡ core_at cores bytes.now }
 {
     let (number, rest) = read_field(b' ', bytes)?;
@@ -57,7 +55,6 @@ fn kind_field(bytes: &[u8]) -> Option<(RecallKind, &[u8])>
 /// A core that is all there is.
 #[tactic(auto, unfolding(crate::specs::Reading::last_core))]
 fn last_core(cores: usize, bytes: &[u8]) -> Option<CoreId>
-    requires { cores ≤ 64 }
     ensures { result ≡ last_core cores bytes.now }
 {
     core_of(cores, read_last(bytes)??)
@@ -82,7 +79,6 @@ fn last_stamp(bytes: &[u8]) -> Option<Stamp>
 /// The fields of `recall c a wb t` or `recall c a flush t`.
 #[tactic(auto, unfolding(crate::specs::Reading::recall_of))]
 fn recall(cores: usize, fields: &[u8]) -> Option<Command>
-    requires { cores ≤ 64 }
     ensures { result ≡ recall_of cores fields.now }
 {
     let Some((owner, rest)) = core_field(cores, fields) else {
@@ -106,7 +102,6 @@ fn recall(cores: usize, fields: &[u8]) -> Option<Command>
 /// The fields of `evict c a`.
 #[tactic(auto, unfolding(crate::specs::Reading::evict_of))]
 fn evict(cores: usize, fields: &[u8]) -> Option<Command>
-    requires { cores ≤ 64 }
     ensures { result ≡ evict_of cores fields.now }
 {
     let Some((core, rest)) = core_field(cores, fields) else {
@@ -118,7 +113,6 @@ fn evict(cores: usize, fields: &[u8]) -> Option<Command>
 /// The command whose line this is, without its line feed, where there are so many cores.
 #[tactic(auto, unfolding(crate::specs::Reading::command_of))]
 pub(crate) fn read_command(cores: usize, line: &[u8]) -> Option<Command>
-    requires { cores ≤ 64 }
     ensures { result ≡ command_of cores line.now }
 {
     if let Some(core) = after_text(b"turn ", line) {

@@ -1,6 +1,6 @@
 //! Reads the text of a schedule.
 
-ghost use Rattle.std.specs.Prelude.{◌≡◌, ◌≤◌, ◌∷◌, ◌++◌, IfSome, IsNone, MatchResult};
+ghost use Rattle.std.specs.Prelude.{◌≡◌, ◌∷◌, ◌++◌, IfSome, IsNone, MatchResult};
 ghost use Rattle.schedule.specs.Answers.{CommandInFront, NoCommandInFront, IsFault, Spells};
 ghost use Rattle.schedule.specs.Lines.{IsOneLine};
 
@@ -10,11 +10,11 @@ use super::reading::read_command;
 use memchr::memchr;
 use std::alloc::Global;
 
-/// The commands whose text this is, one a line, each line ended by a line feed, for so many cores.
+/// The commands whose text this is, one a line, each line ended by a line feed, for so many cores, of
+/// which there are at most 64.
 /// BadScheduleLine at the first line that is no command's, that names a core that isn't there, or
 /// that has no line feed.
 pub fn parse(alloc: Global, text: &[u8], cores: usize) -> Result<Vec<Command>, ScheduleFault>
-    requires { cores ≤ 64 }
     ensures { MatchResult result
         (λ commands. Spells cores text.now commands.items)
         (λ fault. IsFault cores text.now fault) }
@@ -36,7 +36,6 @@ pub fn parse(alloc: Global, text: &[u8], cores: usize) -> Result<Vec<Command>, S
 /// The command whose line is the first, and the bytes behind it; None where the first line is no
 /// command's, or has no line feed.
 fn next_command(cores: usize, text: &[u8]) -> Option<(Command, &[u8])>
-    requires { cores ≤ 64 }
     ensures found { IfSome result (λ read. CommandInFront cores read.0 text.now read.1.now) }
     ensures none { IsNone result → NoCommandInFront cores text.now }
 {

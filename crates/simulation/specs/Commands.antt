@@ -1,5 +1,6 @@
 -- What the commands of a schedule do, one after the other.
 use Rattle.std.specs.Prelude.{◌≡◌, ℕ, List, [], ◌∷◌, ◌++◌, Some, slice_get, take}
+use Rattle.manager_slice.specs.declared.fault.SliceFault.{SliceFault}
 use Rattle.core_unit.specs.declared.outcome.Outcome.{Outcome}
 use Rattle.schedule.specs.declared.command.Command.{Command}
 use Rattle.schedule.specs.declared.command.Command.TheVariants as command
@@ -10,7 +11,7 @@ use Rattle.tardis_core.specs.Runs.{MayRefuse}
 use Rattle.tardis_core.specs.Steps.{step_outcome}
 use Rattle.tardis_core.specs.declared.event.Event.{Event}
 use Rattle.tardis_core.specs.declared.event.Event.TheVariants as event
-use Rattle.tardis_core.specs.declared.fault.CoreFault.{CoreFault}
+use Rattle.tardis_core.specs.declared.fault.CoreFault.TheVariants as core_fault
 use Rattle.tardis_core.specs.declared.rounds.fault.RoundFault.{RoundFault}
 use Rattle.simulation.specs.declared.fault.SimulationFault.{SimulationFault}
 use Rattle.simulation.specs.declared.fault.SimulationFault.TheVariants.{Core, Slice}
@@ -49,7 +50,8 @@ IsRefusedAt p e c q fault = (q ≡ p) × IsOfCore (IsRefusedEvent p e c) fault
 
 -- the spill of address a is refused in p
 abbrev pub IsRefusedSpill : CoreParts → ℕ → SimulationFault → Type 0
-IsRefusedSpill p a fault = (cause : CoreFault) × (fault ≡ Slice (slice_number p.config a) cause) × MayRefuse (step_outcome p (event.Spill a)) cause
+IsRefusedSpill p a fault =
+    (cause : SliceFault) × (fault ≡ Slice (slice_number p.config a) cause) × MayRefuse (step_outcome p (event.Spill a)) (core_fault.Slice cause)
 
 -- the command led from p to q, where it is refused so
 abbrev pub IsRefusedCommand : CoreParts → Command → CoreParts → SimulationFault → Type 0

@@ -8,7 +8,7 @@ use super::fault::SimulationFault;
 use mem_op::{Addr, CoreId};
 use schedule::Command;
 use tardis_core::rounds::{RoundCause, RoundFault, finish, op, round};
-use tardis_core::{Core, Event};
+use tardis_core::{Core, CoreFault, Event};
 
 /// Does what the commands say, one after the other, up to the first that is refused.
 pub(crate) fn follow(machine: &mut Core, commands: &[Command]) -> Result<(), SimulationFault>
@@ -69,6 +69,7 @@ fn spill(machine: &mut Core, addr: Addr) -> Result<(), SimulationFault>
     let number = machine.config().slice_of(addr);
     match machine.step(Event::Spill(addr)) {
         Ok(_) => Ok(()),
-        Err(fault) => Err(SimulationFault::Slice { number, fault }),
+        Err(CoreFault::Slice(fault)) => Err(SimulationFault::Slice { number, fault }),
+        Err(CoreFault::Unit(_)) => unreachable!(),
     }
 }

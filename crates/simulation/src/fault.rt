@@ -3,12 +3,10 @@
 ghost use Rattle.std.specs.Prelude.{◌≡◌};
 ghost use Rattle.simulation.specs.declared.fault.SimulationFault.TheVariants.{Core, OutOfMemory};
 
-use core_unit::UnitFault;
 use manager_slice::SliceFault;
 use std::alloc::AllocError;
 use std::fmt;
 use std::fmt::Display;
-use tardis_core::CoreFault;
 use tardis_core::rounds::RoundFault;
 use thiserror::Error;
 
@@ -18,7 +16,7 @@ pub enum SimulationFault {
     /// An event of a core is refused, or 30 GaveUp: 1,000 rounds of it brought no operation.
     Core(RoundFault),
     /// The spill of a slice of this number is refused.
-    Slice { number: usize, fault: CoreFault },
+    Slice { number: usize, fault: SliceFault },
     /// A growth was refused beside the machine.
     OutOfMemory,
 }
@@ -35,8 +33,7 @@ impl Display for SimulationFault {
                 write!(f, "core {}: {}", stopped.core.get(), stopped.fault)
             }
             SimulationFault::Slice {
-                fault: CoreFault::Unit(UnitFault::OutOfMemory)
-                | CoreFault::Slice(SliceFault::OutOfMemory),
+                fault: SliceFault::OutOfMemory,
                 ..
             } => f.write_str("10 OutOfMemory"),
             SimulationFault::Slice { number, fault } => write!(f, "slice {number}: {fault}"),

@@ -2,27 +2,38 @@
 #![tactic(auto)]
 
 mod host;
+mod words;
 
 use host::HostFolder;
-use log_file::FromWrite;
+use log_file::{FromWrite, write_all};
 use std::process::ExitCode;
-use std::{env, io};
 use tardis_command::command;
+use words::{WordsFault, texts, words};
 
-fn main(rt: HostRuntime) -> io::Result<ExitCode> {
-    let alloc = rt.alloc();
-    let given: Vec<String> = env::args(&rt)?.collect(alloc)?;
-    let mut words = Vec::new(alloc);
-    for word in &given {
-        words.push(word.as_str())?;
+/// Tells the user why the words can't be read, and answers the exit status.
+fn refuse(rt: &HostRuntime, fault: WordsFault) -> u8 {
+    if let Ok(line) = format!(in rt.alloc(); "{fault}\n") {
+        let _ = write_all(&mut FromWrite::new(rt.stderr()), line.as_bytes());
     }
+    fault.status()
+}
+
+fn main(rt: HostRuntime) -> ExitCode {
+    let given = match words(&rt) {
+        Ok(given) => given,
+        Err(fault) => return ExitCode::from(refuse(&rt, fault)),
+    };
+    let words = match texts(rt.alloc(), &given) {
+        Ok(words) => words,
+        Err(fault) => return ExitCode::from(refuse(&rt, fault)),
+    };
     let status = command(
         &rt,
-        alloc,
+        rt.alloc(),
         words.as_slice(),
         &mut HostFolder::new(&rt),
         &mut FromWrite::new(rt.stdout()),
         &mut FromWrite::new(rt.stderr()),
     );
-    Ok(ExitCode::from(status))
+    ExitCode::from(status)
 }

@@ -15,8 +15,9 @@ use Rattle.verdict.specs.declared.answer.Verdict.{Verdict}
 use Rattle.verdict.specs.declared.judge_fault.Count.TheVariants.{Files, Workers, Programs as ProgramCount}
 use Rattle.verdict.specs.declared.judge_fault.JudgeFault.{JudgeFault}
 use Rattle.verdict.specs.declared.judge_fault.JudgeFault.TheVariants.{BadConfig, Log, Read, OutOfMemory}
+use Rattle.tardis_command.specs.Faults.{from_judge}
 use Rattle.tardis_command.specs.declared.fault.CommandFault.{CommandFault}
-use Rattle.tardis_command.specs.declared.fault.CommandFault.TheVariants.{Judge, Config, Programs, ProgramsUnread, Schedule, ScheduleUnread, Simulation, LogUnwritten, Output}
+use Rattle.tardis_command.specs.declared.fault.CommandFault.TheVariants.{Judge, Config, Programs, ProgramsUnread, Schedule, ScheduleUnread, Simulation, LogUnwritten, Output, OutOfMemory as NoMemory}
 use Rattle.tardis_command.specs.Checking.{Against, AreInRange, AreNotAsMany, AreSourcesOf, AreTextsOf, IsAnswerAgainst, IsChecked, IsCheckedAgainst, IsFaultOfPrograms, IsUnprogrammed}
 
 -- the next file's source, behind those of the files in front of it
@@ -71,7 +72,7 @@ checked told programs asked judged (Err OutOfMemory) texts same range tell answe
 
 abbrev pub lifted : Result Verdict JudgeFault → Result Verdict CommandFault
 lifted (Ok verdict) = Ok verdict
-lifted (Err fault) = Err (Judge fault)
+lifted (Err fault) = Err (from_judge fault)
 
 -- what holds whatever the programs are
 whatever : (told : List ℕ → Option (List ℕ)) (name : Option (Bor (List ℕ))) (Holds : Type 0) → Against told name (λ programs. Holds) → Holds
@@ -107,10 +108,8 @@ checked_some told asked name programs answer some read h = against told asked an
 pub unprogrammed : (told : List ℕ → Option (List ℕ)) (asked : Check) (name : Bor (List ℕ)) (fault : CommandFault) → AreInRange asked → asked.program ≡ Some name → IsUnprogrammed told name.now fault → IsChecked told asked (Err fault)
 unprogrammed told asked name (Programs fault) range some h = (range, subst (λ n. IsFaultOfPrograms told n fault) (sym some) h)
 unprogrammed told asked name ProgramsUnread range some h = (range, subst (λ (n : Option (Bor (List ℕ))). IsSome n) (sym some) refl)
-unprogrammed told asked name (Judge OutOfMemory) range some h = tt
-unprogrammed told asked name (Judge (Log file line fault)) range some h = absurd cc
-unprogrammed told asked name (Judge (Read file)) range some h = absurd cc
-unprogrammed told asked name (Judge (BadConfig count)) range some h = absurd cc
+unprogrammed told asked name NoMemory range some h = tt
+unprogrammed told asked name (Judge reason) range some h = absurd h
 unprogrammed told asked name (Config reason) range some h = absurd h
 unprogrammed told asked name (Schedule reason) range some h = absurd h
 unprogrammed told asked name ScheduleUnread range some h = absurd h

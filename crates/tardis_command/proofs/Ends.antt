@@ -5,14 +5,13 @@ use Rattle.std.proofs.KnownBytes.{Appends-nil}
 use Rattle.command_line.specs.Asking.{Asks, IsCommandLine}
 use Rattle.command_line.specs.declared.request.Request.{Request}
 use Rattle.command_line.specs.declared.request.Request.TheVariants as request
-use Rattle.verdict.specs.declared.judge_fault.JudgeFault.TheVariants.{BadConfig, Log, Read, OutOfMemory}
 use Rattle.tardis_command.specs.Answers.{answer_status, answer_text}
 use Rattle.tardis_command.specs.declared.answer.Answer.{Answer}
 use Rattle.tardis_command.specs.Printing.{IsUnprinted}
 use Rattle.tardis_command.specs.Endings.{Answered, Ending, EndsBy, HasFailed, IsAnswered, IsDoneBy, Misused, OutputAt, Refused, IsAnswerTo, Sink, Takes, Unprinted, line, status_of}
 use Rattle.tardis_command.specs.Faults.{command_fault_text, fault_status}
 use Rattle.tardis_command.specs.declared.fault.CommandFault.{CommandFault}
-use Rattle.tardis_command.specs.declared.fault.CommandFault.TheVariants.{Judge, Config, Programs, ProgramsUnread, Schedule, ScheduleUnread, Simulation, LogUnwritten, Output}
+use Rattle.tardis_command.specs.declared.fault.CommandFault.TheVariants.{Judge, Config, Programs, ProgramsUnread, Schedule, ScheduleUnread, Simulation, LogUnwritten, Output, OutOfMemory}
 
 pub kept : (contents : Option (List ℕ)) → Keeps contents contents
 kept None = tt
@@ -27,7 +26,7 @@ unless_failed old new fault (Refused reason) answered output = output
 unless_failed old new fault (Misused text) answered output = absurd answered
 
 -- want of memory may end whatever was asked
-memory_ends : (told told' : List ℕ → Option (List ℕ)) (asked : Request) → IsAnswerTo told told' asked (Err (Judge OutOfMemory))
+memory_ends : (told told' : List ℕ → Option (List ℕ)) (asked : Request) → IsAnswerTo told told' asked (Err OutOfMemory)
 memory_ends told told' (request.Check check) = tt
 memory_ends told told' (request.Sim sim) = tt
 
@@ -36,11 +35,9 @@ pub unprinted : (told told' : List ℕ → Option (List ℕ)) (asked : Request) 
     → IsAnswerTo told told' asked (Ok answer) → IsUnprinted out out' (line (answer_text answer)) fault
     → (ending : Ending) × IsAnswered ending (Err fault) × IsDoneBy told told' asked out out' ending
 unprinted told told' asked answer out out' Output answered failed = (Unprinted answer, refl, (answered, failed))
-unprinted told told' asked answer out out' (Judge OutOfMemory) answered same =
-    (Refused (Judge OutOfMemory), refl, (memory_ends told told' asked, subst (λ (s : Sink). Keeps out.contents s.contents ⊎ HasFailed out s) (sym same) (inl (kept out.contents))))
-unprinted told told' asked answer out out' (Judge (BadConfig count)) answered never = absurd never
-unprinted told told' asked answer out out' (Judge (Log file place fault)) answered never = absurd never
-unprinted told told' asked answer out out' (Judge (Read file)) answered never = absurd never
+unprinted told told' asked answer out out' OutOfMemory answered same =
+    (Refused OutOfMemory, refl, (memory_ends told told' asked, subst (λ (s : Sink). Keeps out.contents s.contents ⊎ HasFailed out s) (sym same) (inl (kept out.contents))))
+unprinted told told' asked answer out out' (Judge reason) answered never = absurd never
 unprinted told told' asked answer out out' (Config reason) answered never = absurd never
 unprinted told told' asked answer out out' (Programs reason) answered never = absurd never
 unprinted told told' asked answer out out' ProgramsUnread answered never = absurd never
@@ -69,8 +66,8 @@ module _ (told told' : List ℕ → Option (List ℕ)) (words : List (List ℕ))
 
   -- without the memory to go on, or to tell of another refusal
   ends_without_memory : (out' err' : Sink) (status : ℕ) → Keeps out.contents out'.contents ⊎ HasFailed out out'
-      → Takes err err' (line (command_fault_text (Judge OutOfMemory))) → status ≡ fault_status (Judge OutOfMemory) → EndsAt out' err' status
-  ends_without_memory out' err' status output takes same = (Refused (Judge OutOfMemory), same, record { end = inr refl; output = output; complaint = takes })
+      → Takes err err' (line (command_fault_text OutOfMemory)) → status ≡ fault_status OutOfMemory → EndsAt out' err' status
+  ends_without_memory out' err' status output takes same = (Refused OutOfMemory, same, record { end = inr refl; output = output; complaint = takes })
 
   -- the fault was told
   ends_told : (asked : Request) (ending : Ending) (fault : CommandFault) (out' err' : Sink) (status : ℕ) → Asks words asked
@@ -100,7 +97,7 @@ module _ (told told' : List ℕ → Option (List ℕ)) (words : List (List ℕ))
   ends_told asked (Misused text) fault out' err' status asks answered done takes same = absurd answered
 
   pub ends_refused : (asked : Request) (ending : Ending) (fault reported : CommandFault) (out' err' : Sink) (status : ℕ) → Asks words asked
-      → IsAnswered ending (Err fault) → IsDoneBy told told' asked out out' ending → (reported ≡ fault) ⊎ (reported ≡ Judge OutOfMemory)
+      → IsAnswered ending (Err fault) → IsDoneBy told told' asked out out' ending → (reported ≡ fault) ⊎ (reported ≡ OutOfMemory)
       → Takes err err' (line (command_fault_text reported)) → status ≡ fault_status reported → EndsAt out' err' status
   ends_refused asked ending fault reported out' err' status asks answered done (inl is) takes same =
       ends_told asked ending fault out' err' status asks answered done
@@ -110,9 +107,9 @@ module _ (told told' : List ℕ → Option (List ℕ)) (words : List (List ℕ))
       (subst (λ (f : CommandFault). Takes err err' (line (command_fault_text f))) is takes) (same ∙ ap fault_status is)
 
   -- and there was no memory to read the words
-  pub ends_unread : (reported : CommandFault) (err' : Sink) (status : ℕ) → (reported ≡ Judge OutOfMemory) ⊎ (reported ≡ Judge OutOfMemory)
+  pub ends_unread : (reported : CommandFault) (err' : Sink) (status : ℕ) → (reported ≡ OutOfMemory) ⊎ (reported ≡ OutOfMemory)
       → Takes err err' (line (command_fault_text reported)) → status ≡ fault_status reported → EndsAt out err' status
   ends_unread reported err' status which takes same =
-      let is : reported ≡ Judge OutOfMemory = elim which [ inl is ↦ is | inr is ↦ is ] in
+      let is : reported ≡ OutOfMemory = elim which [ inl is ↦ is | inr is ↦ is ] in
       ends_without_memory out err' status (inl (kept out.contents))
       (subst (λ (f : CommandFault). Takes err err' (line (command_fault_text f))) is takes) (same ∙ ap fault_status is)

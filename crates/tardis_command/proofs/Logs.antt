@@ -13,7 +13,7 @@ use Rattle.tardis_core.specs.Works.{log_at}
 use Rattle.tardis_command.specs.Logs.{ArePutAsFar, ArePutFirst, ArePutUpTo, KeepsOthers, log_name, TellsLog, TellsFirst}
 use Rattle.tardis_command.specs.Simulating.{IsUnwritten}
 use Rattle.tardis_command.specs.declared.fault.CommandFault.{CommandFault}
-use Rattle.tardis_command.specs.declared.fault.CommandFault.TheVariants.{Judge, Config, Programs, ProgramsUnread, Schedule, ScheduleUnread, Simulation, LogUnwritten, Output}
+use Rattle.tardis_command.specs.declared.fault.CommandFault.TheVariants.{Judge, Config, Programs, ProgramsUnread, Schedule, ScheduleUnread, Simulation, LogUnwritten, Output, OutOfMemory}
 
 -- no two cores' logs are of one name
 names_differ : (out : List ℕ) (c d : ℕ) → c < d → d < 64 → log_name out c ≢ log_name out d
@@ -48,7 +48,8 @@ module _ (told told' told'' : List ℕ → Option (List ℕ)) (out : List ℕ) (
 
   pub unwritten : n < cores → (fault : CommandFault) → IsUnwritten (λ file. file ≡ core) fault → IsUnwritten (ArePutUpTo told told'' out cores w) fault
   unwritten below (LogUnwritten file) same = subst (ArePutUpTo told told'' out cores w) (sym (same ∙ is)) (put_up_to below)
-  unwritten below (Judge fault) memory = memory
+  unwritten below OutOfMemory memory = tt
+  unwritten below (Judge fault) never = absurd never
   unwritten below (Config fault) never = absurd never
   unwritten below (Programs fault) never = absurd never
   unwritten below ProgramsUnread never = absurd never

@@ -9,11 +9,10 @@ use Rattle.simulation.specs.Simulating.{IsSimulated, IsSimulationFault}
 use Rattle.simulation.specs.declared.fault.SimulationFault.{SimulationFault}
 use Rattle.tardis_core.specs.Opening.{opening_parts}
 use Rattle.tardis_core.specs.Parts.{CoreParts, world}
-use Rattle.verdict.specs.declared.judge_fault.JudgeFault.TheVariants.{BadConfig, Log, Read, OutOfMemory}
 use Rattle.tardis_command.specs.Logs.{ArePut, ArePutAsFar, ArePutUpTo}
 use Rattle.tardis_command.specs.Simulating.{AreCommandsOf, AreProgramsIn, IsRun, IsUnwritten, config_of, performed_below}
 use Rattle.tardis_command.specs.declared.fault.CommandFault.{CommandFault}
-use Rattle.tardis_command.specs.declared.fault.CommandFault.TheVariants.{Judge, Config, Programs, ProgramsUnread, Schedule, ScheduleUnread, Simulation, LogUnwritten, Output}
+use Rattle.tardis_command.specs.declared.fault.CommandFault.TheVariants.{Judge, Config, Programs, ProgramsUnread, Schedule, ScheduleUnread, Simulation, LogUnwritten, Output, OutOfMemory}
 
 module _ (told told' : List ℕ → Option (List ℕ)) (asked : Sim) (programs : List (List Instruction)) (commands : List Command) (q : CoreParts)
     (sound : first_bad (config_of asked) ≡ None) (read : AreProgramsIn told asked.programs.now programs)
@@ -27,10 +26,8 @@ module _ (told told' : List ℕ → Option (List ℕ)) (asked : Sim) (programs :
       → IfErr written (IsUnwritten (ArePutUpTo told told' asked.out.now (length programs) (world q))) → IsRun told told' asked written
   ended simulated (Ok count) counted put unwritten = (sound, programs, read, (commands, parsed, (q, simulated, (counted, put))))
   ended simulated (Err (LogUnwritten file)) counted put unwritten = (sound, programs, read, (commands, parsed, (q, simulated, unwritten)))
-  ended simulated (Err (Judge OutOfMemory)) counted put unwritten = tt
-  ended simulated (Err (Judge (BadConfig count))) counted put unwritten = absurd cc
-  ended simulated (Err (Judge (Log file line fault))) counted put unwritten = absurd cc
-  ended simulated (Err (Judge (Read file))) counted put unwritten = absurd cc
+  ended simulated (Err OutOfMemory) counted put unwritten = tt
+  ended simulated (Err (Judge fault)) counted put unwritten = absurd unwritten
   ended simulated (Err (Config fault)) counted put unwritten = absurd unwritten
   ended simulated (Err (Programs fault)) counted put unwritten = absurd unwritten
   ended simulated (Err ProgramsUnread) counted put unwritten = absurd unwritten

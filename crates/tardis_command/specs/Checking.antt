@@ -14,7 +14,7 @@ use Rattle.verdict.specs.declared.judge_fault.Count.TheVariants.{Files, Workers,
 use Rattle.verdict.specs.declared.judge_fault.JudgeFault.{JudgeFault}
 use Rattle.verdict.specs.declared.judge_fault.JudgeFault.TheVariants.{BadConfig, Log, Read, OutOfMemory}
 use Rattle.tardis_command.specs.declared.fault.CommandFault.{CommandFault}
-use Rattle.tardis_command.specs.declared.fault.CommandFault.TheVariants.{Judge, Config, Programs, ProgramsUnread, Schedule, ScheduleUnread, Simulation, LogUnwritten, Output}
+use Rattle.tardis_command.specs.declared.fault.CommandFault.TheVariants.{Judge, Config, Programs, ProgramsUnread, Schedule, ScheduleUnread, Simulation, LogUnwritten, Output, OutOfMemory as NoMemory}
 
 -- these are sources of the files of these names: each tells the bytes that the folder tells
 abbrev pub AreSourcesOf : {S : Type 0} → (List ℕ → Option (List ℕ)) → (S → Option (List ℕ)) → List S → List (Bor (List ℕ)) → Type 0
@@ -58,7 +58,8 @@ IsFaultOfPrograms told (Some name) fault = IsTextFault told name.now fault
 abbrev pub IsUnprogrammed : (List ℕ → Option (List ℕ)) → List ℕ → CommandFault → Type 0
 IsUnprogrammed told name (Programs fault) = IsTextFault told name fault
 IsUnprogrammed told name ProgramsUnread = ⊤
-IsUnprogrammed told name (Judge fault) = fault ≡ OutOfMemory
+IsUnprogrammed told name NoMemory = ⊤
+IsUnprogrammed told name (Judge fault) = ⊥
 IsUnprogrammed told name (Config fault) = ⊥
 IsUnprogrammed told name (Schedule fault) = ⊥
 IsUnprogrammed told name ScheduleUnread = ⊥
@@ -96,7 +97,8 @@ IsChecked told asked (Err (Judge (Read file))) = Against told asked.program (λ 
 IsChecked told asked (Err (Judge (BadConfig Files))) = IsOutOfRange (vec_len asked.files)
 IsChecked told asked (Err (Judge (BadConfig Workers))) = IsInRange (vec_len asked.files) × IsOutOfRange asked.workers
 IsChecked told asked (Err (Judge (BadConfig ProgramCount))) = Against told asked.program (λ programs. IsCheckedAgainst told programs asked (Err (BadConfig ProgramCount)))
-IsChecked told asked (Err (Judge OutOfMemory)) = ⊤
+IsChecked told asked (Err (Judge OutOfMemory)) = ⊥
+IsChecked told asked (Err NoMemory) = ⊤
 IsChecked told asked (Err (Programs fault)) = AreInRange asked × IsFaultOfPrograms told asked.program fault
 IsChecked told asked (Err ProgramsUnread) = AreInRange asked × IsSome asked.program
 IsChecked told asked (Err (Config fault)) = ⊥

@@ -5,7 +5,6 @@ use Rattle.command_line.specs.Asking.{Asks, IsCommandLine}
 use Rattle.command_line.specs.declared.request.Request.{Request}
 use Rattle.command_line.specs.declared.request.Request.TheVariants.{Check, Sim}
 use Rattle.log_file.specs.Devices.{Failed}
-use Rattle.verdict.specs.declared.judge_fault.JudgeFault.TheVariants.{OutOfMemory}
 use Rattle.tardis_command.specs.Answers.{answer_status, answer_text}
 use Rattle.tardis_command.specs.Checking.{FilesAreConsistent, FilesRunFlat, IsChecked}
 use Rattle.tardis_command.specs.Faults.{command_fault_text, fault_status}
@@ -14,7 +13,7 @@ use Rattle.tardis_command.specs.Simulating.{IsRun}
 use Rattle.tardis_command.specs.declared.answer.Answer.{Answer}
 use Rattle.tardis_command.specs.declared.answer.Answer.TheVariants.{Judged, Done}
 use Rattle.tardis_command.specs.declared.fault.CommandFault.{CommandFault}
-use Rattle.tardis_command.specs.declared.fault.CommandFault.TheVariants.{Judge, Output}
+use Rattle.tardis_command.specs.declared.fault.CommandFault.TheVariants.{OutOfMemory, Output}
 
 -- by an answer, by one that couldn't be printed, by a refusal, or with what the user is told of words that
 -- are no command line
@@ -67,7 +66,7 @@ AskFor words Holds = (asked : Request) × Asks words asked × Holds asked
 -- a call with these words may end so; memory may run out before it is known what they ask for
 abbrev pub IsEnd : (List ℕ → Option (List ℕ)) → (List ℕ → Option (List ℕ)) → List (List ℕ) → Ending → Type 0
 IsEnd told told' words (Misused text) = ¬ (IsCommandLine words)
-IsEnd told told' words (Refused fault) = AskFor words (λ asked. IsEndOf told told' asked (Refused fault)) ⊎ (fault ≡ Judge OutOfMemory)
+IsEnd told told' words (Refused fault) = AskFor words (λ asked. IsEndOf told told' asked (Refused fault)) ⊎ (fault ≡ OutOfMemory)
 IsEnd told told' words (Answered answer) = AskFor words (λ asked. IsEndOf told told' asked (Answered answer))
 IsEnd told told' words (Unprinted answer) = AskFor words (λ asked. IsEndOf told told' asked (Unprinted answer))
 

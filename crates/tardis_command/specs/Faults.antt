@@ -13,7 +13,14 @@ use Rattle.verdict.specs.Texts.{judge_fault_text}
 use Rattle.verdict.specs.declared.judge_fault.JudgeFault.{JudgeFault}
 use Rattle.verdict.specs.declared.judge_fault.JudgeFault.TheVariants.{BadConfig, Log, Read, OutOfMemory}
 use Rattle.tardis_command.specs.declared.fault.CommandFault.{CommandFault}
-use Rattle.tardis_command.specs.declared.fault.CommandFault.TheVariants.{Judge, Config, Programs, ProgramsUnread, Schedule, ScheduleUnread, Simulation, LogUnwritten, Output}
+use Rattle.tardis_command.specs.declared.fault.CommandFault.TheVariants.{Judge, Config, Programs, ProgramsUnread, Schedule, ScheduleUnread, Simulation, LogUnwritten, Output, OutOfMemory as NoMemoryAtAll}
+
+-- why there is no verdict, as a refusal of the command
+abbrev pub from_judge : JudgeFault → CommandFault
+from_judge (BadConfig count) = Judge (BadConfig count)
+from_judge (Log file line fault) = Judge (Log file line fault)
+from_judge (Read file) = Judge (Read file)
+from_judge OutOfMemory = NoMemoryAtAll
 
 -- want of memory is told as everywhere
 abbrev pub programs_fault_text : ProgramFault → List ℕ
@@ -36,6 +43,7 @@ command_fault_text ScheduleUnread = codes "refused: schedule: 28 Read"
 command_fault_text (Simulation fault) = codes "refused: " ++ simulation_fault_text fault
 command_fault_text (LogUnwritten file) = codes "refused: file " ++ (decimal file ++ codes ": 29 Write")
 command_fault_text Output = codes "refused: output: 29 Write"
+command_fault_text NoMemoryAtAll = codes "refused: 10 OutOfMemory"
 
 abbrev pub judge_fault_status : JudgeFault → ℕ
 judge_fault_status (Log file line fault) = 2
@@ -63,3 +71,4 @@ fault_status ScheduleUnread = 4
 fault_status (Simulation fault) = 4
 fault_status (LogUnwritten file) = 4
 fault_status Output = 4
+fault_status NoMemoryAtAll = 4

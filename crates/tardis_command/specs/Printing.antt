@@ -1,14 +1,13 @@
 -- Why a line isn't printed.
 use Rattle.std.specs.Prelude.{◌≡◌, ℕ, List}
-use Rattle.verdict.specs.declared.judge_fault.JudgeFault.TheVariants.{BadConfig, Log, Read, OutOfMemory}
 use Rattle.tardis_command.specs.Endings.{HasFailed, Sink, TakesBeginning}
 use Rattle.tardis_command.specs.declared.fault.CommandFault.{CommandFault}
-use Rattle.tardis_command.specs.declared.fault.CommandFault.TheVariants.{Judge, Config, Programs, ProgramsUnread, Schedule, ScheduleUnread, Simulation, LogUnwritten, Output}
+use Rattle.tardis_command.specs.declared.fault.CommandFault.TheVariants.{Judge, Config, Programs, ProgramsUnread, Schedule, ScheduleUnread, Simulation, LogUnwritten, Output, OutOfMemory}
 
 -- the sink failed behind a beginning of the line, or there was no memory and it is as it was
 abbrev pub IsUnprinted : Sink → Sink → List ℕ → CommandFault → Type 0
 IsUnprinted old new line Output = HasFailed old new × TakesBeginning old new line
-IsUnprinted old new line (Judge OutOfMemory) = new ≡ old
+IsUnprinted old new line OutOfMemory = new ≡ old
 IsUnprinted old new line (Programs fault) = ⊥
 IsUnprinted old new line ProgramsUnread = ⊥
 IsUnprinted old new line (Config fault) = ⊥
@@ -16,6 +15,4 @@ IsUnprinted old new line (Schedule fault) = ⊥
 IsUnprinted old new line ScheduleUnread = ⊥
 IsUnprinted old new line (Simulation fault) = ⊥
 IsUnprinted old new line (LogUnwritten file) = ⊥
-IsUnprinted old new line (Judge (BadConfig count)) = ⊥
-IsUnprinted old new line (Judge (Log file place fault)) = ⊥
-IsUnprinted old new line (Judge (Read file)) = ⊥
+IsUnprinted old new line (Judge fault) = ⊥

@@ -15,11 +15,10 @@ use Rattle.tardis_core.specs.Opening.{opening_parts}
 use Rattle.tardis_core.specs.Parts.{CoreParts, world}
 use Rattle.tardis_core.specs.Works.{log_at}
 use Rattle.simulation.specs.Simulating.{IsSimulated, IsSimulationFault}
-use Rattle.verdict.specs.declared.judge_fault.JudgeFault.TheVariants.{BadConfig, Log, Read, OutOfMemory}
 use Rattle.tardis_command.specs.Checking.{IsTextFault}
 use Rattle.tardis_command.specs.Logs.{ArePut, ArePutAsFar, ArePutUpTo}
 use Rattle.tardis_command.specs.declared.fault.CommandFault.{CommandFault}
-use Rattle.tardis_command.specs.declared.fault.CommandFault.TheVariants.{Judge, Config, Programs, ProgramsUnread, Schedule, ScheduleUnread, Simulation, LogUnwritten, Output}
+use Rattle.tardis_command.specs.declared.fault.CommandFault.TheVariants.{Judge, Config, Programs, ProgramsUnread, Schedule, ScheduleUnread, Simulation, LogUnwritten, Output, OutOfMemory}
 
 -- ---- what was asked for
 
@@ -53,7 +52,8 @@ IsFaultOfSchedule told (Some name) cores fault = (text : List ℕ) × Tells (tol
 abbrev pub IsUnscheduled : (List ℕ → Option (List ℕ)) → Option (Bor (List ℕ)) → ℕ → CommandFault → Type 0
 IsUnscheduled told name cores (Schedule fault) = IsFaultOfSchedule told name cores fault
 IsUnscheduled told name cores ScheduleUnread = IsSome name
-IsUnscheduled told name cores (Judge fault) = fault ≡ OutOfMemory
+IsUnscheduled told name cores OutOfMemory = ⊤
+IsUnscheduled told name cores (Judge fault) = ⊥
 IsUnscheduled told name cores (Config fault) = ⊥
 IsUnscheduled told name cores (Programs fault) = ⊥
 IsUnscheduled told name cores ProgramsUnread = ⊥
@@ -71,7 +71,8 @@ performed_below w (suc c) = performed_below w c + length (log_at w c)
 -- a core's log can't be written, of whose number this holds, or memory ran out
 abbrev pub IsUnwritten : (ℕ → Type 0) → CommandFault → Type 0
 IsUnwritten Holds (LogUnwritten file) = Holds file
-IsUnwritten Holds (Judge fault) = fault ≡ OutOfMemory
+IsUnwritten Holds OutOfMemory = ⊤
+IsUnwritten Holds (Judge fault) = ⊥
 IsUnwritten Holds (Config fault) = ⊥
 IsUnwritten Holds (Programs fault) = ⊥
 IsUnwritten Holds ProgramsUnread = ⊥
@@ -113,8 +114,6 @@ IsRun told told' asked (Err (Simulation fault)) =
 IsRun told told' asked (Err (LogUnwritten file)) =
     Scheduled told asked (λ programs commands. EndsIn asked programs commands (λ q.
     ArePutUpTo told told' asked.out.now (length programs) (world q) file))
-IsRun told told' asked (Err (Judge OutOfMemory)) = ⊤
-IsRun told told' asked (Err (Judge (BadConfig count))) = ⊥
-IsRun told told' asked (Err (Judge (Log file line fault))) = ⊥
-IsRun told told' asked (Err (Judge (Read file))) = ⊥
+IsRun told told' asked (Err OutOfMemory) = ⊤
+IsRun told told' asked (Err (Judge fault)) = ⊥
 IsRun told told' asked (Err Output) = ⊥

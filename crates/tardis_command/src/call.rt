@@ -15,7 +15,6 @@ use command_line::{Refusal, Request, read};
 use log_file::ByteSink;
 use std::alloc::Global;
 use std::thread::Threads;
-use verdict::JudgeFault;
 
 /// The exit status of a call whose words are no command line of the program.
 const USAGE: u8 = 3;
@@ -52,7 +51,7 @@ pub fn command<R: Threads + Sync, F: Folder, O: ByteSink, E: ByteSink>(
             return USAGE;
         }
         Err(Refusal::OutOfMemory) => {
-            return refuse(alloc, err, CommandFault::Judge(JudgeFault::OutOfMemory));
+            return refuse(alloc, err, CommandFault::OutOfMemory);
         }
     };
     match perform(rt, alloc, &request, folder, out) {

@@ -1,9 +1,8 @@
 //! Why a command was refused.
 
 ghost use Rattle.std.specs.Prelude.{◌≡◌};
-ghost use Rattle.tardis_command.specs.Faults.{fault_status};
-ghost use Rattle.tardis_command.specs.declared.fault.CommandFault.TheVariants.{Config, Judge, Output, Programs, Schedule, Simulation};
-ghost use Rattle.verdict.specs.declared.judge_fault.JudgeFault.TheVariants.{OutOfMemory};
+ghost use Rattle.tardis_command.specs.Faults.{fault_status, from_judge};
+ghost use Rattle.tardis_command.specs.declared.fault.CommandFault.TheVariants.{Config, OutOfMemory, Output, Programs, Schedule, Simulation};
 
 use core_program::ProgramFault;
 use lease_rule::BadConfig;
@@ -19,7 +18,7 @@ use verdict::JudgeFault;
 /// Why a command was refused.
 #[derive(Clone, Copy, Debug, PartialEq, Eq, Error)]
 pub enum CommandFault {
-    /// There is no verdict, or a growth was refused.
+    /// There is no verdict, and not for want of memory.
     Judge(JudgeFault),
     /// A number of the configuration is out of its range.
     Config(BadConfig),
@@ -37,6 +36,8 @@ pub enum CommandFault {
     LogUnwritten { file: usize },
     /// Standard output failed.
     Output,
+    /// A growth was refused.
+    OutOfMemory,
 }
 
 impl CommandFault {
@@ -56,7 +57,7 @@ impl CommandFault {
             CommandFault::Schedule(_) => 2,
             CommandFault::ProgramsUnread | CommandFault::ScheduleUnread => 4,
             CommandFault::Simulation(_) | CommandFault::LogUnwritten { .. } => 4,
-            CommandFault::Output => 4,
+            CommandFault::Output | CommandFault::OutOfMemory => 4,
         }
     }
 }
@@ -84,15 +85,19 @@ impl Display for CommandFault {
             CommandFault::Simulation(fault) => write!(f, "refused: {fault}"),
             CommandFault::LogUnwritten { file } => write!(f, "refused: file {file}: 29 Write"),
             CommandFault::Output => f.write_str("refused: output: 29 Write"),
+            CommandFault::OutOfMemory => f.write_str("refused: 10 OutOfMemory"),
         }
     }
 }
 
 impl From<JudgeFault> for CommandFault {
-    ghost from_gives = { λ reason fault. fault ≡ Judge reason };
+    ghost from_gives = { λ reason fault. fault ≡ from_judge reason };
 
     fn from(reason: JudgeFault) -> CommandFault {
-        CommandFault::Judge(reason)
+        match reason {
+            JudgeFault::OutOfMemory => CommandFault::OutOfMemory,
+            reason => CommandFault::Judge(reason),
+        }
     }
 }
 
@@ -137,9 +142,9 @@ impl From<WriteFailed> for CommandFault {
 }
 
 impl From<AllocError> for CommandFault {
-    ghost from_gives = { λ _ fault. fault ≡ Judge OutOfMemory };
+    ghost from_gives = { λ _ fault. fault ≡ OutOfMemory };
 
     fn from(_error: AllocError) -> CommandFault {
-        CommandFault::Judge(JudgeFault::OutOfMemory)
+        CommandFault::OutOfMemory
     }
 }

@@ -1,6 +1,6 @@
 //! The gate of the program.
 
-use address_check::{Gate, Phase};
+use verdict::{Gate, Phase};
 
 /// A gate that every worker passes at once.
 #[derive(Clone, Copy, Debug, PartialEq, Eq)]

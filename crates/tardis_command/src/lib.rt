@@ -15,8 +15,3 @@ pub use answer::Answer;
 pub use call::command;
 pub use fault::CommandFault;
 pub use folder::Folder;
-
-#[cfg(test)]
-mod sim_tests;
-#[cfg(test)]
-mod tests;

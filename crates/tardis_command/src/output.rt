@@ -2,18 +2,16 @@
 
 ghost use Rattle.std.specs.Prelude.{◌≡◌, ◌⊎◌, IfErr, OnOk};
 ghost use Rattle.std.specs.Io.KnownBytes.{Appends};
-ghost use Rattle.verdict.specs.declared.judge_fault.JudgeFault.TheVariants.{OutOfMemory};
 ghost use Rattle.tardis_command.specs.Answers.{answer_text};
 ghost use Rattle.tardis_command.specs.Endings as endings;
 ghost use Rattle.tardis_command.specs.Faults as faults;
 ghost use Rattle.tardis_command.specs.Printing as printing;
-ghost use Rattle.tardis_command.specs.declared.fault.CommandFault.TheVariants.{Judge};
+ghost use Rattle.tardis_command.specs.declared.fault.CommandFault.TheVariants.{OutOfMemory};
 
 use crate::answer::Answer;
 use crate::fault::CommandFault;
 use log_file::{ByteSink, write_all};
 use std::alloc::Global;
-use verdict::JudgeFault;
 
 /// Prints the line of an answer: 29 where standard output fails, and then it took a beginning of it.
 pub(crate) fn print_answer<O: ByteSink>(
@@ -36,7 +34,7 @@ pub(crate) fn print_answer<O: ByteSink>(
 /// Tells the user of a refusal on standard error, and answers its exit status. Where there is no
 /// memory for that, it tells of this in its place.
 pub(crate) fn refuse<E: ByteSink>(alloc: Global, err: &mut E, fault: CommandFault) -> u8
-    ensures { (told : CommandFault) × ((told ≡ fault) ⊎ (told ≡ Judge OutOfMemory))
+    ensures { (told : CommandFault) × ((told ≡ fault) ⊎ (told ≡ OutOfMemory))
         × endings.Takes (endings.sink_of E.contents E.failed err.old)
         (endings.sink_of E.contents E.failed err.new)
         (endings.line (faults.command_fault_text told))
@@ -49,7 +47,7 @@ pub(crate) fn refuse<E: ByteSink>(alloc: Global, err: &mut E, fault: CommandFaul
         }
         Err(_) => {
             tell(err, "refused: 10 OutOfMemory\n");
-            CommandFault::Judge(JudgeFault::OutOfMemory).status()
+            CommandFault::OutOfMemory.status()
         }
     }
 }

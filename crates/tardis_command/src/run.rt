@@ -21,7 +21,6 @@ use schedule::{Command, parse};
 use simulation::simulate;
 use std::alloc::Global;
 use tardis_core::Core;
-use verdict::JudgeFault;
 
 /// How many turns a core has for an operation, where it runs as a thread; a simulation has no use
 /// for them.
@@ -42,7 +41,7 @@ pub(crate) fn run<F: Folder>(
     let programs = read_programs(alloc, folder, asked.programs)?;
     let commands = read_schedule(alloc, folder, asked.schedule, programs.len())?;
     let Ok(mut machine) = Core::new(alloc, &programs, &config) else {
-        return Err(CommandFault::Judge(JudgeFault::OutOfMemory));
+        return Err(CommandFault::OutOfMemory);
     };
     let ended = simulate(alloc, &mut machine, commands.as_slice(), asked.seed);
     let written = write_logs(alloc, folder, asked.out, &machine, programs.len());
@@ -87,7 +86,7 @@ fn read_schedule<F: Folder>(
         Ok(text) => text,
         Err(ReadFault::Read) => return Err(CommandFault::ScheduleUnread),
         Err(ReadFault::OutOfMemory) => {
-            return Err(CommandFault::Judge(JudgeFault::OutOfMemory));
+            return Err(CommandFault::OutOfMemory);
         }
     };
     let commands = parse(alloc, text.as_slice(), cores)?;
@@ -157,7 +156,7 @@ fn write_log_of<F: Folder>(
     let name = format!(in alloc; "{out}.{}", core.get())?;
     let mut text = MemSink::new(alloc, &[]);
     if write_log(alloc, &mut text, core, cores as u64, records).is_err() {
-        return Err(CommandFault::Judge(JudgeFault::OutOfMemory));
+        return Err(CommandFault::OutOfMemory);
     }
     match folder.put(name.as_str(), text.bytes()) {
         Ok(()) => Ok(()),

@@ -10,7 +10,6 @@ use crate::folder::Folder;
 use core_program::ProgramSet;
 use log_file::{ReadFault, read_all};
 use std::alloc::Global;
-use verdict::JudgeFault;
 
 /// The text of a file of the folder: 28 where it can't be opened or read.
 pub(crate) fn read_text<F: Folder>(
@@ -40,7 +39,7 @@ pub(crate) fn read_programs<F: Folder>(
         Ok(text) => text,
         Err(ReadFault::Read) => return Err(CommandFault::ProgramsUnread),
         Err(ReadFault::OutOfMemory) => {
-            return Err(CommandFault::Judge(JudgeFault::OutOfMemory));
+            return Err(CommandFault::OutOfMemory);
         }
     };
     let programs = ProgramSet::parse(alloc, text.as_slice())?;

@@ -9,7 +9,7 @@ use Rattle.core_unit.specs.declared.fault.UnitFault.{UnitFault}
 use Rattle.core_unit.specs.declared.outcome.Outcome.{Outcome}
 use Rattle.core_unit.specs.declared.outcome.Outcome.TheVariants as outcome
 use Rattle.tardis_core.specs.Machine.{World, CoreLeads, Leads, by_core, no_effect, core_event, bars, bars_at, is_barred, with_core}
-use Rattle.tardis_core.specs.Parts.{CoreParts, world, IsMachine}
+use Rattle.tardis_core.specs.Parts.{CoreParts, world, IsPlaced}
 use Rattle.tardis_core.specs.SeatParts.{SeatParts}
 use Rattle.tardis_core.specs.Seats.{SeatGoes, SeatMeets, SeatOutcome, seat_outcome, seen}
 use Rattle.tardis_core.specs.Seats as seat
@@ -57,7 +57,7 @@ module _ (p : CoreParts) (c : ℕ) where
         let b : is_barred p.config (world p) e ≡ true = barred_at p.config (world p) e c own ∙ ap (bars_at e) (none_in_map seen p.seats c none) in
         record { leads = no_effect e b; barred = (λ q. b, λ q. refl); refused = tt; config = refl }
 
-  module _ (k : IsMachine p) (s : SeatParts) (there : slice_get p.seats c ≡ Some s) where
+  module _ (k : IsPlaced p) (s : SeatParts) (there : slice_get p.seats c ≡ Some s) where
     abbrev pub core_is : s.unit.core ≡ c
     core_is = (k.seats c s there).core
 
@@ -70,7 +70,7 @@ module _ (p : CoreParts) (c : ℕ) where
     pub own_event : (e : Event) → core_event e ≡ Some c → core_event e ≡ Some s.unit.core
     own_event e own = own ∙ ap (λ n. Some n) (sym core_is)
 
-    pub kept_machine : (t : SeatParts) → SameUnit s.unit t.unit → IsMachine (with_seat p c t)
+    pub kept_machine : (t : SeatParts) → SameUnit s.unit t.unit → IsPlaced (with_seat p c t)
     kept_machine t same = record {
       seats = λ d x found. elim (found_in_set p.seats c t d x found) [
         | inl new ↦ record {

@@ -1,5 +1,6 @@
 -- What a unit's outcome says of its core in the machine.
 use Rattle.std.proofs.Common.{◌≡◌, ◌≢◌, ℕ, ◌+◌, Bool, true, false, [], ◌∷◌, ◌++◌, length, inl, inr, refl, sym, ap, subst, ◌∙◌}
+use Rattle.manager_slice.specs.Limits.{entry_limit}
 use Rattle.std.specs.Prelude.{◌⊎◌, ◌||◌, not, nat_lt, if◌then◌else◌, Option, Some, None, is_some, is_none, IsSome, Result, Ok, Err}
 use Rattle.std.specs.FinMap as map
 use Rattle.mem_op.specs.declared.id.Op.{Op}
@@ -64,7 +65,7 @@ pub record WasMade (u : UnitParts) (e : CoreEntry) (o : Outcome) (t : UnitParts)
 
 pub made_or_refused : (u : UnitParts) (e : CoreEntry) (fault : Option StampFault) (o : Outcome) (t : UnitParts) (r : UnitResult) (q : UnitParts)
     → Meets (recorded u e fault o t) r u q → ((f : UnitFault) × (r ≡ Err f)) ⊎ WasMade u e o t r q
-made_or_refused u e fault o t r q = by_room (nat_lt (length u.transcript) 1048576) fault r
+made_or_refused u e fault o t r q = by_room (nat_lt (length u.transcript) entry_limit) fault r
   where
     by_room : (b : Bool) (fault : Option StampFault) (r : UnitResult)
         → Meets (if b then unless_faulty fault (Steps o (record t { transcript = u.transcript ++ e ∷ [] })) else Refuses TranscriptFull) r u q

@@ -1,5 +1,6 @@
 pub mod Alone
 pub mod Goes
+pub mod Leading
 pub mod Nexts
 pub mod Opened
 pub mod Placed

@@ -11,9 +11,10 @@ use Rattle.manager_slice.specs.Table.{Slice, opening as empty_slice}
 use Rattle.core_unit.specs.Core.{Core, new_core}
 use Rattle.tardis_core.specs.Machine.{opening}
 use Rattle.tardis_core.specs.Opening.{new_seat, new_seats, new_slice, new_slices, opening_parts}
-use Rattle.tardis_core.specs.Parts.{world, IsMachine}
+use Rattle.tardis_core.specs.Parts.{world, IsMachine, IsPlaced}
 use Rattle.tardis_core.specs.SeatParts.{SeatParts}
 use Rattle.tardis_core.specs.Seats.{seen}
+use Rattle.tardis_core.proofs.Leading.{reached_start}
 
 -- ---- the cores
 
@@ -84,8 +85,8 @@ slices_opening g (suc k) =
 
 -- ---- the machine
 
-pub opening_kept : (programs : List (List Instruction)) (g : ConfigParts) → IsMachine (opening_parts programs g)
-opening_kept programs g = record {
+opening_placed : (programs : List (List Instruction)) (g : ConfigParts) → IsPlaced (opening_parts programs g)
+opening_placed programs g = record {
   seats = λ c s found. let at = seat_found g 0 programs c s found in record { core = at.0 ∙ (let e : 0 + c ≡ c = omega arith in e); config = at.1 };
   slices = λ n s found. let at = slice_found g g.slices n s found in record { number = at.0; config = at.1 };
   count = length-new_slices g g.slices;
@@ -95,3 +96,13 @@ pub opening_world : (programs : List (List Instruction)) (g : ConfigParts) → w
 opening_world programs g =
     ap (λ (cores : List Core). record { cores = cores; slices = map seen_slice (new_slices g g.slices) }) (seen_opening g 0 programs)
     ∙ ap (λ (slices : List Slice). record { cores = map new_core programs; slices = slices }) (slices_opening g g.slices)
+
+programs_opening : (g : ConfigParts) (c : ℕ) (programs : List (List Instruction)) → map (λ (s : SeatParts). s.unit.program) (new_seats g c programs) ≡ programs
+programs_opening g c [] = refl
+programs_opening g c (x ∷ xs) = ap (λ ps. x ∷ ps) (programs_opening g (suc c) xs)
+
+pub opening_kept : (programs : List (List Instruction)) (g : ConfigParts) → IsMachine (opening_parts programs g)
+opening_kept programs g = record {
+  placed = opening_placed programs g;
+  reached = reached_start (opening_parts programs g) (opening_world programs g ∙ ap (λ ps. opening ps g.slices) (sym (programs_opening g 0 programs)));
+}

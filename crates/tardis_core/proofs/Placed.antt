@@ -1,6 +1,7 @@
 -- Items of a list that are replaced.
 use Rattle.std.proofs.Common.{◌≡◌, ℕ, zero, suc, ◌<◌, ◌≤◌, List, length, get_or, [], ◌∷◌, inl, inr, refl, sym, ap, ◌∙◌}
 use Rattle.std.specs.Prelude.{◌⊎◌, Some, None, option_map, map, slice_get, slice_set}
+use Rattle.std.proofs.lemmas.List.{map-set}
 use Rattle.std.proofs.lemmas.Option.{slice_get-get_or, slice_get-map, slice_get_past}
 
 -- what stands there, put there again, changes nothing
@@ -31,3 +32,8 @@ stands xs i j x same below e = ap (slice_get xs) (sym same) ∙ slice_get-get_or
 
 pub stands_none : {X : Type 0} (xs : List X) (i j : ℕ) → j ≡ i → length xs ≤ j → slice_get xs i ≡ None
 stands_none xs i j same past = ap (slice_get xs) (sym same) ∙ slice_get_past xs j past
+
+-- an item put in the place of another that agrees with it here
+pub map-set_same : {A B : Type 0} (f : A → B) (xs : List A) (i : ℕ) (x t : A) → slice_get xs i ≡ Some x → f t ≡ f x → map f (slice_set xs i t) ≡ map f xs
+map-set_same f xs i x t there same =
+    map-set f xs i t ∙ ap (slice_set (map f xs) i) same ∙ set_again (map f xs) i (f x) (found_in_map f xs i x there)

@@ -39,20 +39,20 @@ run_from-push p (x ∷ events) e = by_first (λ q. run_from-push q events e) (be
     by_first later (Some q) = later q
 
 -- the machine behind the first events of a run
-pub record IsReached (programs : List (List Instruction)) (g : ConfigParts) (events : List Event) (p : CoreParts) : Type 0 where
+pub record IsRunSoFar (programs : List (List Instruction)) (g : ConfigParts) (events : List Event) (p : CoreParts) : Type 0 where
   pub reached : run_from (opening_parts programs g) events ≡ Some p
   pub run : Run g (opening programs g.slices) events (world p)
   pub config : p.config ≡ g
 
 module _ (programs : List (List Instruction)) (g : ConfigParts) (events : List Event) (n : ℕ) (e : Event) (below : n < length events) (here : e ≡ get_or events n e)
-    (p q : CoreParts) (so_far : IsReached programs g (take n events) p) where
+    (p q : CoreParts) (so_far : IsRunSoFar programs g (take n events) p) where
   one_more : take (n + 1) events ≡ take n events ++ e ∷ []
   one_more = take_more events n e below ∙ ap (λ x. take n events ++ x ∷ []) (sym here)
 
-  pub reached_next : (o : Outcome) → Meets (step_outcome p e) (Ok o) p q → MachineGoes e p (Ok o) q → IsReached programs g (take (n + 1) events) q
+  pub reached_next : (o : Outcome) → Meets (step_outcome p e) (Ok o) p q → MachineGoes e p (Ok o) q → IsRunSoFar programs g (take (n + 1) events) q
   reached_next o met goes =
       let led = subst (λ (x : ConfigParts). Leads x (world p) e o (world q)) so_far.config goes.leads in
-      subst (λ (es : List Event). IsReached programs g es q) (sym one_more)
+      subst (λ (es : List Event). IsRunSoFar programs g es q) (sym one_more)
       (record {
         reached = run_from-push (opening_parts programs g) (take n events) e ∙ ap (option_and_then (λ x. behind (step_outcome x e))) so_far.reached
             ∙ behind_met (step_outcome p e) o p q met;
@@ -71,7 +71,7 @@ module _ (programs : List (List Instruction)) (g : ConfigParts) (events : List E
   }
 
 pub reached_start : (programs : List (List Instruction)) (g : ConfigParts) (p : CoreParts) → p ≡ opening_parts programs g → world p ≡ opening programs g.slices
-    → IsReached programs g [] p
+    → IsRunSoFar programs g [] p
 reached_start programs g p parts seen = record {
   reached = ap (λ x. Some x) (sym parts);
   run = subst (λ (w : World). Run g (opening programs g.slices) [] w) (sym seen) start;

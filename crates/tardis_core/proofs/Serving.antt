@@ -6,7 +6,7 @@ use Rattle.lease_rule.specs.ConfigParts.{ConfigParts}
 use Rattle.line_stamps.specs.declared.message.Message.{Message}
 use Rattle.line_stamps.specs.declared.message.Reply.{Reply}
 use Rattle.manager_slice.specs.Changes.{slice_of}
-use Rattle.manager_slice.specs.Messages.{addr_of}
+use Rattle.line_stamps.specs.Messages.{addr_of}
 use Rattle.manager_slice.specs.Outcome as slice
 use Rattle.manager_slice.specs.Parts.{SliceParts}
 use Rattle.manager_slice.specs.Table.{Slice, Handles}
@@ -14,7 +14,7 @@ use Rattle.manager_slice.specs.declared.fault.SliceFault.{SliceFault}
 use Rattle.core_unit.specs.Core.{Core}
 use Rattle.core_unit.specs.declared.outcome.Outcome.TheVariants as outcome
 use Rattle.tardis_core.specs.Machine.{World, Leads, serves, spills, no_effect, is_barred, bars_at, bars_spill, slice_number, with_core, with_slice}
-use Rattle.tardis_core.specs.Parts.{CoreParts, world, IsMachine}
+use Rattle.tardis_core.specs.Parts.{CoreParts, world, IsPlaced}
 use Rattle.tardis_core.specs.SeatParts.{SeatParts}
 use Rattle.tardis_core.specs.Seats.{asked_by, seen}
 use Rattle.tardis_core.specs.Steps.{Meets, MachineGoes, served_outcome, spill_told, spilled_outcome, step_outcome, with_seat}
@@ -34,7 +34,7 @@ seen_slice s = slice_of s.state
 
 -- ---- a slice's part
 
-module _ (p : CoreParts) (k : IsMachine p) (n : ℕ) (s : SliceParts) (at : slice_get p.slices n ≡ Some s) where
+module _ (p : CoreParts) (k : IsPlaced p) (n : ℕ) (s : SliceParts) (at : slice_get p.slices n ≡ Some s) where
   -- the machine with another slice n
   abbrev pub with_slice_parts : SliceParts → CoreParts
   with_slice_parts t = record p { slices = slice_set p.slices n t }
@@ -42,7 +42,7 @@ module _ (p : CoreParts) (k : IsMachine p) (n : ℕ) (s : SliceParts) (at : slic
   pub slice_again : with_slice_parts s ≡ p
   slice_again = ap (λ (slices : List SliceParts). record p { slices = slices }) (set_again p.slices n s at)
 
-  pub kept_slices : (t : SliceParts) → t.number ≡ s.number → t.config ≡ s.config → IsMachine (with_slice_parts t)
+  pub kept_slices : (t : SliceParts) → t.number ≡ s.number → t.config ≡ s.config → IsPlaced (with_slice_parts t)
   kept_slices t number config = record {
     seats = k.seats;
     slices = λ m x found. elim (found_in_set p.slices n t m x found) [
@@ -67,7 +67,7 @@ idle_bars (Some m) (Some x) e = refl
 
 -- ---- a serve
 
-module _ (p : CoreParts) (k : IsMachine p) (c : ℕ) (s : SeatParts) (there : slice_get p.seats c ≡ Some s) where
+module _ (p : CoreParts) (k : IsPlaced p) (c : ℕ) (s : SeatParts) (there : slice_get p.seats c ≡ Some s) where
   serve_barred_is : is_barred p.config (world p) (event.Serve c) ≡ (is_none s.unit.hand || is_some s.kept)
   serve_barred_is = ap (bars_at (event.Serve c)) (found_in_map seen p.seats c s there)
 
@@ -151,7 +151,7 @@ module _ (p : CoreParts) (k : IsMachine p) (c : ℕ) (s : SeatParts) (there : sl
           config = refl;
         }
 
-    pub kept_served : (x : Reply) (t : SliceParts) → t.number ≡ sl.number → t.config ≡ sl.config → IsMachine (serve_at x t)
+    pub kept_served : (x : Reply) (t : SliceParts) → t.number ≡ sl.number → t.config ≡ sl.config → IsPlaced (serve_at x t)
     kept_served x t number config =
         let seats = kept_machine p c k s there (record { unit = s.unit; kept = Some x }) (record { core = refl; program = refl; config = refl }) in
         let slices = kept_slices p k n sl at t number config in
@@ -159,7 +159,7 @@ module _ (p : CoreParts) (k : IsMachine p) (c : ℕ) (s : SeatParts) (there : sl
 
 -- ---- a spill
 
-module _ (p : CoreParts) (k : IsMachine p) (a n : ℕ) (n_is : n ≡ slice_number p.config a) (sl : SliceParts) (at : slice_get p.slices n ≡ Some sl) where
+module _ (p : CoreParts) (k : IsPlaced p) (a n : ℕ) (n_is : n ≡ slice_number p.config a) (sl : SliceParts) (at : slice_get p.slices n ≡ Some sl) where
   spill_number : slice_get p.slices (slice_number p.config a) ≡ Some sl
   spill_number = ap (slice_get p.slices) (sym n_is) ∙ at
 
@@ -234,10 +234,10 @@ module _ (p : CoreParts) (k : IsMachine p) (a n : ℕ) (n_is : n ≡ slice_numbe
       refusal (Some (Shared l)) w e = absurd (cc)
 
   -- the slice is still the same one
-  pub kept_spilled : (went : Bool) (t : SliceParts) → slice.Meets (slice.evict_outcome sl a) (Ok went) sl t → IsMachine (with_slice_parts p k n sl at t)
+  pub kept_spilled : (went : Bool) (t : SliceParts) → slice.Meets (slice.evict_outcome sl a) (Ok went) sl t → IsPlaced (with_slice_parts p k n sl at t)
   kept_spilled went t met = by_outcome (slice.evict_outcome sl a) met
     where
-      by_outcome : (o : slice.Outcome Bool) → slice.Meets o (Ok went) sl t → IsMachine (with_slice_parts p k n sl at t)
+      by_outcome : (o : slice.Outcome Bool) → slice.Meets o (Ok went) sl t → IsPlaced (with_slice_parts p k n sl at t)
       by_outcome (slice.Refuses f) w = let q = w.0 in absurd (cc)
       by_outcome (slice.Answers y) w = kept_slices p k n sl at t (ap (λ (x : SliceParts). x.number) w.1) (ap (λ (x : SliceParts). x.config) w.1)
       by_outcome (slice.Steps y entries state) w = kept_slices p k n sl at t (ap (λ (x : SliceParts). x.number) w.1) (ap (λ (x : SliceParts). x.config) w.1)

@@ -9,7 +9,8 @@ use Rattle.line_stamps.specs.declared.message.Reply.TheVariants.{ShRep, ExRep, R
 use Rattle.private_cache.specs.Steps.{line_at, used, has_room, fill_line}
 use Rattle.private_cache.specs.Table.{filled}
 use Rattle.private_cache.specs.declared.held.Held.{Held}
-use Rattle.manager_slice.specs.Messages.{addr_of, is_request}
+use Rattle.line_stamps.specs.Messages.{addr_of}
+use Rattle.manager_slice.specs.Messages.{is_request}
 use Rattle.core_unit.specs.Core.{has_place, fits}
 use Rattle.core_unit.specs.Outcomes.{Refuses, Answers, Meets, recorded, hand_outcome, reply_outcome, fill_outcome, take_outcome, without_hand}
 use Rattle.core_unit.specs.Parts.{UnitParts, core_of}

@@ -18,7 +18,8 @@ use Rattle.private_cache.specs.Table.{Hit, filled, given}
 use Rattle.private_cache.specs.declared.held.Held.{Held}
 use Rattle.private_cache.specs.declared.held.Held.TheVariants.{Shared, Exclusive}
 use Rattle.manager_slice.specs.Lines.{is_some_shared}
-use Rattle.manager_slice.specs.Messages.{addr_of, is_request}
+use Rattle.line_stamps.specs.Messages.{addr_of}
+use Rattle.manager_slice.specs.Messages.{is_request}
 use Rattle.manager_slice.specs.Table.{Slice, Evicts, Handles, opening as new_slice}
 use Rattle.manager_slice.specs.declared.managed.HistoryEntry.{HistoryEntry}
 use Rattle.core_unit.specs.Core.{Core, new_core, next_of, op_addr, next_id, tries, next_request, after_hit, has_place, has_dropped, has_given, has_asked, has_taken, has_let_go, has_bumped, fits}

@@ -1,11 +1,13 @@
 -- The parts of the machine that contracts see.
 use Rattle.std.specs.Prelude.{◌≡◌, ℕ, List, length, Some, map, slice_get}
 use Rattle.lease_rule.specs.ConfigParts.{ConfigParts}
+use Rattle.core_program.specs.declared.instruction.Instruction.{Instruction}
 use Rattle.manager_slice.specs.Changes.{slice_of}
 use Rattle.manager_slice.specs.Parts.{SliceParts}
 use Rattle.core_unit.specs.Parts.{core_of}
-use Rattle.tardis_core.specs.Machine.{World}
+use Rattle.tardis_core.specs.Machine.{World, Run, opening}
 use Rattle.tardis_core.specs.SeatParts.{SeatParts}
+use Rattle.tardis_core.specs.declared.event.Event.{Event}
 
 pub record CoreParts : Type 0 where
   pub config : ConfigParts
@@ -26,8 +28,21 @@ pub record IsSliceAt (g : ConfigParts) (n : ℕ) (s : SliceParts) : Type 0 where
   pub number : s.number ≡ n
   pub config : s.config ≡ g
 
--- what the type of the machine keeps
-pub record IsMachine (p : CoreParts) : Type 0 where
+-- each core and each slice is at its number
+pub record IsPlaced (p : CoreParts) : Type 0 where
   pub seats : (c : ℕ) (seat : SeatParts) → slice_get p.seats c ≡ Some seat → IsSeat p.config c seat
   pub slices : (n : ℕ) (s : SliceParts) → slice_get p.slices n ≡ Some s → IsSliceAt p.config n s
   pub count : length p.slices ≡ p.config.slices
+
+-- the programs of its cores
+abbrev pub programs_of : CoreParts → List (List Instruction)
+programs_of p = map (λ seat. seat.unit.program) p.seats
+
+-- some list of events leads to it from the machine as it starts
+abbrev pub IsReached : CoreParts → Type 0
+IsReached p = (events : List Event) × Run p.config (opening (programs_of p) p.config.slices) events (world p)
+
+-- what the type of the machine keeps
+pub record IsMachine (p : CoreParts) : Type 0 where
+  pub placed : IsPlaced p
+  pub reached : IsReached p

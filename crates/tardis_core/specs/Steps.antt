@@ -2,7 +2,7 @@
 use Rattle.std.specs.Prelude.{if◌then◌else◌, ◌≡◌, ◌↔◌, IfOk, OnErr, ℕ, Bool, true, false, List, ◌++◌, Option, Some, None, Result, Ok, Err, MatchResult, slice_get, slice_set}
 use Rattle.line_stamps.specs.declared.message.Message.{Message}
 use Rattle.line_stamps.specs.declared.message.Reply.{Reply}
-use Rattle.manager_slice.specs.Messages.{addr_of}
+use Rattle.line_stamps.specs.Messages.{addr_of}
 use Rattle.manager_slice.specs.Outcome as slice
 use Rattle.manager_slice.specs.Parts.{SliceParts}
 use Rattle.manager_slice.specs.declared.fault.SliceFault.TheVariants as slice_fault

@@ -15,6 +15,3 @@ pub use event::Event;
 pub use fault::CoreFault;
 pub use machine::Core;
 pub use running::{RunFault, run};
-
-#[cfg(test)]
-mod tests;

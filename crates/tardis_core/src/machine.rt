@@ -2,6 +2,7 @@
 
 ghost use Rattle.std.specs.Prelude.{◌≡◌, option_and_then, option_map, slice_get};
 ghost use Rattle.std.specs.Option.{option_copied};
+ghost use Rattle.tardis_core.specs.Parts.{IsReached};
 
 use super::seat::Seat;
 use core_unit::CoreUnit;
@@ -56,6 +57,14 @@ impl Core {
         ensures { option_copied result ≡ slice_get self.now.slices number }
     {
         self.slices.get(number)
+    }
+
+    /// Does nothing: it tells that some list of events leads to this machine from the start of its
+    /// programs.
+    pub fn replays(&self)
+        ensures { IsReached self.now }
+    {
+        let _ = &self.config;
     }
 
     /// The reply that is kept for a core until it takes it, if there is one.

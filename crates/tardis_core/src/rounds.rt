@@ -5,8 +5,6 @@ mod fault;
 mod hand;
 mod ops;
 mod stages;
-#[cfg(test)]
-mod tests;
 
 pub use draw::pick;
 pub use fault::{RoundCause, RoundFault};

@@ -7,7 +7,7 @@ ghost use Rattle.tardis_core.specs.Steps.{Meets, MachineGoes, alone, spill_told,
 use super::event::Event;
 use super::fault::CoreFault;
 use super::machine::Core;
-use core_unit::{Outcome, addr_of};
+use core_unit::Outcome;
 use mem_op::{Addr, CoreId};
 
 impl Core {
@@ -74,7 +74,7 @@ impl Core {
         let Some(message) = seat.asking() else {
             return Ok(Outcome::NoEffect);
         };
-        let slice = &mut slices[config.slice_of(addr_of(message))];
+        let slice = &mut slices[config.slice_of(message.addr())];
         let reply = &slice.handle(core, message)?;
         seat.kept = Some(*reply);
         Ok(Outcome::Served(*reply))

@@ -22,7 +22,6 @@ use Rattle.address_check.specs.FaultOrder.{fault_cmp}
 use Rattle.address_check.specs.AddressFaults.{address_fault, address_faults, least_address_fault}
 use Rattle.verdict.specs.declared.answer.Verdict.TheVariants.{Yes, No}
 use Rattle.verdict.specs.ByKey.{ids_by_key}
-use Rattle.verdict.specs.CoreFaultsOf.{core_faults, faults_by_programs}
 use Rattle.verdict.specs.Faults.{from_core, from_address}
 use Rattle.verdict.specs.FlatMachine.{RunsFlat}
 use Rattle.verdict.specs.VerdictOf.{verdict_of, least_run_fault, run_verdict_of}
@@ -81,10 +80,6 @@ none_left (x ∷ xs) ys h = absurd cc
 none_right : {X : Type 0} (xs ys : List X) → xs ++ ys ≡ [] → ys ≡ []
 none_right [] ys h = h
 none_right (x ∷ xs) ys h = absurd cc
-
--- where a set has no core fault, none of its logs falls
-pub no_log_falls : (programs : Option (List (List Instruction))) (logs : List (List Record)) → least_of core_fault_cmp (core_faults programs logs) ≡ None → least_core_fault logs ≡ None
-no_log_falls programs logs h = ap (least_of core_fault_cmp) (none_left (order_faults logs) (faults_by_programs programs logs) (none_at_all (core_faults programs logs) h))
 
 no_run_faults : (programs : List (List Instruction)) (logs : List (List Record)) (count : ℕ) → run_verdict_of programs logs ≡ Yes count
     → (order_faults logs ++ program_faults programs logs ≡ []) × (least_address_fault (entries logs) ≡ None)

@@ -3,12 +3,8 @@ pub mod CoreFacts
 pub mod FlatAnswers
 pub mod FlatRuns
 pub mod FlatSoFar
-pub mod KeyPass
 pub mod Lists
-pub mod Merging
 pub mod OneAnswer
-pub mod Own
-pub mod Parts
 pub mod Paths
 pub mod ProgramFacts
 pub mod ProgramOrder

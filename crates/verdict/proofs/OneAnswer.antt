@@ -12,8 +12,7 @@ use Rattle.log_file.proofs.Spelled.{spelled_quiet}
 use Rattle.verdict.specs.declared.answer.Verdict.{Verdict}
 use Rattle.verdict.specs.declared.judge_fault.JudgeFault.{JudgeFault}
 use Rattle.verdict.specs.declared.judge_fault.JudgeFault.TheVariants.{BadConfig, Log, OutOfMemory as NoMemory, Read}
-use Rattle.verdict.specs.VerdictOf.{verdict_of}
-use Rattle.verdict.specs.Judgement.{IsVerdictBy, IsAnswerTo, IsOfTexts}
+use Rattle.verdict.specs.Judgement.{IsAnswerBy, IsVerdictBy, IsOfTexts}
 
 -- texts spell one set
 one_set : (core cores : ℕ) (texts : List (List ℕ)) (logs others : List (List Record)) → SpellFrom core cores texts logs → SpellFrom core cores texts others → logs ≡ others
@@ -92,20 +91,20 @@ same_fault texts file line other_file other_line fault other h k = elim (cases_l
         let faults : fault ≡ other = one.1 in
         cc
 
-same_verdict : (texts : List (List ℕ)) (a b : Verdict) → IsVerdictBy verdict_of texts a → IsVerdictBy verdict_of texts b → a ≡ b
-same_verdict texts a b h k = h.2 ∙ ap verdict_of (one_set 0 (length texts) texts h.0 k.0 h.1 k.1) ∙ sym k.2
+same_verdict : (judged : List (List Record) → Verdict) (texts : List (List ℕ)) (a b : Verdict) → IsVerdictBy judged texts a → IsVerdictBy judged texts b → a ≡ b
+same_verdict judged texts a b h k = h.2 ∙ ap judged (one_set 0 (length texts) texts h.0 k.0 h.1 k.1) ∙ sym k.2
 
-pub one_answer : (texts : List (List ℕ)) (a b : Result Verdict JudgeFault) → IsOfTexts a → IsOfTexts b → IsAnswerTo texts a → IsAnswerTo texts b → a ≡ b
-one_answer texts (Ok a) (Ok b) p q h k = ap (λ v. Ok v) (same_verdict texts a b h k)
-one_answer texts (Ok a) (Err (Log file line fault)) p q h k = absurd (spelled_or_faulty texts h.0 file line fault h.1 k)
-one_answer texts (Ok a) (Err (Read file)) p q h k = absurd q
-one_answer texts (Ok a) (Err (BadConfig count)) p q h k = absurd q
-one_answer texts (Ok a) (Err NoMemory) p q h k = absurd q
-one_answer texts (Err (Log file line fault)) (Ok b) p q h k = absurd (spelled_or_faulty texts k.0 file line fault k.1 h)
-one_answer texts (Err (Log file line fault)) (Err (Log other_file other_line other)) p q h k = ap (λ e. Err e) (same_fault texts file line other_file other_line fault other h k)
-one_answer texts (Err (Log file line fault)) (Err (Read other)) p q h k = absurd q
-one_answer texts (Err (Log file line fault)) (Err (BadConfig count)) p q h k = absurd q
-one_answer texts (Err (Log file line fault)) (Err NoMemory) p q h k = absurd q
-one_answer texts (Err (Read file)) b p q h k = absurd p
-one_answer texts (Err (BadConfig count)) b p q h k = absurd p
-one_answer texts (Err NoMemory) b p q h k = absurd p
+pub one_answer : (judged : List (List Record) → Verdict) (texts : List (List ℕ)) (a b : Result Verdict JudgeFault) → IsOfTexts a → IsOfTexts b → IsAnswerBy judged texts a → IsAnswerBy judged texts b → a ≡ b
+one_answer judged texts (Ok a) (Ok b) p q h k = ap (λ v. Ok v) (same_verdict judged texts a b h k)
+one_answer judged texts (Ok a) (Err (Log file line fault)) p q h k = absurd (spelled_or_faulty texts h.0 file line fault h.1 k)
+one_answer judged texts (Ok a) (Err (Read file)) p q h k = absurd q
+one_answer judged texts (Ok a) (Err (BadConfig count)) p q h k = absurd q
+one_answer judged texts (Ok a) (Err NoMemory) p q h k = absurd q
+one_answer judged texts (Err (Log file line fault)) (Ok b) p q h k = absurd (spelled_or_faulty texts k.0 file line fault k.1 h)
+one_answer judged texts (Err (Log file line fault)) (Err (Log other_file other_line other)) p q h k = ap (λ e. Err e) (same_fault texts file line other_file other_line fault other h k)
+one_answer judged texts (Err (Log file line fault)) (Err (Read other)) p q h k = absurd q
+one_answer judged texts (Err (Log file line fault)) (Err (BadConfig count)) p q h k = absurd q
+one_answer judged texts (Err (Log file line fault)) (Err NoMemory) p q h k = absurd q
+one_answer judged texts (Err (Read file)) b p q h k = absurd p
+one_answer judged texts (Err (BadConfig count)) b p q h k = absurd p
+one_answer judged texts (Err NoMemory) b p q h k = absurd p

@@ -1,5 +1,5 @@
 -- What the judge answers to the texts of a set of logs.
-use Rattle.std.specs.Prelude.{◌≡◌, ◌<◌, ℕ, List, length, Result, Ok, Err}
+use Rattle.std.specs.Prelude.{◌≡◌, ◌<◌, ℕ, ◌+◌, List, drop, length, Option, Some, None, Result, Ok, Err, IfSome}
 use Rattle.mem_op.specs.Consistency.{IsConsistent}
 use Rattle.log_record.specs.declared.record.Record.{Record}
 use Rattle.log_record.specs.Entries.{operations_of}
@@ -34,6 +34,17 @@ IsAnswerTo = IsAnswerBy verdict_of
 -- the answer to a set whose cores ran these programs
 abbrev pub IsRunAnswerTo : List (List Instruction) → List (List ℕ) → Result Verdict JudgeFault → Type 0
 IsRunAnswerTo programs = IsAnswerBy (run_verdict_of programs)
+
+-- the file at which the reading ended
+abbrev pub last_file : JudgeFault → Option ℕ
+last_file (Log file line fault) = Some file
+last_file (Read file) = Some file
+last_file (BadConfig count) = None
+last_file OutOfMemory = None
+
+-- the readers after it are as they were
+abbrev pub AreLaterUnread : {S : Type 0} → JudgeFault → List S → List S → Type 0
+AreLaterUnread fault old new = IfSome (last_file fault) (λ file. drop (file + 1) new ≡ drop (file + 1) old)
 
 -- the answer is the texts' alone: a verdict, or the fault of a log
 abbrev pub IsOfTexts : Result Verdict JudgeFault → Type 0

@@ -8,8 +8,6 @@ pub mod Faults
 pub mod FlatMachine
 pub mod Judgement
 pub mod Laws
-pub mod Merging
-pub mod Parts
 pub mod SetFaults
 pub mod Texts
 pub mod VerdictOf

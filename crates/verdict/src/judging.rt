@@ -4,7 +4,7 @@ ghost use Rattle.std.specs.Prelude.{◌≡◌, ◌↔◌, ℕ, List, length, IfE
 ghost use Rattle.log_file.specs.Sets.{ReaderFailed, TellEach};
 ghost use Rattle.verdict.specs.CoreFaultsOf.{given};
 ghost use Rattle.verdict.specs.Counts.{IsBadCount, IsInRange, IsOutOfRange};
-ghost use Rattle.verdict.specs.Judgement.{IsAnswerBy, IsAnswerTo, IsYes, SpellConsistentSet};
+ghost use Rattle.verdict.specs.Judgement.{AreLaterUnread, IsAnswerBy, IsAnswerTo, IsYes, SpellConsistentSet};
 ghost use Rattle.verdict.specs.VerdictOf.{verdict_by};
 ghost use Rattle.verdict.specs.declared.judge_fault.Count.TheVariants.{Files, Workers, Programs};
 ghost use Rattle.verdict.specs.declared.judge_fault.JudgeFault.TheVariants.{BadConfig, Read};
@@ -35,6 +35,7 @@ pub(crate) fn answer_to<R: Threads + Sync, S: ByteSource, G: Gate + Sync>(
         ↔ (IsInRange (length readers.old) × IsOutOfRange workers) }
     ensures programs { ¬ (IsErrOf result (BadConfig Programs)) }
     ensures unread { IfErr result (λ fault. IsBadCount fault → readers.new ≡ readers.old) }
+    ensures later { IfErr result (λ fault. AreLaterUnread fault readers.old readers.new) }
     ensures exact { (texts : List (List ℕ)) × TellEach S.remaining readers.old texts
         × IsAnswerBy (verdict_by (given programs.entry)) texts result }
     ensures read { IfErr result (λ fault. (file : ℕ) → fault ≡ Read file
@@ -71,6 +72,8 @@ pub fn judge<R: Threads + Sync, S: ByteSource, G: Gate + Sync>(
         ↔ (IsInRange (length readers.old) × IsOutOfRange workers) }
     ensures programs { ¬ (IsErrOf result (BadConfig Programs)) }
     ensures unread { IfErr result (λ fault. IsBadCount fault → readers.new ≡ readers.old) }
+    // No file after the one that is refused is read.
+    ensures later { IfErr result (λ fault. AreLaterUnread fault readers.old readers.new) }
 
     // The readers tell texts, and the answer is the verdict on the set that these spell, or their
     // first fault. It names no number of workers.

@@ -1,7 +1,6 @@
 //! The verdict on a set of logs.
 #![tactic(auto)]
 
-mod addresses;
 mod answer;
 mod cores;
 mod counts;
@@ -10,16 +9,12 @@ mod judge_fault;
 mod judging;
 mod laws;
 mod log_set;
-mod merge;
-mod part;
 mod replay;
 mod rule;
 mod run_judging;
-#[cfg(test)]
-mod tests;
 mod verdict_on;
-mod words;
 
+pub use address_check::{Gate, Phase};
 pub use answer::Verdict;
 pub use counts::check_counts;
 pub use fault::Fault;

@@ -53,12 +53,12 @@ impl LogSet {
         Some(log.as_slice())
     }
 
-    /// The logs, in the order of their cores.
-    pub(crate) fn logs(&self) -> &[Vec<Record>]
-        ensures logs { record_lists result.now ≡ self.now }
-        ensures cores { length result.now ≤ 64 }
-        ensures records { All (λ log. vec_len log ≤ 1048576) result.now }
+    /// The logs, in the order of their cores, for keeps.
+    pub(crate) fn into_logs(self) -> Vec<Vec<Record>>
+        ensures logs { record_lists result.items ≡ self }
+        ensures cores { vec_len result ≤ 64 }
+        ensures records { All (λ log. vec_len log ≤ 1048576) result.items }
     {
-        self.logs.as_slice()
+        self.logs
     }
 }

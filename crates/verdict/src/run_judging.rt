@@ -4,7 +4,7 @@ ghost use Rattle.std.specs.Prelude.{◌≡◌, ◌≢◌, ◌↔◌, ℕ, List, 
 ghost use Rattle.core_program.specs.Shape.{IsProgram};
 ghost use Rattle.log_file.specs.Sets.{ReaderFailed, TellEach};
 ghost use Rattle.verdict.specs.Counts.{IsBadCount, IsInRange, IsOutOfRange};
-ghost use Rattle.verdict.specs.Judgement.{IsRunAnswerTo, IsYes, SpellConsistentSet, SpellFlatRun};
+ghost use Rattle.verdict.specs.Judgement.{AreLaterUnread, IsRunAnswerTo, IsYes, SpellConsistentSet, SpellFlatRun};
 ghost use Rattle.verdict.specs.declared.judge_fault.Count.TheVariants.{Files, Workers, Programs};
 ghost use Rattle.verdict.specs.declared.judge_fault.JudgeFault.TheVariants.{BadConfig, Read};
 
@@ -34,6 +34,7 @@ fn run_answer_to<R: Threads + Sync, S: ByteSource, G: Gate + Sync>(
         ↔ (IsInRange (length readers.old) × IsInRange workers
         × (length programs.now ≢ length readers.old)) }
     ensures unread { IfErr result (λ fault. IsBadCount fault → readers.new ≡ readers.old) }
+    ensures later { IfErr result (λ fault. AreLaterUnread fault readers.old readers.new) }
     ensures exact { (texts : List (List ℕ)) × TellEach S.remaining readers.old texts
         × IsRunAnswerTo programs.now texts result }
     ensures read { IfErr result (λ fault. (file : ℕ) → fault ≡ Read file
@@ -73,6 +74,8 @@ pub fn judge_run<R: Threads + Sync, S: ByteSource, G: Gate + Sync>(
         ↔ (IsInRange (length readers.old) × IsInRange workers
         × (length programs.now ≢ length readers.old)) }
     ensures unread { IfErr result (λ fault. IsBadCount fault → readers.new ≡ readers.old) }
+    // No file after the one that is refused is read.
+    ensures later { IfErr result (λ fault. AreLaterUnread fault readers.old readers.new) }
 
     // The readers tell texts, and the answer is the verdict on the set that these spell, against the
     // programs, or their first fault. It names no number of workers.

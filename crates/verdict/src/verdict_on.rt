@@ -6,12 +6,11 @@ ghost use Rattle.verdict.specs.CoreFaultsOf.{given};
 ghost use Rattle.verdict.specs.Counts.{IsInRange};
 ghost use Rattle.verdict.specs.VerdictOf.{verdict_by, verdict_with};
 
-use crate::addresses::{count, fault_of_addresses};
 use crate::answer::Verdict;
 use crate::cores::CoreCheck;
 use crate::fault::Fault;
 use crate::log_set::LogSet;
-use address_check::Gate;
+use address_check::{AddressIndex, Gate};
 use core_program::ProgramSet;
 use std::alloc::{AllocError, Global};
 use std::thread::Threads;
@@ -33,8 +32,9 @@ pub(crate) fn verdict_on<R: Threads + Sync, G: Gate + Sync>(
     if let Some(fault) = cores.least_fault(rt, alloc, gate, workers)? {
         return Ok(Verdict::No(Fault::from(fault)));
     }
-    match fault_of_addresses(rt, alloc, gate, &set, workers)? {
+    let index = AddressIndex::build(rt, alloc, set.into_logs())?;
+    match index.least_fault(rt, alloc, gate, workers)? {
         Some(fault) => Ok(Verdict::No(Fault::from(fault))),
-        None => Ok(Verdict::Yes(count(set.logs()))),
+        None => Ok(Verdict::Yes(index.all().len())),
     }
 }

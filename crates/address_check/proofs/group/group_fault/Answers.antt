@@ -8,7 +8,7 @@ pub returns-then-is_some : goal.returns-then-is_some
 returns-then-is_some c =
     let group = c.args.group.now in
     let last = option_copied c.loop-entry.last in
-    let act : c.entry-item.result.logged.act ≡ Load c.in-Load.source = rw (← c.entry.view_is, ← c.entry-inside.view_is) c.in-Load.is in
+    let act : c.entry-item.result.logged.act ≡ Load c.in-Load.source = sym c.act.ensures ∙ c.in-Load.is in
     let here = fault_at group last c.loop-entry.entry-index c.entry-item.result c.in-Load.source c.requires c.loop-entry.invariant (omega arith) c.entry-item.is act in
     found_least group last c.loop-entry.entry-index c.entry-item.result c.load_fault-fault.result c.requires c.loop-entry.invariant (omega arith) c.entry-item.is (c.load_fault-fault.ensures ∙ here) (sym c.is_some.ensures ∙ c.if-is_some.true)
 
@@ -16,12 +16,12 @@ pub loop-entry-preserved : goal.loop-entry-preserved
 loop-entry-preserved c =
     let group = c.args.group.now in
     let last = option_copied c.loop-entry.last in
-    elim c.match-entry.branch [
+    elim c.match-act.branch [
       | in-Store w ↦ (
-          let act : c.entry-item.result.logged.act ≡ Store = rw (← c.entry.view_is, ← c.entry-inside.view_is) w.in-Store.is in
+          let act : c.entry-item.result.logged.act ≡ Store = sym c.act.ensures ∙ w.in-Store.is in
           rw w.last-is (more_store group last c.loop-entry.entry-index c.entry-item.result c.loop-entry.invariant (omega arith) c.entry-item.is act))
       | in-Load+else-is_some w ↦ (
-          let act : c.entry-item.result.logged.act ≡ Load w.in-Load.source = rw (← c.entry.view_is, ← c.entry-inside.view_is) w.in-Load.is in
+          let act : c.entry-item.result.logged.act ≡ Load w.in-Load.source = sym c.act.ensures ∙ w.in-Load.is in
           let here = fault_at group last c.loop-entry.entry-index c.entry-item.result w.in-Load.source c.requires c.loop-entry.invariant (omega arith) c.entry-item.is act in
           let none = none_found w.load_fault-fault.result _ (w.load_fault-fault.ensures ∙ here) (sym w.is_some.ensures ∙ w.if-is_some.false) in
           rw w.last-is (more_load group last c.loop-entry.entry-index c.entry-item.result w.in-Load.source c.loop-entry.invariant (omega arith) c.entry-item.is act none))

@@ -1,12 +1,12 @@
 use Rattle.std.proofs.Common.{rules, ◌≡◌, Ok, Err}
 use Rattle.tardis_command.specs.Checking as checking
-use Rattle.tardis_command.specs.declared.fault.CommandFault.TheVariants.{Judge}
+use Rattle.tardis_command.specs.Faults.{from_judge}
 use Rattle.tardis_command.proofs.Checks.{against_some, checked_some}
 use Rattle.tardis_command.proofs.check.check.Goals as goal
 
 pub returns-in_err-judge_run_files-clause-exact : goal.returns-in_err-judge_run_files-clause-exact
 returns-in_err-judge_run_files-clause-exact g c =
-    let is : c.from_residual-in_err-judge_run_files.result ≡ Err (Judge c.in_err-judge_run_files.field-0.0) = search rules in
+    let is : c.from_residual-in_err-judge_run_files.result ≡ Err (from_judge c.in_err-judge_run_files.field-0.0) = search rules in
     rw is (checked_some (g.F.Folder.told c.args.folder.now) c.args.asked.now c.in-Some.name _ (Err c.in_err-judge_run_files.field-0.0) c.in-Some.is c.in_ok-programs.ensures.ok c.in_err-judge_run_files.ensures.exact)
 
 pub returns-clause-exact : goal.returns-clause-exact

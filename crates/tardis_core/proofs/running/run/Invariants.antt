@@ -1,7 +1,7 @@
 -- The machine behind the events so far.
 use Rattle.std.proofs.Common.{take}
-use Rattle.tardis_core.proofs.Reached.{IsReached}
+use Rattle.tardis_core.proofs.Reached.{IsRunSoFar}
 use Rattle.tardis_core.proofs.running.run.Given as goal
 
 abbrev pub invariant-loop-at : goal.invariant-loop-at
-invariant-loop-at l = IsReached l.programs l.config (take l.at l.events) l.machine
+invariant-loop-at l = IsRunSoFar l.programs l.config (take l.at l.events) l.machine

@@ -1,6 +1,7 @@
 use Rattle.std.proofs.lemmas.Result.{err_from_is_err_and}
 use Rattle.tardis_core.specs.Parts.{CoreParts}
-use Rattle.tardis_core.proofs.Alone.{goes_nowhere, own_event, kept_machine, alone_ok, alone_err, goes_ok, goes_err}
+use Rattle.tardis_core.proofs.Alone.{goes_nowhere, own_event, alone_ok, alone_err, goes_ok, goes_err}
+use Rattle.tardis_core.proofs.Leading.{seat_kept}
 use Rattle.tardis_core.proofs.Placed.{stands, stands_none}
 use Rattle.tardis_core.proofs.machine.Core.alone.Goals as goal
 
@@ -14,42 +15,44 @@ pub step-requires-clause-own : goal.step-requires-clause-own
 step-requires-clause-own c =
     let was : CoreParts = record { config = c.self.inside.config; seats = c.self.inside.seats.items; slices = c.self.inside.slices.items } in
     let there = stands was.seats c.args.core c.get.result c.in-Some.seat.now c.get.ensures.value c.in-Some.ensures.item.3.0 c.in-Some.ensures.value in
-    own_event was c.args.core c.self.invariant c.in-Some.seat.now there c.args.event.now c.requires.own
+    own_event was c.args.core c.self.invariant.placed c.in-Some.seat.now there c.args.event.now c.requires.own
 
 pub invariant_of-self-in_err-step : goal.invariant_of-self-in_err-step
 invariant_of-self-in_err-step c =
     let was : CoreParts = record { config = c.self.inside.config; seats = c.self.inside.seats.items; slices = c.self.inside.slices.items } in
     let there = stands was.seats c.args.core c.get.result c.in-Some.seat.now c.get.ensures.value c.in-Some.ensures.item.3.0 c.in-Some.ensures.value in
-    rw c.get.ensures.value (kept_machine was c.args.core c.self.invariant c.in-Some.seat.now there c.step.new.self c.in_err-step.ensures.same)
+    let goes = goes_err was c.args.core c.self.invariant.placed c.in-Some.seat.now there c.args.event.now c.requires.own c.in_err-step.field-0.0 c.step.new.self c.in_err-step.ensures.outcome c.in_err-step.ensures.goes in
+    rw c.get.ensures.value (seat_kept was c.args.core c.self.invariant c.in-Some.seat.now there c.step.new.self c.in_err-step.ensures.same c.args.event.now _ goes)
 
 pub returns-in_err-step-clause-outcome : goal.returns-in_err-step-clause-outcome
 returns-in_err-step-clause-outcome c =
     let was : CoreParts = record { config = c.self.inside.config; seats = c.self.inside.seats.items; slices = c.self.inside.slices.items } in
     let there = stands was.seats c.args.core c.get.result c.in-Some.seat.now c.get.ensures.value c.in-Some.ensures.item.3.0 c.in-Some.ensures.value in
     let p = err_from_is_err_and c.from_residual.result c.from_residual.ensures.1 in
-    rw (p.1, p.2, ← c.self.view_is, c.get.ensures.value) (alone_err was c.args.core c.self.invariant c.in-Some.seat.now there c.args.event.now c.in_err-step.field-0.0 c.step.new.self c.in_err-step.ensures.outcome)
+    rw (p.1, p.2, ← c.self.view_is, c.get.ensures.value) (alone_err was c.args.core c.self.invariant.placed c.in-Some.seat.now there c.args.event.now c.in_err-step.field-0.0 c.step.new.self c.in_err-step.ensures.outcome)
 
 pub returns-in_err-step-clause-goes : goal.returns-in_err-step-clause-goes
 returns-in_err-step-clause-goes c =
     let was : CoreParts = record { config = c.self.inside.config; seats = c.self.inside.seats.items; slices = c.self.inside.slices.items } in
     let there = stands was.seats c.args.core c.get.result c.in-Some.seat.now c.get.ensures.value c.in-Some.ensures.item.3.0 c.in-Some.ensures.value in
     let p = err_from_is_err_and c.from_residual.result c.from_residual.ensures.1 in
-    rw (p.1, p.2, ← c.self.view_is, c.get.ensures.value) (goes_err was c.args.core c.self.invariant c.in-Some.seat.now there c.args.event.now c.requires.own c.in_err-step.field-0.0 c.step.new.self c.in_err-step.ensures.outcome c.in_err-step.ensures.goes)
+    rw (p.1, p.2, ← c.self.view_is, c.get.ensures.value) (goes_err was c.args.core c.self.invariant.placed c.in-Some.seat.now there c.args.event.now c.requires.own c.in_err-step.field-0.0 c.step.new.self c.in_err-step.ensures.outcome c.in_err-step.ensures.goes)
 
 pub invariant_of-self-2 : goal.invariant_of-self-2
 invariant_of-self-2 c =
     let was : CoreParts = record { config = c.self.inside.config; seats = c.self.inside.seats.items; slices = c.self.inside.slices.items } in
     let there = stands was.seats c.args.core c.get.result c.in-Some.seat.now c.get.ensures.value c.in-Some.ensures.item.3.0 c.in-Some.ensures.value in
-    rw c.get.ensures.value (kept_machine was c.args.core c.self.invariant c.in-Some.seat.now there c.step.new.self c.in_ok-step.ensures.same)
+    let goes = goes_ok was c.args.core c.self.invariant.placed c.in-Some.seat.now there c.args.event.now c.requires.own c.in_ok-step.field-0 c.step.new.self c.in_ok-step.ensures.goes in
+    rw c.get.ensures.value (seat_kept was c.args.core c.self.invariant c.in-Some.seat.now there c.step.new.self c.in_ok-step.ensures.same c.args.event.now _ goes)
 
 pub returns-clause-outcome : goal.returns-clause-outcome
 returns-clause-outcome c =
     let was : CoreParts = record { config = c.self.inside.config; seats = c.self.inside.seats.items; slices = c.self.inside.slices.items } in
     let there = stands was.seats c.args.core c.get.result c.in-Some.seat.now c.get.ensures.value c.in-Some.ensures.item.3.0 c.in-Some.ensures.value in
-    rw (← c.self.view_is, c.get.ensures.value) (alone_ok was c.args.core c.self.invariant c.in-Some.seat.now there c.args.event.now c.in_ok-step.field-0 c.step.new.self c.in_ok-step.ensures.outcome)
+    rw (← c.self.view_is, c.get.ensures.value) (alone_ok was c.args.core c.self.invariant.placed c.in-Some.seat.now there c.args.event.now c.in_ok-step.field-0 c.step.new.self c.in_ok-step.ensures.outcome)
 
 pub returns-clause-goes : goal.returns-clause-goes
 returns-clause-goes c =
     let was : CoreParts = record { config = c.self.inside.config; seats = c.self.inside.seats.items; slices = c.self.inside.slices.items } in
     let there = stands was.seats c.args.core c.get.result c.in-Some.seat.now c.get.ensures.value c.in-Some.ensures.item.3.0 c.in-Some.ensures.value in
-    rw (← c.self.view_is, c.get.ensures.value) (goes_ok was c.args.core c.self.invariant c.in-Some.seat.now there c.args.event.now c.requires.own c.in_ok-step.field-0 c.step.new.self c.in_ok-step.ensures.goes)
+    rw (← c.self.view_is, c.get.ensures.value) (goes_ok was c.args.core c.self.invariant.placed c.in-Some.seat.now there c.args.event.now c.requires.own c.in_ok-step.field-0 c.step.new.self c.in_ok-step.ensures.goes)

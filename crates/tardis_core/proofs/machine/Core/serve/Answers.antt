@@ -6,7 +6,8 @@ use Rattle.tardis_core.specs.Parts.{CoreParts}
 use Rattle.tardis_core.specs.SeatParts.{SeatParts}
 use Rattle.tardis_core.specs.Seats.{asked_by}
 use Rattle.tardis_core.proofs.Alone.{goes_nowhere}
-use Rattle.tardis_core.proofs.Placed.{stands, stands_none}
+use Rattle.tardis_core.proofs.Leading.{reached_on}
+use Rattle.tardis_core.proofs.Placed.{stands, stands_none, map-set_same}
 use Rattle.tardis_core.proofs.Serving.{idle_outcome, goes_idle, served_ok, served_err, goes_refused_serve, goes_served, kept_served}
 use Rattle.tardis_core.specs.declared.event.Event.TheVariants as event
 use Rattle.tardis_core.proofs.machine.Core.serve.Goals as goal
@@ -21,35 +22,35 @@ pub returns-in_default-asking-clause-outcome : goal.returns-in_default-asking-cl
 returns-in_default-asking-clause-outcome c =
     let was : CoreParts = record { config = c.self.inside.config; seats = c.self.inside.seats.items; slices = c.self.inside.slices.items } in
     let there = stands was.seats c.args.core c.get.result c.in-Some.seat.now c.get.ensures.value c.in-Some.ensures.item.3.0 c.in-Some.ensures.value in
-    rw (← c.self.view_is, c.get.ensures.value) (idle_outcome was c.self.invariant c.args.core c.in-Some.seat.now there (sym c.asking.ensures ∙ ap option_copied c.in_default-asking.is))
+    rw (← c.self.view_is, c.get.ensures.value) (idle_outcome was c.self.invariant.placed c.args.core c.in-Some.seat.now there (sym c.asking.ensures ∙ ap option_copied c.in_default-asking.is))
 
 pub returns-in_default-asking-clause-goes : goal.returns-in_default-asking-clause-goes
 returns-in_default-asking-clause-goes c =
     let was : CoreParts = record { config = c.self.inside.config; seats = c.self.inside.seats.items; slices = c.self.inside.slices.items } in
     let there = stands was.seats c.args.core c.get.result c.in-Some.seat.now c.get.ensures.value c.in-Some.ensures.item.3.0 c.in-Some.ensures.value in
-    rw (← c.self.view_is, c.get.ensures.value) (goes_idle was c.self.invariant c.args.core c.in-Some.seat.now there (sym c.asking.ensures ∙ ap option_copied c.in_default-asking.is))
+    rw (← c.self.view_is, c.get.ensures.value) (goes_idle was c.self.invariant.placed c.args.core c.in-Some.seat.now there (sym c.asking.ensures ∙ ap option_copied c.in_default-asking.is))
 
 pub returns-in_err-reply-clause-outcome : goal.returns-in_err-reply-clause-outcome
 returns-in_err-reply-clause-outcome c =
     let was : CoreParts = record { config = c.self.inside.config; seats = c.self.inside.seats.items; slices = c.self.inside.slices.items } in
     let there = stands was.seats c.args.core c.get.result c.in-Some.seat.now c.get.ensures.value c.in-Some.ensures.item.3.0 c.in-Some.ensures.value in
     let asked = sym c.asking.ensures ∙ ap option_copied c.in-Some-asking.is in
-    let below : c.slice_of.result < length was.slices = omega (arith, c.slice_of.ensures.in_range, c.self.invariant.count) in
+    let below : c.slice_of.result < length was.slices = omega (arith, c.slice_of.ensures.in_range, c.self.invariant.placed.count) in
     let at = stands was.slices c.slice_of.result c.slice_of.result c.index_mut-slice.result.now refl below c.index_mut-slice.ensures.value in
-    let number = c.slice_of.ensures.value ∙ ap (λ (a : ℕ). slice_number was.config a) c.addr_of.ensures in
+    let number = c.slice_of.ensures.value ∙ ap (λ (a : ℕ). slice_number was.config a) c.addr.ensures in
     let p = err_from_is_err_and c.from_residual.result c.from_residual.ensures.1 in
-    rw (p.1, p.2, ← c.self.view_is, c.get.ensures.value) (served_err was c.self.invariant c.args.core c.in-Some.seat.now there c.in-Some-asking.message.now asked c.slice_of.result number c.index_mut-slice.result.now at c.in_err-reply.field-0.0 c.handle.new.self c.in_err-reply.ensures.outcome)
+    rw (p.1, p.2, ← c.self.view_is, c.get.ensures.value) (served_err was c.self.invariant.placed c.args.core c.in-Some.seat.now there c.in-Some-asking.message.now asked c.slice_of.result number c.index_mut-slice.result.now at c.in_err-reply.field-0.0 c.handle.new.self c.in_err-reply.ensures.outcome)
 
 pub returns-in_err-reply-clause-goes : goal.returns-in_err-reply-clause-goes
 returns-in_err-reply-clause-goes c =
     let was : CoreParts = record { config = c.self.inside.config; seats = c.self.inside.seats.items; slices = c.self.inside.slices.items } in
     let there = stands was.seats c.args.core c.get.result c.in-Some.seat.now c.get.ensures.value c.in-Some.ensures.item.3.0 c.in-Some.ensures.value in
     let asked = sym c.asking.ensures ∙ ap option_copied c.in-Some-asking.is in
-    let below : c.slice_of.result < length was.slices = omega (arith, c.slice_of.ensures.in_range, c.self.invariant.count) in
+    let below : c.slice_of.result < length was.slices = omega (arith, c.slice_of.ensures.in_range, c.self.invariant.placed.count) in
     let at = stands was.slices c.slice_of.result c.slice_of.result c.index_mut-slice.result.now refl below c.index_mut-slice.ensures.value in
-    let number = c.slice_of.ensures.value ∙ ap (λ (a : ℕ). slice_number was.config a) c.addr_of.ensures in
+    let number = c.slice_of.ensures.value ∙ ap (λ (a : ℕ). slice_number was.config a) c.addr.ensures in
     let p = err_from_is_err_and c.from_residual.result c.from_residual.ensures.1 in
-    rw (p.1, p.2, ← c.self.view_is, c.get.ensures.value) (goes_refused_serve was c.self.invariant c.args.core c.in-Some.seat.now there c.in-Some-asking.message.now asked c.slice_of.result number c.index_mut-slice.result.now at c.in_err-reply.field-0.0 c.handle.new.self c.in_err-reply.ensures.refused)
+    rw (p.1, p.2, ← c.self.view_is, c.get.ensures.value) (goes_refused_serve was c.self.invariant.placed c.args.core c.in-Some.seat.now there c.in-Some-asking.message.now asked c.slice_of.result number c.index_mut-slice.result.now at c.in_err-reply.field-0.0 c.handle.new.self c.in_err-reply.ensures.refused)
 
 pub invariant_of-self-2 : goal.invariant_of-self-2
 invariant_of-self-2 c =
@@ -59,11 +60,16 @@ invariant_of-self-2 c =
     let there_so : slice_get was.seats c.args.core ≡ Some seat = rw c.seat.view_is there in
     let asked = sym c.asking.ensures ∙ ap option_copied c.in-Some-asking.is in
     let asked_so : asked_by seat.unit.hand seat.kept ≡ Some c.in-Some-asking.message.now = rw (← c.seat.view_is) at asked in
-    let below : c.slice_of.result < length was.slices = omega (arith, c.slice_of.ensures.in_range, c.self.invariant.count) in
+    let below : c.slice_of.result < length was.slices = omega (arith, c.slice_of.ensures.in_range, c.self.invariant.placed.count) in
     let at = stands was.slices c.slice_of.result c.slice_of.result c.index_mut-slice.result.now refl below c.index_mut-slice.ensures.value in
-    let number = c.slice_of.ensures.value ∙ ap (λ (a : ℕ). slice_number was.config a) c.addr_of.ensures in
+    let number = c.slice_of.ensures.value ∙ ap (λ (a : ℕ). slice_number was.config a) c.addr.ensures in
     let handled = c.in_ok-reply.ensures.table in
-    rw c.get.ensures.value (kept_served was c.self.invariant c.args.core seat there_so c.in-Some-asking.message.now asked_so c.slice_of.result number c.index_mut-slice.result.now at c.in_ok-reply.field-0 c.handle.new.self handled.number handled.config)
+    let goes = goes_served was c.self.invariant.placed c.args.core seat there_so c.in-Some-asking.message.now asked_so c.slice_of.result number c.index_mut-slice.result.now at c.in_ok-reply.field-0 c.handle.new.self handled in
+    let answered : SeatParts = record { unit = seat.unit; kept = Some c.in_ok-reply.field-0 } in
+    rw c.get.ensures.value (record {
+      placed = kept_served was c.self.invariant.placed c.args.core seat there_so c.in-Some-asking.message.now asked_so c.slice_of.result number c.index_mut-slice.result.now at c.in_ok-reply.field-0 c.handle.new.self handled.number handled.config;
+      reached = reached_on (event.Serve c.args.core) was _ _ goes (map-set_same (λ (x : SeatParts). x.unit.program) was.seats c.args.core seat answered there_so refl) c.self.invariant.reached;
+    })
 
 pub returns-clause-outcome : goal.returns-clause-outcome
 returns-clause-outcome c =
@@ -73,10 +79,10 @@ returns-clause-outcome c =
     let there_so : slice_get was.seats c.args.core ≡ Some seat = rw c.seat.view_is there in
     let asked = sym c.asking.ensures ∙ ap option_copied c.in-Some-asking.is in
     let asked_so : asked_by seat.unit.hand seat.kept ≡ Some c.in-Some-asking.message.now = rw (← c.seat.view_is) at asked in
-    let below : c.slice_of.result < length was.slices = omega (arith, c.slice_of.ensures.in_range, c.self.invariant.count) in
+    let below : c.slice_of.result < length was.slices = omega (arith, c.slice_of.ensures.in_range, c.self.invariant.placed.count) in
     let at = stands was.slices c.slice_of.result c.slice_of.result c.index_mut-slice.result.now refl below c.index_mut-slice.ensures.value in
-    let number = c.slice_of.ensures.value ∙ ap (λ (a : ℕ). slice_number was.config a) c.addr_of.ensures in
-    rw (← c.self.view_is, c.get.ensures.value) (served_ok was c.self.invariant c.args.core seat there_so c.in-Some-asking.message.now asked_so c.slice_of.result number c.index_mut-slice.result.now at c.in_ok-reply.field-0 c.handle.new.self c.in_ok-reply.ensures.outcome)
+    let number = c.slice_of.ensures.value ∙ ap (λ (a : ℕ). slice_number was.config a) c.addr.ensures in
+    rw (← c.self.view_is, c.get.ensures.value) (served_ok was c.self.invariant.placed c.args.core seat there_so c.in-Some-asking.message.now asked_so c.slice_of.result number c.index_mut-slice.result.now at c.in_ok-reply.field-0 c.handle.new.self c.in_ok-reply.ensures.outcome)
 
 pub returns-clause-goes : goal.returns-clause-goes
 returns-clause-goes c =
@@ -86,7 +92,7 @@ returns-clause-goes c =
     let there_so : slice_get was.seats c.args.core ≡ Some seat = rw c.seat.view_is there in
     let asked = sym c.asking.ensures ∙ ap option_copied c.in-Some-asking.is in
     let asked_so : asked_by seat.unit.hand seat.kept ≡ Some c.in-Some-asking.message.now = rw (← c.seat.view_is) at asked in
-    let below : c.slice_of.result < length was.slices = omega (arith, c.slice_of.ensures.in_range, c.self.invariant.count) in
+    let below : c.slice_of.result < length was.slices = omega (arith, c.slice_of.ensures.in_range, c.self.invariant.placed.count) in
     let at = stands was.slices c.slice_of.result c.slice_of.result c.index_mut-slice.result.now refl below c.index_mut-slice.ensures.value in
-    let number = c.slice_of.ensures.value ∙ ap (λ (a : ℕ). slice_number was.config a) c.addr_of.ensures in
-    rw (← c.self.view_is, c.get.ensures.value) (goes_served was c.self.invariant c.args.core seat there_so c.in-Some-asking.message.now asked_so c.slice_of.result number c.index_mut-slice.result.now at c.in_ok-reply.field-0 c.handle.new.self c.in_ok-reply.ensures.table)
+    let number = c.slice_of.ensures.value ∙ ap (λ (a : ℕ). slice_number was.config a) c.addr.ensures in
+    rw (← c.self.view_is, c.get.ensures.value) (goes_served was c.self.invariant.placed c.args.core seat there_so c.in-Some-asking.message.now asked_so c.slice_of.result number c.index_mut-slice.result.now at c.in_ok-reply.field-0 c.handle.new.self c.in_ok-reply.ensures.table)

@@ -1,6 +1,0 @@
-use Rattle.std.proofs.Common.{◌≡◌, take}
-use Rattle.address_check.specs.Spans.{least_fault_in}
-use Rattle.address_check.proofs.span.AddressIndexLocalCheck.fault.Given as goal
-
-abbrev pub invariant-loop-span : goal.invariant-loop-span
-invariant-loop-span l = l.least ≡ least_fault_in l.self (take l.span-index l.spans)

@@ -1,0 +1,29 @@
+//! Worked examples of the checker's crates, through their public calls.
+#![tactic(auto)]
+
+#[cfg(test)]
+mod addresses;
+#[cfg(test)]
+mod cores;
+#[cfg(test)]
+mod decimals;
+#[cfg(test)]
+mod lines;
+#[cfg(test)]
+mod logs;
+#[cfg(test)]
+mod orders;
+#[cfg(test)]
+mod program_states;
+#[cfg(test)]
+mod program_texts;
+#[cfg(test)]
+mod ranges;
+#[cfg(test)]
+mod stamps;
+#[cfg(test)]
+mod verdicts;
+#[cfg(test)]
+mod workers;
+#[cfg(test)]
+mod writing;

@@ -1,0 +1,260 @@
+//! Worked rows through lists of events.
+
+ghost use Rattle.std.specs.Prelude.{◌<◌};
+
+mod copies;
+mod effects;
+mod rooms;
+
+use core_program::ProgramSet;
+use lease_rule::Config;
+use line_stamps::{Line, LineStamps, Message, Rank, Recall, RecallKind, Reply, Stamp};
+use log_record::read_line;
+use manager_slice::{HistoryEntry, SliceFault};
+use mem_op::{Addr, CoreId, OpId, OpIndex, Source, Word};
+use std::alloc::Global;
+use std::process::Abort;
+use std::test::*;
+use tardis_core::*;
+
+// An event, and what it comes to.
+#[derive(Clone, Copy)]
+struct Step {
+    event: Event,
+    outcome: Outcome,
+}
+
+// What is seen of a core and of slice 0: how many entries each has, the message in hand and the reply kept.
+#[derive(Clone, Copy, Debug, PartialEq, Eq)]
+struct Sight {
+    entries: usize,
+    served: usize,
+    hand: Option<Message>,
+    kept: Option<Reply>,
+}
+
+fn addr(number: u16) -> Addr {
+    Addr::new(u64::from(number)).unwrap()
+}
+
+fn core(number: u8) -> CoreId
+    requires { number < 64 }
+{
+    CoreId::new(u64::from(number)).unwrap()
+}
+
+fn stamp(number: u32) -> Stamp {
+    Stamp::new(u64::from(number)).unwrap()
+}
+
+fn id(number: u8, index: u8) -> OpId
+    requires { number < 64 }
+{
+    OpId {
+        core: core(number),
+        index: OpIndex::new(u64::from(index)).unwrap(),
+    }
+}
+
+// A line of value 0 and no store.
+fn initial(wts: u32, rts: u32) -> Line {
+    Line::new(
+        0,
+        Source::Init,
+        LineStamps::at(stamp(wts), Rank::ZERO).leased_to(stamp(rts)),
+    )
+}
+
+// A line of rank 0 that a core wrote by its first operation.
+fn stored(value: Word, by: u8, wts: u32, rts: u32) -> Line
+    requires { by < 64 }
+{
+    Line::new(
+        value,
+        Source::Store(id(by, 0)),
+        LineStamps::at(stamp(wts), Rank::ZERO).leased_to(stamp(rts)),
+    )
+}
+
+fn read(number: u16, copy: Option<Stamp>, pts: u32) -> Message {
+    Message::ShReq {
+        addr: addr(number),
+        copy,
+        pts: stamp(pts),
+    }
+}
+
+fn write(number: u16, copy: Option<Stamp>) -> Message {
+    Message::ExReq {
+        addr: addr(number),
+        copy,
+    }
+}
+
+fn flushed(number: u16, line: Line) -> Message {
+    Message::FlushRep {
+        addr: addr(number),
+        line,
+    }
+}
+
+fn written_back(number: u16, line: Line) -> Message {
+    Message::WbRep {
+        addr: addr(number),
+        line,
+    }
+}
+
+fn recall(owner: u8, kind: RecallKind, rts: u32) -> Recall
+    requires { owner < 64 }
+{
+    Recall {
+        rts: stamp(rts),
+        addr: addr(0),
+        owner: core(owner),
+        kind,
+    }
+}
+
+// Events of core 0.
+fn turn() -> Event {
+    Event::Turn(core(0))
+}
+
+fn serve() -> Event {
+    Event::Serve(core(0))
+}
+
+fn take() -> Event {
+    Event::Take(core(0))
+}
+
+fn comes(event: Event, outcome: Outcome) -> Step {
+    Step { event, outcome }
+}
+
+fn idle(event: Event) -> Step {
+    comes(event, Outcome::NoEffect)
+}
+
+fn asks(number: u8, message: Message) -> Step
+    requires { number < 64 }
+{
+    comes(Event::Turn(core(number)), Outcome::Sent(message))
+}
+
+fn performs(number: u8, index: u8) -> Step
+    requires { number < 64 }
+{
+    comes(
+        Event::Turn(core(number)),
+        Outcome::Performed(id(number, index)),
+    )
+}
+
+fn serves(number: u8, reply: Reply) -> Step
+    requires { number < 64 }
+{
+    comes(Event::Serve(core(number)), Outcome::Served(reply))
+}
+
+fn takes(number: u8) -> Step
+    requires { number < 64 }
+{
+    comes(Event::Take(core(number)), Outcome::Took)
+}
+
+fn takes_busy(number: u8, recall: Recall) -> Step
+    requires { number < 64 }
+{
+    comes(Event::Take(core(number)), Outcome::Busy(recall))
+}
+
+fn gives(recall: Recall, message: Message) -> Step {
+    comes(Event::Recall(recall.owner, recall), Outcome::Gave(message))
+}
+
+// One slice, with this lease, period, lines of a cache and lines of the slice.
+fn config_of(lease: u64, period: u64, cache: u64, slice: u64) -> Result<Config, Fail> {
+    Ok(Config::new(1, lease, period, cache, slice, 8, 1_000)?)
+}
+
+fn machine_of(alloc: Global, text: &[u8], config: &Config) -> Result<Core, Fail> {
+    let programs = ProgramSet::parse(alloc, text)?;
+    Ok(Core::new(alloc, &programs, config)?)
+}
+
+fn is_memory(fault: &CoreFault) -> bool {
+    *fault == CoreFault::Unit(UnitFault::OutOfMemory)
+        || *fault == CoreFault::Slice(SliceFault::OutOfMemory)
+}
+
+fn shown(machine: &Core, core: CoreId) -> Option<Sight> {
+    let unit = machine.unit(core)?;
+    let slice = machine.slice(0)?;
+    Some(Sight {
+        entries: unit.transcript().len(),
+        served: slice.history().len(),
+        hand: unit.in_hand().copied(),
+        kept: machine.kept(core).copied(),
+    })
+}
+
+// The events come to this, one by one. NoEffect leaves all as it was; so does refused memory of the host, and the event is tried again.
+fn meets(rt: &impl Abort, machine: &mut Core, steps: &[Step]) {
+    for step in steps {
+        let before = [shown(machine, core(0)), shown(machine, core(1))];
+        let mut came = machine.step(step.event);
+        if let Err(fault) = &came {
+            assert!(rt; is_memory(fault), "{fault}");
+            let behind = [shown(machine, core(0)), shown(machine, core(1))];
+            assert_eq!(rt; behind, before);
+            came = machine.step(step.event);
+        }
+        assert_eq!(rt; came, Ok(step.outcome));
+        if step.outcome == Outcome::NoEffect {
+            let behind = [shown(machine, core(0)), shown(machine, core(1))];
+            assert_eq!(rt; behind, before);
+        }
+    }
+}
+
+// The machine behind these events. Where memory of the host is refused, they are run again.
+fn ran(
+    alloc: Global,
+    programs: &ProgramSet,
+    config: &Config,
+    events: &[Event],
+) -> Result<Core, RunFault> {
+    let first = run(alloc, programs, config, events);
+    if let Err(refused) = &first {
+        if is_memory(&refused.fault) {
+            return run(alloc, programs, config, events);
+        }
+    }
+    first
+}
+
+// The log of a core has these lines.
+fn logs(rt: &impl Abort, machine: &Core, core: CoreId, lines: &[&str]) -> Result<(), Fail> {
+    let log = machine.unit(core).ok_or("the core is there")?.log();
+    assert_eq!(rt; log.len(), lines.len());
+    for (made, line) in log.iter().zip(lines) {
+        assert_eq!(rt; Ok(*made), read_line(line.as_bytes()), "at {line}");
+    }
+    Ok(())
+}
+
+// Slice 0 has this history.
+fn served(rt: &impl Abort, machine: &Core, entries: &[HistoryEntry]) -> Result<(), Fail> {
+    let slice = machine.slice(0).ok_or("slice 0 is there")?;
+    assert_eq!(rt; slice.history(), entries);
+    Ok(())
+}
+
+// The memory of slice 0 has this stamp.
+fn memory_is_at(rt: &impl Abort, machine: &Core, mts: u32) -> Result<(), Fail> {
+    let slice = machine.slice(0).ok_or("slice 0 is there")?;
+    assert_eq!(rt; slice.state().memory.mts, stamp(mts));
+    Ok(())
+}

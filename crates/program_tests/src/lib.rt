@@ -1,0 +1,9 @@
+//! Worked examples through the whole program, and the words of its command line.
+#![tactic(auto)]
+
+#[cfg(test)]
+mod checks;
+#[cfg(test)]
+mod runs;
+#[cfg(test)]
+mod words;

@@ -1,0 +1,127 @@
+use command_line::*;
+use std::test::Fail;
+
+/// The numbers of the machine, in the order of their options.
+fn numbers(limits: &Limits) -> [u64; 6] {
+    [
+        limits.slices,
+        limits.lease,
+        limits.period,
+        limits.cache_lines,
+        limits.slice_lines,
+        limits.inbox,
+    ]
+}
+
+#[test]
+fn words_of_a_check(rt: HostRuntime) -> Result<(), Fail> {
+    for (words, workers, program, files) in [
+        (["a"].as_slice(), 1, None, ["a"].as_slice()),
+        (&["b", "--workers", "2", "a"], 2, None, &["b", "a"]),
+        (&["--program", "p", "b"], 1, Some("p"), &["b"]),
+        (&["--workers=0", "--", "-c"], 0, None, &["-c"]),
+        (&["sim"], 1, None, &["sim"]),
+    ] {
+        let mut line = Vec::from_slice(rt.alloc(), &["tardis", "check"])?;
+        line.extend_from_slice(words)?;
+        match read(rt.alloc(), line.as_slice()) {
+            Ok(Request::Check(check)) => {
+                assert_eq!(rt; check.workers, workers);
+                assert_eq!(rt; check.program, program);
+                assert_eq!(rt; check.files.as_slice(), files);
+            }
+            Ok(Request::Sim(_sim)) => assert!(rt; false, "a sim"),
+            Err(refusal) => assert!(rt; false, "refused: {refusal}"),
+        }
+    }
+    Ok(())
+}
+
+#[test]
+fn words_of_a_sim(rt: HostRuntime) -> Result<(), Fail> {
+    for (words, schedule, seed, programs, out) in [
+        (["p", "o"].as_slice(), None, None, "p", "o"),
+        (&["p", "--seed=0", "o"], None, Some(0), "p", "o"),
+        (
+            &["--schedule", "f", "check", "sim"],
+            Some("f"),
+            None,
+            "check",
+            "sim",
+        ),
+    ] {
+        let mut line = Vec::from_slice(rt.alloc(), &["tardis", "sim"])?;
+        line.extend_from_slice(words)?;
+        match read(rt.alloc(), line.as_slice()) {
+            Ok(Request::Sim(sim)) => {
+                assert_eq!(rt; numbers(&sim.limits), [1, 10, 100, 64, 64, 8]);
+                assert_eq!(rt; sim.schedule, schedule);
+                assert_eq!(rt; sim.seed, seed);
+                assert_eq!(rt; sim.programs, programs);
+                assert_eq!(rt; sim.out, out);
+            }
+            Ok(Request::Check(_check)) => assert!(rt; false, "a check"),
+            Err(refusal) => assert!(rt; false, "refused: {refusal}"),
+        }
+    }
+    Ok(())
+}
+
+#[test]
+fn each_number_of_a_sim(rt: HostRuntime) {
+    let line = [
+        "tardis",
+        "sim",
+        "--slices",
+        "2",
+        "--lease",
+        "3",
+        "--period",
+        "4",
+        "--cache",
+        "5",
+        "--slice-lines",
+        "6",
+        "--inbox",
+        "7",
+        "--seed",
+        "18446744073709551615",
+        "p",
+        "o",
+    ];
+    match read(rt.alloc(), line.as_slice()) {
+        Ok(Request::Sim(sim)) => {
+            assert_eq!(rt; numbers(&sim.limits), [2, 3, 4, 5, 6, 7]);
+            assert_eq!(rt; sim.seed, Some(u64::MAX));
+        }
+        Ok(Request::Check(_check)) => assert!(rt; false, "a check"),
+        Err(refusal) => assert!(rt; false, "refused: {refusal}"),
+    }
+}
+
+#[test]
+fn words_that_ask_for_nothing(rt: HostRuntime) -> Result<(), Fail> {
+    for words in [
+        [].as_slice(),
+        &["help"],
+        &["help", "sim"],
+        &["--help"],
+        &["sim", "--help"],
+        &["order", "a"],
+        &["check"],
+        &["check", "--seed", "1", "a"],
+        &["sim"],
+        &["sim", "p"],
+        &["sim", "p", "o", "x"],
+        &["sim", "--seed", "x", "p", "o"],
+        &["sim", "--seed", "18446744073709551616", "p", "o"],
+        &["sim", "--slices", "-1", "p", "o"],
+        &["sim", "--workers", "1", "p", "o"],
+        &["sim", "--lease", "1", "--lease", "1", "p", "o"],
+    ] {
+        let mut line = Vec::from_slice(rt.alloc(), &["tardis"])?;
+        line.extend_from_slice(words)?;
+        assert!(rt; read(rt.alloc(), line.as_slice()).is_err());
+    }
+    Ok(())
+}

@@ -1,0 +1,12 @@
+-- What is told of words that can't be read, and the exit status.
+use Rattle.std.specs.Prelude.{ℕ, List, codes}
+use Rattle.tardis.specs.declared.words.WordsFault.{WordsFault}
+use Rattle.tardis.specs.declared.words.WordsFault.TheVariants.{NotText, OutOfMemory}
+
+abbrev pub words_fault_text : WordsFault → List ℕ
+words_fault_text NotText = codes "error: invalid UTF-8 was detected in one or more arguments"
+words_fault_text OutOfMemory = codes "refused: 10 OutOfMemory"
+
+abbrev pub words_fault_status : WordsFault → ℕ
+words_fault_status NotText = 3
+words_fault_status OutOfMemory = 4

@@ -1,0 +1,36 @@
+-- Machines to which events lead.
+use Rattle.std.proofs.Common.{◌≡◌, ℕ, List, [], ◌∷◌, ◌++◌, sym, subst}
+use Rattle.std.specs.Prelude.{Some, Ok, Err, IfOk, OnErr, slice_get}
+use Rattle.lease_rule.specs.ConfigParts.{ConfigParts}
+use Rattle.core_program.specs.declared.instruction.Instruction.{Instruction}
+use Rattle.core_unit.specs.Parts.{SameUnit}
+use Rattle.tardis_core.specs.Machine.{World, Leads, Run, start, next, opening}
+use Rattle.tardis_core.specs.Parts.{CoreParts, world, programs_of, IsReached, IsMachine}
+use Rattle.tardis_core.specs.SeatParts.{SeatParts}
+use Rattle.tardis_core.specs.Steps.{MachineGoes, with_seat}
+use Rattle.tardis_core.specs.declared.event.Event.{Event}
+use Rattle.tardis_core.proofs.Alone.{StepResult, kept_machine}
+use Rattle.tardis_core.proofs.Placed.{map-set_same}
+
+-- the machine as it starts
+pub reached_start : (p : CoreParts) → world p ≡ opening (programs_of p) p.config.slices → IsReached p
+reached_start p same = ([], subst (λ (w : World). Run p.config w [] (world p)) same start)
+
+-- an event leads on, and one that is refused changes nothing
+pub reached_on : (e : Event) (p : CoreParts) (r : StepResult) (q : CoreParts) → MachineGoes e p r q → programs_of q ≡ programs_of p → IsReached p → IsReached q
+reached_on e p r q goes programs reached = by_result r goes.leads goes.refused
+  where
+    by_result : (r : StepResult) → IfOk r (λ o. Leads p.config (world p) e o (world q)) → OnErr r (q ≡ p) → IsReached q
+    by_result (Ok o) leads refused =
+        let run = next reached.0 e o (world p) (world q) reached.1 leads in
+        let at_config = subst (λ (g : ConfigParts). Run g (opening (programs_of p) g.slices) (reached.0 ++ e ∷ []) (world q)) (sym goes.config) run in
+        (reached.0 ++ e ∷ [], subst (λ (programs : List (List Instruction)). Run q.config (opening programs q.config.slices) (reached.0 ++ e ∷ []) (world q)) (sym programs) at_config)
+    by_result (Err fault) leads refused = subst IsReached (sym refused) reached
+
+-- an event leads on by what it makes of core c
+pub seat_kept : (p : CoreParts) (c : ℕ) (k : IsMachine p) (s : SeatParts) (there : slice_get p.seats c ≡ Some s) (t : SeatParts) (same : SameUnit s.unit t.unit)
+    (e : Event) (r : StepResult) → MachineGoes e p r (with_seat p c t) → IsMachine (with_seat p c t)
+seat_kept p c k s there t same e r goes = record {
+  placed = kept_machine p c k.placed s there t same;
+  reached = reached_on e p r (with_seat p c t) goes (map-set_same (λ (x : SeatParts). x.unit.program) p.seats c s t there same.program) k.reached;
+}
