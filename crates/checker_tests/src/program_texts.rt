@@ -3,7 +3,7 @@ use mem_op::CoreId;
 use std::alloc::{AllocError, Global};
 use std::test::Fail;
 
-/// A text of so many lines `ld r0 0`.
+/// A text of `count` lines `ld r0 0`.
 fn loads(alloc: Global, count: u64) -> Result<Vec<u8>, AllocError> {
     let mut text = Vec::new(alloc);
     for _ in 0..count {
@@ -138,7 +138,7 @@ fn a_program_has_a_limit(rt: HostRuntime) -> Result<(), Fail> {
         Some(ProgramFault::TooLong(4097))
     );
 
-    // The line in front of the end may jump no further than to it.
+    // The line before the end may jump no further than to it.
     let jump = joined(
         rt.alloc(),
         b"jz r0 4095\n",
@@ -146,7 +146,7 @@ fn a_program_has_a_limit(rt: HostRuntime) -> Result<(), Fail> {
     )?;
     assert!(rt; Program::parse(rt.alloc(), jump.as_slice()).is_ok());
 
-    // A bad line is the first fault where it stands in front of the 4,097th instruction, and TooLong where it doesn't.
+    // A bad line is the first fault where it comes before the 4,097th instruction, and TooLong where it doesn't.
     let bad_last = joined(rt.alloc(), most.as_slice(), b"ld r0\n")?;
     assert_eq!(rt;
         Program::parse(rt.alloc(), bad_last.as_slice()).err(),

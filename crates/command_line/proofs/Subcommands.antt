@@ -124,7 +124,7 @@ not_help s names w (word ∷ words) p on none quiet e =
 
 -- ---- the subcommand that is entered
 
--- of three, the last of which isn't meant, one of the first two
+-- where the last of three isn't meant, one of the first two is
 first_two : (a b last : Shape) (p : Text × List Text) (named : Text × List Row) → answers_to p.0 (label_of last) ≡ false
     → option_map (λ s. rows_at s p.1) (find (λ s. answers_to p.0 (label_of s)) (a ∷ b ∷ last ∷ [])) ≡ Some named
     → (named.0 ≡ a.name) ⊎ (named.0 ≡ b.name)

@@ -29,9 +29,9 @@ use Rattle.core_unit.specs.declared.outcome.Outcome.TheVariants.{Performed, Drop
 pub data UnitOutcome : Type 0 where
   -- a refusal that is due
   Refuses : UnitFault → UnitOutcome
-  -- an outcome that makes no entry and isn't refused for want of memory, and the unit behind it
+  -- an outcome that makes no entry and isn't refused for want of memory, and the unit after it
   Answers : Outcome → UnitParts → UnitOutcome
-  -- an outcome that makes an entry, and the unit behind it
+  -- an outcome that makes an entry, and the unit after it
   Steps : Outcome → UnitParts → UnitOutcome
 
 -- the call, with this result, led from p to q as the outcome says; only for want of memory may a step be refused
@@ -50,7 +50,7 @@ abbrev pub unless_faulty : Option StampFault → UnitOutcome → UnitOutcome
 unless_faulty None outcome = outcome
 unless_faulty (Some fault) outcome = Refuses (Stamp fault)
 
--- p makes this entry and is q behind it, unless the transcript is full or a stamp or rank is above its limit
+-- p makes this entry and is q after it, unless the transcript is full or a stamp or rank is above its limit
 abbrev pub recorded : UnitParts → CoreEntry → Option StampFault → Outcome → UnitParts → UnitOutcome
 recorded p e fault o q =
     if nat_lt (length p.transcript) entry_limit

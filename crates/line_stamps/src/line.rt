@@ -72,7 +72,7 @@ impl LineStamps {
     }
 }
 
-/// A word with its source and its stamps. The stamps lie flat beside the word, so that a line takes 40 bytes in place of 48.
+/// A word with its source and its stamps. The stamps lie flat beside the word, so that a line takes 40 bytes instead of 48.
 #[derive(Clone, Copy, Debug, PartialEq, Eq)]
 pub struct Line {
     value: Word,

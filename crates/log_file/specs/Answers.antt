@@ -24,7 +24,7 @@ IsFaultOrDevice core cores bytes (At k f) = IsFirstFault core cores bytes k f
 IsFaultOrDevice core cores bytes OutOfMemory = Unit {0}
 IsFaultOrDevice core cores bytes Read = Unit {0}
 
--- the log that the bytes spell, or their first fault; want of memory may come in place of either
+-- the log that the bytes spell, or their first fault; want of memory may come instead of either
 abbrev pub IsAnswer : ℕ → ℕ → List ℕ → Result (Vec Record) LogFault → Type 0
 IsAnswer core cores bytes (Ok log) = Spells core cores bytes log.items
 IsAnswer core cores bytes (Err fault) = IsFaultOrMemory core cores bytes fault

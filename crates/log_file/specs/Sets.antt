@@ -11,7 +11,7 @@ use Rattle.log_file.specs.declared.set_fault.SetFault.{SetFault}
 use Rattle.log_file.specs.Devices.{Failed, Tells}
 use Rattle.log_file.specs.Log.{Spells, IsFirstFault}
 
--- the texts spell the logs of cores core, core + 1, .. of so many
+-- the texts spell the logs of cores core, core + 1, .. of `cores`
 abbrev pub SpellFrom : ℕ → ℕ → List (List ℕ) → List (List Record) → Type 0
 SpellFrom core cores [] [] = Unit {0}
 SpellFrom core cores [] (log ∷ logs) = ⊥
@@ -25,7 +25,7 @@ SpellSet texts logs = SpellFrom 0 (length texts) texts logs
 abbrev pub text_at : List (List ℕ) → ℕ → List ℕ
 text_at texts k = slice_index_or texts k []
 
--- the texts in front of this one spell their logs
+-- the texts before this one spell their logs
 abbrev pub SpellBefore : List (List ℕ) → ℕ → Type 0
 SpellBefore texts file = (k : ℕ) → k < file → (log : List Record) × Spells k (length texts) (text_at texts k) log
 

@@ -13,11 +13,11 @@ pub enum Fault {
     BadLine,
     /// A number of the header or of a record is out of range.
     OutOfRange,
-    /// A record behind 1,048,576 records.
+    /// A record after 1,048,576 records.
     TooMany,
     /// The end line's number isn't the number of records.
     CountDiffers,
-    /// A byte behind the end line.
+    /// A byte after the end line.
     TrailingBytes,
     /// The bytes end before the end line does.
     Truncated,

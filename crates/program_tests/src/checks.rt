@@ -217,7 +217,7 @@ const ONE_STORE: &[u8] = b"tardis-programs 1 cores 1\ncore 0\nst 0 1\nend\n";
 const ONE_JUMP: &[u8] = b"tardis-programs 1 cores 1\ncore 0\njz r0 1\nend\n";
 
 /// Arguments of a check of two empty logs, the files 0 and 1, against programs that are refused: a
-/// store is file 2, a jump file 3, and file 4 ends behind its first line.
+/// store is file 2, a jump file 3, and file 4 ends after its first line.
 const REFUSED_PROGRAMS: &[(&[&str], u8, &str)] = &[
     (&["--program", "x", "0"], 4, "refused: programs: 28 Read\n"),
     (
@@ -539,7 +539,7 @@ fn strings(alloc: Global, words: &[&str]) -> Result<Vec<String>, Fail> {
     Ok(all)
 }
 
-/// The words of a check with these arguments, and then of so many files.
+/// The words of a check with these arguments, and then of `files` files.
 fn words_of(alloc: Global, arguments: &[&str], files: usize) -> Result<Vec<String>, Fail> {
     let mut words = strings(alloc, &["tardis", "check"])?;
     for argument in arguments {

@@ -63,7 +63,7 @@ impl From<io::Error> for WordsFault {
     }
 }
 
-/// The words that the program was called with, of which the first is its own name.
+/// The words that the program was called with; the first is its own name.
 pub(crate) fn words(rt: &HostRuntime) -> Result<Vec<String>, WordsFault> {
     let mut words = Vec::new(rt.alloc());
     for word in env::args(rt)? {

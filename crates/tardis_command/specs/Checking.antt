@@ -41,7 +41,7 @@ AreProgramsOf told (Some name) (Some programs) = (text : List ℕ) × Tells (tol
 abbrev pub Against : (List ℕ → Option (List ℕ)) → Option (Bor (List ℕ)) → (Option (List (List Instruction)) → Type 0) → Type 0
 Against told name Holds = (programs : Option (List (List Instruction))) × AreProgramsOf told name programs × Holds programs
 
--- the programs aren't as many as this
+-- there are not this many programs
 abbrev pub AreNotAsMany : ℕ → Option (List (List Instruction)) → Type 0
 AreNotAsMany n None = ⊥
 AreNotAsMany n (Some programs) = length programs ≢ n

@@ -12,7 +12,7 @@ use verdict::Verdict;
 pub enum Answer {
     /// The verdict on a set of logs.
     Judged(Verdict),
-    /// Programs were run to their ends, and have performed so many operations.
+    /// Programs were run to their ends, and have performed this number of operations.
     Done(u64),
 }
 

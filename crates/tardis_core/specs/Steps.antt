@@ -24,9 +24,9 @@ use Rattle.tardis_core.specs.declared.fault.CoreFault.TheVariants.{Unit, Slice}
 pub data StepOutcome : Type 0 where
   -- a refusal that is due
   Refuses : CoreFault → StepOutcome
-  -- an outcome that isn't refused for want of memory, and the machine behind it
+  -- an outcome that isn't refused for want of memory, and the machine after it
   Answers : Outcome → CoreParts → StepOutcome
-  -- an outcome that makes an entry, and the machine behind it; this fault tells a want of memory for it
+  -- an outcome that makes an entry, and the machine after it; this fault tells a want of memory for it
   Steps : CoreFault → Outcome → CoreParts → StepOutcome
 
 -- 10 OutOfMemory, of a core or of a slice

@@ -106,7 +106,7 @@ module _ (programs : List (List Instruction)) (cores : List (List Operation)) (o
   abbrev done_of : List OpId → List Operation
   done_of ids = filter_map (operation_at cores) ids
 
-  -- a core that has performed so many of its operations, and has a path to its end that performs the others
+  -- a core that has performed this number of its operations, and has a path to its end that performs the others
   record Waits (flat : Flat) (performed core : ℕ) (program : List Instruction) : Type 0 where
     state : State
     at : slice_get flat.states core ≡ Some state
