@@ -31,7 +31,7 @@ latest es = least_of (flip_args entry_cmp) es
 abbrev pub right_store : List Entry → Entry → Option Entry
 right_store es load = latest (filter (is_earlier_store load) es)
 
--- whether a source names this store, or `Init` where there is none
+-- whether a source names this store, or `Init` where there isn't one
 abbrev pub is_source : Source → Option Entry → Bool
 is_source Init None = true
 is_source Init (Some e) = false

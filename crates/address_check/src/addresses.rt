@@ -68,7 +68,7 @@ impl AddressIndex {
         group_fault(self.group(addr))
     }
 
-    /// The address fault of least key, found by so many workers at once, 1 to 64, each with whole
+    /// The address fault of least key, found by `workers` workers at once, 1 to 64, each with whole
     /// groups. Err where memory was refused.
     pub fn least_fault<R: Threads + Sync, G: Gate + Sync>(
         &self,

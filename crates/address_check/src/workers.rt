@@ -57,7 +57,7 @@ impl<'a, C: LocalCheck> Pieces<'a, C> {
     }
 }
 
-/// The fault of all items, found by so many workers at once, 1 to 64, each with a piece of the
+/// The fault of all items, found by `workers` workers at once, 1 to 64, each with a piece of the
 /// items. A single worker is the calling thread, and takes no memory. Err where memory was refused.
 pub fn fault_by_workers<R: Threads + Sync, G: Gate + Sync, C: LocalCheck + Sync>(
     rt: &R,

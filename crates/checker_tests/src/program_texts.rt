@@ -3,7 +3,7 @@ use mem_op::CoreId;
 use std::alloc::{AllocError, Global};
 use std::test::Fail;
 
-/// A text of so many lines `ld r0 0`.
+/// A text of `count` lines `ld r0 0`.
 fn loads(alloc: Global, count: u64) -> Result<Vec<u8>, AllocError> {
     let mut text = Vec::new(alloc);
     for _ in 0..count {
@@ -66,7 +66,7 @@ fn instructions_have_their_numbers(rt: HostRuntime) -> Result<(), Fail> {
     Ok(())
 }
 
-/// Texts that are no program, and the line that is bad.
+/// Texts that aren't a program, and the line that is bad.
 const BAD_PROGRAMS: &[(&str, u64)] = &[
     ("\n", 1),
     ("ld r0 0", 1),
@@ -138,7 +138,7 @@ fn a_program_has_a_limit(rt: HostRuntime) -> Result<(), Fail> {
         Some(ProgramFault::TooLong(4097))
     );
 
-    // The line in front of the end may jump no further than to it.
+    // The line before the end may jump no further than to it.
     let jump = joined(
         rt.alloc(),
         b"jz r0 4095\n",
@@ -146,7 +146,7 @@ fn a_program_has_a_limit(rt: HostRuntime) -> Result<(), Fail> {
     )?;
     assert!(rt; Program::parse(rt.alloc(), jump.as_slice()).is_ok());
 
-    // A bad line is the first fault where it stands in front of the 4,097th instruction, and TooLong where it doesn't.
+    // A bad line is the first fault where it comes before the 4,097th instruction, and TooLong where it doesn't.
     let bad_last = joined(rt.alloc(), most.as_slice(), b"ld r0\n")?;
     assert_eq!(rt;
         Program::parse(rt.alloc(), bad_last.as_slice()).err(),
@@ -217,7 +217,7 @@ fn as_many_cores_as_a_set_may_have(rt: HostRuntime) -> Result<(), Fail> {
     Ok(())
 }
 
-/// Texts that are no set of programs, and the line that is bad.
+/// Texts that aren't a set of programs, and the line that is bad.
 const BAD_SETS: &[(&str, u64)] = &[
     ("", 1),
     ("tardis-programs 1 cores 1", 1),

@@ -12,7 +12,7 @@ use std::thread::Threads;
 /// How many records the long log has.
 const MANY: u64 = 10_000;
 
-/// The log of core 0 of 1 whose record `k` stores `k` at stamp `k`, with this line in place of its
+/// The log of core 0 of 1 whose record `k` stores `k` at stamp `k`, with this line instead of its
 /// line `at`, counted from 1.
 fn long_log(alloc: Global, at: u64, other: &str) -> Result<String, Fail> {
     let mut text = String::new(alloc);
@@ -29,7 +29,7 @@ fn long_log(alloc: Global, at: u64, other: &str) -> Result<String, Fail> {
     Ok(text)
 }
 
-/// The log that a text spells, fed in one piece to so many workers.
+/// The log that a text spells, fed in one piece to `workers` workers.
 fn fed<R: Threads + Sync>(
     rt: &R,
     alloc: Global,

@@ -88,7 +88,7 @@ turns s names w word false None on none quiet =
     (subcommand_or_other s.rules None w.waiting w.position word w.held).1 (other_quiet s.rules w.waiting w.position word w.held) none)
 turns s names w word false (Some name) on none quiet = inr ((name, []), (refl, help_off s name word w.held on quiet))
 
--- one word more
+-- one more word
 one_word : (s : Shape) (names : Names) (w : Walk) (word : Text) → s.disable_help_subcommand ≡ false → w.stopped ≡ None → turn_fault s names w word ≡ []
     → StopsWell (walked s.rules names w word)
 unfolding walked
@@ -124,7 +124,7 @@ not_help s names w (word ∷ words) p on none quiet e =
 
 -- ---- the subcommand that is entered
 
--- of three, the last of which isn't meant, one of the first two
+-- where the last of three isn't meant, one of the first two is
 first_two : (a b last : Shape) (p : Text × List Text) (named : Text × List Row) → answers_to p.0 (label_of last) ≡ false
     → option_map (λ s. rows_at s p.1) (find (λ s. answers_to p.0 (label_of s)) (a ∷ b ∷ last ∷ [])) ≡ Some named
     → (named.0 ≡ a.name) ⊎ (named.0 ≡ b.name)

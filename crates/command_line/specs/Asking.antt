@@ -17,7 +17,7 @@ use Rattle.command_line.specs.declared.request.Sim.{Sim}
 abbrev pub texts : List (Bor Text) → List Text
 texts = map (λ word. word.now)
 
--- digits, behind a plus or not, of a number below 2^64
+-- digits, after a plus or not, of a number below 2^64
 abbrev pub IsNumber : Text → Type 0
 IsNumber text = IsNumeral 10 (without_leading_plus text) × (digits_value 10 (without_leading_plus text) < 2 ^ 64)
 
@@ -26,7 +26,7 @@ abbrev pub IsNumberOf : Option Text → Option ℕ → Type 0
 IsNumberOf None number = number ≡ None
 IsNumberOf (Some text) number = (IsNumber text × (number ≡ Some (digits_value 10 (without_leading_plus text)))) ⊎ ((¬ (IsNumber text)) × (number ≡ None))
 
--- the same, with a number in place of none
+-- the same, with a number instead of none
 abbrev pub IsCountOr : ℕ → Option Text → ℕ → Type 0
 IsCountOr default text n = (number : Option ℕ) × IsNumberOf text number × (n ≡ unwrap_or number default)
 
@@ -40,7 +40,7 @@ pub record IsCheck (rows : List Row) (check : Check) : Type 0 where
   pub program : text_of check.program ≡ first_of (codes "program") rows
   pub files : texts check.files.items ≡ unwrap_or (all_of (codes "FILE") rows) []
 
--- the numbers of the machine that were given, or those that stand in place of each that wasn't
+-- the numbers of the machine that were given, or the default of each that wasn't
 pub record AreLimits (rows : List Row) (limits : Limits) : Type 0 where
   pub slices : IsCountOr 1 (one_of (codes "slices") rows) limits.slices
   pub lease : IsCountOr 10 (one_of (codes "lease") rows) limits.lease
@@ -70,7 +70,7 @@ Asks words asked = (named : Text × List Row) × (subcommand_of tardis words ≡
 abbrev pub IsCommandLine : List Text → Type 0
 IsCommandLine words = fault_of tardis words ≡ []
 
--- words are refused for their usage only where they are none
+-- only words that aren't a command line of the program are refused for their usage
 abbrev pub IsRefusalOf : List Text → Refusal → Type 0
 IsRefusalOf words (Usage text) = ¬ (IsCommandLine words)
 IsRefusalOf words OutOfMemory = ⊤

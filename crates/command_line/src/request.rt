@@ -27,7 +27,7 @@ pub struct Sim<'a> {
     pub limits: Limits,
     /// The name of the file of the schedule that is followed first, where one is given.
     pub schedule: Option<&'a str>,
-    /// What the rounds behind the schedule are drawn from, where it is given.
+    /// What the rounds after the schedule are drawn from, where it is given.
     pub seed: Option<u64>,
     /// The name of the file of the programs.
     pub programs: &'a str,

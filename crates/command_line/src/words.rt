@@ -12,7 +12,7 @@ use clap::error::ErrorKind;
 use clap::{ArgMatches, Error};
 use std::alloc::{AllocError, Global};
 
-/// What the words ask for, of which the first is the program's own name. Numbers are those of a
+/// What the words ask for; the first is the program's own name. Numbers are those of a
 /// u64; whether they are in range isn't looked at.
 pub fn read<'a>(alloc: Global, words: &'a [&'a str]) -> Result<Request<'a>, Refusal>
     ensures request { MatchResult result
@@ -92,7 +92,7 @@ fn name_of<'a>(matches: &ArgMatches<'a>, option: &str) -> Option<&'a str>
     matches.get_str(option)
 }
 
-/// The word that stands in this place. It is always there.
+/// The word at this place. It is always there.
 fn word_of<'a>(matches: &ArgMatches<'a>, place: &str) -> &'a str
     ensures { result.now ≡ unwrap_or (first_of place.now (rows_of (found_of matches.now))) [] }
 {

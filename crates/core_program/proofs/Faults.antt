@@ -218,7 +218,7 @@ fault-differs p xs i program h =
 
 -- ---- as the log is read
 
--- the fault is where, behind the operations before, something else is issued than what is logged
+-- the fault is where, after the operations before, something else is issued than what is logged
 pub fault-at : (p : List Instruction) (xs : List Operation) (i : ℕ) (s : State) → state_after p (take i xs) ≡ Some s → i ≤ length xs → next_op p s ≢ option_map op_of (slice_get xs i) → program_fault p xs ≡ Some i
 fault-at p xs i s run within differs = turns-fault p (start_of p) xs i (record { within = within; state = s; run = run; differs = differs })
 

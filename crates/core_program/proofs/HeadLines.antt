@@ -1,4 +1,4 @@
--- The header of a set and the line in front of a section, read and found in front of bytes.
+-- The header of a set and the line before a section, read and found at the front of bytes.
 use Rattle.std.proofs.Common.{◌≡◌, ℕ, ◌<◌, ◌≤◌, ◌^◌, true, false, cond, eqb, List, ◌∷◌, ◌++◌, Option, Some, None, refl, sym, ap, ◌∙◌, arith, inl, inr}
 use Rattle.std.specs.Prelude.{codes}
 use Rattle.std.specs.Option.{option_eq}

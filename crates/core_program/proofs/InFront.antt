@@ -12,7 +12,7 @@ use Rattle.core_program.proofs.TextLines.{no_lf_from, no_feed, line_once}
 pub none_without_feed : (text : List ℕ) → IsOneLine text → NoInstructionInFront text
 none_without_feed text one = λ i rest there. no_feed text (instruction_text i) rest (no_lf_from text one) there.1
 
--- none, where the first line is no instruction's
+-- none, where the first line isn't an instruction's
 pub none_of_other : (text line behind : List ℕ) → IsOneLine line → text ≡ line ++ 10 ∷ behind → None ≡ instruction_of line → NoInstructionInFront text
 none_of_other text line behind one is none = λ i rest there.
     let same = line_once line (instruction_text i) behind rest (no_lf_from line one) (instruction_no_lf i) (sym is ∙ there.1) in

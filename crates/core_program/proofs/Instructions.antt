@@ -33,7 +33,7 @@ below_again limit n lt = sym (cond_below n limit (Some n) None lt)
 
 -- ---- fields
 
--- a register and a space, with bytes behind them
+-- a register and a space, with bytes after them
 abbrev register_front : ℕ × List ℕ → List ℕ
 register_front x = 114 ∷ (numeral x.0 ++ 32 ∷ x.1)
 
@@ -247,15 +247,15 @@ instruction_again (SkipIfZero tested skip) fits =
 pub instruction_once : (i j : Instruction) → Fits i → Fits j → instruction_text i ≡ instruction_text j → i ≡ j
 instruction_once i j p q e = some_is i j (sym (instruction_again i p) ∙ ap instruction_of e ∙ instruction_again j q)
 
--- a space and more stand behind a number
+-- a space and more come after a number
 spaced_no_lf : (n : ℕ) (rest : List ℕ) → NoLf rest → NoLf (numeral n ++ 32 ∷ rest)
 spaced_no_lf n rest p = NoLf-append (numeral n) (32 ∷ rest) (numeral_no_lf n) (refl, p)
 
--- a name of two letters and a space stand in front
+-- a name of two letters and a space come first
 named_no_lf : (a b : ℕ) (rest : List ℕ) → eqb a 10 ≡ false → eqb b 10 ≡ false → NoLf rest → NoLf (a ∷ b ∷ 32 ∷ rest)
 named_no_lf a b rest p q r = (p, (q, (refl, r)))
 
--- no line feed stands in an instruction's line
+-- an instruction's line has no line feed
 pub instruction_no_lf : (i : Instruction) → NoLf (instruction_text i)
 unfolding instruction_text
 instruction_no_lf (Load to addr) =

@@ -13,7 +13,7 @@ use Rattle.core_program.specs.Least.{IsLeastWhere}
 use Rattle.core_program.specs.Sections.{section_lists}
 use Rattle.core_program.specs.Shape.{IsProgram, is_skip_past_end}
 
--- the lines of the sections in front of one, and that section with them
+-- the lines of the sections before one, and that section with them
 length-sections-take : (core n m : ℕ) (set : List (List Instruction)) (program : List Instruction) → n < m → slice_get set n ≡ Some program
     → length (sections core (take n set)) + 1 + length program ≤ length (sections core (take m set))
 length-sections-take core n m [] program lt at = absurd cc
@@ -29,14 +29,14 @@ length-sections-take core (suc n) (suc m) (p ∷ set) program lt at =
       length-append (program_lines p) (sections (suc core) (take m set)),
     )
 
--- an element in front
+-- an element put first
 among_first : {X : Type 0} (P : X → Type 0) (xs : List X) (n k : ℕ) (x : X) → AllByRecursion P (take n xs) → k < n → slice_get xs k ≡ Some x → P x
 among_first P [] n k x all lt at = absurd cc
 among_first P (y ∷ xs) zero k x all lt at = absurd (omega arith)
 among_first P (y ∷ xs) (suc n) zero x all lt at = let is : y ≡ x = cc in subst P is all.0
 among_first P (y ∷ xs) (suc n) (suc k) x all lt at = among_first P xs n k x all.1 (omega arith) at
 
--- the first jump of a section, where no section in front has any
+-- the first jump of a section, where no section before has any
 pub first_jump : (set : List (List Instruction)) (n i k : ℕ) (program : List Instruction) → AllByRecursion IsProgram (take n set)
     → slice_get set n ≡ Some program → IsLeastWhere (is_skip_past_end program) (Some i) → i < length program
     → k ≡ length (sections 0 (take n set)) + 3 + i → IsLeast (SkipsInSetAt set) k
@@ -74,7 +74,7 @@ first_jump set n i k program before at first inside k-is = (
         by_place s.core other s.program s.of_core s.skips.index s.skips.passes (omega (arith, s.skips.line, s.line))
         (cases_lt s.core n) (cases_lt n s.core)
 
--- ---- one section more
+-- ---- one more section
 
 pub among : {X : Type 0} (P : X → Type 0) (xs : List X) (k : ℕ) (x : X) → AllByRecursion P xs → slice_get xs k ≡ Some x → P x
 among P [] k x all at = absurd cc

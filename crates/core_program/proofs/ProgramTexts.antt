@@ -28,7 +28,7 @@ line_of_program [] (l ∷ front) next more fits e = absurd cc
 line_of_program (i ∷ program) [] next more fits e = (i, (fits.0, cc))
 line_of_program (i ∷ program) (l ∷ front) next more fits e = line_of_program program front next more fits.1 cc
 
--- where no instruction stands in front, no line of a program does
+-- where no instruction comes first, no line of a program does
 none_follows : (Section : List Instruction → Type 0) → ((p : List Instruction) → Section p → EachFits p) → (front : List (List ℕ)) (rest : List ℕ)
     → NoInstructionInFront rest → NoneFollows (ProgramLines Section) front rest
 none_follows Section fits front rest none = λ next more behind g is.
@@ -62,7 +62,7 @@ first_section program fits long = record {
   each_fits = each_fits_take 4096 program fits;
 }
 
--- the lines of the first 4,096 instructions, and those behind them
+-- the lines of the first 4,096 instructions, and those after them
 pub cut_lines : (program : List Instruction) (rest : List ℕ)
     → text_of (program_lines program) ++ rest ≡ text_of (program_lines (take 4096 program)) ++ (text_of (program_lines (drop 4096 program)) ++ rest)
 cut_lines program rest =

@@ -7,7 +7,7 @@ use Rattle.core_program.specs.Lines.{text_of}
 use Rattle.core_program.specs.Sections.{InstructionInFront, IsTooMany}
 use Rattle.core_program.proofs.TextLines.{text_of-append, text_of-cons}
 
--- the instructions so far, and the bytes behind their lines
+-- the instructions so far, and the bytes after their lines
 pub record SoFar (text : List ℕ) (program : List Instruction) (rest : List ℕ) : Type 0 where
   pub is_section : IsSection program
   pub text_is : text ≡ text_of (program_lines program) ++ rest

@@ -1,4 +1,4 @@
--- The lines of a set of programs, and what may stand behind some of them.
+-- The lines of a set of programs, and what may come after some of them.
 use Rattle.std.proofs.Common.{◌≡◌, ◌≢◌, ℕ, zero, suc, ◌+◌, ◌-◌, ◌<◌, ◌≤◌, List, [], ◌∷◌, ◌++◌, length, zero-add, refl, sym, ap, subst, ◌∙◌, arith, append_assoc, append-nil, length-append}
 use Rattle.std.specs.Prelude.{codes, replicate}
 use Rattle.std.specs.List.{AllByRecursion}
@@ -87,7 +87,7 @@ header_once m n e =
     (append_cancel_left (numeral 1) (codes " cores " ++ numeral m) (codes " cores " ++ numeral n)
     (append_cancel_left (codes "tardis-programs ") (numeral 1 ++ (codes " cores " ++ numeral m)) (numeral 1 ++ (codes " cores " ++ numeral n)) e)))
 
--- ---- what may stand behind sections
+-- ---- what may come after sections
 
 sections-append : (core : ℕ) (front back : List (List Instruction)) → sections core (front ++ back) ≡ sections core front ++ sections (core + length front) back
 sections-append core [] back = ap (λ (c : ℕ). sections c back) (omega arith)
@@ -113,15 +113,15 @@ compared (i ∷ p) (j ∷ q) xs ys f g e = elim (compared p q xs ys f.1 g.1 cc) 
   | second_longer k more longer is ↦ second_longer k more (omega arith) is
 ]
 
--- What may stand behind the sections of these programs in the lines of a set of so many: one more instruction of the last of
--- them, the line of the next core, or the last line.
+-- What may come after the sections of these programs in the lines of a set of `count`: one more instruction of the last
+-- of them, the line of the next core, or the last line.
 pub data Next (Section : List Instruction → Type 0) (count core : ℕ) (programs : List (List Instruction)) (next : List ℕ) (more : List (List ℕ)) : Type 0 where
   goes_on : (i : Instruction) (before : List (List Instruction)) (last longer : List Instruction) → Fits i → next ≡ instruction_text i
       → programs ≡ before ++ last ∷ [] → Section longer → length last < length longer → Next Section count core programs next more
   next_core : next ≡ core_text (core + length programs) → length programs < count → Next Section count core programs next more
   last_line : next ≡ end_text → length programs ≡ count → more ≡ [] → Next Section count core programs next more
 
--- behind one program more
+-- after one more program
 next_behind : (Section : List Instruction → Type 0) (count core : ℕ) (program : List Instruction) (programs : List (List Instruction)) (next : List ℕ) (more : List (List ℕ))
     → Next Section count (suc core) programs next more → Next Section (suc count) core (program ∷ programs) next more
 next_behind Section count core program programs next more (goes_on i before last longer fits is at section less) =
@@ -149,13 +149,13 @@ next_of Section fits core (p ∷ set) (q ∷ programs) next more all each e =
         ∙ append_cancel_left (core_text core ∷ []) ((program_lines p ++ sections (suc core) set) ++ end_text ∷ []) ((program_lines q ++ sections (suc core) programs) ++ next ∷ more) e
         ∙ append_assoc (program_lines q) (sections (suc core) programs) (next ∷ more)
 
-    -- the first line behind the section of q
+    -- the first line after the section of q
     first_behind : (rest : List (List Instruction)) (i : Instruction) (lines : List (List ℕ)) → programs ≡ rest → Fits i → length q < length p
         → sections (suc core) rest ++ next ∷ more ≡ instruction_text i ∷ lines → Next Section (suc (length set)) core (q ∷ programs) next more
     first_behind [] i lines none fit less is = goes_on i [] q p fit (cc) (ap (λ (ps : List (List Instruction)). q ∷ ps) none) all.0 less
     first_behind (r ∷ rest) i lines at fit less is = absurd (instruction_no_core i (suc core) cc)
 
-    -- the first line behind the section of p
+    -- the first line after the section of p
     no_instruction : (rest : List (List Instruction)) (i : Instruction) (lines : List (List ℕ)) → sections (suc core) rest ++ end_text ∷ [] ≡ instruction_text i ∷ lines → ⊥
     no_instruction [] i lines is = instruction_no_end i cc
     no_instruction (r ∷ rest) i lines is = instruction_no_core i (suc core) cc
@@ -225,17 +225,17 @@ end_is_last : (lines : List (List ℕ)) → NoEnd (lines ++ end_text ∷ []) →
 end_is_last [] none = none.0 refl
 end_is_last (l ∷ lines) none = end_is_last lines none.1
 
--- the lines behind the header
+-- the lines after the header
 pub behind_header : (cores : ℕ) (set : List (List Instruction)) (lines : List (List ℕ)) → header_text 1 cores ∷ lines ≡ set_lines set
     → (cores ≡ length set) × (lines ≡ sections 0 set ++ end_text ∷ [])
 behind_header cores set lines e = (header_once cores (length set) cc, cc)
 
--- lines that begin a set are none
+-- lines that begin a set aren't the lines of a whole one
 pub begun_no_set : (Section : List Instruction → Type 0) (cores : ℕ) (programs : List (List Instruction)) → SetLines Section (begun cores programs) → ⊥
 begun_no_set Section cores programs (set, p) =
     end_is_last (sections 0 set) (subst NoEnd (behind_header cores set (sections 0 programs) p.1).1 (sections_no_end 0 programs))
 
--- what may stand behind lines that begin a set
+-- what may come after lines that begin a set
 pub next_of_begun : (Section : List Instruction → Type 0) → ((p : List Instruction) → Section p → EachFits p) → (cores : ℕ)
     (programs : List (List Instruction)) (next : List ℕ) (more : List (List ℕ)) → AllByRecursion EachFits programs
     → SetLines Section (begun cores programs ++ next ∷ more) → Next Section cores 0 programs next more
@@ -243,7 +243,7 @@ next_of_begun Section fits cores programs next more each (set, p) =
     let b = behind_header cores set (sections 0 programs ++ next ∷ more) p.1 in
     subst (λ (n : ℕ). Next Section n 0 programs next more) (sym b.0) (next_of Section fits 0 set programs next more p.0.each each (sym b.1))
 
--- the lines of one section more
+-- the lines of one more section
 pub begun_push : (cores : ℕ) (programs : List (List Instruction)) (program : List Instruction)
     → begun cores (programs ++ program ∷ []) ≡ begun cores programs ++ core_text (length programs) ∷ program_lines program
 begun_push cores programs program =

@@ -100,9 +100,9 @@ bad_line_of_set text rest cores line programs stands others = (
   (line_wrong EachFits tt (λ p fits. fits) text rest cores line programs (each_fits_of programs stands.each) stands others).wrong,
 )
 
--- ---- one section more
+-- ---- one more section
 
--- the line of a core and the lines of its section stand in front of the bytes
+-- the line of a core and the lines of its section come before the bytes
 pub section_text : (cores : ℕ) (programs : List (List Instruction)) (program : List Instruction) (rest : List ℕ)
     → text_of (begun cores (programs ++ program ∷ [])) ++ rest
     ≡ text_of (begun cores programs) ++ (core_text (length programs) ++ 10 ∷ (text_of (program_lines program) ++ rest))
@@ -294,7 +294,7 @@ section_refused text rest behind cores line programs (TooLong k) stands is more 
 
 -- ---- lists that vectors hold
 
--- all bytes behind a place
+-- all bytes after a place
 pub rest_is : (xs : List ℕ) (n : ℕ) → drop n xs ≡ take (length xs - n) (drop n xs)
 rest_is xs n = sym (ap (λ (k : ℕ). take k (drop n xs)) (sym (length-drop n xs)) ∙ take-length (drop n xs))
 

@@ -43,7 +43,7 @@ one_program bytes p q (s, p-is) (t, q-is) =
     program_once p q s.each_fits t.each_fits
     (text_once (program_lines p) (program_lines q) (program_lines_no_lf p) (program_lines_no_lf q) (sym p-is ∙ q-is))
 
--- no instruction's line stands behind the sections that are read
+-- no instruction's line comes after the sections that are read
 no_instruction : (core : ℕ) (rest : List (List Instruction)) (i : Instruction) (lines : List (List ℕ)) → sections core rest ++ end_text ∷ [] ≡ instruction_text i ∷ lines → ⊥
 no_instruction core [] i lines is = instruction_no_end i cc
 no_instruction core (p ∷ rest) i lines is = instruction_no_core i core cc

@@ -29,7 +29,7 @@ line_once (b ∷ l) (c ∷ m) xs ys p q e =
 abbrev pub EachNoLf : List (List ℕ) → Type 0
 EachNoLf lines = AllByRecursion NoLf lines
 
--- a line in front of lines
+-- a line before lines
 pub text_of-cons : (line : List ℕ) (lines : List (List ℕ)) (rest : List ℕ) → text_of (line ∷ lines) ++ rest ≡ line ++ 10 ∷ (text_of lines ++ rest)
 text_of-cons line lines rest = append_assoc (line ++ 10 ∷ []) (text_of lines) rest ∙ append_assoc line (10 ∷ []) (text_of lines ++ rest)
 
@@ -42,7 +42,7 @@ pub EachNoLf-front : (front back : List (List ℕ)) → EachNoLf (front ++ back)
 EachNoLf-front [] back none = tt
 EachNoLf-front (line ∷ front) back none = (none.0, EachNoLf-front front back none.1)
 
--- bytes begin with so many lines in one way only
+-- bytes begin with a number of lines in one way only
 pub lines_once : (front lines : List (List ℕ)) (xs ys : List ℕ) → EachNoLf front → EachNoLf lines → length front ≡ length lines
     → text_of front ++ xs ≡ text_of lines ++ ys → (front ≡ lines) × (xs ≡ ys)
 lines_once [] [] xs ys p q same e = (refl, e)

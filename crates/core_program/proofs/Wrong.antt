@@ -6,15 +6,15 @@ use Rattle.std.proofs.Math.Seq.{take-append_seam}
 use Rattle.core_program.specs.Lines.{text_of, IsText, BeginsText, IsFirstWrong}
 use Rattle.core_program.proofs.TextLines.{EachNoLf, EachNoLf-front, text_of-append, text_of-cons, lines_once, lines_too_few}
 
--- a grammar in whose lines no line feed stands
+-- a grammar whose lines have no line feed
 abbrev pub HasLines : (List (List ℕ) → Type 0) → Type 0
 HasLines Grammar = (lines : List (List ℕ)) → Grammar lines → EachNoLf lines
 
--- more lines may stand behind these
+-- more lines may come after these
 abbrev pub CanGoOn : (List (List ℕ) → Type 0) → List (List ℕ) → Type 0
 CanGoOn Grammar front = (more : List (List ℕ)) × Grammar (front ++ more)
 
--- no line that may stand behind these begins the bytes
+-- no line that may come after these begins the bytes
 abbrev pub NoneFollows : (List (List ℕ) → Type 0) → List (List ℕ) → List ℕ → Type 0
 NoneFollows Grammar front rest =
     (next : List ℕ) (more : List (List ℕ)) (behind : List ℕ) → Grammar (front ++ next ∷ more) → rest ≡ next ++ 10 ∷ behind → ⊥
@@ -48,7 +48,7 @@ goes_on Grammar front lines rest behind has one none is long e =
     (sym (length-take-le n lines (omega arith))) (e ∙ taken) in
     none next more behind (subst Grammar (cut ∙ ap (λ (ls : List (List ℕ)). ls ++ (next ∷ more)) (sym same.0)) is) same.1
 
--- Lines that can go on, behind which no line follows that may, are all that is right.
+-- Lines that can go on, with no line after them that may follow, are all that is right.
 pub wrong_behind : (Grammar : List (List ℕ) → Type 0) (front : List (List ℕ)) (bytes rest : List ℕ) (k : ℕ) → HasLines Grammar
     → bytes ≡ text_of front ++ rest → k ≡ length front + 1 → CanGoOn Grammar front → NoneFollows Grammar front rest
     → (rest ≡ [] → Grammar front → ⊥) → IsFirstWrong Grammar bytes k

@@ -34,7 +34,7 @@ pub record SkipsAt (program : List Instruction) (k : ℕ) : Type 0 where
   pub passes : is_skip_past_end program index ≡ true
   pub line : k ≡ index + 1
 
--- Line k of a set is a jump past the end of its program: in front of it stand the header, the sections of the
+-- Line k of a set is a jump past the end of its program: before it come the header, the sections of the
 -- cores before its own, its core's line, and the instructions before it.
 pub record SkipsInSetAt (set : List (List Instruction)) (k : ℕ) : Type 0 where
   pub core : ℕ
@@ -44,7 +44,7 @@ pub record SkipsInSetAt (set : List (List Instruction)) (k : ℕ) : Type 0 where
   pub skips : SkipsAt program place
   pub line : k ≡ 1 + length (sections 0 (take core set)) + 1 + place
 
--- the least number of which this holds
+-- the least number for which this holds
 abbrev pub IsLeast : (ℕ → Type 0) → ℕ → Type 0
 IsLeast Holds k = Holds k × ((j : ℕ) → Holds j → k ≤ j)
 
@@ -58,7 +58,7 @@ SpellsProgram bytes program = IsSection program × (bytes ≡ text_of (program_l
 abbrev pub SpellsSet : List ℕ → List (List Instruction) → Type 0
 SpellsSet bytes set = IsSetOf IsSection set × (bytes ≡ text_of (set_lines set))
 
--- Why bytes aren't the text of a program. Want of memory may come in place of a program and of every other fault.
+-- Why bytes aren't the text of a program. Lack of memory may come instead of a program and of every other fault.
 abbrev pub IsProgramFault : List ℕ → ProgramFault → Type 0
 IsProgramFault bytes (BadLine k) = IsBadLine ProgramLines bytes k
 IsProgramFault bytes (TooLong k) = IsTooLong ProgramLines bytes k

@@ -23,11 +23,11 @@ fields_of (SkipIfZero tested skip) = codes "jz" ∷ register_text tested ∷ num
 unfoldable pub instruction_text : Instruction → List ℕ
 instruction_text instruction = join_with_byte 32 (fields_of instruction)
 
--- the first line of a set of programs of this format, for so many cores
+-- the first line of a set of programs of this format, for this number of cores
 unfoldable pub header_text : ℕ → ℕ → List ℕ
 header_text format cores = codes "tardis-programs " ++ (numeral format ++ (codes " cores " ++ numeral cores))
 
--- the line in front of a core's instructions
+-- the line before a core's instructions
 unfoldable pub core_text : ℕ → List ℕ
 core_text core = codes "core " ++ numeral core
 

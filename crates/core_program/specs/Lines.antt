@@ -6,7 +6,7 @@ use Rattle.std.specs.List.{flat_map}
 abbrev pub text_of : List (List ℕ) → List ℕ
 text_of lines = flat_map (λ line. line ++ 10 ∷ []) lines
 
--- no line feed stands in it
+-- it has no line feed
 abbrev pub IsOneLine : List ℕ → Type 0
 IsOneLine line = All (λ b. (b == 10) ≡ false) line
 
@@ -24,8 +24,8 @@ pub record BeginsText (Grammar : List (List ℕ) → Type 0) (bytes : List ℕ) 
   pub rest : List ℕ
   pub begins : bytes ≡ text_of (take k lines) ++ rest
 
--- Line k, counted from 1, is the first that isn't as the grammar says, or that is missing: the lines in front
--- of it begin a text, those up to it begin none, and the bytes aren't a text that ends in front of it.
+-- Line k, counted from 1, is the first that isn't as the grammar says, or that is missing: the lines before
+-- it begin a text, those up to it don't, and the bytes aren't a text that ends before it.
 pub record IsFirstWrong (Grammar : List (List ℕ) → Type 0) (bytes : List ℕ) (k : ℕ) : Type 0 where
   pub counted : 1 ≤ k
   pub before : BeginsText Grammar bytes (k - 1)

@@ -5,7 +5,7 @@ use Rattle.decimal_text.specs.Reading.{◌>>=◌, after, field_at, last_number}
 use Rattle.core_program.specs.declared.instruction.Instruction.{Instruction}
 use Rattle.core_program.specs.declared.instruction.Instruction.TheVariants.{Load, Store, StoreRegister, Add, SkipIfZero}
 
--- the number, where it is less than this, and the bytes behind it
+-- the number, where it is less than this, and the bytes after it
 abbrev pub front_below : ℕ → ℕ × List ℕ → Option (ℕ × List ℕ)
 front_below limit x = if nat_lt x.0 limit then Some x else None
 
@@ -13,11 +13,11 @@ front_below limit x = if nat_lt x.0 limit then Some x else None
 abbrev pub below : ℕ → ℕ → Option ℕ
 below limit n = if nat_lt n limit then Some n else None
 
--- a register with a space behind it
+-- a register with a space after it
 unfoldable pub register_at : List ℕ → Option (ℕ × List ℕ)
 register_at bytes = after (codes "r") bytes >>= field_at 32 >>= front_below 16
 
--- an address with a space behind it
+-- an address with a space after it
 unfoldable pub addr_at : List ℕ → Option (ℕ × List ℕ)
 addr_at bytes = field_at 32 bytes >>= front_below 65536
 
@@ -34,7 +34,7 @@ last_word bytes = last_number bytes >>= below (2 ^ 64)
 unfoldable pub last_skip : List ℕ → Option ℕ
 last_skip bytes = last_number bytes >>= λ n. if n == 0 then None else below 4096 n
 
--- the instruction whose fields these are, behind its name
+-- the instruction whose fields these are, after its name
 unfoldable pub load_of : List ℕ → Option Instruction
 load_of bytes = register_at bytes >>= λ to. last_addr to.1 >>= λ addr. Some (Load to.0 addr)
 

@@ -57,7 +57,7 @@ pub record IsAtRest (program : List Instruction) (s : State) : Type 0 where
   pub within : s.position ≤ length program
   pub waits : s.position < length program → IsSome (next_op program s)
 
--- where a core comes to rest from s on, if so many instructions are enough
+-- where a core comes to rest from s on, if n instructions are enough
 abbrev pub rest_within : ℕ → List Instruction → State → State
 rest_within zero program s = s
 rest_within (suc n) program s =

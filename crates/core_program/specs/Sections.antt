@@ -9,22 +9,22 @@ use Rattle.core_program.specs.Answers.{IsBadLine, IsTooLong, IsLeast, SetLines, 
 use Rattle.core_program.specs.Grammar.{header_text, instruction_text, program_lines, Fits, EachFits, IsSection}
 use Rattle.core_program.specs.Lines.{text_of}
 
--- an instruction's line stands at the front of the bytes, and these stand behind it
+-- the bytes begin with an instruction's line, and these come after it
 abbrev pub InstructionInFront : Instruction → List ℕ → List ℕ → Type 0
 InstructionInFront instruction bytes rest = Fits instruction × (bytes ≡ instruction_text instruction ++ 10 ∷ rest)
 
--- no instruction's line stands at the front of the bytes
+-- the bytes don't begin with an instruction's line
 abbrev pub NoInstructionInFront : List ℕ → Type 0
 NoInstructionInFront bytes = (instruction : Instruction) (rest : List ℕ) → InstructionInFront instruction bytes rest → ⊥
 
--- the instructions' lines that stand at the front of the bytes, as many as there are
+-- the instructions' lines that the bytes begin with, as many as there are
 pub record IsSectionOf (bytes : List ℕ) (section : Section) : Type 0 where
   pub is_section : IsSection section.instructions.items
   pub within : section.taken ≤ length bytes
   pub text : take section.taken bytes ≡ text_of (program_lines section.instructions.items)
   pub all : NoInstructionInFront (drop section.taken bytes)
 
--- one instruction's line more than a section may have stands at the front of the bytes
+-- the bytes begin with one instruction's line more than a section may have
 pub record IsTooMany (bytes : List ℕ) : Type 0 where
   pub program : List Instruction
   pub each_fits : EachFits program
@@ -39,7 +39,7 @@ IsSectionFault first bytes OutOfMemory = Unit {0}
 IsSectionFault first bytes (BadLine k) = ⊥
 IsSectionFault first bytes (SkipPastEnd k) = ⊥
 
--- the header of so many cores stands at the front of the bytes, and these stand behind it
+-- the bytes begin with the header of this number of cores, and these come after it
 abbrev pub HeaderInFront : ℕ → List ℕ → List ℕ → Type 0
 HeaderInFront cores bytes rest = (1 ≤ cores) × (cores ≤ 64) × (bytes ≡ header_text 1 cores ++ 10 ∷ rest)
 

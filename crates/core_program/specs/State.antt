@@ -16,6 +16,6 @@ reg s n = slice_index s.registers n
 abbrev pub with_reg : State → ℕ → ℕ → State
 with_reg s n x = record s { registers = slice_set s.registers n x }
 
--- so many instructions further
+-- n instructions further
 abbrev pub further : ℕ → State → State
 further n s = record s { position = s.position + n }

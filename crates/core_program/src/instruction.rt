@@ -18,7 +18,7 @@ pub enum Instruction {
     StoreRegister(Addr, Register),
     /// `ai rN rM K`: the first register becomes the second plus a word, modulo 2^64.
     Add(Register, Register, Word),
-    /// `jz rN k`: where the register is 0, skips the next instructions, so many.
+    /// `jz rN k`: where the register is 0, skips the next k instructions.
     SkipIfZero(Register, Skip),
 }
 

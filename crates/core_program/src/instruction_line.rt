@@ -12,7 +12,7 @@ use super::skip::Skip;
 use decimal_text::{after_text, read_field, read_last};
 use mem_op::{Addr, Word};
 
-/// A register with a space behind it, and the bytes behind them.
+/// A register with a space after it, and the bytes after them.
 #[tactic(auto, unfolding(crate::specs::Reading::register_at))]
 fn register(bytes: &[u8]) -> Option<(Register, &[u8])>
     ensures { front_now result ≡ register_at bytes.now }
@@ -21,7 +21,7 @@ fn register(bytes: &[u8]) -> Option<(Register, &[u8])>
     Some((Register::new(number?)?, rest))
 }
 
-/// An address with a space behind it, and the bytes behind them.
+/// An address with a space after it, and the bytes after them.
 #[tactic(auto, unfolding(crate::specs::Reading::addr_at))]
 fn addr(bytes: &[u8]) -> Option<(Addr, &[u8])>
     ensures { front_now result ≡ addr_at bytes.now }

@@ -8,7 +8,7 @@ use super::instruction::Instruction;
 use std::alloc::AllocError;
 use std::marker::Model;
 
-/// The program of a core: at most 4,096 instructions, of which no jump goes further than to just
+/// The program of a core: at most 4,096 instructions, and no jump goes further than to just
 /// past the last one.
 #[derive(Drop)]
 pub struct Program {

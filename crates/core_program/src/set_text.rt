@@ -49,8 +49,8 @@ fn core_of(line: &[u8]) -> Option<u64>
     read_last(after_text(b"core ", line)?)?
 }
 
-/// The number of cores that the first line tells, and the bytes behind that line; None where it is
-/// no header with such a number.
+/// The number of cores that the first line tells, and the bytes after that line; None where it isn't
+/// a header with such a number.
 fn after_header(format: Format, text: &[u8]) -> Option<(u64, &[u8])>
     ensures found { IfSome result (λ read. HeaderInFront read.0 text.now read.1.now) }
     ensures none { IsNone result →
@@ -60,7 +60,7 @@ fn after_header(format: Format, text: &[u8]) -> Option<(u64, &[u8])>
     Some((cores_of(format, line)?, rest))
 }
 
-/// The bytes behind the line with which a core's section begins; None where that isn't the first.
+/// The bytes after the line with which a core's section begins; None where that isn't the first.
 fn after_core_line(core: u64, text: &[u8]) -> Option<&[u8]>
     ensures found { IfSome result (λ rest. text.now ≡ core_text core ++ 10 ∷ rest.now) }
     ensures none { IsNone result → (rest : List ℕ) → text.now ≢ core_text core ++ 10 ∷ rest }
@@ -127,7 +127,7 @@ fn programs_of(alloc: Global, sections: Vec<Vec<Instruction>>) -> Result<Vec<Pro
 
 impl ProgramSet {
     /// The set whose text this is: a header, a section for each core, `end`, each line ended by a
-    /// line feed, and nothing behind. BadLine at the first line that isn't so, or is missing,
+    /// line feed, and nothing after. BadLine at the first line that isn't so, or is missing,
     /// TooLong at the line of a section's 4,097th instruction, whichever comes first; where there
     /// is neither, SkipPastEnd at the first jump past the end of its program.
     pub fn parse(alloc: Global, text: &[u8]) -> Result<ProgramSet, ProgramFault>

@@ -92,7 +92,7 @@ act_of (op.Store a value) hit = act.Store
 abbrev pub record_of : Op → Hit → Record
 record_of x hit = record { value = word_of x hit; ts = hit.stamp; rank = hit.rank; addr = op_addr x; act = act_of x hit }
 
--- after so many operations a core increments its stamp
+-- after this number of operations a core increments its stamp
 abbrev pub is_due : ConfigParts → ℕ → Bool
 is_due g count = count % g.period == 0
 

@@ -29,19 +29,19 @@ use Rattle.core_unit.specs.declared.outcome.Outcome.TheVariants.{Performed, Drop
 pub data UnitOutcome : Type 0 where
   -- a refusal that is due
   Refuses : UnitFault → UnitOutcome
-  -- an outcome that makes no entry and isn't refused for want of memory, and the unit behind it
+  -- an outcome that makes no entry and isn't refused for lack of memory, and the unit after it
   Answers : Outcome → UnitParts → UnitOutcome
-  -- an outcome that makes an entry, and the unit behind it
+  -- an outcome that makes an entry, and the unit after it
   Steps : Outcome → UnitParts → UnitOutcome
 
--- the call, with this result, led from p to q as the outcome says; only for want of memory may a step be refused
+-- the call, with this result, led from p to q as the outcome says; only for lack of memory may a step be refused
 abbrev pub Meets : UnitOutcome → Result Outcome UnitFault → UnitParts → UnitParts → Type 0
 Meets (Refuses fault) r p q = (r ≡ Err fault) × (q ≡ p)
 Meets (Answers o t) r p q = (r ≡ Ok o) × (q ≡ t)
 Meets (Steps o t) r p q =
     MatchResult r (λ x. (x ≡ o) × (q ≡ t)) (λ fault. (fault ≡ OutOfMemory) × (q ≡ p))
 
--- one entry more is refused for this
+-- one more entry is refused for this
 abbrev pub IsLackOfRoom : List CoreEntry → UnitFault → Type 0
 IsLackOfRoom transcript fault =
     ((fault ≡ TranscriptFull) × (entry_limit ≤ length transcript)) ⊎ ((fault ≡ OutOfMemory) × (length transcript < entry_limit))
@@ -50,7 +50,7 @@ abbrev pub unless_faulty : Option StampFault → UnitOutcome → UnitOutcome
 unless_faulty None outcome = outcome
 unless_faulty (Some fault) outcome = Refuses (Stamp fault)
 
--- p makes this entry and is q behind it, unless the transcript is full or a stamp or rank is above its limit
+-- p makes this entry and is q after it, unless the transcript is full or a stamp or rank is above its limit
 abbrev pub recorded : UnitParts → CoreEntry → Option StampFault → Outcome → UnitParts → UnitOutcome
 recorded p e fault o q =
     if nat_lt (length p.transcript) entry_limit

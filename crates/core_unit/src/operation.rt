@@ -115,7 +115,7 @@ pub(crate) fn perform_at(cache: &mut PrivateCache, op: &Op, id: OpId, pts: Stamp
     }
 }
 
-/// The core's stamp and rank after so many operations, of which the last had this stamp and rank. The
+/// The core's stamp and rank after `count` operations, the last of them with this stamp and rank. The
 /// stamp is incremented where that is due. 4 StampLimit where it is above 2^48.
 pub(crate) fn after(
     config: &Config,

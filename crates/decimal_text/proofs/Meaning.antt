@@ -8,7 +8,7 @@ use Rattle.decimal_text.specs.Reading.{is_digit, onward, number_at, after, field
 use Rattle.decimal_text.proofs.Numbers.{numeral_zero, number_zero, number_onward, after_takes, after_again}
 use Rattle.decimal_text.proofs.Reading.{stands_in_front, field_takes, field_again, last_takes, last_again}
 
--- what was read, and the bytes behind it
+-- what was read, and the bytes after it
 abbrev Front : Type 0
 Front = Option (Option ℕ × Bor (List ℕ))
 

@@ -120,7 +120,7 @@ numeral_digits n = by_digits (λ k. AreDigits (numeral k)) (subst AreDigits (sym
 
 -- ---- a number at the front
 
--- a number's digits and those behind them are the digits of the number that they go on to
+-- a number's digits and those after them are the digits of the number that they go on to
 onward_takes : (n : ℕ) (bytes : List ℕ) → 0 < n → numeral n ++ bytes ≡ numeral (onward n bytes).0 ++ (onward n bytes).1
 onward_takes n [] pos = refl
 onward_takes n (b ∷ bs) pos =

@@ -12,7 +12,7 @@ fn with_digit(value: Option<u64>, digit: u8) -> Option<u64>
     value?.checked_mul(10)?.checked_add(u64::from(digit - b'0'))
 }
 
-/// The number that the digits at the front go on to, of any size, and the bytes behind them.
+/// The number that the digits at the front go on to, of any size, and the bytes after them.
 fn long_number(start: u64, bytes: &[u8]) -> (Option<u64>, &[u8])
     ensures value { result.0 ≡ as_u64 (onward start bytes.now).0 }
     ensures rest { result.1.now ≡ (onward start bytes.now).1 }
@@ -26,7 +26,7 @@ fn long_number(start: u64, bytes: &[u8]) -> (Option<u64>, &[u8])
     (value, rest)
 }
 
-/// The number that the digits at the front go on to, and the bytes behind them. Below 10^18 another digit fits
+/// The number that the digits at the front go on to, and the bytes after them. Below 10^18 another digit fits
 /// 64 bits; from there on each is looked at.
 fn digits(start: u64, bytes: &[u8]) -> (Option<u64>, &[u8])
     requires { start < 10 }
@@ -45,7 +45,7 @@ fn digits(start: u64, bytes: &[u8]) -> (Option<u64>, &[u8])
     (Some(value), rest)
 }
 
-/// The number at the front, and the bytes behind it. Behind a 0 no further digit is part of the number.
+/// The number at the front, and the bytes after it. After a 0 no further digit is part of the number.
 #[tactic(auto, unfolding(crate::specs::Reading::number_at))]
 pub(crate) fn number(bytes: &[u8]) -> Option<(Option<u64>, &[u8])>
     ensures { front_now result ≡ front_map as_u64 (number_at bytes.now) }
@@ -57,7 +57,7 @@ pub(crate) fn number(bytes: &[u8]) -> Option<(Option<u64>, &[u8])>
     }
 }
 
-/// The bytes behind this text.
+/// The bytes after this text.
 #[tactic(auto, using(crate::proofs::Numbers::after_is))]
 pub(crate) fn behind_text<'a>(text: &[u8], bytes: &'a [u8]) -> Option<&'a [u8]>
     ensures { option_map (λ x. x.now) result ≡ after text.now bytes.now }
@@ -65,7 +65,7 @@ pub(crate) fn behind_text<'a>(text: &[u8], bytes: &'a [u8]) -> Option<&'a [u8]>
     bytes.strip_prefix(text)
 }
 
-/// The bytes behind this byte.
+/// The bytes after this byte.
 #[tactic(auto, unfolding(crate::specs::Reading::after))]
 fn behind_byte(byte: u8, bytes: &[u8]) -> Option<&[u8]>
     ensures { option_map (λ x. x.now) result ≡ after (byte ∷ []) bytes.now }
@@ -76,7 +76,7 @@ fn behind_byte(byte: u8, bytes: &[u8]) -> Option<&[u8]>
     }
 }
 
-/// A number, and the bytes behind the byte that ends it.
+/// A number, and the bytes after the byte that ends it.
 #[tactic(auto, unfolding(crate::specs::Reading::field_at))]
 pub(crate) fn field(end: u8, bytes: &[u8]) -> Option<(Option<u64>, &[u8])>
     ensures { front_now result ≡ front_map as_u64 (field_at end bytes.now) }

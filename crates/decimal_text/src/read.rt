@@ -1,4 +1,4 @@
-//! What stands at the front of bytes.
+//! What bytes begin with.
 
 ghost use Rattle.std.specs.Prelude.{◌≡◌, ◌≢◌, ℕ, List, ◌∷◌, ◌++◌, option_map, IfSome, IsNone, IsTrue};
 ghost use Rattle.decimal_text.specs.Numbers.{numeral, as_u64, StandsInFront};
@@ -6,7 +6,7 @@ ghost use Rattle.decimal_text.specs.Reading.{is_digit, number_at, after, field_a
 
 use crate::number::{behind_text, field, last, number};
 
-/// The longest number at the front, and the bytes behind it; None where no number stands there. Behind a 0 no
+/// The longest number at the front, and the bytes after it; None where there is no number. After a 0 no
 /// further digit is part of the number. A number that 64 bits don't hold is None.
 #[tactic(auto, using(crate::proofs::Meaning::number_found, crate::proofs::Meaning::number_none))]
 pub fn read_number(bytes: &[u8]) -> Option<(Option<u64>, &[u8])>
@@ -19,8 +19,8 @@ pub fn read_number(bytes: &[u8]) -> Option<(Option<u64>, &[u8])>
     number(bytes)
 }
 
-/// The number at the front, and the bytes behind the byte that ends it; None where no number with that byte
-/// behind it stands there. A number that 64 bits don't hold is None.
+/// The number at the front, and the bytes after the byte that ends it; None where no number with that byte
+/// after it is there. A number that 64 bits don't hold is None.
 #[tactic(auto, using(crate::proofs::Meaning::field_found, crate::proofs::Meaning::field_none))]
 pub fn read_field(end: u8, bytes: &[u8]) -> Option<(Option<u64>, &[u8])>
     requires { ¬ IsTrue (is_digit end) }
@@ -33,7 +33,7 @@ pub fn read_field(end: u8, bytes: &[u8]) -> Option<(Option<u64>, &[u8])>
     field(end, bytes)
 }
 
-/// The number that the bytes are; None where they are none. A number that 64 bits don't hold is None.
+/// The number that the bytes are; None where they aren't one. A number that 64 bits don't hold is None.
 #[tactic(auto, using(crate::proofs::Meaning::last_found, crate::proofs::Meaning::last_none))]
 pub fn read_last(bytes: &[u8]) -> Option<Option<u64>>
     ensures found { IfSome result (λ read. (n : ℕ) × (read ≡ as_u64 n) × (bytes.now ≡ numeral n)) }
@@ -44,7 +44,7 @@ pub fn read_last(bytes: &[u8]) -> Option<Option<u64>>
     last(bytes)
 }
 
-/// The bytes behind this text; None where they don't begin with it.
+/// The bytes after this text; None where they don't begin with it.
 #[tactic(auto, using(crate::proofs::Meaning::text_found, crate::proofs::Meaning::text_none))]
 pub fn after_text<'a>(text: &[u8], bytes: &'a [u8]) -> Option<&'a [u8]>
     ensures found { IfSome result (λ rest. bytes.now ≡ text.now ++ rest.now) }

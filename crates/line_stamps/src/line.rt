@@ -44,7 +44,7 @@ impl LineStamps {
         }
     }
 
-    /// The stamps with the lease drawn out to `t`, if it ends before.
+    /// The stamps with the lease extended to `t`, if it ends before.
     pub fn leased_to(self, t: Stamp) -> LineStamps
         ensures { result ≡ leased_to t self }
     {
@@ -72,7 +72,7 @@ impl LineStamps {
     }
 }
 
-/// A word with its source and its stamps. The stamps lie flat beside the word, so that a line takes 40 bytes in place of 48.
+/// A word with its source and its stamps. The stamps lie flat beside the word, so that a line takes 40 bytes instead of 48.
 #[derive(Clone, Copy, Debug, PartialEq, Eq)]
 pub struct Line {
     value: Word,

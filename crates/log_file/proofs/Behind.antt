@@ -1,4 +1,4 @@
--- The first fault of a text at the line behind its records, from what that line is.
+-- The first fault of a text at the line after its records, from what that line is.
 use Rattle.std.proofs.Common.{◌≡◌, ℕ, ◌+◌, ◌<◌, ◌≤◌, ◌⊎◌, List, [], ◌∷◌, length, sym, subst, ◌∙◌, arith, inl, inr}
 use Rattle.std.proofs.lemmas.Bool.{cases_order}
 use Rattle.log_record.specs.declared.record.Record.{Record}
@@ -145,7 +145,7 @@ cut_first core cores records lines l h short = (
     least Truncated p = omega arith
     least WrongCore p = omega arith
 
--- ---- behind the end line
+-- ---- after the end line
 
 pub end_is : (core cores : ℕ) (records : List Record) (lines ls : List (List ℕ))
     → Front core cores records lines (end_text (length records) ∷ ls) → 0 < length ls
@@ -182,7 +182,7 @@ end_quiet core cores records lines ls h whole g p = quiet-at g p
         omega (arith, p.0, front_length core cores records lines (end_text (length records) ∷ ls) h)
     quiet-at WrongCore p = omega (arith, p.0)
 
--- a byte behind the end line
+-- a byte after the end line
 pub trailing_first : (core cores : ℕ) (records : List Record) (lines : List (List ℕ)) (l : List ℕ)
     (ls : List (List ℕ)) → Front core cores records lines (end_text (length records) ∷ (l ∷ ls)) → (0 < length l)
     ⊎ (0 < length ls)

@@ -63,7 +63,7 @@ pieces_at vs i d lt =
     ∙ flat_map-append f (take i vs) (get_or vs i d ∷ drop (i + 1) vs)
     ∙ sym (append_assoc (flat_map f (take i vs)) (get_or vs i d).items (flat_map f (drop (i + 1) vs)))
 
--- the answer to pieces of which one is refused
+-- the answer to pieces where one is refused
 pub piece_refused : (core cores old_core old_cores : ℕ) (vs : List (Vec ℕ)) (i : ℕ) (d : Vec ℕ) (piece : List ℕ)
     (f : LogFault) (old new : Result (List ℕ) LogFault) (r : Result (Vec Record) LogFault)
     → r ≡ Err f → i < length vs → piece ≡ (get_or vs i d).items → old_core ≡ core → old_cores ≡ cores

@@ -106,7 +106,7 @@ quiet core cores records lines rest h j WrongCore lt (at, whole, (c, (n, e, inl 
 quiet core cores records lines rest h j WrongCore lt (at, whole, (c, (n, e, inr ne))) =
     let s = header_once c n core cores (sym e ∙ header_line core cores records lines rest h) in ne s.1
 
--- the fault of the line behind them is the first, where it is the least of that line
+-- the fault of the line after them is the first, where it is the least of that line
 pub first_there : (core cores : ℕ) (records : List Record) (lines rest : List (List ℕ))
     → Front core cores records lines rest → (f : Fault)
     → ((g : Fault) → FaultAt core cores lines (length records + 2) g → number f ≤ number g) → (j : ℕ) (g : Fault)

@@ -11,7 +11,7 @@ none_is_one_line xs none k d lt =
     false_from_ne_true (eqb (get_or xs k d) 10)
     (λ e. none k (omega arith) lt (ap (λ (b : ℕ). eqb b 10) (get_or_default xs k 0 d lt) ∙ e))
 
--- no byte in front of place `at` is a line feed
+-- no byte before place `at` is a line feed
 pub front_is_one_line : (xs : List ℕ) (at : ℕ) → NoneBefore (Passes (is_byte 10) xs) 0 (length xs) at
     → IsOneLine (take at xs)
 front_is_one_line xs at first k d lt =

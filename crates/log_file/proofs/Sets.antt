@@ -62,7 +62,7 @@ same_reader xs ys i d e =
     sym (ap (λ (k : ℕ). get_or xs k d) at) ∙ sym (get_or-drop i xs 0 d) ∙ ap (λ zs. get_or zs 0 d) e
     ∙ get_or-drop i ys 0 d ∙ ap (λ (k : ℕ). get_or ys k d) at
 
--- the readers behind i stay as they are
+-- the readers after i stay as they are
 pub same_behind : {A : Type 0} (xs ys : List A) (i : ℕ) (x : A) → drop i xs ≡ drop i ys
     → drop (i + 1) (set xs i x) ≡ drop (i + 1) ys
 same_behind xs ys i x e =

@@ -23,7 +23,7 @@ use Rattle.log_file.proofs.Settled.{header_settled, body_settled, header_long_se
 
 -- ---- a whole line
 
--- the progress behind a line, where the records are then `after`
+-- the progress after a line, where the records are then `after`
 abbrev Taken : Phase → Progress → List ℕ → List Record → List Record → Progress → Type 0
 Taken q old line records after new =
     IsSound new.phase new.core new.cores after []

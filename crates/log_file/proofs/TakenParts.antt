@@ -98,7 +98,7 @@ front_takes old new rs chunk front stands has passed =
 
 -- ---- what a worker reads of a chunk
 
--- the records that were read behind a header, and the line that was begun
+-- the records that were read after a header, and the line that was begun
 pub read_front : (old new : LineReader) (chunk : List ℕ) (records : List Record) → old.progress ≡ record { core = 0; cores = 1; phase = phase.Records; count = 0 }
     → old.begun.items ≡ [] → SameLog old.progress new.progress → new.progress.phase ≡ phase.Records → Takes old [] chunk new records
     → (chunk ≡ records_text records ++ new.begun.items) × AllByRecursion Fits records

@@ -14,7 +14,7 @@ use Rattle.log_file.proofs.Settled.{body_long_settled, header_long_settled}
 use Rattle.log_file.proofs.Outcomes.{BodyOutcome, HeaderOutcome, body_outcome, header_outcome}
 use Rattle.log_file.proofs.Spelled.{spelled_quiet}
 
--- the bytes before the first line feed, and those behind it
+-- the bytes before the first line feed, and those after it
 split_feed : (xs : List ℕ) → IsOneLine xs ⊎ ((l : List ℕ) × ((after : List ℕ) × (xs ≡ l ++ 10 ∷ after) × IsOneLine l))
 split_feed [] = inl (All-nil (λ b. eqb b 10 ≡ false))
 split_feed (b ∷ xs) =

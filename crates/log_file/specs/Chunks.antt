@@ -10,7 +10,7 @@ use Rattle.log_file.specs.Log.{text_of}
 abbrev pub records_text : List Record → List ℕ
 records_text records = text_of (map record_text records)
 
--- the text has so many bytes in front that are the lines of these records, whose numbers are in range
+-- the first `taken` bytes of the text are the lines of these records, whose numbers are in range
 pub record HasFront (text : List ℕ) (front : Front) : Type 0 where
   pub within : front.taken ≤ length text
   pub lines : take front.taken text ≡ records_text front.records.items

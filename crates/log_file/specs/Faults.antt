@@ -1,4 +1,4 @@
--- The texts of the faults: a number and a name, behind the line where there is one.
+-- The texts of the faults: a number and a name, after the line where there is one.
 use Rattle.std.specs.Prelude.{ℕ, List, ◌++◌, codes}
 use Rattle.std.specs.Fmt.{decimal}
 use Rattle.log_file.specs.declared.fault.Fault.{Fault}

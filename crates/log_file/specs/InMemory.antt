@@ -11,7 +11,7 @@ abbrev pub limit_by : Step → Option ℕ
 limit_by (Move limit) = Some limit
 limit_by Fail = None
 
--- the limit by the first of the steps; behind the last one it is that of a `usize`, so that a call moves what it can
+-- the limit by the first of the steps; after the last one it is that of a `usize`, so that a call moves what it can
 abbrev pub limit_of : List Step → Option ℕ
 limit_of steps = option_map_or limit_by (slice_get steps 0) (Some 18446744073709551615)
 

@@ -44,7 +44,7 @@ Spells core cores bytes records = IsLog core cores records × (bytes ≡ spellin
 -- ---- the first fault
 
 -- The bytes between line feeds. Each but the last is a line with its line feed, a whole line; what stands
--- behind the last line feed, perhaps nothing, is the last.
+-- after the last line feed, perhaps nothing, is the last.
 abbrev pub lines_of : List ℕ → List (List ℕ)
 lines_of bytes = slice_split (λ b. b == 10) bytes
 
@@ -74,7 +74,7 @@ pub record IsEnd (lines : List (List ℕ)) (k : ℕ) : Type 0 where
   pub whole : IsWhole lines k
   pub shape : IsEndShape (line lines k)
 
--- a header of a core that isn't one of so many, or of more than 64 cores
+-- a header of a core whose number isn't below theirs, or of more than 64 cores
 abbrev pub IsHeaderOutOfRange : List ℕ → Type 0
 IsHeaderOutOfRange line = (c : ℕ) × ((n : ℕ) × (line ≡ header_text 1 c n) × (¬ ((c < n) × (n ≤ 64))))
 

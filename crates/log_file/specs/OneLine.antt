@@ -6,7 +6,7 @@ use Rattle.log_file.specs.declared.fault.Fault.{Fault}
 use Rattle.log_file.specs.declared.fault.Fault.TheVariants.{BadHeader, BadLine, OutOfRange, TooMany, CountDiffers, TrailingBytes, Truncated, WrongCore}
 use Rattle.log_file.specs.Log.{IsLong, IsHeaderOutOfRange, IsRecordOutOfRange, IsOtherHeader, number, record_limit}
 
--- no line feed stands in it
+-- it has no line feed
 abbrev pub IsOneLine : List ℕ → Type 0
 IsOneLine line = All (λ b. (b == 10) ≡ false) line
 
@@ -21,7 +21,7 @@ HeaderHolds core cores line CountDiffers = ⊥
 HeaderHolds core cores line TrailingBytes = ⊥
 HeaderHolds core cores line Truncated = ⊥
 
--- of a whole later line, up to the end line, behind so many records
+-- of a whole later line, up to the end line, after `count` records
 abbrev pub BodyHolds : ℕ → List ℕ → Fault → Type 0
 BodyHolds count line BadLine = IsLong line ⊎ ((¬ (IsRecordShape line)) × (¬ (IsEndShape line)))
 BodyHolds count line OutOfRange = IsRecordOutOfRange line

@@ -11,7 +11,7 @@ use Rattle.log_file.specs.declared.set_fault.SetFault.{SetFault}
 use Rattle.log_file.specs.Devices.{Failed, Tells}
 use Rattle.log_file.specs.Log.{Spells, IsFirstFault}
 
--- the texts spell the logs of cores core, core + 1, .. of so many
+-- the texts spell the logs of cores core, core + 1, .. of `cores`
 abbrev pub SpellFrom : ℕ → ℕ → List (List ℕ) → List (List Record) → Type 0
 SpellFrom core cores [] [] = Unit {0}
 SpellFrom core cores [] (log ∷ logs) = ⊥
@@ -25,7 +25,7 @@ SpellSet texts logs = SpellFrom 0 (length texts) texts logs
 abbrev pub text_at : List (List ℕ) → ℕ → List ℕ
 text_at texts k = slice_index_or texts k []
 
--- the texts in front of this one spell their logs
+-- the texts before this one spell their logs
 abbrev pub SpellBefore : List (List ℕ) → ℕ → Type 0
 SpellBefore texts file = (k : ℕ) → k < file → (log : List Record) × Spells k (length texts) (text_at texts k) log
 
@@ -35,7 +35,7 @@ pub record IsFirstOfSet (texts : List (List ℕ)) (file line : ℕ) (f : Fault) 
   pub before : SpellBefore texts file
   pub first : IsFirstFault file (length texts) (text_at texts file) line f
 
--- the first fault of the set; at its file, want of memory or a failed read may come in its place
+-- the first fault of the set; at its file, lack of memory or a failed read may come instead
 abbrev pub IsSetFault : List (List ℕ) → ℕ → LogFault → Type 0
 IsSetFault texts file (At line f) = IsFirstOfSet texts file line f
 IsSetFault texts file OutOfMemory = (file < length texts) × SpellBefore texts file

@@ -27,7 +27,7 @@ pub record SameLog (old new : Progress) : Type 0 where
   pub core : new.core ≡ old.core
   pub cores : new.cores ≡ old.cores
 
--- what a whole line is that isn't refused, and the progress behind it
+-- what a whole line is that isn't refused, and the progress after it
 abbrev pub BehindAt : Phase → Progress → List ℕ → Option Record → Progress → Type 0
 BehindAt phase.Header old line None new =
     (line ≡ header_text 1 old.core old.cores) × (new ≡ record old { phase = phase.Records })
@@ -58,7 +58,7 @@ fault_of_more phase.Header count = At 1 BadHeader
 fault_of_more phase.Records count = At (count + 2) BadLine
 fault_of_more phase.Ended count = At (count + 3) TrailingBytes
 
--- the line goes too far with this part: it is longer than a line may be, or stands behind the end line
+-- the line goes too far with this part: it is longer than a line may be, or comes after the end line
 abbrev pub IsTooFar : LineReader → List ℕ → Type 0
 IsTooFar s part = (line_limit < length (s.begun.items ++ part)) ⊎ ((s.progress.phase ≡ phase.Ended) × (0 < length part))
 
@@ -71,7 +71,7 @@ IsLineRefused s part fault = IsRefused s.progress (s.begun.items ++ part) fault 
 
 -- ---- all lines
 
--- the whole lines, behind which the records are these
+-- the whole lines, after which the records are these
 abbrev pub whole_text : Phase → ℕ → ℕ → List Record → List ℕ
 whole_text phase.Header core cores records = []
 whole_text phase.Records core cores records = text_of (begun core cores records)
@@ -86,7 +86,7 @@ IsSound phase.Header core cores records line = (core < cores) × (cores ≤ 64) 
 IsSound phase.Records core cores records line = IsLog core cores records
 IsSound phase.Ended core cores records line = IsLog core cores records × (line ≡ [])
 
--- the reader stands behind these records
+-- the reader stands after these records
 pub record Stands (s : LineReader) (records : List Record) : Type 0 where
   pub sound : IsSound s.progress.phase s.progress.core s.progress.cores records s.begun.items
   pub count : s.progress.count ≡ length records
@@ -98,24 +98,24 @@ abbrev pub with_read : List Record → Option Record → List Record
 with_read records None = records
 with_read records (Some r) = records ++ r ∷ []
 
--- the reader took these bytes, and stands behind `after` from then on
+-- the reader took these bytes, and has read the records `after` from then on
 pub record Takes (old : LineReader) (records : List Record) (bytes : List ℕ) (new : LineReader) (after : List Record) : Type 0 where
   pub stands : Stands new after
   pub text : read_text new after ≡ read_text old records ++ bytes
 
--- the reader stands between the records of a log that has room for so many more
+-- the reader stands between the records of a log that has room for `many` more
 pub record HasRoom (s : LineReader) (many : ℕ) : Type 0 where
   pub phase : s.progress.phase ≡ phase.Records
   pub between : s.begun.items ≡ []
   pub room : s.progress.count + many ≤ record_limit
 
--- it stands so many records further on
+-- it stands `many` records further on
 pub record IsPassed (old : LineReader) (many : ℕ) (new : LineReader) : Type 0 where
   pub had_room : HasRoom old many
   pub progress : new.progress ≡ record old.progress { count = old.progress.count + many }
   pub between : new.begun.items ≡ []
 
--- the bytes that were read have a first fault with these behind them, however they go on
+-- the bytes that were read have a first fault with these after them, however they go on
 abbrev pub IsSettledWith : LineReader → List Record → List ℕ → LogFault → Type 0
 IsSettledWith s records bytes fault = IsSettled s.progress.core s.progress.cores (read_text s records ++ bytes) fault
 

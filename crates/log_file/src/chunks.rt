@@ -31,7 +31,7 @@ impl Front {
     }
 }
 
-/// Cuts a text behind the first line feed that stands at least so far in it; where there is none, the
+/// Cuts a text after the first line feed at or after this place; where there is none, the
 /// second part is empty.
 pub(crate) fn cut(text: &[u8], from: usize) -> (&[u8], &[u8])
     requires { from ≤ length text.now }

@@ -7,17 +7,17 @@ use thiserror::Error;
 /// What is wrong at a line of a log.
 #[derive(Clone, Copy, Debug, PartialEq, Eq, Error)]
 pub enum Fault {
-    /// Line 1 is too long, or whole and no header.
+    /// Line 1 is too long, or whole and not a header.
     BadHeader,
     /// A later line is too long, or whole and neither a record nor the end line.
     BadLine,
     /// A number of the header or of a record is out of range.
     OutOfRange,
-    /// A record behind 1,048,576 records.
+    /// A record after 1,048,576 records.
     TooMany,
     /// The end line's number isn't the number of records.
     CountDiffers,
-    /// A byte behind the end line.
+    /// A byte after the end line.
     TrailingBytes,
     /// The bytes end before the end line does.
     Truncated,

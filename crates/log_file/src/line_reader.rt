@@ -44,7 +44,7 @@ fn begun_or<'a>(begun: &'a [u8], line: &'a [u8]) -> &'a [u8]
 }
 
 impl LineReader {
-    /// A reader of the log of one core of so many, at its beginning.
+    /// A reader of the log of core `core` of `cores`, at its beginning.
     pub(crate) fn new(core: u64, cores: u64) -> LineReader
         requires core { core < cores }
         requires cores { cores ≤ 64 }
@@ -64,7 +64,7 @@ impl LineReader {
         }
     }
 
-    /// A reader of some log, behind its header. What a header says has no part in records.
+    /// A reader of some log, after its header. What a header says has no part in records.
     pub(crate) fn behind_a_header() -> LineReader
         ensures progress { result.progress ≡ record { core = 0; cores = 1; phase = phase.Records; count = 0 } }
         ensures none_begun { result.begun.items ≡ [] }
@@ -152,8 +152,8 @@ impl LineReader {
         }))
     }
 
-    /// Passes over the lines of so many records. False, and then nothing changes, where the reader
-    /// doesn't stand between a log's records, or the log has no room for so many.
+    /// Passes over the lines of `records` records. False, and then nothing changes, where the reader
+    /// doesn't stand between a log's records, or the log has no room for them.
     pub(crate) fn pass(&mut self, records: usize) -> bool
         requires { IsInRange self.old.progress }
         ensures same { SameLog self.old.progress self.new.progress }

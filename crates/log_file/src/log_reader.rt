@@ -33,7 +33,7 @@ impl Model for LogReader {
 }
 
 impl LogReader {
-    /// A reader of the log of this core of so many, which was fed nothing.
+    /// A reader of the log of this core of `cores`, which was fed nothing.
     pub fn new(alloc: Global, core: CoreId, cores: u64) -> LogReader
         requires core { core < cores }
         requires cores { cores ≤ 64 }
@@ -67,7 +67,7 @@ impl LogReader {
         outcome
     }
 
-    /// Takes the next bytes as `feed` does; so many workers read their lines at once. 0 counts as 1.
+    /// Takes the next bytes as `feed` does; `workers` workers read their lines at once. 0 counts as 1.
     pub fn feed_by<R: Threads + Sync>(
         &mut self,
         rt: &R,

@@ -7,7 +7,7 @@ use crate::byte_source::ByteSource;
 use crate::device_fault::ReadFailed;
 use crate::step::{Step, take_step};
 
-/// A source over bytes in memory. Each read follows a step, and behind the last it gives what there
+/// A source over bytes in memory. Each read follows a step, and after the last it gives what there
 /// is.
 #[derive(Drop)]
 pub struct MemSource<'a> {

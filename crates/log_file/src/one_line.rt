@@ -16,7 +16,7 @@ pub(crate) const RECORD_LIMIT: u64 = 1_048_576;
 /// The most cores, and so the most logs of a set.
 const CORE_LIMIT: u64 = 64;
 
-/// Looks at a whole first line: whether it is the header of this core of so many.
+/// Looks at a whole first line: whether it is the header of core `core` of `cores`.
 pub(crate) fn check_header(line: &[u8], core: u64, cores: u64) -> Result<(), Fault>
     requires core { core < cores }
     requires cores { cores ≤ 64 }
@@ -42,7 +42,7 @@ pub(crate) fn check_header(line: &[u8], core: u64, cores: u64) -> Result<(), Fau
     Ok(())
 }
 
-/// The record that a whole line is, behind the header and so many records; None where it is the
+/// The record that a whole line is, after the header and `count` records; None where it is the
 /// end line.
 pub(crate) fn check_body(line: &[u8], count: u64) -> Result<Option<Record>, Fault>
     requires { count ≤ 1048576 }

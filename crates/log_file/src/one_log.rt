@@ -18,12 +18,12 @@ const PIECE: usize = 65_536;
 /// The most bytes of a piece whose lines several workers read: enough to be worth their threads.
 const SHARED_PIECE: usize = 2_097_152;
 
-/// How many of the workers take a piece of so many bytes: a short one isn't worth their threads.
+/// How many of the workers take a piece of `bytes` bytes: a short one isn't worth their threads.
 fn takers(bytes: usize, workers: usize) -> usize {
     if bytes < PIECE { 1 } else { workers }
 }
 
-/// The most bytes of a piece, for so many workers.
+/// The most bytes of a piece, for this number of workers.
 fn piece_len(workers: usize) -> usize
     ensures { 0 < result }
 {
@@ -57,9 +57,9 @@ fn read_through<R: Threads + Sync, S: ByteSource>(
     }
 }
 
-/// The log of this core of so many that the source's bytes spell, or their first fault. 10 comes
+/// The log of this core of `cores` that the source's bytes spell, or their first fault. 10 comes
 /// where a growth was refused, 28 where a read failed. The calling thread reads the source; the
-/// lines of each piece are read by so many workers at once (0 counts as 1), and the answer doesn't
+/// lines of each piece are read by `workers` workers at once (0 counts as 1), and the answer doesn't
 /// depend on how many.
 pub fn read_log<R: Threads + Sync, S: ByteSource>(
     rt: &R,

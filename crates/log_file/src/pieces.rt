@@ -10,7 +10,7 @@ use log_record::Record;
 use mem_op::CoreId;
 use std::alloc::Global;
 
-/// The log of this core of so many that the pieces spell together, or their first fault: however
+/// The log of this core of `cores` that the pieces spell together, or their first fault: however
 /// they were cut, the answer is that of the whole. 10 comes where a growth was refused.
 pub fn read_pieces(
     alloc: Global,

@@ -55,7 +55,7 @@ impl Progress {
         }
     }
 
-    /// The fault of a line that goes on too far: behind the end line, any byte does.
+    /// The fault of a line that goes on too far: after the end line, any byte does.
     pub(crate) fn fault_of_more(&self) -> LogFault
         requires { IsInRange self.now }
         ensures { result ≡ fault_of_more self.now.phase self.now.count }

@@ -14,7 +14,7 @@ use std::thread::Threads;
 
 /// The logs of a set, one from each reader in their order, or the fault of the first file that has
 /// one. File k is to be the log of core k, and the cores as many as the readers. 10 comes where a
-/// growth was refused, 28 where a read failed. The calling thread reads the files; so many workers
+/// growth was refused, 28 where a read failed. The calling thread reads the files; `workers` workers
 /// read their lines (0 counts as 1), and the answer doesn't depend on how many.
 pub fn read_set<R: Threads + Sync, S: ByteSource>(
     rt: &R,
@@ -29,7 +29,7 @@ pub fn read_set<R: Threads + Sync, S: ByteSource>(
     // A failed read is answered only where that reader failed in this call.
     ensures read { IfErr result (λ e. e.fault ≡ LogFault.Read →
         ReaderFailed S.failed readers.old readers.new e.file) }
-    // The readers behind the file that is refused aren't read.
+    // The readers after the file that is refused aren't read.
     ensures unread { IfErr result (λ e.
         drop (e.file + 1) readers.new ≡ drop (e.file + 1) readers.old) }
     ensures count { IfOk result (λ logs. vec_len logs ≡ length readers.old) }

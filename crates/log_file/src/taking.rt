@@ -60,7 +60,7 @@ fn take_front(
     take_piece(lines, records, rest)
 }
 
-/// Takes all of a piece, whose lines so many workers read at once, and keeps its records. The calling
+/// Takes all of a piece, whose lines `workers` workers read at once, and keeps its records. The calling
 /// thread is a worker itself: it reads the first chunk, and takes the records of the others in order.
 pub(crate) fn take_piece_by<R: Threads + Sync>(
     rt: &R,

@@ -12,7 +12,7 @@ use log_record::{Act, Record, print_end, print_header};
 use mem_op::{CoreId, Source};
 use std::alloc::Global;
 
-/// Writes the log of this core of so many. 10 comes where a growth was refused, 29 where a write
+/// Writes the log of this core of `cores`. 10 comes where a growth was refused, 29 where a write
 /// failed; what the sink took by then is a beginning of the log's text.
 pub fn write_log<W: ByteSink>(
     alloc: Global,

@@ -77,7 +77,7 @@ unfolding fields_at
 fields_again f rest =
     rw (field_again 32 f.addr (numeral f.value ++ (32 ∷ (numeral f.ts ++ (32 ∷ rest)))) refl, field_again 32 f.value (numeral f.ts ++ (32 ∷ rest)) refl, field_again 32 f.ts rest refl) refl
 
--- a record's line from its tag on, with bytes behind it
+-- a record's line from its tag on, with bytes after it
 abbrev pub store_text : Fields → ℕ → List ℕ → List ℕ
 store_text f rank rest = 83 ∷ 32 ∷ fields_text f (numeral rank ++ rest)
 

@@ -20,7 +20,7 @@ abbrev pub tag : Act → List ℕ
 tag act.Store = codes "S"
 tag (act.Load s) = codes "L"
 
--- the fields behind those of every record
+-- the fields after those of every record
 abbrev pub last_fields : Act → List (List ℕ)
 last_fields act.Store = []
 last_fields (act.Load s) = source_text s ∷ []
@@ -32,18 +32,18 @@ fields_of r = tag r.act ∷ numeral r.addr ∷ numeral r.value ∷ numeral r.ts 
 unfoldable pub record_text : Record → List ℕ
 record_text r = join_with_byte 32 (fields_of r)
 
--- the first line of a log of this format, of this core of so many
+-- the first line of a log of this format, of this core of `cores`
 unfoldable pub header_text : ℕ → ℕ → ℕ → List ℕ
 header_text format core cores =
     codes "tardis-log " ++ (numeral format ++ (codes " core " ++ (numeral core ++ (codes " of " ++ numeral cores))))
 
--- the last line of a log of so many records
+-- the last line of a log of `count` records
 unfoldable pub end_text : ℕ → List ℕ
 end_text count = codes "end " ++ numeral count
 
 -- ---- the shapes
 -- A number of a line may have any size. So a line has a record's shape where it is the text of some record,
--- of numbers of any size, and likewise below.
+-- of numbers of any size; the same below.
 
 abbrev pub IsRecordShape : List ℕ → Type 0
 IsRecordShape line = (r : Record) × (line ≡ record_text r)

@@ -19,7 +19,7 @@ unfoldable pub source_at : List ℕ → Option (Source × List ℕ)
 source_at bytes =
     if is_some (after (codes "init") bytes) then (after (codes "init") bytes >>= λ rest. Some (source.Init, rest)) else store_source_at bytes
 
--- the three fields behind the tag
+-- the three fields after the tag
 pub record Fields : Type 0 where
   pub addr : ℕ
   pub value : ℕ
@@ -48,7 +48,7 @@ record_of line = whole (tagged_at line)
 
 -- ---- the lines round the records
 
--- the two numbers of a header, behind its first words
+-- the two numbers of a header, after its first words
 unfoldable pub header_numbers : List ℕ → Option (ℕ × ℕ)
 header_numbers bytes = number_at bytes >>= λ core. after (codes " of ") core.1 >>= λ rest. last_number rest >>= λ cores. Some (core.0, cores)
 

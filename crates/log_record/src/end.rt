@@ -24,7 +24,7 @@ fn parts(line: &[u8]) -> Option<End>
     Some(End { count })
 }
 
-/// The end line that this is, without its line feed; None where it is none.
+/// The end line that this is, without its line feed; None where it isn't one.
 #[tactic(auto, using(crate::proofs::Ends::end_found, crate::proofs::Ends::end_none))]
 pub fn read_end(line: &[u8]) -> Option<End>
     ensures found { IfSome result
@@ -34,7 +34,7 @@ pub fn read_end(line: &[u8]) -> Option<End>
     parts(line)
 }
 
-/// The end line of a log of so many records, without its line feed.
+/// The end line of a log of `count` records, without its line feed.
 #[tactic(auto, using(decimal_text::proofs::Printing::numeral_decimal), unfolding(crate::specs::Line::end_text))]
 pub fn print_end(alloc: Global, count: u64) -> Result<String, AllocError>
     ensures { IfOk result (λ line. string_bytes line ≡ end_text count) }

@@ -36,7 +36,7 @@ fn parts(line: &[u8]) -> Option<Header>
     numbers(after_text(b"tardis-log 1 core ", line)?)
 }
 
-/// The header whose line this is, without its line feed; None where it is no header's.
+/// The header whose line this is, without its line feed; None where it isn't a header's.
 #[tactic(auto, using(crate::proofs::Ends::header_found, crate::proofs::Ends::header_none))]
 pub fn read_header(line: &[u8]) -> Option<Header>
     ensures found { IfSome result (λ h. (core : ℕ) × ((cores : ℕ) ×

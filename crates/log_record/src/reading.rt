@@ -18,7 +18,7 @@ fn store_source(bytes: &[u8]) -> Option<(RawSource, &[u8])>
     Some((RawSource::Store(core, index), rest))
 }
 
-/// A source, and the bytes behind it.
+/// A source, and the bytes after it.
 #[tactic(auto, unfolding(crate::specs::Reading::source_at, decimal_text::specs::Reading::after))]
 fn source(bytes: &[u8]) -> Option<(RawSource, &[u8])>
     ensures { front_now result ≡ front_map raw_source_of (source_at bytes.now) }
@@ -29,7 +29,7 @@ fn source(bytes: &[u8]) -> Option<(RawSource, &[u8])>
     }
 }
 
-/// An address, a value and a stamp, each with a space behind it.
+/// An address, a value and a stamp, each with a space after it.
 #[tactic(auto, unfolding(crate::specs::Reading::fields_at))]
 fn fields(bytes: &[u8]) -> Option<(RawFields, &[u8])>
     ensures { front_now result ≡ front_map raw_fields_of (fields_at bytes.now) }

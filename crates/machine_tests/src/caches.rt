@@ -41,7 +41,7 @@ fn recall(kind: RecallKind, addr: Addr, rts: u8) -> Recall {
     }
 }
 
-// An empty cache of so many lines.
+// An empty cache of `lines` lines.
 fn cache_of(alloc: Global, lines: u64) -> Result<PrivateCache, Fail> {
     let config = Config::new(1, 10, 100, lines, 64, 8, 10_000)?;
     Ok(PrivateCache::new(alloc, &config)?)

@@ -219,7 +219,7 @@ fn meets(rt: &impl Abort, machine: &mut Core, steps: &[Step]) {
     }
 }
 
-// The machine behind these events. Where memory of the host is refused, they are run again.
+// The machine after these events. Where memory of the host is refused, they are run again.
 fn ran(
     alloc: Global,
     programs: &ProgramSet,

@@ -36,7 +36,7 @@ fn rank(number: u32) -> Rank {
     Rank::new(u64::from(number)).unwrap()
 }
 
-// A slice of so many lines, with a lease of 10.
+// A slice of `lines` lines, with a lease of 10.
 fn slice_of(alloc: Global, lines: u64) -> Result<ManagerSlice, Fail> {
     let config = Config::new(1, 10, 1_000, 64, lines, 64, 1_000)?;
     Ok(ManagerSlice::new(alloc, 0, &config)?)

@@ -125,7 +125,7 @@ fn takes(reply: Reply) -> Row {
     expects(Call::Take(reply), Outcome::Took)
 }
 
-// Core 0 at the start of a program, with a lease of 10 and a cache of so many lines.
+// Core 0 at the start of a program, with a lease of 10 and a cache of `lines` lines.
 fn unit_of(alloc: Global, text: &[u8], period: u64, lines: u64) -> Result<CoreUnit, Fail> {
     let config = Config::new(1, 10, period, lines, 64, 8, 1_000)?;
     let program = Program::parse(alloc, text)?;
@@ -404,7 +404,7 @@ fn stamps_past_the_limit(rt: HostRuntime) -> Result<(), Fail> {
             expects(Call::Evict(addr(0)), Outcome::Gave(flushed(0, line))),
         ],
     );
-    // The load is at the last stamp, and the self-increment behind it would be past it.
+    // The load is at the last stamp, and the self-increment after it would be past it.
     let mut unit = unit_of(rt.alloc(), b"ld r0 0\n", 1, 64)?;
     meets(
         &rt,

@@ -131,7 +131,7 @@ impl ManagerSlice {
         ensures table { IfOk result (λ reply. IsHandled self.old from message.now reply self.new) }
 
         // Which row it is and which line gives way follows from the order of service. 11, 4 and 12 come exactly where they
-        // are due; 10 comes only in place of a step.
+        // are due; 10 comes only instead of a step.
         ensures outcome { Meets (handle_outcome self.old from message.now) result self.old self.new }
         ensures busy { (x : RecallParts) → (result ≡ Ok (Busy x))
             ↔ (handle_outcome self.old from message.now ≡ Answers (Busy x)) }
@@ -199,7 +199,7 @@ impl ManagerSlice {
     }
 }
 
-// Makes room for so many more entries; 12 where they don't fit, 10.
+// Makes room for `entries` more entries; 12 where they don't fit, 10.
 fn reserve(history: &mut Vec<HistoryEntry>, entries: usize) -> Result<(), SliceFault>
     requires { entries ≤ 2 }
     ensures items { history.new.items ≡ history.old.items }

@@ -1,4 +1,4 @@
--- The entries of a cache by their addresses: what a put leaves, and that no address stands twice.
+-- The entries of a cache by their addresses: what a put leaves, and that no address is there twice.
 use Rattle.std.proofs.Common.{◌≡◌, ℕ, ◌-◌, ◌≤◌, true, false, ◌||◌, cond, List, [], ◌∷◌, length, refl, sym, ap, nat_eq, nat_lt, Some, None, is_some, Result, Ok, Err, IsOk, OnOk, arith}
 use Rattle.std.proofs.lemmas.Grind.{common_steps}
 use Rattle.std.proofs.lemmas.Bool.{eqb-true, eq-eqb}

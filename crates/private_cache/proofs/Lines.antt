@@ -1,4 +1,4 @@
--- The entries of a cache as a finite map: what an entry put in front, set or taken out is to the map.
+-- The entries of a cache as a finite map: what an entry put first, set or taken out is to the map.
 use Rattle.std.proofs.Common.{◌≡◌, ◌≢◌, ℕ, true, false, cond, nat_eq, eqb, List, [], ◌∷◌, length, refl, sym, ap, ◌∙◌, inl, inr, arith, is_some, IsSome, add-one}
 use Rattle.std.specs.Prelude.{Some, None}
 use Rattle.std.specs.Ordering.{nat_cmp, eq_by_cmp}
@@ -42,7 +42,7 @@ module _ {X : Type 0} where
     | inr i ↦ rw (i.0, hidden a q n es) refl
   ]
 
-  -- an entry that goes in front, as at a hit or a fill
+  -- an entry that goes first, as at a hit or a fill
   pub lines-front : (es : List (ℕ × X)) (a : ℕ) (h : X) → lines ((a, h) ∷ remove_entry (nat_eq a) es) ≡ map.insert (lines es) a h
   lines-front es a h = same ((a, h) ∷ remove_entry (nat_eq a) es) _ (λ q. here q ∙ sym (get-insert nat_cmp_total (lines es) a h q))
     where

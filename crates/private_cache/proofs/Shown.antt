@@ -19,11 +19,11 @@ use Rattle.private_cache.proofs.Lines.{lines, get-lines, lines-front, lines-set_
 abbrev pub shown : LruCache ℕ Held → CacheParts
 shown c = record { lines = lines c.entries; order = keys_of c.entries; capacity = c.cap }
 
--- no address stands twice
+-- no address is there twice
 abbrev pub IsApart : LruCache ℕ Held → Type 0
 IsApart c = IsDistinct nat_eq (keys_of c.entries)
 
--- the cache with an entry in front of the others, with another line where an entry stands, without an entry
+-- the cache with an entry put before the others, with another line where an entry stands, without an entry
 abbrev pub with_front : LruCache ℕ Held → ℕ → Held → LruCache ℕ Held
 with_front c a held = lru_cache ((a, held) ∷ remove_entry (nat_eq a) c.entries) c.cap
 

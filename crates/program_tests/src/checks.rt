@@ -76,7 +76,7 @@ const EMPTY_0_OF_2: &[u8] = b"tardis-log 1 core 0 of 2\nend 0\n";
 
 const EMPTY_1_OF_2: &[u8] = b"tardis-log 1 core 1 of 2\nend 0\n";
 
-/// Files that are no set of logs, and what is told of them.
+/// Files that aren't a set of logs, and what is told of them.
 const REFUSED: &[(&[&[u8]], &str)] = &[
     (&[b""], "refused: file 0 line 1: 26 Truncated\n"),
     (
@@ -119,7 +119,7 @@ const REFUSED: &[(&[&[u8]], &str)] = &[
         &[EMPTY_0_OF_2, EMPTY_0_OF_2],
         "refused: file 1 line 1: 27 WrongCore\n",
     ),
-    // Bytes that are no text.
+    // Bytes that aren't text.
     (
         &[b"\x7fELF\x02\x01\x00\xff\xfe"],
         "refused: file 0 line 1: 26 Truncated\n",
@@ -217,7 +217,7 @@ const ONE_STORE: &[u8] = b"tardis-programs 1 cores 1\ncore 0\nst 0 1\nend\n";
 const ONE_JUMP: &[u8] = b"tardis-programs 1 cores 1\ncore 0\njz r0 1\nend\n";
 
 /// Arguments of a check of two empty logs, the files 0 and 1, against programs that are refused: a
-/// store is file 2, a jump file 3, and file 4 ends behind its first line.
+/// store is file 2, a jump file 3, and file 4 ends after its first line.
 const REFUSED_PROGRAMS: &[(&[&str], u8, &str)] = &[
     (&["--program", "x", "0"], 4, "refused: programs: 28 Read\n"),
     (
@@ -254,7 +254,7 @@ const REFUSED_PROGRAMS: &[(&[&str], u8, &str)] = &[
     ),
 ];
 
-/// Words that are no command line, or call for help.
+/// Words that aren't a command line, or ask for help.
 const NO_COMMAND_LINES: &[&[&str]] = &[
     &[],
     &["tardis"],
@@ -539,7 +539,7 @@ fn strings(alloc: Global, words: &[&str]) -> Result<Vec<String>, Fail> {
     Ok(all)
 }
 
-/// The words of a check with these arguments, and then of so many files.
+/// The words of a check with these arguments, and then of `files` files.
 fn words_of(alloc: Global, arguments: &[&str], files: usize) -> Result<Vec<String>, Fail> {
     let mut words = strings(alloc, &["tardis", "check"])?;
     for argument in arguments {

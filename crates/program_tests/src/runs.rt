@@ -24,7 +24,7 @@ const RUNS: &[Run] = &[
         records: &[&["S 5 7 1 0", "L 5 7 1 1 0.0", "S 5 8 1 1"]],
         operations: 3,
     },
-    // Core 1 stores behind core 0's lease, and its load has core 0 write its line back.
+    // Core 1 stores after core 0's lease, and its load has core 0 write its line back.
     Run {
         programs: &["st 0 1\nld r0 1\n", "st 1 1\nld r0 0\n"],
         options: &[],
@@ -43,7 +43,7 @@ const RUNS: &[Run] = &[
         records: &[&["L 0 0 0 1 init", "L 0 0 0 1 init"], &["S 0 1 11 0"]],
         operations: 3,
     },
-    // Address 0 leaves its `rts` behind as the stamp of the memory.
+    // Address 0 leaves its `rts` as the stamp of the memory.
     Run {
         programs: &["ld r0 0\nld r0 1\n"],
         options: &["--slice-lines", "1"],
@@ -232,7 +232,7 @@ core 2\nst 2 3\nld r0 2\nld r1 0\nld r2 1\nst 0 5\nld r3 0\n\
 core 3\nld r0 2\nld r1 1\nld r2 0\nai r3 r0 10\nsr 1 r3\nld r4 1\n\
 end\n";
 
-/// A folder in which the file named `k` is text `k`, and which takes so many files.
+/// A folder in which the file named `k` is text `k`, and which takes `room` files.
 #[derive(Drop)]
 struct Shelf<'a> {
     alloc: Global,
@@ -330,7 +330,7 @@ fn a_core_gives_up(rt: HostRuntime) -> Result<(), Fail> {
     assert_eq!(rt; done.told.as_str(), "refused: core 1: 30 GaveUp\n");
     assert_eq!(rt; done.status, 4);
     assert_eq!(rt; done.logs, wanted);
-    // The fault of the run is told in place of one of writing its logs.
+    // The fault of the run is told, not one of writing its logs.
     let done = sim(&rt, rt.alloc(), &["--schedule", "1"], GIVEN_UP, 1)?;
     assert_eq!(rt; done.told.as_str(), "refused: core 1: 30 GaveUp\n");
     assert_eq!(rt; done.logs.len(), 1);
@@ -391,7 +391,7 @@ fn programs_of(alloc: Global, programs: &[&str]) -> Result<String, Fail> {
     Ok(text)
 }
 
-/// Runs the programs of text 0 with these options, in a folder that takes so many files.
+/// Runs the programs of text 0 with these options, in a folder that takes `room` files.
 fn sim<R: Threads + Sync>(
     rt: &R,
     alloc: Global,

@@ -96,7 +96,7 @@ last_stamp_again n le = last_below_again 281474976710657 n (omega (arith, le))
 
 -- ---- how a line is recalled
 
--- a kind and a space, with bytes behind them
+-- a kind and a space, with bytes after them
 abbrev kind_line : RecallKind × List ℕ → List ℕ
 kind_line x = kind_text x.0 ++ 32 ∷ x.1
 
@@ -240,13 +240,13 @@ command_again cores (Round core) fits = rw (last_core_again cores core fits) ref
 command_again cores (Op core) fits = rw (last_core_again cores core fits) refl
 command_again cores (Finish core) fits = rw (last_core_again cores core fits) refl
 
--- ---- no line feed stands in a command's line
+-- ---- a command's line has no line feed
 
--- a name in front of a text
+-- a name before a text
 behind_name : (name rest : List ℕ) → NoLf name → NoLf rest → NoLf (name ++ rest)
 behind_name name rest p q = NoLf-append name rest p q
 
--- a number in front of a space and a text
+-- a number before a space and a text
 behind_number : (n : ℕ) (rest : List ℕ) → NoLf rest → NoLf (numeral n ++ 32 ∷ rest)
 behind_number n rest p = NoLf-append (numeral n) (32 ∷ rest) (numeral_no_lf n) (refl, p)
 

@@ -18,7 +18,7 @@ use Rattle.schedule.proofs.Lines.{no_lf_from, no_feed, line_once}
 pub none_without_feed : (cores : ℕ) (text : List ℕ) → IsOneLine text → NoCommandInFront cores text
 none_without_feed cores text one = λ command rest there. no_feed text (command_text command) rest (no_lf_from text one) there.1
 
--- none, where the first line is no command's
+-- none, where the first line isn't a command's
 pub none_of_other : (cores : ℕ) (text line behind : List ℕ) → IsOneLine line → text ≡ line ++ 10 ∷ behind → None ≡ command_of cores line
     → NoCommandInFront cores text
 none_of_other cores text line behind one is none = λ command rest there.
@@ -36,7 +36,7 @@ first_of_line cores text line behind command is some =
 
 -- ---- commands read so far
 
--- the commands so far, and the bytes behind their lines
+-- the commands so far, and the bytes after their lines
 pub record SoFar (cores : ℕ) (text : List ℕ) (commands : List Command) (rest : List ℕ) : Type 0 where
   pub each_fits : EachFits cores commands
   pub text_is : text ≡ schedule_text commands ++ rest
@@ -46,7 +46,7 @@ each_fits_push : (cores : ℕ) (commands : List Command) (command : Command) →
 each_fits_push cores [] command all fits = (fits, tt)
 each_fits_push cores (c ∷ commands) command all fits = (all.0, each_fits_push cores commands command all.1 fits)
 
--- a command's line in front of a schedule
+-- a command's line before a schedule
 text_cons : (command : Command) (commands : List Command) (rest : List ℕ)
     → schedule_text (command ∷ commands) ++ rest ≡ command_text command ++ 10 ∷ (schedule_text commands ++ rest)
 text_cons command commands rest =
@@ -80,11 +80,11 @@ shorter cores command rest behind there =
 command_once : (cores : ℕ) (c d : Command) → Fits cores c → Fits cores d → command_text c ≡ command_text d → c ≡ d
 command_once cores c d p q e = some_is c d (sym (command_again cores c p) ∙ ap (command_of cores) e ∙ command_again cores d q)
 
--- no line stands in front of no bytes
+-- no bytes begin with no line
 none_of_nothing : (cores : ℕ) → NoCommandInFront cores []
 none_of_nothing cores = λ command rest there. omega (arith, ap length there.1, length-append (command_text command) (10 ∷ rest))
 
--- all the commands that stand in front of bytes do so in one way
+-- all the commands that come before bytes do so in one way
 cut_once : (cores : ℕ) (p q : List Command) (xs ys : List ℕ) → EachFits cores p → EachFits cores q → NoCommandInFront cores xs
     → NoCommandInFront cores ys → schedule_text p ++ xs ≡ schedule_text q ++ ys → (p ≡ q) × (xs ≡ ys)
 cut_once cores [] [] xs ys f g none-p none-q e = (refl, e)
@@ -98,7 +98,7 @@ cut_once cores (c ∷ p) (d ∷ q) xs ys f g none-p none-q e =
     let rest : p ≡ q = more.0 in
     (cc, more.1)
 
--- bytes that are a schedule's text, as its commands in front of nothing
+-- bytes that are a schedule's text, as its commands before nothing
 spelled_cut : (bytes : List ℕ) (commands : List Command) → bytes ≡ schedule_text commands → bytes ≡ schedule_text commands ++ []
 spelled_cut bytes commands is = is ∙ sym (append-nil (schedule_text commands))
 

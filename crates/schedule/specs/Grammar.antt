@@ -33,7 +33,7 @@ command_text command = join_with_byte 32 (fields_of command)
 abbrev pub schedule_text : List Command → List ℕ
 schedule_text commands = flat_map (λ command. command_text command ++ 10 ∷ []) commands
 
--- the core of a command is one of so many, of which there are at most 64, and its numbers are in range
+-- the core of a command is below their number and below 64, and its numbers are in range
 abbrev pub Fits : ℕ → Command → Type 0
 Fits cores (Turn core) = core < min cores 64
 Fits cores (Serve core) = core < min cores 64

@@ -11,22 +11,22 @@ use Rattle.schedule.specs.declared.command.Command.TheVariants.{Turn, Serve, Tak
 abbrev pub below : ℕ → ℕ → Option ℕ
 below limit n = if nat_lt n limit then Some n else None
 
--- the number, where it is less than this, and the bytes behind it
+-- the number, where it is less than this, and the bytes after it
 abbrev pub front_below : ℕ → ℕ × List ℕ → Option (ℕ × List ℕ)
 front_below limit x = if nat_lt x.0 limit then Some x else None
 
--- a core or an address with a space behind it
+-- a core or an address with a space after it
 unfoldable pub core_at : ℕ → List ℕ → Option (ℕ × List ℕ)
 core_at cores bytes = field_at 32 bytes >>= front_below (min cores 64)
 
 unfoldable pub addr_at : List ℕ → Option (ℕ × List ℕ)
 addr_at bytes = field_at 32 bytes >>= front_below 65536
 
--- a way to give a line back, and the bytes behind it
+-- a way to give a line back, and the bytes after it
 abbrev pub kind_front : RecallKind → List ℕ → RecallKind × List ℕ
 kind_front kind rest = (kind, rest)
 
--- how a line is recalled, with a space behind it
+-- how a line is recalled, with a space after it
 unfoldable pub kind_at : List ℕ → Option (RecallKind × List ℕ)
 kind_at bytes =
     if is_some (after (codes "wb ") bytes)
@@ -43,7 +43,7 @@ last_addr bytes = last_number bytes >>= below 65536
 unfoldable pub last_stamp : List ℕ → Option ℕ
 last_stamp bytes = last_number bytes >>= below 281474976710657
 
--- the command whose fields these are, behind its name
+-- the command whose fields these are, after its name
 abbrev pub of_core : (ℕ → Command) → ℕ → List ℕ → Option Command
 of_core command cores bytes = last_core cores bytes >>= λ core. Some (command core)
 

@@ -1,4 +1,4 @@
-//! Why bytes are no schedule.
+//! Why bytes aren't a schedule.
 
 ghost use Rattle.std.specs.Prelude.{◌≡◌};
 ghost use Rattle.schedule.specs.declared.fault.ScheduleFault.TheVariants.{OutOfMemory};
@@ -8,10 +8,10 @@ use std::fmt;
 use std::fmt::Display;
 use thiserror::Error;
 
-/// Why bytes are no schedule.
+/// Why bytes aren't a schedule.
 #[derive(Clone, Copy, Debug, PartialEq, Eq, Error)]
 pub enum ScheduleFault {
-    /// This line, counted from 1, is the first that is no command's, that names a core that isn't
+    /// This line, counted from 1, is the first that isn't a command's, that names a core that isn't
     /// there, or that has no line feed.
     BadScheduleLine { line: u64 },
     /// A growth was refused.

@@ -10,7 +10,7 @@ use decimal_text::{after_text, read_field, read_last};
 use line_stamps::{Recall, RecallKind, Stamp};
 use mem_op::{Addr, CoreId};
 
-/// The core of this number, where it is one of so many, and of 64.
+/// The core of this number, where it is below `cores`, and below 64.
 fn core_of(cores: usize, number: u64) -> Option<CoreId>
     ensures { result ≡ below (min cores 64) number }
 {
@@ -22,7 +22,7 @@ fn core_of(cores: usize, number: u64) -> Option<CoreId>
     }
 }
 
-/// A core with a space behind it, and the bytes behind them.
+/// A core with a space after it, and the bytes after them.
 #[tactic(auto, unfolding(crate::specs::Reading::core_at))]
 fn core_field(cores: usize, bytes: &[u8]) -> Option<(CoreId, &[u8])>
     ensures { front_now result ≡ core_at cores bytes.now }
@@ -31,7 +31,7 @@ fn core_field(cores: usize, bytes: &[u8]) -> Option<(CoreId, &[u8])>
     Some((core_of(cores, number?)?, rest))
 }
 
-/// An address with a space behind it, and the bytes behind them.
+/// An address with a space after it, and the bytes after them.
 #[tactic(auto, unfolding(crate::specs::Reading::addr_at))]
 fn addr_field(bytes: &[u8]) -> Option<(Addr, &[u8])>
     ensures { front_now result ≡ addr_at bytes.now }
@@ -40,7 +40,7 @@ fn addr_field(bytes: &[u8]) -> Option<(Addr, &[u8])>
     Some((Addr::new(number?).ok()?, rest))
 }
 
-/// How a line is recalled with a space behind it, and the bytes behind them.
+/// How a line is recalled with a space after it, and the bytes after them.
 #[tactic(auto, unfolding(crate::specs::Reading::kind_at, decimal_text::specs::Reading::after))]
 fn kind_field(bytes: &[u8]) -> Option<(RecallKind, &[u8])>
     ensures { front_now result ≡ kind_at bytes.now }
@@ -110,7 +110,7 @@ fn evict(cores: usize, fields: &[u8]) -> Option<Command>
     Some(Command::Evict(core, last_addr(rest)?))
 }
 
-/// The command whose line this is, without its line feed, where there are so many cores.
+/// The command whose line this is, without its line feed, where there are `cores` cores.
 #[tactic(auto, unfolding(crate::specs::Reading::command_of))]
 pub(crate) fn read_command(cores: usize, line: &[u8]) -> Option<Command>
     ensures { result ≡ command_of cores line.now }

@@ -10,9 +10,8 @@ use super::reading::read_command;
 use memchr::memchr;
 use std::alloc::Global;
 
-/// The commands whose text this is, one a line, each line ended by a line feed, for so many cores, of
-/// which there are at most 64.
-/// BadScheduleLine at the first line that is no command's, that names a core that isn't there, or
+/// The commands whose text this is, one a line, each line ended by a line feed, for this number of cores,
+/// at most 64. BadScheduleLine at the first line that isn't a command's, that names a core that isn't there, or
 /// that has no line feed.
 pub fn parse(alloc: Global, text: &[u8], cores: usize) -> Result<Vec<Command>, ScheduleFault>
     ensures { MatchResult result
@@ -33,7 +32,7 @@ pub fn parse(alloc: Global, text: &[u8], cores: usize) -> Result<Vec<Command>, S
     Ok(commands)
 }
 
-/// The command whose line is the first, and the bytes behind it; None where the first line is no
+/// The command whose line is the first, and the bytes after it; None where the first line isn't a
 /// command's, or has no line feed.
 fn next_command(cores: usize, text: &[u8]) -> Option<(Command, &[u8])>
     ensures found { IfSome result (λ read. CommandInFront cores read.0 text.now read.1.now) }
@@ -43,7 +42,7 @@ fn next_command(cores: usize, text: &[u8]) -> Option<(Command, &[u8])>
     Some((read_command(cores, line)?, rest))
 }
 
-/// The first line, without its line feed, and the bytes behind it; None where no line feed is there.
+/// The first line, without its line feed, and the bytes after it; None where no line feed is there.
 fn next_line(text: &[u8]) -> Option<(&[u8], &[u8])>
     ensures found { IfSome result (λ split.
         IsOneLine split.0.now × (text.now ≡ split.0.now ++ 10 ∷ split.1.now)) }

@@ -1,4 +1,4 @@
--- Behind a round of a core the list of the cores that haven't ended is the same, or has lost that core.
+-- After a round of a core the list of the cores that haven't ended is the same, or has lost that core.
 use Rattle.std.proofs.Common.{◌≡◌, ◌≢◌, ℕ, zero, suc, ◌∷◌, ◌++◌, Bool, true, false, nat_eq, if◌then◌else◌, [], refl, sym, ap, ◌∙◌, arith}
 use Rattle.std.proofs.lemmas.List.Elements.{filter-append}
 use Rattle.tardis_core.specs.Machine.{World}
@@ -27,7 +27,7 @@ struck_below c w t (suc n) ended same =
     last false true is at = let other : n ≢ c = search arith in rw (same n other, at, is) refl
     last false false is at = let other : n ≢ c = search arith in rw (same n other, at) refl
 
--- Behind a round of core c: the same list where it has an operation left, else that without it.
+-- After a round of core c: the same list where it has an operation left, else that without it.
 pub left_behind : (c : ℕ) (p q : CoreParts) → IsRound c p q
     → cores_left (world q) ≡ (if has_next (world q) c then cores_left (world p) else without c (cores_left (world p)))
 unfolding cores_left

@@ -43,11 +43,11 @@ pub record Draws : Type 0 where
 abbrev pub draws_of : ℕ → Draws
 draws_of seed = record { generator = pcg32_of_seed (pcg32_seed 16 seed); waits = replicate 64 0 }
 
--- how many rounds were drawn for core c since its last operation, behind one that led from p to q
+-- how many rounds were drawn for core c since its last operation, after one that led from p to q
 abbrev pub waited : List ℕ → ℕ → CoreParts → CoreParts → ℕ
 waited waits c p q = if nat_lt (length (log_at (world p) c)) (length (log_at (world q) c)) then 0 else get_or waits c 0 + 1
 
--- the draws behind a round of core c
+-- the draws after a round of core c
 abbrev pub after_round : Draws → ℕ → CoreParts → CoreParts → Draws
 after_round d c p q = record { generator = one_word_on d.generator; waits = slice_set d.waits c (waited d.waits c p q) }
 

@@ -5,7 +5,7 @@ use Rattle.tardis_core.specs.Rounds.{IsFinished, IsFinishFault}
 use Rattle.simulation.specs.Commands.{IsOfCore}
 use Rattle.simulation.specs.declared.fault.SimulationFault.{SimulationFault}
 
--- Core 0 is finished, then core 1, and so on, so many of them. One that isn't there has no operation left.
+-- The first cores are finished, core 0, then core 1, and so on. One that isn't there has no operation left.
 pub data FinishesFirst (p : CoreParts) : ℕ → CoreParts → Type 0 where
   no_core : FinishesFirst p 0 p
   one_more : (c : ℕ) (q t : CoreParts) → FinishesFirst p c q → IsFinished c q t → FinishesFirst p (c + 1) t

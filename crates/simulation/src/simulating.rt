@@ -13,7 +13,7 @@ use tardis_core::Core;
 
 /// Does what the commands say, and then takes all cores to the ends of their programs: by rounds of
 /// cores that are drawn with a seed, or without one core 0 first, then core 1, and so on. The first
-/// refusal ends it, and what was done before stands.
+/// refusal ends it, and what was done before stays done.
 pub fn simulate(
     alloc: Global,
     machine: &mut Core,

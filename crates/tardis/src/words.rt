@@ -19,7 +19,7 @@ pub(crate) enum WordsFault {
 }
 
 impl WordsFault {
-    /// The exit status: 3, as of other words that are no command line, or 4 where memory was refused.
+    /// The exit status: 3, as of other words that aren't a command line, or 4 where memory was refused.
     pub(crate) fn status(self) -> u8
         ensures { result ≡ words_fault_status self }
     {
@@ -63,7 +63,7 @@ impl From<io::Error> for WordsFault {
     }
 }
 
-/// The words that the program was called with, of which the first is its own name.
+/// The words that the program was called with; the first is its own name.
 pub(crate) fn words(rt: &HostRuntime) -> Result<Vec<String>, WordsFault> {
     let mut words = Vec::new(rt.alloc());
     for word in env::args(rt)? {

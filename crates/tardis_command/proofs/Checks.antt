@@ -20,7 +20,7 @@ use Rattle.tardis_command.specs.declared.fault.CommandFault.{CommandFault}
 use Rattle.tardis_command.specs.declared.fault.CommandFault.TheVariants.{Judge, Config, Programs, ProgramsUnread, Schedule, ScheduleUnread, Simulation, LogUnwritten, Output, OutOfMemory as NoMemory}
 use Rattle.tardis_command.specs.Checking.{Against, AreInRange, AreNotAsMany, AreSourcesOf, AreTextsOf, IsAnswerAgainst, IsChecked, IsCheckedAgainst, IsFaultOfPrograms, IsUnprogrammed}
 
--- the next file's source, behind those of the files in front of it
+-- the next file's source, after those of the files before it
 one_source_more : {S : Type 0} (told : List ℕ → Option (List ℕ)) (remaining : S → Option (List ℕ)) (sources : List S) (names : List (Bor (List ℕ)))
     (source : S) (name : Bor (List ℕ)) → AreSourcesOf told remaining sources names → IfSome (told name.now) (λ bytes. remaining source ≡ Some bytes)
     → AreSourcesOf told remaining (sources ++ source ∷ []) (names ++ name ∷ [])

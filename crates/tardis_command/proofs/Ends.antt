@@ -25,7 +25,7 @@ unless_failed old new fault (Unprinted answer) answered output = inr output.0
 unless_failed old new fault (Refused reason) answered output = output
 unless_failed old new fault (Misused text) answered output = absurd answered
 
--- want of memory may end whatever was asked
+-- lack of memory may end whatever was asked
 memory_ends : (told told' : List ℕ → Option (List ℕ)) (asked : Request) → IsAnswerTo told told' asked (Err OutOfMemory)
 memory_ends told told' (request.Check check) = tt
 memory_ends told told' (request.Sim sim) = tt

@@ -1,4 +1,4 @@
--- How a run ends behind its simulation.
+-- How a run ends after its simulation.
 use Rattle.std.proofs.Common.{◌≡◌, ℕ, List, length}
 use Rattle.std.specs.Prelude.{Option, None, Result, Ok, Err, IfOk, IfErr, OnOk}
 use Rattle.command_line.specs.declared.request.Sim.{Sim}

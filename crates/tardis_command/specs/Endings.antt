@@ -16,7 +16,7 @@ use Rattle.tardis_command.specs.declared.fault.CommandFault.{CommandFault}
 use Rattle.tardis_command.specs.declared.fault.CommandFault.TheVariants.{OutOfMemory, Output}
 
 -- by an answer, by one that couldn't be printed, by a refusal, or with what the user is told of words that
--- are no command line
+-- aren't a command line
 pub data Ending : Type 0 where
   Answered : Answer → Ending
   Unprinted : Answer → Ending
@@ -43,7 +43,7 @@ complaint_of (Misused text) = text
 
 -- ---- why
 
--- this may be the answer to what was asked, or why there is none; the folder told `told` before and tells `told'` behind
+-- this may be the answer to what was asked, or why there is none; the folder told `told` before and tells `told'` after
 abbrev pub IsAnswerTo : (List ℕ → Option (List ℕ)) → (List ℕ → Option (List ℕ)) → Request → Result Answer CommandFault → Type 0
 IsAnswerTo told told' (Check asked) (Ok (Judged verdict)) = IsChecked told asked (Ok verdict)
 IsAnswerTo told told' (Check asked) (Ok (Done count)) = ⊥
@@ -59,7 +59,7 @@ IsEndOf told told' asked (Unprinted answer) = IsAnswerTo told told' asked (Ok an
 IsEndOf told told' asked (Refused fault) = IsAnswerTo told told' asked (Err fault)
 IsEndOf told told' asked (Misused text) = ⊥
 
--- the words ask for something of which this holds
+-- this holds of what the words ask for
 abbrev pub AskFor : List (List ℕ) → (Request → Type 0) → Type 0
 AskFor words Holds = (asked : Request) × Asks words asked × Holds asked
 
@@ -105,11 +105,11 @@ HasFailed old new = Failed old.failed new.failed
 abbrev pub TakesBeginning : Sink → Sink → List ℕ → Type 0
 TakesBeginning old new text = (n : ℕ) × (n ≤ length text) × Appends old.contents new.contents (take n text)
 
--- the sink took the text, or failed behind a beginning of it
+-- the sink took the text, or failed after a beginning of it
 abbrev pub Takes : Sink → Sink → List ℕ → Type 0
 Takes old new text = Appends old.contents new.contents text ⊎ (HasFailed old new × TakesBeginning old new text)
 
--- standard output takes the line of an answer, or fails behind a beginning of it, or holds what it held
+-- standard output takes the line of an answer, or fails after a beginning of it, or holds what it held
 abbrev pub OutputAt : Sink → Sink → Ending → Type 0
 OutputAt old new (Answered answer) = Appends old.contents new.contents (line (answer_text answer))
 OutputAt old new (Unprinted answer) = HasFailed old new × TakesBeginning old new (line (answer_text answer))

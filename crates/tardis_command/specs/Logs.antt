@@ -10,7 +10,7 @@ use Rattle.tardis_core.specs.Works.{log_at}
 abbrev pub log_name : List ℕ → ℕ → List ℕ
 log_name out c = out ++ (codes "." ++ decimal c)
 
--- core c's log, of so many, is told under its name, in its one spelling
+-- core c's log, of `cores`, is told under its name, in its one spelling
 abbrev pub TellsLog : (List ℕ → Option (List ℕ)) → List ℕ → ℕ → World → ℕ → Type 0
 TellsLog told out cores w c = Tells (told (log_name out c)) (spelling c cores (log_at w c))
 
@@ -31,12 +31,12 @@ pub record ArePutFirst (told told' : List ℕ → Option (List ℕ)) (out : List
 abbrev pub ArePut : (List ℕ → Option (List ℕ)) → (List ℕ → Option (List ℕ)) → List ℕ → ℕ → World → Type 0
 ArePut told told' out cores w = ArePutFirst told told' out cores w cores
 
--- the logs in front of core c's were put, and nothing else but what may stand in place of core c's
+-- the logs before core c's were put, and nothing else but what may stand instead of core c's
 pub record ArePutUpTo (told told' : List ℕ → Option (List ℕ)) (out : List ℕ) (cores : ℕ) (w : World) (c : ℕ) : Type 0 where
   pub core : c < cores
   pub logs : TellsFirst told' out cores w c
   pub others : KeepsOthers told told' out (c + 1)
 
--- the logs of all cores were put, or those in front of one
+-- the logs of all cores were put, or those before one
 abbrev pub ArePutAsFar : (List ℕ → Option (List ℕ)) → (List ℕ → Option (List ℕ)) → List ℕ → ℕ → World → Type 0
 ArePutAsFar told told' out cores w = ArePut told told' out cores w ⊎ ((c : ℕ) × ArePutUpTo told told' out cores w c)

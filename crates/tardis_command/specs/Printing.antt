@@ -4,7 +4,7 @@ use Rattle.tardis_command.specs.Endings.{HasFailed, Sink, TakesBeginning}
 use Rattle.tardis_command.specs.declared.fault.CommandFault.{CommandFault}
 use Rattle.tardis_command.specs.declared.fault.CommandFault.TheVariants.{Judge, Config, Programs, ProgramsUnread, Schedule, ScheduleUnread, Simulation, LogUnwritten, Output, OutOfMemory}
 
--- the sink failed behind a beginning of the line, or there was no memory and it is as it was
+-- the sink failed after a beginning of the line, or there was no memory and it is as it was
 abbrev pub IsUnprinted : Sink → Sink → List ℕ → CommandFault → Type 0
 IsUnprinted old new line Output = HasFailed old new × TakesBeginning old new line
 IsUnprinted old new line OutOfMemory = new ≡ old

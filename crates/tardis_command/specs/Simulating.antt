@@ -38,12 +38,12 @@ config_of asked = record {
 abbrev pub AreProgramsIn : (List ℕ → Option (List ℕ)) → List ℕ → List (List Instruction) → Type 0
 AreProgramsIn told name programs = (text : List ℕ) × Tells (told name) text × SpellsSet text programs
 
--- the commands that the text of the schedule spells for so many cores; none where no schedule was given
+-- the commands that the text of the schedule spells for this number of cores; none where no schedule was given
 abbrev pub AreCommandsOf : (List ℕ → Option (List ℕ)) → Option (Bor (List ℕ)) → ℕ → List Command → Type 0
 AreCommandsOf told None cores commands = commands ≡ []
 AreCommandsOf told (Some name) cores commands = (text : List ℕ) × Tells (told name.now) text × SpellsSchedule cores text commands
 
--- why the text of the schedule is none for so many cores
+-- why the text isn't a schedule for this number of cores
 abbrev pub IsFaultOfSchedule : (List ℕ → Option (List ℕ)) → Option (Bor (List ℕ)) → ℕ → ScheduleFault → Type 0
 IsFaultOfSchedule told None cores fault = ⊥
 IsFaultOfSchedule told (Some name) cores fault = (text : List ℕ) × Tells (told name.now) text × IsScheduleFault cores text fault
@@ -63,7 +63,7 @@ IsUnscheduled told name cores Output = ⊥
 
 -- ---- what it came to
 
--- how many operations the first cores have performed, so many of them
+-- how many operations the first cores have performed
 abbrev pub performed_below : World → ℕ → ℕ
 performed_below w zero = 0
 performed_below w (suc c) = performed_below w c + length (log_at w c)
@@ -90,14 +90,14 @@ abbrev pub Scheduled : (List ℕ → Option (List ℕ)) → Sim → (List (List 
 Scheduled told asked Holds =
     Programmed told asked (λ programs. (commands : List Command) × AreCommandsOf told asked.schedule (length programs) commands × Holds programs commands)
 
--- the simulation ended in a machine of which this holds
+-- this holds of the machine in which the simulation ended
 abbrev pub EndsIn : Sim → List (List Instruction) → List Command → (CoreParts → Type 0) → Type 0
 EndsIn asked programs commands Holds = (q : CoreParts) × IsSimulated commands asked.seed (opening_parts programs (config_of asked)) q × Holds q
 
 -- The number of operations that the programs performed, or why there is none. The configuration is looked at first, then
 -- the programs, then the schedule; what a simulation is refused for is told before a log that can't be written. The
--- folder told `told` before and tells `told'` behind: the logs of the machine to which the simulation came. Behind a log that
--- can't be written they are those in front of it, and behind a fault of the simulation all, or those of the first cores.
+-- folder told `told` before and tells `told'` after: the logs of the machine to which the simulation came. After a log that
+-- can't be written they are those before it, and after a fault of the simulation all, or those of the first cores.
 abbrev pub IsRun : (List ℕ → Option (List ℕ)) → (List ℕ → Option (List ℕ)) → Sim → Result ℕ CommandFault → Type 0
 IsRun told told' asked (Ok count) =
     Scheduled told asked (λ programs commands. EndsIn asked programs commands (λ q.

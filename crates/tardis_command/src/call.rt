@@ -16,10 +16,10 @@ use log_file::ByteSink;
 use std::alloc::Global;
 use std::thread::Threads;
 
-/// The exit status of a call whose words are no command line of the program.
+/// The exit status of a call whose words aren't a command line of the program.
 const USAGE: u8 = 3;
 
-/// Does what the words of a command line ask for, of which the first is the program's own name, and
+/// Does what the words of a command line ask for; the first is the program's own name, and
 /// answers the exit status: 0 for Yes or done, 1 for No, 2 where a log, the programs or the schedule
 /// are refused, 3 where the words are or a number is out of range, else 4. An answer goes to standard
 /// output, all else to standard error; in the folder nothing but the logs of a run is put.

@@ -15,7 +15,7 @@ use std::thread::Threads;
 use verdict::{JudgeFault, Verdict, check_counts, judge, judge_run};
 
 /// The verdict on the logs in files of the folder, against the programs in another where one is asked
-/// for, or why there is none: 6 of files and workers comes before a file is opened, the programs
+/// for, or why there is no answer: 6 of files and workers comes before a file is opened, the programs
 /// before the logs, and 28 of a log that can't be opened before one is read.
 pub(crate) fn check<R: Threads + Sync, F: Folder>(
     rt: &R,

@@ -18,15 +18,15 @@ use verdict::JudgeFault;
 /// Why a command was refused.
 #[derive(Clone, Copy, Debug, PartialEq, Eq, Error)]
 pub enum CommandFault {
-    /// There is no verdict, and not for want of memory.
+    /// There is no verdict, and not for lack of memory.
     Judge(JudgeFault),
     /// A number of the configuration is out of its range.
     Config(BadConfig),
-    /// The file of the programs is none of a set of programs.
+    /// The file of the programs isn't a set of programs.
     Programs(ProgramFault),
     /// The file of the programs can't be opened, or a read of it failed.
     ProgramsUnread,
-    /// The file of the schedule is none.
+    /// The file of the schedule isn't a schedule.
     Schedule(ScheduleFault),
     /// The file of the schedule can't be opened, or a read of it failed.
     ScheduleUnread,

@@ -32,7 +32,7 @@ pub(crate) fn print_answer<O: ByteSink>(
 }
 
 /// Tells the user of a refusal on standard error, and answers its exit status. Where there is no
-/// memory for that, it tells of this in its place.
+/// memory for that, it tells of this instead.
 pub(crate) fn refuse<E: ByteSink>(alloc: Global, err: &mut E, fault: CommandFault) -> u8
     ensures { (told : CommandFault) × ((told ≡ fault) ⊎ (told ≡ OutOfMemory))
         × endings.Takes (endings.sink_of E.contents E.failed err.old)

@@ -67,7 +67,7 @@ fn config_of(asked: &Sim<'_>) -> Result<Config, BadConfig>
     )
 }
 
-/// The commands in a file of the folder, for so many cores; none where no name is given.
+/// The commands in a file of the folder, for `cores` cores; none where no name is given.
 fn read_schedule<F: Folder>(
     alloc: Global,
     folder: &F,
@@ -93,7 +93,7 @@ fn read_schedule<F: Folder>(
     Ok(commands)
 }
 
-/// Writes the log of each core, of so many, and answers how many operations they have performed. The
+/// Writes the log of each core, of `cores`, and answers how many operations they have performed. The
 /// first log that can't be written ends it.
 fn write_logs<F: Folder>(
     alloc: Global,
@@ -135,7 +135,7 @@ fn log_of(machine: &Core, core: CoreId) -> &[Record]
     unit.log()
 }
 
-/// Writes the log of a core, of so many: its name is that of the logs, a dot and the core's number.
+/// Writes the log of a core, of `cores`: its name is that of the logs, a dot and the core's number.
 fn write_log_of<F: Folder>(
     alloc: Global,
     folder: &mut F,

@@ -1,4 +1,4 @@
--- Whether operations of a core are left: only its own turn can end its program, and no event goes back behind the end.
+-- Whether operations of a core are left: only its own turn can end its program, and no event takes it back from the end.
 use Rattle.std.proofs.Common.{◌≡◌, ◌≢◌, ◌⊎◌, ℕ, zero, suc, Bool, true, false, List, [], ◌∷◌, refl, sym, ap, ◌∙◌, inl, inr}
 use Rattle.std.specs.Prelude.{Some, is_some, slice_get, slice_set}
 use Rattle.std.specs.Option.{option_map_or}

@@ -33,7 +33,7 @@ stands xs i j x same below e = ap (slice_get xs) (sym same) ∙ slice_get-get_or
 pub stands_none : {X : Type 0} (xs : List X) (i j : ℕ) → j ≡ i → length xs ≤ j → slice_get xs i ≡ None
 stands_none xs i j same past = ap (slice_get xs) (sym same) ∙ slice_get_past xs j past
 
--- an item put in the place of another that agrees with it here
+-- an item put instead of another that agrees with it here
 pub map-set_same : {A B : Type 0} (f : A → B) (xs : List A) (i : ℕ) (x t : A) → slice_get xs i ≡ Some x → f t ≡ f x → map f (slice_set xs i t) ≡ map f xs
 map-set_same f xs i x t there same =
     map-set f xs i t ∙ ap (slice_set (map f xs) i) same ∙ set_again (map f xs) i (f x) (found_in_map f xs i x there)

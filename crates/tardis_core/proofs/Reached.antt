@@ -38,7 +38,7 @@ run_from-push p (x ∷ events) e = by_first (λ q. run_from-push q events e) (be
     by_first later None = refl
     by_first later (Some q) = later q
 
--- the machine behind the first events of a run
+-- the machine after the first events of a run
 pub record IsRunSoFar (programs : List (List Instruction)) (g : ConfigParts) (events : List Event) (p : CoreParts) : Type 0 where
   pub reached : run_from (opening_parts programs g) events ≡ Some p
   pub run : Run g (opening programs g.slices) events (world p)

@@ -49,7 +49,7 @@ with_slice g w a s = record w { slices = slice_set w.slices (slice_number g a) s
 
 -- ---- the events without effect
 
--- whose event it is; a spill is no core's
+-- whose event it is; a spill isn't a core's
 abbrev pub core_event : Event → Option ℕ
 core_event (event.Turn c) = Some c
 core_event (event.Serve c) = Some c
@@ -100,7 +100,7 @@ is_barred g w (event.Increment c) = bars_at (event.Increment c) (slice_get w.cor
 
 -- ---- the events of one core
 
--- the event may lead core c from u to the state behind it, with this outcome
+-- the event may lead core c from u to the state after it, with this outcome
 pub data CoreLeads (g : ConfigParts) (c : ℕ) (u : Core) : Event → Outcome → Core → Type 0 where
   turn_hits : (op : Op) (hit : Hit) → u.hand ≡ None → next_of u ≡ Some op → tries c u op ≡ Some hit →
       CoreLeads g c u (event.Turn c) (Performed (next_id c u)) (after_hit g u op hit)
@@ -131,7 +131,7 @@ pub data CoreLeads (g : ConfigParts) (c : ℕ) (u : Core) : Event → Outcome �
 
 -- ---- the events of the machine
 
--- the event may lead from w to the state behind it, with this outcome
+-- the event may lead from w to the state after it, with this outcome
 pub data Leads (g : ConfigParts) (w : World) : Event → Outcome → World → Type 0 where
   by_core : (c : ℕ) (e : Event) (o : Outcome) (u v : Core) → slice_get w.cores c ≡ Some u → CoreLeads g c u e o v → Leads g w e o (with_core w c v)
   -- a message that wasn't served yet

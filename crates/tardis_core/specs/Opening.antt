@@ -41,7 +41,7 @@ new_slice g n = record {
   history = [];
 }
 
--- so many slices
+-- the first slices
 abbrev pub new_slices : ConfigParts → ℕ → List SliceParts
 new_slices g zero = []
 new_slices g (suc n) = new_slices g n ++ new_slice g n ∷ []

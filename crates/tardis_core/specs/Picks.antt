@@ -7,7 +7,7 @@ use Rattle.rand_pcg.specs.Pcg.{pcg32}
 abbrev pub word : Lcg → ℕ
 word g = (pcg32 g).0
 
--- the generator behind it
+-- the generator after it
 abbrev pub one_word_on : Lcg → Lcg
 one_word_on g = (pcg32 g).1
 

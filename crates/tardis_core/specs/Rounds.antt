@@ -33,7 +33,7 @@ told_by (Busy x) = told.Busy x
 told_by (Gave m) = told.Gave
 told_by o = told.Other
 
--- the event leads from p to q with an outcome of which this is told
+-- the event leads from p to q, and this is told of its outcome
 pub record IsMade (p : CoreParts) (e : Event) (told : Told) (q : CoreParts) : Type 0 where
   pub outcome : Outcome
   pub makes : Makes p e outcome q
@@ -56,7 +56,7 @@ pub data Stage : Type 0 where
   ToTurn : Stage
   ToServe : Stage
   ToTake : Stage
-  -- this recall was answered in place of the request
+  -- this recall was answered instead of the request
   ToRecall : Recall → Stage
   -- the owner has given its line back
   OwnerToServe : ℕ → Stage
@@ -96,7 +96,7 @@ abbrev pub stage_of_recall : ℕ → Told → Stage
 stage_of_recall owner told.Gave = OwnerToServe owner
 stage_of_recall owner _ = Over
 
--- the stage behind an event with this outcome
+-- the stage after an event with this outcome
 abbrev pub stage_after : Stage → Outcome → Stage
 stage_after ToTurn o = ToServe
 stage_after ToServe o = ToTake
@@ -106,7 +106,7 @@ stage_after (OwnerToServe owner) o = OwnerToTake owner
 stage_after (OwnerToTake owner) o = Over
 stage_after Over o = Over
 
--- the stage behind one at which no event is due
+-- the stage after one at which no event is due
 abbrev pub stage_without : Stage → Stage
 stage_without ToTurn = ToServe
 stage_without ToServe = ToTake
@@ -155,7 +155,7 @@ pub record StillWaits (c : ℕ) (p q : CoreParts) : Type 0 where
   pub next : has_next (world q) c ≡ true
   pub log : log_at (world q) c ≡ log_at (world p) c
 
--- so many rounds of core c lead from p to q; in front of each of them it still waits
+-- n rounds of core c lead from p to q; before each of them it still waits
 pub data Rounds (c : ℕ) (p : CoreParts) : ℕ → CoreParts → Type 0 where
   no_round : Rounds c p 0 p
   one_more : (n : ℕ) (q t : CoreParts) → Rounds c p n q → StillWaits c p q → IsRound c q t → Rounds c p (n + 1) t
@@ -190,7 +190,7 @@ pub record IsFinished (c : ℕ) (p q : CoreParts) : Type 0 where
   pub ops : Ops c p q
   pub none_left : has_next (world q) c ≡ false
 
--- behind some operations the next one isn't performed
+-- after some operations the next one isn't performed
 pub record IsFinishFault (c : ℕ) (p q : CoreParts) (fault : RoundFault) : Type 0 where
   pub between : CoreParts
   pub ops : Ops c p between

@@ -10,18 +10,18 @@ use Rattle.tardis_core.specs.declared.event.Event.{Event}
 use Rattle.tardis_core.specs.declared.fault.CoreFault.{CoreFault}
 use Rattle.tardis_core.specs.declared.running.RunFault.{RunFault}
 
--- the machine behind an event, and None where the event is refused
+-- the machine after an event, and None where the event is refused
 abbrev pub behind : StepOutcome → Option CoreParts
 behind (Refuses fault) = None
 behind (Answers o q) = Some q
 behind (Steps wanting o q) = Some q
 
--- the machine behind these events, and None where one of them is refused
+-- the machine after these events, and None where one of them is refused
 abbrev pub run_from : CoreParts → List Event → Option CoreParts
 run_from p [] = Some p
 run_from p (e ∷ events) = option_and_then (λ q. run_from q events) (behind (step_outcome p e))
 
--- an event that comes to this may be refused so: for the cause that is due, or for the step's own want of memory
+-- an event that comes to this may be refused so: for the cause that is due, or for the step's own lack of memory
 abbrev pub MayRefuse : StepOutcome → CoreFault → Type 0
 MayRefuse (Refuses due) fault = fault ≡ due
 MayRefuse (Answers o q) fault = ⊥

@@ -27,7 +27,7 @@ impl Core {
         ensures goes { MachineGoes event self.old result self.new }
 
         // Which line goes follows from the order of use and of service. Each refusal comes exactly
-        // where it is due; 10 comes only in place of a step, and for Serve and Spill it is the
+        // where it is due; 10 comes only instead of a step, and for Serve and Spill it is the
         // slice's, else the core's.
         ensures outcome { Meets (step_outcome self.old event) result self.old self.new }
     {

@@ -106,7 +106,7 @@ module _ (programs : List (List Instruction)) (cores : List (List Operation)) (o
   abbrev done_of : List OpId → List Operation
   done_of ids = filter_map (operation_at cores) ids
 
-  -- a core that has performed so many of its operations, and has a path to its end that performs the others
+  -- a core that has performed this number of its operations, and has a path to its end that performs the others
   record Waits (flat : Flat) (performed core : ℕ) (program : List Instruction) : Type 0 where
     state : State
     at : slice_get flat.states core ≡ Some state
@@ -157,7 +157,7 @@ module _ (programs : List (List Instruction)) (cores : List (List Operation)) (o
       length_replicate zero = refl
       length_replicate (suc n) = ap suc (length_replicate n)
 
-  -- one id more, whose operation its core issues next
+  -- one more id, whose operation its core issues next
   module _ (before : List OpId) (id : OpId) (rest : List OpId) (next : List ℕ) (conform : AllZip Conforms programs cores) (is_order : IsSequentialOrder cores order) (split : before ++ id ∷ rest ≡ order) (so_far : SoFar before next) where
     counts : CountsEach (map length cores) (before ++ id ∷ rest)
     counts = subst (CountsEach (map length cores)) (sym split) (counts_each cores order is_order)

@@ -47,7 +47,7 @@ flat_push xs y h g k addr value e = elim (cases_lt k (length xs)) [
 pub flat_at_middle : (xs : List Operation) (y : Operation) (ys : List Operation) (addr value : ℕ) → GivesFlatAnswers (xs ++ y ∷ ys) → y ≡ Loaded addr value → value ≡ last_value addr xs
 flat_at_middle xs y ys addr value h e = h (length xs) addr value (slice_get-here xs y ys ∙ ap Some e) ∙ ap (last_value addr) (take_at xs (y ∷ ys) (length xs) refl)
 
--- the memory after the operations so far, of which each load had its flat answer
+-- the memory after the operations so far, where each load had its flat answer
 pub record FlatSoFar (words : ℕ) (memory : List ℕ) (done : List Operation) : Type 0 where
   pub flat : GivesFlatAnswers done
   pub memory_is : (addr : ℕ) → addr < words → slice_index memory addr ≡ last_value addr done

@@ -68,7 +68,7 @@ one_first core cores text k j f g h i = go (h.least j g i.holds) (i.least k f h.
     go (inr a) (inl b) = absurd (omega (arith, a.0))
     go (inr a) (inr b) = (a.0, (let same : number f ≡ number g = omega (arith, a.1, b.1) in sym (numbered f) ∙ ap fault_of same ∙ numbered g))
 
--- of two first faults of a set neither is at a file in front of the other's
+-- of two first faults of a set neither is at a file before the other's
 not_before : (texts : List (List ℕ)) (file line other_file other_line : ℕ) (fault other : Fault) → IsFirstOfSet texts file line fault → IsFirstOfSet texts other_file other_line other → file < other_file → ⊥
 not_before texts file line other_file other_line fault other h k l =
     let spelled = k.before file l in

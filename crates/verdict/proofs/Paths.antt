@@ -12,7 +12,7 @@ pub record Halves (program : List Instruction) (s : State) (first : Operation) (
   pub before : Path program s (first ∷ []) middle
   pub behind : Path program middle rest t
 
--- the last of a list that isn't empty: of one operation it is the first, else one behind it
+-- the last of a list that isn't empty: of one operation it is the first, else one after it
 data Snoc (first : Operation) (rest : List Operation) (done : List Operation) (last : Operation) : Type 0 where
   alone : done ≡ [] → last ≡ first → rest ≡ [] → Snoc first rest done last
   behind : (more : List Operation) → done ≡ first ∷ more → rest ≡ more ++ last ∷ [] → Snoc first rest done last

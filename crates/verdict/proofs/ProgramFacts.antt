@@ -39,7 +39,7 @@ fault_of_program core index = program_fault_at (record { core = core; index = in
 abbrev alone : ℕ → Option ℕ → List CoreFault
 alone core o = option_map_or (λ i. fault_of_program core i ∷ []) o []
 
--- the fault of a log in front of others
+-- the fault of a log before others
 its_own : (core from : ℕ) (o : Option ℕ) (faults : List CoreFault) → from ≡ core → filter (is_of core) (alone from o ++ faults) ≡ alone core o ++ filter (is_of core) faults
 its_own core from None faults same = refl
 its_own core from (Some i) faults same = ap (λ b. cond b (fault_of_program from i ∷ filter (is_of core) faults) (filter (is_of core) faults)) (eq-eqb from core same) ∙ ap (λ c. fault_of_program c i ∷ filter (is_of core) faults) same
@@ -48,7 +48,7 @@ not_its_own : (core from : ℕ) (o : Option ℕ) (faults : List CoreFault) → (
 not_its_own core from None faults other = refl
 not_its_own core from (Some i) faults other = ap (λ b. cond b (fault_of_program from i ∷ filter (is_of core) faults) (filter (is_of core) faults)) (ne_eqb from core other)
 
--- faults of later cores are none of this one's
+-- faults of later cores aren't this one's
 none_before : (core from : ℕ) (programs : List (List Instruction)) (logs : List (List Record)) → core < from → filter (is_of core) (program_faults_from from programs logs) ≡ []
 none_before core from [] logs l = refl
 none_before core from (program ∷ programs) [] l = refl

@@ -34,7 +34,7 @@ by_key-ascends logs =
 pub in_set_by_key : (logs : List (List Record)) (e : Entry) → In e (by_key logs) → In e (entries logs)
 in_set_by_key logs e h = In-sorted entry_cmp e (entries logs) h
 
--- of two entries of the set one of which comes before the other the ids differ
+-- where one of two entries of the set comes before the other, their ids differ
 pub differ : (logs : List (List Record)) (a b : Entry) → In a (entries logs) → In b (entries logs) → is_lt (entry_cmp a b) ≡ true → a.id ≡ b.id → ⊥
 differ logs a b p q before same =
     let logged : a.logged ≡ b.logged = same_record logs a b p q same in

@@ -1,4 +1,4 @@
--- An answer of Yes to texts is an answer to a set of which what every Yes says holds.
+-- What every Yes says holds of the set that texts with the answer Yes spell.
 use Rattle.std.specs.Prelude.{◌≡◌, ℕ, suc, ◌+◌, List, [], ◌∷◌, length, refl, All, None, Result, Ok, Err, IfOk, IsErrAnd, OnOk}
 use Rattle.std.proofs.Common.{sym, subst, ◌∙◌, ap}
 use Rattle.mem_op.specs.Consistency.{IsConsistent}

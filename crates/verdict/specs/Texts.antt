@@ -32,7 +32,7 @@ count_text Files = codes "files"
 count_text Workers = codes "workers"
 count_text Programs = codes "programs"
 
--- a number and a name, behind the file and the line where there are any
+-- a number and a name, after the file and the line where there are any
 abbrev pub judge_fault_text : JudgeFault → List ℕ
 judge_fault_text (BadConfig count) = codes "6 BadConfig " ++ count_text count
 judge_fault_text (Log file line fault) =

@@ -72,7 +72,7 @@ impl<'a> CoreCheck<'a> {
         lesser_fault(self.order_fault(core), self.program_fault(core))
     }
 
-    /// The least core fault of the set, found by so many workers at once, 1 to 64. Each has whole cores.
+    /// The least core fault of the set, found by `workers` workers at once, 1 to 64. Each has whole cores.
     /// Err where memory was refused.
     pub(crate) fn least_fault<R: Threads + Sync, G: Gate + Sync>(
         &self,

@@ -13,7 +13,7 @@ const MAX_FILES: usize = 64;
 /// How many workers judge a set at most.
 const MAX_WORKERS: usize = 64;
 
-/// Whether a set of so many files can be judged by so many workers, each number 1..64. Else 6
+/// Whether `files` files can be judged by `workers` workers, each number 1..64. Else 6
 /// BadConfig with the first count that is out of range, `files` before `workers`.
 pub fn check_counts(files: usize, workers: usize) -> Result<(), JudgeFault>
     ensures ok { IsOk result ↔ (IsInRange files × IsInRange workers) }

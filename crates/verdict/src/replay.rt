@@ -51,7 +51,7 @@ fn lengths(alloc: Global, logs: &[Vec<Record>]) -> Result<Vec<u64>, AllocError>
     logs.iter().map(|log| log.len() as u64).collect(alloc)
 }
 
-/// So many zeros.
+/// `length` zeros.
 pub(crate) fn zeros(alloc: Global, length: usize) -> Result<Vec<Word>, AllocError>
     ensures length { IfOk result (λ v. vec_len v ≡ length) }
     ensures zero { IfOk result (λ v. (k : ℕ) → slice_index v.items k ≡ 0) }

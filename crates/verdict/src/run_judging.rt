@@ -56,7 +56,7 @@ fn run_answer_to<R: Threads + Sync, S: ByteSource, G: Gate + Sync>(
 /// It reads and works as `judge` does. A core's log has to be that of its program: else the answer is
 /// No by CORE-ORDER where a log falls, and by PROGRAM where none does.
 ///
-/// Refusals: those of `judge`, and 6 BadConfig behind its own where there aren't as many programs as
+/// Refusals: those of `judge`, and 6 BadConfig after its own where there aren't as many programs as
 /// files.
 pub fn judge_run<R: Threads + Sync, S: ByteSource, G: Gate + Sync>(
     rt: &R,

@@ -2,7 +2,7 @@
 
 use super::*;
 
-// A core with a cache of one line, behind its program.
+// A core with a cache of one line, after its program.
 fn behind_a_cache_of_one_line(alloc: Global) -> Result<Core, Fail> {
     let text = b"tardis-programs 1 cores 1\ncore 0\nst 0 1\nld r0 1\nld r1 0\nend\n";
     let programs = ProgramSet::parse(alloc, text)?;

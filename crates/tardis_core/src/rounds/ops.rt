@@ -17,8 +17,8 @@ const ROUND_LIMIT: usize = 1_000;
 /// Makes a round of a core: a turn where it has no message in hand; then, where it has one without a
 /// reply, that is served; then, where it has one with its reply, the reply is taken; and where that
 /// was Busy, the recall comes to its owner, who may be this core too, and where the owner gives the
-/// line back, that is served and the reply taken. Each looks at the state behind the one before, so
-/// behind a turn that performs an operation there is no more. A core that isn't there does nothing.
+/// line back, that is served and the reply taken. Each looks at the state after the one before, so
+/// after a turn that performs an operation there is no more. A core that isn't there does nothing.
 ///
 /// Where an event is refused, the core whose event it was is told with the cause, and the machine is
 /// where the events before led.
@@ -33,7 +33,7 @@ pub fn round(machine: &mut Core, core: CoreId) -> Result<(), RoundFault>
 }
 
 /// Makes rounds of a core until it has performed one more operation. Where its program has ended,
-/// though a give-back be in hand, or the core isn't there, nothing is done.
+/// even if a give-back is in hand, or the core isn't there, nothing is done.
 ///
 /// Where 1,000 rounds weren't enough, 30 GaveUp is told with this core; where an event is refused, the
 /// core whose event it was and the cause. The machine is where the events before led.

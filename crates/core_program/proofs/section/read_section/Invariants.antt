@@ -1,4 +1,4 @@
--- The instructions so far are those of the lines in front of the rest.
+-- The instructions so far are those of the lines before the rest.
 use Rattle.std.proofs.Common.{length}
 use Rattle.core_program.proofs.SectionTexts.{SoFar}
 use Rattle.core_program.proofs.section.read_section.Given as goal

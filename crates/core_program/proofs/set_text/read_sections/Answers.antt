@@ -1,4 +1,4 @@
--- The first line that is wrong, wherever the reader meets it; and one section more.
+-- The first line that is wrong, wherever the reader meets it; and one more section.
 use Rattle.std.proofs.Common.{refl, sym, ap, subst, ◌∙◌, ◌+◌, ◌++◌, ◌∷◌, [], arith, length, length-append, drop}
 use Rattle.std.proofs.lemmas.List.{take-append-drop}
 use Rattle.std.proofs.lemmas.Result.{err_from_is_err_and}

@@ -1,4 +1,4 @@
--- The sections so far are those of the lines in front of the rest.
+-- The sections so far are those of the lines before the rest.
 use Rattle.std.proofs.Common.{◌≡◌, length}
 use Rattle.core_program.specs.Sections.{section_lists}
 use Rattle.core_program.proofs.SetTexts.{Standing}

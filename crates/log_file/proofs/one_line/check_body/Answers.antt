@@ -1,4 +1,4 @@
--- A record behind as many as a log may have.
+-- A record after as many as a log may have.
 use Rattle.std.proofs.Common.{arith}
 use Rattle.log_file.proofs.OneLine.{too_many}
 use Rattle.log_file.proofs.one_line.check_body.Goals as goal

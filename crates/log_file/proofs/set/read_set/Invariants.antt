@@ -1,4 +1,4 @@
--- The files so far spell their logs, and the readers behind them are as they were.
+-- The files so far spell their logs, and the readers after them are as they were.
 use Rattle.std.proofs.Common.{◌≡◌, length, drop}
 use Rattle.log_record.specs.Entries.{record_lists}
 use Rattle.log_file.proofs.Sets.{LogsSoFar}

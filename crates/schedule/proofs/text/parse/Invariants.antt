@@ -1,4 +1,4 @@
--- The commands so far are those of the lines in front of the rest.
+-- The commands so far are those of the lines before the rest.
 use Rattle.std.proofs.Common.{length}
 use Rattle.schedule.proofs.Texts.{SoFar}
 use Rattle.schedule.proofs.text.parse.Given as goal

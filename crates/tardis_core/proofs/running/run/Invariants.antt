@@ -1,4 +1,4 @@
--- The machine behind the events so far.
+-- The machine after the events so far.
 use Rattle.std.proofs.Common.{take}
 use Rattle.tardis_core.proofs.Reached.{IsRunSoFar}
 use Rattle.tardis_core.proofs.running.run.Given as goal

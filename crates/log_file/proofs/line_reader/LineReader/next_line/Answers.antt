@@ -1,4 +1,4 @@
--- Where the reader stands behind a line, or behind a part of one.
+-- Where the reader stands after a line, or after a part of one.
 use Rattle.std.proofs.Common.{◌++◌, arith, sym, ap, ◌∙◌, take, drop, ◌+◌, List, ℕ}
 use Rattle.std.proofs.lemmas.List.{take-append-drop}
 use Rattle.std.proofs.lemmas.Result.{err_from_is_err_and}

@@ -1,4 +1,4 @@
--- The operations so far; behind each fewer instructions are left.
+-- The operations so far; after each fewer instructions are left.
 use Rattle.tardis_core.specs.Parts.{world}
 use Rattle.tardis_core.specs.Rounds.{Ops}
 use Rattle.tardis_core.specs.Works.{left_at}

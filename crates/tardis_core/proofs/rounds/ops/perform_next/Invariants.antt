@@ -1,4 +1,4 @@
--- The rounds so far, of which none performed an operation.
+-- The rounds so far; none of them performed an operation.
 use Rattle.tardis_core.specs.Parts.{world}
 use Rattle.tardis_core.specs.Rounds.{Rounds}
 use Rattle.tardis_core.specs.Works.{SameWork}
