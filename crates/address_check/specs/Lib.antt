@@ -4,4 +4,4 @@ pub mod ByAddress
 pub mod FaultOrder
 pub mod FaultParts
 pub mod Groups
-pub mod Piece
+pub mod inner

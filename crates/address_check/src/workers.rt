@@ -2,7 +2,7 @@
 
 ghost use Rattle.std.specs.Prelude.{◌≡◌, ◌<◌, ◌≤◌, ◌*◌, ℕ, Option, None, IfOk, length, fold, slice_index_or};
 ghost use Rattle.line_stamps.specs.Least.{lesser};
-ghost use Rattle.address_check.specs.Piece.{piece_of};
+ghost use Rattle.address_check.specs.inner.Piece.{piece_of};
 
 use super::gate::{Gate, Phase};
 use super::local_check::{LocalCheck, lesser_fault};

@@ -123,7 +123,7 @@ fn many(rt: &(impl Threads + Abort + Sync), alloc: Global) -> Result<AddressInde
     index(rt, alloc, first, second)
 }
 
-/// Keeps pieces 1 and 2 until both were entered, for at most `LOOKS` looks.
+/// Keeps pieces 1 and 2 until both were entered, for at most 100,000,000 looks.
 #[derive(Drop)]
 struct Both {
     entered: AtomicUsize,

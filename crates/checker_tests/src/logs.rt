@@ -72,7 +72,7 @@ fn logs_are_read(rt: HostRuntime) {
     }
 }
 
-/// Texts that are no log of core 0 of 1, and their first fault with its line.
+/// Texts that aren't a log of core 0 of 1, and their first fault with its line.
 const FAULTS: &[(&str, u64, Fault)] = &[
     ("", 1, Fault::Truncated),
     (

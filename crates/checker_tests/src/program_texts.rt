@@ -66,7 +66,7 @@ fn instructions_have_their_numbers(rt: HostRuntime) -> Result<(), Fail> {
     Ok(())
 }
 
-/// Texts that are no program, and the line that is bad.
+/// Texts that aren't a program, and the line that is bad.
 const BAD_PROGRAMS: &[(&str, u64)] = &[
     ("\n", 1),
     ("ld r0 0", 1),
@@ -217,7 +217,7 @@ fn as_many_cores_as_a_set_may_have(rt: HostRuntime) -> Result<(), Fail> {
     Ok(())
 }
 
-/// Texts that are no set of programs, and the line that is bad.
+/// Texts that aren't a set of programs, and the line that is bad.
 const BAD_SETS: &[(&str, u64)] = &[
     ("", 1),
     ("tardis-programs 1 cores 1", 1),

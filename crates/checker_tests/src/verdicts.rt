@@ -354,7 +354,7 @@ impl Gate for Steps {
     }
 }
 
-/// A gate that keeps pieces 1 and 2 of a phase until both were entered, for at most `LOOKS` looks.
+/// A gate that keeps pieces 1 and 2 of a phase until both were entered, for at most 100,000,000 looks.
 #[derive(Drop)]
 struct Both {
     cores: AtomicUsize,

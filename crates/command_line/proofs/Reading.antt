@@ -13,7 +13,7 @@ use Rattle.command_line.specs.Grammar.{tardis}
 use Rattle.command_line.specs.declared.refusal.Refusal.{Refusal}
 use Rattle.command_line.specs.declared.refusal.Refusal.TheVariants.{Usage, OutOfMemory}
 
--- an error that isn't want of memory has one of the kinds of fault that the words have
+-- an error that isn't lack of memory has one of the kinds of fault that the words have
 pub refused : (words : List Text) (kinds : Kinds) (error : Error) (r : Refusal) → kinds ≡ fault_of tardis words → HasKind kinds error
     → (kind_of error ≡ kind.OutOfMemory → r ≡ OutOfMemory) → IsRefusalOf words r
 refused words kinds error OutOfMemory is has memory = tt

@@ -88,7 +88,7 @@ turns s names w word false None on none quiet =
     (subcommand_or_other s.rules None w.waiting w.position word w.held).1 (other_quiet s.rules w.waiting w.position word w.held) none)
 turns s names w word false (Some name) on none quiet = inr ((name, []), (refl, help_off s name word w.held on quiet))
 
--- one word more
+-- one more word
 one_word : (s : Shape) (names : Names) (w : Walk) (word : Text) → s.disable_help_subcommand ≡ false → w.stopped ≡ None → turn_fault s names w word ≡ []
     → StopsWell (walked s.rules names w word)
 unfolding walked

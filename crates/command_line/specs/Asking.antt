@@ -70,7 +70,7 @@ Asks words asked = (named : Text × List Row) × (subcommand_of tardis words ≡
 abbrev pub IsCommandLine : List Text → Type 0
 IsCommandLine words = fault_of tardis words ≡ []
 
--- words are refused for their usage only where they aren't a call
+-- only words that aren't a command line of the program are refused for their usage
 abbrev pub IsRefusalOf : List Text → Refusal → Type 0
 IsRefusalOf words (Usage text) = ¬ (IsCommandLine words)
 IsRefusalOf words OutOfMemory = ⊤

@@ -14,7 +14,8 @@ pub(crate) fn tardis<'a>(alloc: Global) -> Result<Command<'a>, AllocError>
     ensures local { IfOk result (λ command. (fields_of command).has_globals ≡ false) }
 {
     Command::new(alloc, "tardis")
-        .about("Runs a multiprocessor, and judges consistency logs")
+        .about("Judges the logs of a multiprocessor for sequential consistency, and runs one")
+        .after_help("Example: tardis check log.0 log.1")
         .subcommand_required(true)
         .subcommand(check(alloc)?)?
         .subcommand(sim(alloc)?)
@@ -25,9 +26,9 @@ fn check<'a>(alloc: Global) -> Result<Command<'a>, AllocError>
     ensures app { IfOk result (λ command. app_of command ≡ grammar.check) }
     ensures local { IfOk result (λ command. (fields_of command).has_globals ≡ false) }
 {
-    let command = Command::new(alloc, "check").about(
-        "Tells whether a set of logs, one of each core, is consistent",
-    );
+    let command = Command::new(alloc, "check")
+        .about("Tells whether logs, one of each core, are sequentially consistent")
+        .after_help("Example: tardis check --workers 4 log.0 log.1");
     with_check_options(alloc, command)?.arg(files(alloc).help("The logs, that of core 0 first"))
 }
 
@@ -39,8 +40,8 @@ fn with_check_options<'a>(alloc: Global, command: Command<'a>) -> Result<Command
         → IfOk result (λ made. (fields_of made).has_globals ≡ false) }
 {
     command
-        .arg(number(alloc, "workers").help("How many workers judge, 1 where it isn't given"))?
-        .arg(file(alloc, "program").help("The programs that the cores ran"))
+        .arg(number(alloc, "workers").help("How many workers judge at once [default: 1]"))?
+        .arg(file(alloc, "program").help("The programs whose logs these have to be"))
 }
 
 /// The subcommand that runs the machine, one event after the other.
@@ -48,9 +49,9 @@ fn sim<'a>(alloc: Global) -> Result<Command<'a>, AllocError>
     ensures app { IfOk result (λ command. app_of command ≡ grammar.sim) }
     ensures local { IfOk result (λ command. (fields_of command).has_globals ≡ false) }
 {
-    let command = Command::new(alloc, "sim").about(
-        "Runs core programs, one event after the other, and writes a log of each core",
-    );
+    let command = Command::new(alloc, "sim")
+        .about("Runs programs, one for each core, and writes a log of each core")
+        .after_help("Example: tardis sim --seed 7 examples/read_across.programs log");
     let command = with_limits(alloc, command)?;
     with_names(alloc, with_sim_options(alloc, command)?)
 }
@@ -62,36 +63,41 @@ fn with_limits<'a>(alloc: Global, command: Command<'a>) -> Result<Command<'a>, A
     ensures local { (fields_of command.entry).has_globals ≡ false
         → IfOk result (λ made. (fields_of made).has_globals ≡ false) }
 {
-    let command = with_number(alloc, command, "slices", "How many slices, 1 by default")?;
+    let command = with_number(
+        alloc,
+        command,
+        "slices",
+        "How many slices memory has [default: 1]",
+    )?;
     let command = with_number(
         alloc,
         command,
         "lease",
-        "The lease of a read, 10 by default",
+        "How many stamps a lease lasts [default: 10]",
     )?;
     let command = with_number(
         alloc,
         command,
         "period",
-        "How many operations until a core's stamp goes up by itself, 100 by default",
+        "How many operations until a core's stamp goes up by itself [default: 100]",
     )?;
     let command = with_number(
         alloc,
         command,
         "cache",
-        "The lines of a private cache, 64 by default",
+        "How many lines a private cache holds [default: 64]",
     )?;
     let command = with_number(
         alloc,
         command,
         "slice-lines",
-        "The lines of a slice, 64 by default",
+        "How many lines a slice holds [default: 64]",
     )?;
     with_number(
         alloc,
         command,
         "inbox",
-        "The recalls of an inbox, 8 by default",
+        "How many recalls an inbox holds; no effect yet [default: 8]",
     )
 }
 
@@ -103,8 +109,10 @@ fn with_sim_options<'a>(alloc: Global, command: Command<'a>) -> Result<Command<'
         → IfOk result (λ made. (fields_of made).has_globals ≡ false) }
 {
     command
-        .arg(file(alloc, "schedule").help("The schedule that is followed first"))?
-        .arg(number(alloc, "seed").help("What the rounds behind it are drawn from"))
+        .arg(file(alloc, "schedule").help("The schedule that is followed first [default: none]"))?
+        .arg(number(alloc, "seed").help(
+            "What the rounds after it are drawn from [default: no draws, core 0 first]",
+        ))
 }
 
 /// A command with the names of the programs and of the logs.
@@ -115,8 +123,10 @@ fn with_names<'a>(alloc: Global, command: Command<'a>) -> Result<Command<'a>, Al
         → IfOk result (λ made. (fields_of made).has_globals ≡ false) }
 {
     command
-        .arg(name(alloc, "PROGRAMS").help("The programs of the cores"))?
-        .arg(name(alloc, "OUT").help("What the names of the logs begin with"))
+        .arg(name(alloc, "PROGRAMS").help("The file of the programs"))?
+        .arg(name(alloc, "OUT").help(
+            "What the names of the logs begin with: log for log.0, log.1 and so on",
+        ))
 }
 
 /// A command with an option that takes a number.

@@ -8,7 +8,7 @@ use thiserror::Error;
 /// Why a command line asks for nothing.
 #[derive(Debug, Drop, Error)]
 pub enum Refusal {
-    /// The words are no command line of the program, or call for help: what to tell the user,
+    /// The words aren't a command line of the program, or call for help: what to tell the user,
     /// each line with its line feed.
     Usage(String),
     /// Memory ran out.

@@ -4,14 +4,14 @@ use Rattle.std.specs.Prelude.{codes}
 use Rattle.std.specs.Option.{option_eq}
 use Rattle.std.proofs.lemmas.Bool.{cases_Bool, cond-true, cond-false, eqb-true, eqb-false, ne_eqb}
 use Rattle.decimal_text.specs.Numbers.{numeral}
-use Rattle.decimal_text.specs.Reading.{◌>>=◌, after, last_number}
+use Rattle.decimal_text.specs.inner.Reading.{◌>>=◌, after, last_number}
 use Rattle.decimal_text.proofs.Lines.{NoLf}
 use Rattle.decimal_text.proofs.Numbers.{after_takes, after_again}
 use Rattle.decimal_text.proofs.Reading.{bind_some, some_is, last_takes, last_again}
 use Rattle.core_program.specs.Grammar.{header_text, core_text}
 use Rattle.core_program.specs.Lines.{IsOneLine}
-use Rattle.core_program.specs.Reading.{below, cores_of, core_of}
-use Rattle.core_program.specs.Sections.{HeaderInFront}
+use Rattle.core_program.specs.inner.Reading.{below, cores_of, core_of}
+use Rattle.core_program.specs.inner.Sections.{HeaderInFront}
 use Rattle.core_program.proofs.Instructions.{below_is, below_again}
 use Rattle.core_program.proofs.SetLines.{header_no_lf, core_no_lf}
 use Rattle.core_program.proofs.TextLines.{no_lf_from, no_feed, line_once}

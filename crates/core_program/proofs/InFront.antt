@@ -3,8 +3,8 @@ use Rattle.std.proofs.Common.{◌≡◌, ℕ, List, ◌∷◌, ◌++◌, Some, N
 use Rattle.core_program.specs.declared.instruction.Instruction.{Instruction}
 use Rattle.core_program.specs.Grammar.{instruction_text}
 use Rattle.core_program.specs.Lines.{IsOneLine}
-use Rattle.core_program.specs.Reading.{instruction_of}
-use Rattle.core_program.specs.Sections.{InstructionInFront, NoInstructionInFront}
+use Rattle.core_program.specs.inner.Reading.{instruction_of}
+use Rattle.core_program.specs.inner.Sections.{InstructionInFront, NoInstructionInFront}
 use Rattle.core_program.proofs.Instructions.{instruction_takes, instruction_again, instruction_no_lf}
 use Rattle.core_program.proofs.TextLines.{no_lf_from, no_feed, line_once}
 
@@ -12,7 +12,7 @@ use Rattle.core_program.proofs.TextLines.{no_lf_from, no_feed, line_once}
 pub none_without_feed : (text : List ℕ) → IsOneLine text → NoInstructionInFront text
 none_without_feed text one = λ i rest there. no_feed text (instruction_text i) rest (no_lf_from text one) there.1
 
--- none, where the first line is no instruction's
+-- none, where the first line isn't an instruction's
 pub none_of_other : (text line behind : List ℕ) → IsOneLine line → text ≡ line ++ 10 ∷ behind → None ≡ instruction_of line → NoInstructionInFront text
 none_of_other text line behind one is none = λ i rest there.
     let same = line_once line (instruction_text i) behind rest (no_lf_from line one) (instruction_no_lf i) (sym is ∙ there.1) in

@@ -4,14 +4,14 @@ use Rattle.std.specs.Prelude.{codes}
 use Rattle.std.proofs.lemmas.Bool.{cases_Bool, cond_below, cond-true, cond-false, eqb-false, ne_eqb, ltb-true}
 use Rattle.std.proofs.Math.Dec.{ltb}
 use Rattle.decimal_text.specs.Numbers.{numeral}
-use Rattle.decimal_text.specs.Reading.{◌>>=◌, after, field_at, last_number}
+use Rattle.decimal_text.specs.inner.Reading.{◌>>=◌, after, field_at, last_number}
 use Rattle.decimal_text.proofs.Lines.{NoLf, NoLf-append, numeral_no_lf}
 use Rattle.decimal_text.proofs.Numbers.{guard_some, after_takes, after_again}
 use Rattle.decimal_text.proofs.Reading.{bind_some, some_is, field_takes, field_again, last_takes, last_again}
 use Rattle.core_program.specs.declared.instruction.Instruction.{Instruction}
 use Rattle.core_program.specs.declared.instruction.Instruction.TheVariants.{Load, Store, StoreRegister, Add, SkipIfZero}
 use Rattle.core_program.specs.Grammar.{instruction_text, Fits}
-use Rattle.core_program.specs.Reading.{front_below, below, register_at, addr_at, last_register, last_addr, last_word, last_skip, load_of, store_of, store_register_of, add_of, skip_of, named, instruction_of}
+use Rattle.core_program.specs.inner.Reading.{front_below, below, register_at, addr_at, last_register, last_addr, last_word, last_skip, load_of, store_of, store_register_of, add_of, skip_of, named, instruction_of}
 
 -- ---- numbers in range
 

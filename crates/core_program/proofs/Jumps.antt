@@ -9,8 +9,8 @@ use Rattle.decimal_text.proofs.Reading.{some_is}
 use Rattle.core_program.specs.declared.instruction.Instruction.{Instruction}
 use Rattle.core_program.specs.Answers.{SkipsInSetAt, IsLeast}
 use Rattle.core_program.specs.Grammar.{instruction_text, program_lines, sections, IsSection}
-use Rattle.core_program.specs.Least.{IsLeastWhere}
-use Rattle.core_program.specs.Sections.{section_lists}
+use Rattle.core_program.specs.inner.Least.{IsLeastWhere}
+use Rattle.core_program.specs.inner.Sections.{section_lists}
 use Rattle.core_program.specs.Shape.{IsProgram, is_skip_past_end}
 
 -- the lines of the sections before one, and that section with them
@@ -74,7 +74,7 @@ first_jump set n i k program before at first inside k-is = (
         by_place s.core other s.program s.of_core s.skips.index s.skips.passes (omega (arith, s.skips.line, s.line))
         (cases_lt s.core n) (cases_lt n s.core)
 
--- ---- one section more
+-- ---- one more section
 
 pub among : {X : Type 0} (P : X → Type 0) (xs : List X) (k : ℕ) (x : X) → AllByRecursion P xs → slice_get xs k ≡ Some x → P x
 among P [] k x all at = absurd cc

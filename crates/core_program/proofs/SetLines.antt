@@ -4,7 +4,7 @@ use Rattle.std.specs.Prelude.{codes, replicate}
 use Rattle.std.specs.List.{AllByRecursion}
 use Rattle.std.proofs.lemmas.List.{append_cancel_left, length-replicate}
 use Rattle.decimal_text.specs.Numbers.{numeral}
-use Rattle.decimal_text.specs.Reading.{last_number}
+use Rattle.decimal_text.specs.inner.Reading.{last_number}
 use Rattle.decimal_text.proofs.Lines.{NoLf, NoLf-append, numeral_no_lf, const_no_lf}
 use Rattle.decimal_text.proofs.Reading.{some_is, last_again}
 use Rattle.core_program.specs.declared.instruction.Instruction.{Instruction}
@@ -113,15 +113,15 @@ compared (i ∷ p) (j ∷ q) xs ys f g e = elim (compared p q xs ys f.1 g.1 cc) 
   | second_longer k more longer is ↦ second_longer k more (omega arith) is
 ]
 
--- What may come after the sections of these programs in the lines of a set of `count`: one more instruction of the last of
--- them, the line of the next core, or the last line.
+-- What may come after the sections of these programs in the lines of a set of `count`: one more instruction of the last
+-- of them, the line of the next core, or the last line.
 pub data Next (Section : List Instruction → Type 0) (count core : ℕ) (programs : List (List Instruction)) (next : List ℕ) (more : List (List ℕ)) : Type 0 where
   goes_on : (i : Instruction) (before : List (List Instruction)) (last longer : List Instruction) → Fits i → next ≡ instruction_text i
       → programs ≡ before ++ last ∷ [] → Section longer → length last < length longer → Next Section count core programs next more
   next_core : next ≡ core_text (core + length programs) → length programs < count → Next Section count core programs next more
   last_line : next ≡ end_text → length programs ≡ count → more ≡ [] → Next Section count core programs next more
 
--- after one program more
+-- after one more program
 next_behind : (Section : List Instruction → Type 0) (count core : ℕ) (program : List Instruction) (programs : List (List Instruction)) (next : List ℕ) (more : List (List ℕ))
     → Next Section count (suc core) programs next more → Next Section (suc count) core (program ∷ programs) next more
 next_behind Section count core program programs next more (goes_on i before last longer fits is at section less) =
@@ -230,7 +230,7 @@ pub behind_header : (cores : ℕ) (set : List (List Instruction)) (lines : List 
     → (cores ≡ length set) × (lines ≡ sections 0 set ++ end_text ∷ [])
 behind_header cores set lines e = (header_once cores (length set) cc, cc)
 
--- lines that begin a set aren't a set
+-- lines that begin a set aren't the lines of a whole one
 pub begun_no_set : (Section : List Instruction → Type 0) (cores : ℕ) (programs : List (List Instruction)) → SetLines Section (begun cores programs) → ⊥
 begun_no_set Section cores programs (set, p) =
     end_is_last (sections 0 set) (subst NoEnd (behind_header cores set (sections 0 programs) p.1).1 (sections_no_end 0 programs))
@@ -243,7 +243,7 @@ next_of_begun Section fits cores programs next more each (set, p) =
     let b = behind_header cores set (sections 0 programs ++ next ∷ more) p.1 in
     subst (λ (n : ℕ). Next Section n 0 programs next more) (sym b.0) (next_of Section fits 0 set programs next more p.0.each each (sym b.1))
 
--- the lines of one section more
+-- the lines of one more section
 pub begun_push : (cores : ℕ) (programs : List (List Instruction)) (program : List Instruction)
     → begun cores (programs ++ program ∷ []) ≡ begun cores programs ++ core_text (length programs) ∷ program_lines program
 begun_push cores programs program =

@@ -11,7 +11,7 @@ use Rattle.core_program.specs.declared.fault.ProgramFault.TheVariants.{BadLine, 
 use Rattle.core_program.specs.Answers.{SetLines, IsBadLine, IsTooLong, SpellsSet}
 use Rattle.core_program.specs.Grammar.{instruction_text, header_text, core_text, end_text, program_lines, sections, set_lines, EachFits, IsSection, IsSetOf}
 use Rattle.core_program.specs.Lines.{text_of, BeginsText, IsFirstWrong}
-use Rattle.core_program.specs.Sections.{HeaderInFront, NoInstructionInFront, IsSectionFault, IsLineFault, section_lists}
+use Rattle.core_program.specs.inner.Sections.{HeaderInFront, NoInstructionInFront, IsSectionFault, IsLineFault, section_lists}
 use Rattle.core_program.proofs.Instructions.{instruction_no_lf}
 use Rattle.core_program.proofs.ProgramTexts.{first_section, cut_lines, some_bytes}
 use Rattle.core_program.proofs.SetLines.{Next, goes_on, next_core, last_line, has_lines, begun, begun_push, begun_goes_on, begun_no_set, next_of_begun, instruction_no_core, instruction_no_end, core_no_end, core_no_lf}
@@ -100,7 +100,7 @@ bad_line_of_set text rest cores line programs stands others = (
   (line_wrong EachFits tt (λ p fits. fits) text rest cores line programs (each_fits_of programs stands.each) stands others).wrong,
 )
 
--- ---- one section more
+-- ---- one more section
 
 -- the line of a core and the lines of its section come before the bytes
 pub section_text : (cores : ℕ) (programs : List (List Instruction)) (program : List Instruction) (rest : List ℕ)

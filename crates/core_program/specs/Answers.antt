@@ -58,7 +58,7 @@ SpellsProgram bytes program = IsSection program × (bytes ≡ text_of (program_l
 abbrev pub SpellsSet : List ℕ → List (List Instruction) → Type 0
 SpellsSet bytes set = IsSetOf IsSection set × (bytes ≡ text_of (set_lines set))
 
--- Why bytes aren't the text of a program. Want of memory may come instead of a program and of every other fault.
+-- Why bytes aren't the text of a program. Lack of memory may come instead of a program and of every other fault.
 abbrev pub IsProgramFault : List ℕ → ProgramFault → Type 0
 IsProgramFault bytes (BadLine k) = IsBadLine ProgramLines bytes k
 IsProgramFault bytes (TooLong k) = IsTooLong ProgramLines bytes k

@@ -1,6 +1,5 @@
 pub mod Conforming
 pub mod Laws
-pub mod Least
 pub mod Meaning
 pub mod Running
 pub mod Shape
@@ -9,6 +8,5 @@ pub mod Answers
 pub mod FaultTexts
 pub mod Grammar
 pub mod Lines
-pub mod Reading
-pub mod Sections
 pub mod TextLaws
+pub mod inner

@@ -19,7 +19,7 @@ pub record SpelledSetIsRead : Type 0 where
   pub no_fault : (bytes : List ℕ) (set : List (List Instruction)) (fault : ProgramFault) → SpellsSet bytes set → AllByRecursion IsProgram set
       → IsSetFault bytes fault → fault ≡ OutOfMemory
 
--- bytes have one fault at most, want of memory aside
+-- bytes have one fault at most, lack of memory aside
 abbrev pub AtMostOneFault : (List ℕ → ProgramFault → Type 0) → Type 0
 AtMostOneFault IsFault =
     (bytes : List ℕ) (f g : ProgramFault) → IsFault bytes f → IsFault bytes g → f ≢ OutOfMemory → g ≢ OutOfMemory → f ≡ g

@@ -1,4 +1,4 @@
-//! Why bytes are no program and no set of programs.
+//! Why bytes aren't a program or a set of programs.
 
 ghost use Rattle.std.specs.Prelude.{◌≡◌};
 ghost use Rattle.core_program.specs.declared.fault.ProgramFault.TheVariants.{OutOfMemory};
@@ -8,7 +8,7 @@ use std::fmt;
 use std::fmt::Display;
 use thiserror::Error;
 
-/// Why bytes are no program or no set of programs. Lines are counted from 1.
+/// Why bytes aren't a program or a set of programs. Lines are counted from 1.
 #[derive(Clone, Copy, Debug, PartialEq, Eq, Error)]
 pub enum ProgramFault {
     /// At this line: it isn't as the format says, or it is missing.

@@ -1,9 +1,9 @@
 //! Reads an instruction's line from left to right.
 
 ghost use Rattle.std.specs.Prelude.{◌≡◌};
-ghost use Rattle.decimal_text.specs.Reading.{front_now};
-ghost use Rattle.core_program.specs.Reading.{register_at, addr_at, last_register, last_addr, last_word, last_skip};
-ghost use Rattle.core_program.specs.Reading.{load_of, store_of, store_register_of, add_of, skip_of, instruction_of};
+ghost use Rattle.decimal_text.specs.inner.Reading.{front_now};
+ghost use Rattle.core_program.specs.inner.Reading.{register_at, addr_at, last_register, last_addr, last_word, last_skip};
+ghost use Rattle.core_program.specs.inner.Reading.{load_of, store_of, store_register_of, add_of, skip_of, instruction_of};
 
 use super::format::Format;
 use super::instruction::Instruction;

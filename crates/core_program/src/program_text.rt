@@ -14,7 +14,7 @@ use std::alloc::{AllocError, Global};
 
 impl Program {
     /// The program whose text this is: a line for each instruction, each ended by a line feed.
-    /// BadLine at the first line that is no instruction's or has no line feed, TooLong at the line
+    /// BadLine at the first line that isn't an instruction's or has no line feed, TooLong at the line
     /// of the 4,097th instruction, whichever comes first; where there is neither, SkipPastEnd at
     /// the first jump past the end.
     pub fn parse(alloc: Global, text: &[u8]) -> Result<Program, ProgramFault>

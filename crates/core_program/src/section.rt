@@ -2,7 +2,7 @@
 
 ghost use Rattle.std.specs.Prelude.{◌≡◌, ◌<◌, ◌^◌, ◌∷◌, ◌++◌, IfSome, IsNone, IfOk, IfErr};
 ghost use Rattle.core_program.specs.Lines.{IsOneLine};
-ghost use Rattle.core_program.specs.Sections.{InstructionInFront, NoInstructionInFront, IsSectionOf, IsSectionFault};
+ghost use Rattle.core_program.specs.inner.Sections.{InstructionInFront, NoInstructionInFront, IsSectionOf, IsSectionFault};
 
 use super::fault::ProgramFault;
 use super::format::Format;
@@ -33,8 +33,8 @@ pub(crate) fn next_line(text: &[u8]) -> Option<(&[u8], &[u8])>
     Some((&text[..at], &text[at + 1..]))
 }
 
-/// The instruction whose line is the first, and the bytes after it; None where the first line is
-/// no instruction's, or has no line feed.
+/// The instruction whose line is the first, and the bytes after it; None where the first line isn't
+/// an instruction's, or has no line feed.
 fn next_instruction(format: Format, text: &[u8]) -> Option<(Instruction, &[u8])>
     ensures found { IfSome result (λ read. InstructionInFront read.0 text.now read.1.now) }
     ensures none { IsNone result → NoInstructionInFront text.now }
@@ -43,7 +43,7 @@ fn next_instruction(format: Format, text: &[u8]) -> Option<(Instruction, &[u8])>
     Some((read_instruction(format, line)?, rest))
 }
 
-/// The instructions whose lines stand at the front of a text, up to the first line that is no
+/// The instructions whose lines a text begins with, up to the first line that isn't an
 /// instruction's. `first` is the number of the text's first line. TooLong at the line of the
 /// 4,097th instruction, where there is one.
 pub(crate) fn read_section(

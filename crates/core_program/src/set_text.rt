@@ -4,8 +4,8 @@ ghost use Rattle.std.specs.Prelude.{◌≡◌, ◌≢◌, ℕ, List, ◌∷◌, 
 ghost use Rattle.std.specs.List.{AllByRecursion};
 ghost use Rattle.core_program.specs.Answers.{IsSetFault, SpellsSet};
 ghost use Rattle.core_program.specs.Grammar.{core_text, IsSection, IsSetOf};
-ghost use Rattle.core_program.specs.Reading.{core_of, cores_of};
-ghost use Rattle.core_program.specs.Sections.{HeaderInFront, IsJumpFault, IsLineFault, section_lists};
+ghost use Rattle.core_program.specs.inner.Reading.{core_of, cores_of};
+ghost use Rattle.core_program.specs.inner.Sections.{HeaderInFront, IsJumpFault, IsLineFault, section_lists};
 ghost use Rattle.core_program.specs.Shape.{IsProgram};
 
 use super::fault::ProgramFault;
@@ -49,8 +49,8 @@ fn core_of(line: &[u8]) -> Option<u64>
     read_last(after_text(b"core ", line)?)?
 }
 
-/// The number of cores that the first line tells, and the bytes after that line; None where it is
-/// no header with such a number.
+/// The number of cores that the first line tells, and the bytes after that line; None where it isn't
+/// a header with such a number.
 fn after_header(format: Format, text: &[u8]) -> Option<(u64, &[u8])>
     ensures found { IfSome result (λ read. HeaderInFront read.0 text.now read.1.now) }
     ensures none { IsNone result →

@@ -13,7 +13,7 @@ pub fn spelled_set_is_read()
     ensures { SpelledSetIsRead }
 {}
 
-/// Bytes that are no program's text have one fault, and those that are no set's text have one.
+/// Bytes that aren't a program's text have one fault, and those that aren't a set's text have one.
 pub fn one_fault()
     ensures program { AtMostOneFault IsProgramFault }
     ensures set { AtMostOneFault IsSetFault }

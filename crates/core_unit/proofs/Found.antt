@@ -12,7 +12,7 @@ pub some_and : {A : Type 0} (o : Option A) (P : A → Type 0) → IsSomeAnd o P 
 some_and None P h = absurd h
 some_and (Some x) P h = (x, refl, h)
 
--- a reply that fits, where an entry more can't be made
+-- a reply that fits, where one more entry can't be made
 pub fill_without_room : (p : UnitParts) (m : Message) (x : Reply) (held : Option Held) (fault : UnitFault) → IsSome held
     → IsLackOfRoom p.transcript fault
     → Meets (fill_outcome p m x held) (Err fault) p p

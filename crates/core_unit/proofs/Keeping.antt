@@ -38,7 +38,7 @@ pub request_addr : (u : Core) (x : Op) → addr_of (next_request u x) ≡ op_add
 request_addr u (op.Load a) = refl
 request_addr u (op.Store a value) = refl
 
--- a request is no give-back
+-- a request isn't a give-back
 pub no_give_back : (m : Message) → is_request m ≡ true → give_back_in (Some m) ≡ None
 no_give_back (ShReq a copy pts) e = refl
 no_give_back (ExReq a copy) e = refl
@@ -73,7 +73,7 @@ pub fill_filled : (cache : CacheParts) (a : ℕ) (reply : Reply) (held : Held) �
 fill_filled cache a reply held e = grind (arith, e)
 
 module _ (p : UnitParts) (k : IsKept p) (room : length p.transcript < entry_limit) where
-  -- an entry more, with the unit that it leads to
+  -- one more entry, with the unit that it leads to
   kept_by : (e : CoreEntry) (state : State) (pts r : ℕ) (cache : CacheParts) (hand : Option Message) (log : List Record)
       → let q : UnitParts = record { core = p.core; program = p.program; config = p.config; state = state; pts = pts; r = r; cache = cache; hand = hand; transcript = p.transcript ++ e ∷ []; log = log } in
       CoreStep p.config p.core (replayed p) e (replayed q) → HandFits p.config p.core (core_of q None) hand → IsAtRest p.program state

@@ -12,7 +12,7 @@ use Rattle.private_cache.specs.declared.answer.Store.TheVariants as store
 use Rattle.private_cache.specs.declared.held.Held.{Held}
 use Rattle.private_cache.specs.declared.held.Held.TheVariants.{Shared, Exclusive}
 use Rattle.core_unit.specs.Core.{Core}
-use Rattle.core_unit.specs.Look.{look_of}
+use Rattle.core_unit.specs.inner.Look.{look_of}
 use Rattle.core_unit.specs.declared.operation.Look.TheVariants as look
 
 pub store_hits : (u : Core) (a value : ℕ) (source : Source) (pts r t rank : ℕ) (held : Option Held)

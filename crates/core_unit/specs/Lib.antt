@@ -1,7 +1,7 @@
 pub mod Core
 pub mod Faults
 pub mod Kept
-pub mod Look
 pub mod Outcomes
 pub mod Parts
 pub mod Replay
+pub mod inner

@@ -29,19 +29,19 @@ use Rattle.core_unit.specs.declared.outcome.Outcome.TheVariants.{Performed, Drop
 pub data UnitOutcome : Type 0 where
   -- a refusal that is due
   Refuses : UnitFault → UnitOutcome
-  -- an outcome that makes no entry and isn't refused for want of memory, and the unit after it
+  -- an outcome that makes no entry and isn't refused for lack of memory, and the unit after it
   Answers : Outcome → UnitParts → UnitOutcome
   -- an outcome that makes an entry, and the unit after it
   Steps : Outcome → UnitParts → UnitOutcome
 
--- the call, with this result, led from p to q as the outcome says; only for want of memory may a step be refused
+-- the call, with this result, led from p to q as the outcome says; only for lack of memory may a step be refused
 abbrev pub Meets : UnitOutcome → Result Outcome UnitFault → UnitParts → UnitParts → Type 0
 Meets (Refuses fault) r p q = (r ≡ Err fault) × (q ≡ p)
 Meets (Answers o t) r p q = (r ≡ Ok o) × (q ≡ t)
 Meets (Steps o t) r p q =
     MatchResult r (λ x. (x ≡ o) × (q ≡ t)) (λ fault. (fault ≡ OutOfMemory) × (q ≡ p))
 
--- one entry more is refused for this
+-- one more entry is refused for this
 abbrev pub IsLackOfRoom : List CoreEntry → UnitFault → Type 0
 IsLackOfRoom transcript fault =
     ((fault ≡ TranscriptFull) × (entry_limit ≤ length transcript)) ⊎ ((fault ≡ OutOfMemory) × (length transcript < entry_limit))

@@ -44,7 +44,7 @@ give_back_in (Some (ExReq a copy)) = None
 give_back_in (Some (WbRep a l)) = Some (WbRep a l)
 give_back_in (Some (FlushRep a l)) = Some (FlushRep a l)
 
--- the unit as a replay sees it, in which a request in hand is no entry
+-- the unit as a replay sees it, in which a request in hand isn't an entry
 abbrev pub replayed : UnitParts → Core
 replayed p = record (core_of p None) { hand = give_back_in p.hand }
 

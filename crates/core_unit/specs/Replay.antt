@@ -18,7 +18,7 @@ use Rattle.core_unit.specs.declared.entry.CoreEntry.{CoreEntry}
 use Rattle.core_unit.specs.declared.entry.CoreEntry.TheVariants.{Performed, Dropped, Gave, Got, Bumped}
 
 -- An entry may lead core c from u to the state after it. In a replay a give-back alone is ever in hand, from its `Gave` to
--- the `Got` of its message: a request in hand is no entry.
+-- the `Got` of its message: a request in hand isn't an entry.
 pub data CoreStep (g : ConfigParts) (c : ℕ) (u : Core) : CoreEntry → Core → Type 0 where
   -- the next operation hits
   performs : (op : Op) (hit : Hit) → u.hand ≡ None → next_of u ≡ Some op → tries c u op ≡ Some hit →

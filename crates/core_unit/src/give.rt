@@ -97,8 +97,8 @@ impl CoreUnit {
     }
 }
 
-// What a recall comes to where one entry more is refused: it has no effect all the same, or its own
-// fault comes before want of memory.
+// What a recall comes to where one more entry is refused: it has no effect all the same, or its own
+// fault comes before lack of memory.
 fn recall_without_room(
     cache: &PrivateCache,
     recall: &Recall,

@@ -5,7 +5,7 @@ ghost use Rattle.lease_rule.specs.Lease.{self_increment};
 ghost use Rattle.private_cache.specs.Answers.{hit_fault, past_limit};
 ghost use Rattle.private_cache.specs.Steps.{after_operation, line_at};
 ghost use Rattle.core_unit.specs.Core.{op_addr, op_hit, is_due, next_id, record_of, tries};
-ghost use Rattle.core_unit.specs.Look.{look_of};
+ghost use Rattle.core_unit.specs.inner.Look.{look_of};
 ghost use Rattle.core_unit.specs.Parts.{core_of};
 
 use super::unit::CoreUnit;

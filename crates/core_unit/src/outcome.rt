@@ -1,9 +1,9 @@
-//! What an event comes to.
+//! The outcome of an event.
 
 use line_stamps::{Message, Recall, Reply};
 use mem_op::{Addr, OpId};
 
-/// What an event comes to.
+/// The outcome of an event.
 #[derive(Clone, Copy, Debug, PartialEq, Eq)]
 pub enum Outcome {
     /// This operation was performed.

@@ -19,7 +19,7 @@ use super::unit::CoreUnit;
 use line_stamps::{Message, Reply};
 
 impl CoreUnit {
-    /// Takes the reply to the message in hand, which is in hand no longer: Took, where a reply to a
+    /// Takes the reply to the message in hand, which is no longer in hand: Took, where a reply to a
     /// request has filled its line, or Busy with the recall. A later turn performs the operation.
     ///
     /// The refusals, in this order: 14 BadReply where no message is in hand, the reply isn't of a
@@ -44,7 +44,7 @@ impl CoreUnit {
         }
     }
 
-    // What was given back is taken: the give-back is in hand no longer.
+    // What was given back is taken: the give-back is no longer in hand.
     fn end_give_back(&mut self, message: &Message) -> Result<Outcome, UnitFault>
         requires hand { self.old.hand ≡ Some message.now }
         requires gives { is_request message.now ≡ false }

@@ -11,7 +11,7 @@ use super::fault::UnitFault;
 /// How many entries a transcript has at most.
 const ENTRY_LIMIT: usize = 1_048_576;
 
-/// 13 TranscriptFull where an entry more doesn't fit.
+/// 13 TranscriptFull where one more entry doesn't fit.
 pub(crate) fn check_room(transcript: &[CoreEntry]) -> Result<(), UnitFault>
     ensures { MatchResult result
         (λ _. length transcript.now < entry_limit)
@@ -23,7 +23,7 @@ pub(crate) fn check_room(transcript: &[CoreEntry]) -> Result<(), UnitFault>
     Ok(())
 }
 
-/// Makes room for an entry more: 13 TranscriptFull where it doesn't fit, or else 10 OutOfMemory. A
+/// Makes room for one more entry: 13 TranscriptFull where it doesn't fit, or else 10 OutOfMemory. A
 /// refusal changes nothing.
 pub(crate) fn make_room(transcript: &mut Vec<CoreEntry>) -> Result<(), UnitFault>
     ensures items { transcript.new.items ≡ transcript.old.items }

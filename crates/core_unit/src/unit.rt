@@ -25,7 +25,7 @@ const OPERATION_ENTRIES: usize = 4;
 
 /// A core with its program. It is always in the state to which its transcript leads, entry by entry
 /// through the table of the private cache, from the start of its program; a request in hand is the
-/// miss of its next operation, and no entry. While a message is in hand, no call but `take` has an
+/// miss of its next operation, and isn't an entry. While a message is in hand, no call but `take` has an
 /// effect.
 #[derive(Drop)]
 pub struct CoreUnit {

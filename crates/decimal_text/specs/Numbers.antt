@@ -10,7 +10,7 @@ numeral n = if n == 0 then codes "0" else map (λ digit. 48 + digit) (digits_of 
 abbrev pub as_u64 : ℕ → Option ℕ
 as_u64 n = if nat_lt n (2 ^ 64) then Some n else None
 
--- the bytes begin with the number, these come after it, and they begin with no longer one
+-- the bytes are the number's text and then the rest, and they begin with the text of no greater number
 pub record StandsInFront (n : ℕ) (bytes rest : List ℕ) : Type 0 where
   pub text : bytes ≡ numeral n ++ rest
   pub longest : (m : ℕ) (others : List ℕ) → bytes ≡ numeral m ++ others → m ≤ n

@@ -2,7 +2,7 @@
 
 ghost use Rattle.std.specs.Prelude.{◌≡◌, ℕ, ◌+◌, ◌-◌, ◌*◌, ◌<◌, [], ◌∷◌, option_map, IsTrue};
 ghost use Rattle.decimal_text.specs.Numbers.{as_u64};
-ghost use Rattle.decimal_text.specs.Reading.{is_digit, onward, number_at, after, field_at, last_number, front_now, front_map};
+ghost use Rattle.decimal_text.specs.inner.Reading.{is_digit, onward, number_at, after, field_at, last_number, front_now, front_map};
 
 /// The number with one more digit, where 64 bits hold it.
 fn with_digit(value: Option<u64>, digit: u8) -> Option<u64>

@@ -115,7 +115,7 @@ impl Config {
         self.slices as usize
     }
 
-    /// How many stamps a lease is drawn out by, 1 to 1,000.
+    /// How many stamps a lease is extended by, 1 to 1,000.
     pub fn lease(&self) -> u64
         ensures value { result ≡ self.now.lease }
         ensures least { 1 ≤ self.now.lease }

@@ -44,7 +44,7 @@ impl LineStamps {
         }
     }
 
-    /// The stamps with the lease drawn out to `t`, if it ends before.
+    /// The stamps with the lease extended to `t`, if it ends before.
     pub fn leased_to(self, t: Stamp) -> LineStamps
         ensures { result ≡ leased_to t self }
     {

@@ -3,7 +3,7 @@ use Rattle.std.proofs.Common.{◌≡◌, ◌≢◌, ℕ, ◌<◌, ◌≤◌, ◌
 use Rattle.std.proofs.lemmas.Bool.{cases_lt, cases_eq}
 use Rattle.log_record.specs.declared.record.Record.{Record}
 use Rattle.log_record.specs.Line.{record_text, header_text, end_text, Fits, IsRecordShape, IsEndShape, IsHeaderShape, line_limit}
-use Rattle.log_record.specs.Reading.{record_of, end_of, header_of}
+use Rattle.log_record.specs.inner.Reading.{record_of, end_of, header_of}
 use Rattle.log_record.proofs.Records.{record_takes, record_again}
 use Rattle.log_record.proofs.Ends.{end_takes, end_again, header_takes, header_again}
 use Rattle.log_record.proofs.Lines.{header_once, record_no_end}

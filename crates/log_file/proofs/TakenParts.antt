@@ -12,7 +12,7 @@ use Rattle.log_file.specs.declared.phase.Phase.TheVariants as phase
 use Rattle.log_file.specs.declared.progress.Progress.{Progress}
 use Rattle.log_file.specs.declared.line_reader.LineReader.{LineReader}
 use Rattle.log_file.specs.declared.chunks.Front.{Front}
-use Rattle.log_file.specs.Chunks.{HasFront, records_text}
+use Rattle.log_file.specs.inner.Chunks.{HasFront, records_text}
 use Rattle.log_file.specs.Feeding.{IsSettled}
 use Rattle.log_file.specs.Log.{IsLog, begun, text_of, with_lf}
 use Rattle.log_file.specs.Standing.{IsPassed, IsSettledWith, IsSound, SameLog, Stands, Takes, read_text}

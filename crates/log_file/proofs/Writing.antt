@@ -37,7 +37,7 @@ front_taken old new front whole f p =
     let few : length front ≤ length whole = omega (arith, length-append front f.rest, ap length f.joined) in
     (length front, few, subst (λ (x : List ℕ). Appends old new x) (sym same) p)
 
--- and so it is where a line more was taken, or a part of it
+-- and so it is where one more line was taken, or a part of it
 pub line_taken : (old mid new : Option (List ℕ)) (front line whole : List ℕ) → IsFront (front ++ line) whole
     → Appends old mid front → (n : ℕ) × (n ≤ length line) × Appends mid new (take n line)
     → (n : ℕ) × (n ≤ length whole) × Appends old new (take n whole)

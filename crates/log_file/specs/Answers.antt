@@ -12,19 +12,19 @@ IsFaultOf core cores bytes (At k f) = IsFirstFault core cores bytes k f
 IsFaultOf core cores bytes OutOfMemory = ⊥
 IsFaultOf core cores bytes Read = ⊥
 
--- the first fault of the bytes, or want of memory in its place
+-- the first fault of the bytes, or lack of memory instead
 abbrev pub IsFaultOrMemory : ℕ → ℕ → List ℕ → LogFault → Type 0
 IsFaultOrMemory core cores bytes (At k f) = IsFirstFault core cores bytes k f
 IsFaultOrMemory core cores bytes OutOfMemory = Unit {0}
 IsFaultOrMemory core cores bytes Read = ⊥
 
--- the first fault of the bytes, or want of memory or a failed read in its place
+-- the first fault of the bytes, or lack of memory or a failed read instead
 abbrev pub IsFaultOrDevice : ℕ → ℕ → List ℕ → LogFault → Type 0
 IsFaultOrDevice core cores bytes (At k f) = IsFirstFault core cores bytes k f
 IsFaultOrDevice core cores bytes OutOfMemory = Unit {0}
 IsFaultOrDevice core cores bytes Read = Unit {0}
 
--- the log that the bytes spell, or their first fault; want of memory may come instead of either
+-- the log that the bytes spell, or their first fault; lack of memory may come instead of either
 abbrev pub IsAnswer : ℕ → ℕ → List ℕ → Result (Vec Record) LogFault → Type 0
 IsAnswer core cores bytes (Ok log) = Spells core cores bytes log.items
 IsAnswer core cores bytes (Err fault) = IsFaultOrMemory core cores bytes fault

@@ -15,7 +15,7 @@ pub record Feeding : Type 0 where
   pub cores : ℕ
   pub fed : Result (List ℕ) LogFault
 
--- the first fault of the bytes, however they go on; want of memory may come in its place
+-- the first fault of the bytes, however they go on; lack of memory may come instead
 abbrev pub IsSettled : ℕ → ℕ → List ℕ → LogFault → Type 0
 IsSettled core cores bytes (At k f) = (more : List ℕ) → IsFirstFault core cores (bytes ++ more) k f
 IsSettled core cores bytes OutOfMemory = Unit {0}

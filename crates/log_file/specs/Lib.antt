@@ -1,5 +1,4 @@
 pub mod Answers
-pub mod Chunks
 pub mod Devices
 pub mod Faults
 pub mod Feeding
@@ -14,3 +13,4 @@ pub mod Sets
 pub mod Standing
 pub mod Wrapped
 pub mod WriteFaults
+pub mod inner

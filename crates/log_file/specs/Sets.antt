@@ -35,7 +35,7 @@ pub record IsFirstOfSet (texts : List (List ℕ)) (file line : ℕ) (f : Fault) 
   pub before : SpellBefore texts file
   pub first : IsFirstFault file (length texts) (text_at texts file) line f
 
--- the first fault of the set; at its file, want of memory or a failed read may come in its place
+-- the first fault of the set; at its file, lack of memory or a failed read may come instead
 abbrev pub IsSetFault : List (List ℕ) → ℕ → LogFault → Type 0
 IsSetFault texts file (At line f) = IsFirstOfSet texts file line f
 IsSetFault texts file OutOfMemory = (file < length texts) × SpellBefore texts file

@@ -98,7 +98,7 @@ abbrev pub with_read : List Record → Option Record → List Record
 with_read records None = records
 with_read records (Some r) = records ++ r ∷ []
 
--- the reader took these bytes, and stands after `after` from then on
+-- the reader took these bytes, and has read the records `after` from then on
 pub record Takes (old : LineReader) (records : List Record) (bytes : List ℕ) (new : LineReader) (after : List Record) : Type 0 where
   pub stands : Stands new after
   pub text : read_text new after ≡ read_text old records ++ bytes

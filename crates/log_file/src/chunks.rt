@@ -1,7 +1,7 @@
 //! Pieces cut into chunks, whose lines several workers read at once.
 
 ghost use Rattle.std.specs.Prelude.{◌≡◌, ◌≤◌, ◌++◌, [], length};
-ghost use Rattle.log_file.specs.Chunks.{HasFront};
+ghost use Rattle.log_file.specs.inner.Chunks.{HasFront};
 
 use crate::line_reader::LineReader;
 use crate::taking::take_piece;

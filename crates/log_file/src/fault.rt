@@ -7,7 +7,7 @@ use thiserror::Error;
 /// What is wrong at a line of a log.
 #[derive(Clone, Copy, Debug, PartialEq, Eq, Error)]
 pub enum Fault {
-    /// Line 1 is too long, or whole and no header.
+    /// Line 1 is too long, or whole and not a header.
     BadHeader,
     /// A later line is too long, or whole and neither a record nor the end line.
     BadLine,

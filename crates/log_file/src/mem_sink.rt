@@ -9,7 +9,7 @@ use crate::step::{Step, take_step};
 use std::alloc::Global;
 
 /// A sink that keeps in memory what it took. Each write follows a step, and after the last it takes
-/// all. Want of memory is a failure too.
+/// all. Lack of memory is a failure too.
 #[derive(Drop)]
 pub struct MemSink<'a> {
     taken: Vec<u8>,

@@ -2,7 +2,7 @@
 
 ghost use Rattle.std.specs.Prelude.{◌≡◌, ◌<◌, ◌≤◌, length, MatchResult};
 ghost use Rattle.std.specs.Thread.{IsSync};
-ghost use Rattle.log_file.specs.Chunks.{HasFront};
+ghost use Rattle.log_file.specs.inner.Chunks.{HasFront};
 ghost use Rattle.log_file.specs.Standing.{IsInRange, IsSettledWith, SameLog, Stands, Takes};
 
 use crate::chunks::{Front, cut, front_of};

@@ -10,7 +10,7 @@ use Rattle.log_record.specs.declared.record.Act.TheVariants as act
 use Rattle.log_record.specs.declared.record.Record.{Record}
 use Rattle.decimal_text.specs.Numbers.{numeral}
 use Rattle.log_record.specs.Line.{source_text, record_text, header_text, end_text, line_limit, Fits, ActFits, SourceFits}
-use Rattle.log_record.specs.Reading.{Fields, record_of, header_of, end_of}
+use Rattle.log_record.specs.inner.Reading.{Fields, record_of, header_of, end_of}
 pub use Rattle.decimal_text.proofs.Lines.{NoLf, NoLf-append, NoLf-all, numeral_no_lf}
 use Rattle.decimal_text.proofs.Lines.{const_no_lf}
 use Rattle.log_record.proofs.Records.{fields_text, fields_in, tagged_text, record_text_is, record_again}

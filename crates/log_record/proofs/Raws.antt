@@ -8,9 +8,9 @@ use Rattle.log_record.specs.declared.record.Act.TheVariants as act
 use Rattle.log_record.specs.declared.record.Record.{Record}
 use Rattle.log_record.specs.declared.raw.RawRecord.{RawRecord}
 use Rattle.log_record.specs.Line.{record_text, IsRecordShape, Fits, ActFits, SourceFits}
-use Rattle.log_record.specs.Reading.{record_of}
+use Rattle.log_record.specs.inner.Reading.{record_of}
 use Rattle.decimal_text.specs.Numbers.{as_u64}
-use Rattle.log_record.specs.Raw.{raw_of, raw_act_of, raw_source_of}
+use Rattle.log_record.specs.inner.Raw.{raw_of, raw_act_of, raw_source_of}
 use Rattle.decimal_text.proofs.Numbers.{as_u64_some, as_u64_none}
 use Rattle.log_record.proofs.Records.{record_takes, record_again}
 

@@ -2,9 +2,7 @@ pub use Rattle.decimal_text.specs.Numbers
 pub mod Entries
 pub mod EntryParts
 pub mod Faults
-pub mod FlatActs
 pub mod Laws
 pub mod Line
-pub mod Raw
-pub mod Reading
 pub mod RecordParts
+pub mod inner

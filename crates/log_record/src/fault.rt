@@ -1,4 +1,4 @@
-//! Why a line is no record's.
+//! Why a line isn't a record's.
 
 use std::fmt;
 use std::fmt::Display;

@@ -3,8 +3,8 @@
 ghost use Rattle.std.specs.Prelude.{◌≡◌, ℕ, IfOk, IfSome, IsNone, option_map, string_bytes};
 ghost use Rattle.log_record.specs.Line.{header_text, IsHeaderShape};
 ghost use Rattle.decimal_text.specs.Numbers.{as_u64};
-ghost use Rattle.log_record.specs.Raw.{header_parts};
-ghost use Rattle.log_record.specs.Reading.{header_numbers, header_of};
+ghost use Rattle.log_record.specs.inner.Raw.{header_parts};
+ghost use Rattle.log_record.specs.inner.Reading.{header_numbers, header_of};
 
 use decimal_text::{after_text, read_last, read_number};
 use mem_op::CoreId;
@@ -36,7 +36,7 @@ fn parts(line: &[u8]) -> Option<Header>
     numbers(after_text(b"tardis-log 1 core ", line)?)
 }
 
-/// The header whose line this is, without its line feed; None where it is no header's.
+/// The header whose line this is, without its line feed; None where it isn't a header's.
 #[tactic(auto, using(crate::proofs::Ends::header_found, crate::proofs::Ends::header_none))]
 pub fn read_header(line: &[u8]) -> Option<Header>
     ensures found { IfSome result (λ h. (core : ℕ) × ((cores : ℕ) ×

@@ -40,7 +40,7 @@ pub fn print_line(alloc: Global, logged: &Record) -> Result<String, AllocError>
     logged.to_string(alloc)
 }
 
-/// The record whose line this is, without its line feed. BadLine where it is no record's line, whatever the
+/// The record whose line this is, without its line feed. BadLine where it isn't a record's line, whatever the
 /// size of its numbers; OutOfRange where it is the line of a record with a number out of range.
 #[tactic(auto, using(crate::proofs::Raws::none_is_bad, crate::proofs::Raws::out_of_range, crate::proofs::Raws::found))]
 pub fn read_line(line: &[u8]) -> Result<Record, LineFault>

@@ -3,7 +3,7 @@
 ghost use Rattle.std.specs.Prelude.{◌≡◌, ◌<◌, ℕ, IfSome, IfNone};
 ghost use Rattle.log_record.specs.Line.{Fits, ActFits};
 ghost use Rattle.decimal_text.specs.Numbers.{as_u64};
-ghost use Rattle.log_record.specs.Raw.{raw_act_of, raw_of};
+ghost use Rattle.log_record.specs.inner.Raw.{raw_act_of, raw_of};
 ghost use Rattle.log_record.specs.declared.record.Act.{Act};
 ghost use Rattle.log_record.specs.declared.record.Record.{Record};
 

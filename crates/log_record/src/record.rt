@@ -2,7 +2,7 @@
 
 ghost use Rattle.std.specs.Prelude.{◌≡◌};
 ghost use Rattle.log_record.specs.Entries.{key_of};
-ghost use Rattle.log_record.specs.FlatActs.{act_of};
+ghost use Rattle.log_record.specs.inner.FlatActs.{act_of};
 
 use line_stamps::{Key, Rank, Stamp};
 use mem_op::{Addr, CoreId, OpId, OpIndex, Source, Word};
@@ -89,7 +89,7 @@ pub struct Entry {
 
 impl Model for Entry {
     ghost use Rattle.log_record.specs.EntryParts.{EntryParts};
-    ghost use Rattle.log_record.specs.FlatActs.{act_of, flat_of, flat_of-act_of};
+    ghost use Rattle.log_record.specs.inner.FlatActs.{act_of, flat_of, flat_of-act_of};
 
     ghost Value = { EntryParts };
 

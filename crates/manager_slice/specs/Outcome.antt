@@ -28,7 +28,7 @@ pub data Outcome (A : Type 0) : Type 0 where
   -- an answer that appends these entries to the history and leaves this state
   Steps : A → List HistoryEntry → SliceState → Outcome A
 
--- the call, with this result, led from p to q as the outcome says; only for want of memory may a step be refused
+-- the call, with this result, led from p to q as the outcome says; only for lack of memory may a step be refused
 abbrev pub Meets : {A : Type 0} → Outcome A → Result A SliceFault → SliceParts → SliceParts → Type 0
 Meets (Refuses fault) r p q = (r ≡ Err fault) × (q ≡ p)
 Meets (Answers x) r p q = (r ≡ Ok x) × (q ≡ p)

@@ -4,7 +4,7 @@ use std::fmt;
 use std::fmt::Display;
 use thiserror::Error;
 
-/// Why a number is no address, core or index.
+/// Why a number isn't an address, a core or an index.
 #[derive(Clone, Copy, Debug, PartialEq, Eq, Error)]
 pub enum RangeFault {
     /// An address is at most 65,535.

@@ -1,4 +1,4 @@
-//! Addresses, cores, words and operations: what all else speaks of.
+//! Addresses, cores, words and operations: what everything else speaks of.
 #![tactic(auto)]
 
 mod addr;

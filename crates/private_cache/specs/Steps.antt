@@ -50,7 +50,7 @@ abbrev pub after_recall : CacheParts → Recall → Option Line → CacheParts
 after_recall c recall None = c
 after_recall c recall (Some l) = with_left c recall.addr (left recall.kind l)
 
--- there is room for one line more, or the address is there
+-- there is room for one more line, or the address is there
 abbrev pub has_room : CacheParts → ℕ → Bool
 has_room c a = nat_lt (map.len c.lines) c.capacity || is_some (line_at c a)
 

@@ -39,7 +39,7 @@ pub record Hit : Type 0 where
   pub stamp : ℕ
   pub rank : ℕ
 
--- the line after a load at stamp t: an owner draws the lease out to it
+-- the line after a load at stamp t: an owner extends the lease to it
 abbrev pub read_at : Held → ℕ → Held
 read_at (Shared l) t = Shared l
 read_at (Exclusive modified l) t = Exclusive modified (with_rts l (max l.stamps.rts t))

@@ -96,7 +96,7 @@ impl PrivateCache {
         self.lines.pop(&addr)
     }
 
-    // Whether there is room for one line more, or the address is there.
+    // Whether there is room for one more line, or the address is there.
     fn has_room(&self, addr: Addr) -> bool
         ensures value { result ≡ has_room self.now addr }
         ensures some { 0 < self.now.capacity }
@@ -217,7 +217,7 @@ impl PrivateCache {
         Ok(store)
     }
 
-    // Reads the line of the address by a load of this stamp, which hits: an owner draws the lease out
+    // Reads the line of the address by a load of this stamp, which hits: an owner extends the lease
     // to it, and the line becomes the most recently used. Nothing where no line is there.
     fn read(&mut self, addr: Addr, stamp: Stamp)
         ensures { MatchOption (line_at self.old addr)

@@ -33,7 +33,7 @@ impl Held {
         matches!(self, Held::Shared(_))
     }
 
-    /// The line after a load of stamp `t`: an owner draws the lease out to it.
+    /// The line after a load of stamp `t`: an owner extends the lease to it.
     pub(crate) fn read_at(&self, t: Stamp) -> Held
         ensures { result ≡ read_at self.now t }
     {

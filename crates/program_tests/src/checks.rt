@@ -76,7 +76,7 @@ const EMPTY_0_OF_2: &[u8] = b"tardis-log 1 core 0 of 2\nend 0\n";
 
 const EMPTY_1_OF_2: &[u8] = b"tardis-log 1 core 1 of 2\nend 0\n";
 
-/// Files that are no set of logs, and what is told of them.
+/// Files that aren't a set of logs, and what is told of them.
 const REFUSED: &[(&[&[u8]], &str)] = &[
     (&[b""], "refused: file 0 line 1: 26 Truncated\n"),
     (
@@ -119,7 +119,7 @@ const REFUSED: &[(&[&[u8]], &str)] = &[
         &[EMPTY_0_OF_2, EMPTY_0_OF_2],
         "refused: file 1 line 1: 27 WrongCore\n",
     ),
-    // Bytes that are no text.
+    // Bytes that aren't text.
     (
         &[b"\x7fELF\x02\x01\x00\xff\xfe"],
         "refused: file 0 line 1: 26 Truncated\n",
@@ -254,7 +254,7 @@ const REFUSED_PROGRAMS: &[(&[&str], u8, &str)] = &[
     ),
 ];
 
-/// Words that are no command line, or call for help.
+/// Words that aren't a command line, or ask for help.
 const NO_COMMAND_LINES: &[&[&str]] = &[
     &[],
     &["tardis"],

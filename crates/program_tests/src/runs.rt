@@ -232,7 +232,7 @@ core 2\nst 2 3\nld r0 2\nld r1 0\nld r2 1\nst 0 5\nld r3 0\n\
 core 3\nld r0 2\nld r1 1\nld r2 0\nai r3 r0 10\nsr 1 r3\nld r4 1\n\
 end\n";
 
-/// A folder in which the file named `k` is text `k`, and which takes so many files.
+/// A folder in which the file named `k` is text `k`, and which takes `room` files.
 #[derive(Drop)]
 struct Shelf<'a> {
     alloc: Global,
@@ -391,7 +391,7 @@ fn programs_of(alloc: Global, programs: &[&str]) -> Result<String, Fail> {
     Ok(text)
 }
 
-/// Runs the programs of text 0 with these options, in a folder that takes so many files.
+/// Runs the programs of text 0 with these options, in a folder that takes `room` files.
 fn sim<R: Threads + Sync>(
     rt: &R,
     alloc: Global,

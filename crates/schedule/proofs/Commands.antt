@@ -4,7 +4,7 @@ use Rattle.std.specs.Prelude.{codes, min, option_map}
 use Rattle.std.proofs.lemmas.Bool.{cases_Bool, cond_below, cond-true, cond-false, ltb-true}
 use Rattle.std.proofs.Math.Dec.{ltb}
 use Rattle.decimal_text.specs.Numbers.{numeral}
-use Rattle.decimal_text.specs.Reading.{◌>>=◌, after, field_at, last_number}
+use Rattle.decimal_text.specs.inner.Reading.{◌>>=◌, after, field_at, last_number}
 use Rattle.decimal_text.proofs.Lines.{NoLf, NoLf-append, numeral_no_lf, const_no_lf}
 use Rattle.decimal_text.proofs.Numbers.{guard_some, after_takes}
 use Rattle.decimal_text.proofs.Reading.{bind_some, some_is, field_takes, field_again, last_takes, last_again}
@@ -13,7 +13,7 @@ use Rattle.line_stamps.specs.declared.message.RecallKind.TheVariants.{WriteBack,
 use Rattle.schedule.specs.declared.command.Command.{Command}
 use Rattle.schedule.specs.declared.command.Command.TheVariants.{Turn, Serve, Take, Recall, Evict, Spill, Bump, Round, Op, Finish}
 use Rattle.schedule.specs.Grammar.{kind_text, command_text, Fits}
-use Rattle.schedule.specs.Reading.{below, front_below, core_at, addr_at, kind_front, kind_at, last_core, last_addr, last_stamp, of_core, recall_of, evict_of, named, command_of}
+use Rattle.schedule.specs.inner.Reading.{below, front_below, core_at, addr_at, kind_front, kind_at, last_core, last_addr, last_stamp, of_core, recall_of, evict_of, named, command_of}
 
 -- ---- numbers in range
 

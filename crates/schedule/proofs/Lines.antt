@@ -1,7 +1,7 @@
 -- The first line of bytes is one line.
 use Rattle.std.proofs.Common.{◌≡◌, ℕ, suc, false, eqb, List, [], ◌∷◌, ◌++◌, refl, subst, arith}
 use Rattle.decimal_text.proofs.Lines.{NoLf}
-use Rattle.schedule.specs.Lines.{IsOneLine}
+use Rattle.schedule.specs.inner.Lines.{IsOneLine}
 
 pub no_lf_from : (xs : List ℕ) → IsOneLine xs → NoLf xs
 no_lf_from [] one = tt

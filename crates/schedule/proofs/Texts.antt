@@ -5,10 +5,10 @@ use Rattle.schedule.specs.declared.fault.ScheduleFault.{ScheduleFault}
 use Rattle.schedule.specs.declared.fault.ScheduleFault.TheVariants.{BadScheduleLine, OutOfMemory}
 use Rattle.decimal_text.proofs.Reading.{some_is}
 use Rattle.schedule.specs.Answers.{Spells, CommandInFront, NoCommandInFront, IsFirstBad, IsFault}
-use Rattle.schedule.specs.Lines.{IsOneLine}
+use Rattle.schedule.specs.inner.Lines.{IsOneLine}
 use Rattle.schedule.specs.Grammar.{command_text, schedule_text, Fits, EachFits}
 use Rattle.schedule.specs.Laws.{AtMostOneFault, SpelledIsRead}
-use Rattle.schedule.specs.Reading.{command_of}
+use Rattle.schedule.specs.inner.Reading.{command_of}
 use Rattle.schedule.proofs.Commands.{command_takes, command_again, command_no_lf}
 use Rattle.schedule.proofs.Lines.{no_lf_from, no_feed, line_once}
 
@@ -18,7 +18,7 @@ use Rattle.schedule.proofs.Lines.{no_lf_from, no_feed, line_once}
 pub none_without_feed : (cores : ℕ) (text : List ℕ) → IsOneLine text → NoCommandInFront cores text
 none_without_feed cores text one = λ command rest there. no_feed text (command_text command) rest (no_lf_from text one) there.1
 
--- none, where the first line is no command's
+-- none, where the first line isn't a command's
 pub none_of_other : (cores : ℕ) (text line behind : List ℕ) → IsOneLine line → text ≡ line ++ 10 ∷ behind → None ≡ command_of cores line
     → NoCommandInFront cores text
 none_of_other cores text line behind one is none = λ command rest there.
@@ -80,7 +80,7 @@ shorter cores command rest behind there =
 command_once : (cores : ℕ) (c d : Command) → Fits cores c → Fits cores d → command_text c ≡ command_text d → c ≡ d
 command_once cores c d p q e = some_is c d (sym (command_again cores c p) ∙ ap (command_of cores) e ∙ command_again cores d q)
 
--- no line comes before no bytes
+-- no bytes begin with no line
 none_of_nothing : (cores : ℕ) → NoCommandInFront cores []
 none_of_nothing cores = λ command rest there. omega (arith, ap length there.1, length-append (command_text command) (10 ∷ rest))
 

@@ -28,7 +28,7 @@ pub record IsFirstBad (cores : ℕ) (bytes : List ℕ) (k : ℕ) : Type 0 where
   pub none_in_front : NoCommandInFront cores rest
   pub line : k ≡ length before + 1
 
--- Why bytes aren't a schedule. Want of memory may come instead of a schedule and of a bad line.
+-- Why bytes aren't a schedule. Lack of memory may come instead of a schedule and of a bad line.
 abbrev pub IsFault : ℕ → List ℕ → ScheduleFault → Type 0
 IsFault cores bytes (BadScheduleLine k) = IsFirstBad cores bytes k
 IsFault cores bytes OutOfMemory = Unit {0}

@@ -11,7 +11,7 @@ pub record SpelledIsRead : Type 0 where
   pub no_fault : (cores : ℕ) (bytes : List ℕ) (commands : List Command) (fault : ScheduleFault) → Spells cores bytes commands
       → IsFault cores bytes fault → fault ≡ OutOfMemory
 
--- bytes have one fault at most, want of memory aside
+-- bytes have one fault at most, lack of memory aside
 abbrev pub AtMostOneFault : Type 0
 AtMostOneFault =
     (cores : ℕ) (bytes : List ℕ) (f g : ScheduleFault) → IsFault cores bytes f → IsFault cores bytes g → f ≢ OutOfMemory → g ≢ OutOfMemory → f ≡ g

@@ -2,5 +2,4 @@ pub mod Answers
 pub mod FaultTexts
 pub mod Grammar
 pub mod Laws
-pub mod Lines
-pub mod Reading
+pub mod inner

@@ -3,12 +3,12 @@
 ghost use Rattle.schedule.specs.Laws.{SpelledIsRead, AtMostOneFault};
 
 /// A schedule's text is that of no other, and it has no fault: `parse` gives that schedule, and
-/// refuses it for want of memory alone.
+/// refuses it for lack of memory alone.
 pub fn spelled_is_read()
     ensures { SpelledIsRead }
 {}
 
-/// Bytes that are no schedule's text have one first bad line.
+/// Bytes that aren't a schedule's text have one first bad line.
 pub fn one_fault()
     ensures { AtMostOneFault }
 {}

@@ -1,9 +1,9 @@
 //! Reads a command's line from left to right.
 
 ghost use Rattle.std.specs.Prelude.{◌≡◌, min};
-ghost use Rattle.decimal_text.specs.Reading.{front_now};
-ghost use Rattle.schedule.specs.Reading.{below, core_at, addr_at, kind_at, last_core, last_addr, last_stamp};
-ghost use Rattle.schedule.specs.Reading.{recall_of, evict_of, command_of};
+ghost use Rattle.decimal_text.specs.inner.Reading.{front_now};
+ghost use Rattle.schedule.specs.inner.Reading.{below, core_at, addr_at, kind_at, last_core, last_addr, last_stamp};
+ghost use Rattle.schedule.specs.inner.Reading.{recall_of, evict_of, command_of};
 
 use super::command::Command;
 use decimal_text::{after_text, read_field, read_last};

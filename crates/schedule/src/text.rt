@@ -2,7 +2,7 @@
 
 ghost use Rattle.std.specs.Prelude.{◌≡◌, ◌∷◌, ◌++◌, IfSome, IsNone, MatchResult};
 ghost use Rattle.schedule.specs.Answers.{CommandInFront, NoCommandInFront, IsFault, Spells};
-ghost use Rattle.schedule.specs.Lines.{IsOneLine};
+ghost use Rattle.schedule.specs.inner.Lines.{IsOneLine};
 
 use super::command::Command;
 use super::fault::ScheduleFault;
@@ -11,8 +11,7 @@ use memchr::memchr;
 use std::alloc::Global;
 
 /// The commands whose text this is, one a line, each line ended by a line feed, for this number of cores,
-/// at most 64.
-/// BadScheduleLine at the first line that isn't a command's, that names a core that isn't there, or
+/// at most 64. BadScheduleLine at the first line that isn't a command's, that names a core that isn't there, or
 /// that has no line feed.
 pub fn parse(alloc: Global, text: &[u8], cores: usize) -> Result<Vec<Command>, ScheduleFault>
     ensures { MatchResult result

@@ -8,7 +8,7 @@ use Rattle.tardis_core.specs.RoundFaults.{cause_text}
 use Rattle.simulation.specs.declared.fault.SimulationFault.{SimulationFault}
 use Rattle.simulation.specs.declared.fault.SimulationFault.TheVariants.{Core, Slice, OutOfMemory}
 
--- want of memory for a spill is no slice's
+-- lack of memory for a spill isn't a slice's
 abbrev pub slice_text : ℕ → SliceFault → List ℕ
 slice_text number slice_fault.OutOfMemory = codes "10 OutOfMemory"
 slice_text number fault = codes "slice " ++ (decimal number ++ (codes ": " ++ slice.fault_text fault))

@@ -15,7 +15,7 @@ use std::alloc::{AllocError, Global};
 use tardis_core::Core;
 use tardis_core::rounds::{RoundCause, RoundFault, has_next, pick, round};
 
-/// After so many rounds that were drawn for it since its last operation a core gives up.
+/// A core gives up after this number of rounds that were drawn for it since its last operation.
 const MOST_ROUNDS: u16 = 1_000;
 
 /// Draws a core with an operation left for each round, until none is left.

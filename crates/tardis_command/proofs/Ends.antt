@@ -7,7 +7,7 @@ use Rattle.command_line.specs.declared.request.Request.{Request}
 use Rattle.command_line.specs.declared.request.Request.TheVariants as request
 use Rattle.tardis_command.specs.Answers.{answer_status, answer_text}
 use Rattle.tardis_command.specs.declared.answer.Answer.{Answer}
-use Rattle.tardis_command.specs.Printing.{IsUnprinted}
+use Rattle.tardis_command.specs.inner.Printing.{IsUnprinted}
 use Rattle.tardis_command.specs.Endings.{Answered, Ending, EndsBy, HasFailed, IsAnswered, IsDoneBy, Misused, OutputAt, Refused, IsAnswerTo, Sink, Takes, Unprinted, line, status_of}
 use Rattle.tardis_command.specs.Faults.{command_fault_text, fault_status}
 use Rattle.tardis_command.specs.declared.fault.CommandFault.{CommandFault}
@@ -25,7 +25,7 @@ unless_failed old new fault (Unprinted answer) answered output = inr output.0
 unless_failed old new fault (Refused reason) answered output = output
 unless_failed old new fault (Misused text) answered output = absurd answered
 
--- want of memory may end whatever was asked
+-- lack of memory may end whatever was asked
 memory_ends : (told told' : List ℕ → Option (List ℕ)) (asked : Request) → IsAnswerTo told told' asked (Err OutOfMemory)
 memory_ends told told' (request.Check check) = tt
 memory_ends told told' (request.Sim sim) = tt

@@ -25,7 +25,7 @@ names_differ out c d below few same =
 
 module _ (told told' told'' : List ℕ → Option (List ℕ)) (out : List ℕ) (cores : ℕ) (w : World) (n core : ℕ) (is : core ≡ n) (few : n < 64)
     (so_far : ArePutFirst told told' out cores w n) (stays : (name : List ℕ) → name ≢ log_name out core → told'' name ≡ told' name) where
-  -- what was told of the logs before stays
+  -- what was told of the earlier logs stays
   tells_first : TellsFirst told'' out cores w n
   tells_first c below =
       let same : told'' (log_name out c) ≡ told' (log_name out c) = stays (log_name out c) (names_differ out c core (omega arith) (omega arith)) in

@@ -41,12 +41,12 @@ AreProgramsOf told (Some name) (Some programs) = (text : List ℕ) × Tells (tol
 abbrev pub Against : (List ℕ → Option (List ℕ)) → Option (Bor (List ℕ)) → (Option (List (List Instruction)) → Type 0) → Type 0
 Against told name Holds = (programs : Option (List (List Instruction))) × AreProgramsOf told name programs × Holds programs
 
--- there are not this many programs
+-- the number of programs isn't this
 abbrev pub AreNotAsMany : ℕ → Option (List (List Instruction)) → Type 0
 AreNotAsMany n None = ⊥
 AreNotAsMany n (Some programs) = length programs ≢ n
 
--- why the text of the file of this name is no set of programs
+-- why the text of the file of this name isn't a set of programs
 abbrev pub IsTextFault : (List ℕ → Option (List ℕ)) → List ℕ → ProgramFault → Type 0
 IsTextFault told name fault = (text : List ℕ) × Tells (told name) text × IsSetFault text fault
 

@@ -16,7 +16,7 @@ use Rattle.tardis_command.specs.declared.fault.CommandFault.{CommandFault}
 use Rattle.tardis_command.specs.declared.fault.CommandFault.TheVariants.{OutOfMemory, Output}
 
 -- by an answer, by one that couldn't be printed, by a refusal, or with what the user is told of words that
--- are no command line
+-- aren't a command line
 pub data Ending : Type 0 where
   Answered : Answer → Ending
   Unprinted : Answer → Ending

@@ -22,7 +22,7 @@ from_judge (Log file line fault) = Judge (Log file line fault)
 from_judge (Read file) = Judge (Read file)
 from_judge OutOfMemory = NoMemoryAtAll
 
--- want of memory is told as everywhere
+-- lack of memory is told as everywhere
 abbrev pub programs_fault_text : ProgramFault → List ℕ
 programs_fault_text NoMemory = codes "refused: 10 OutOfMemory"
 programs_fault_text (BadLine line) = codes "refused: programs " ++ program_fault_text (BadLine line)

@@ -3,5 +3,5 @@ pub mod Checking
 pub mod Endings
 pub mod Faults
 pub mod Logs
-pub mod Printing
 pub mod Simulating
+pub mod inner

@@ -1,4 +1,4 @@
-//! What a command comes to.
+//! What a command answers.
 
 ghost use Rattle.std.specs.Prelude.{◌≡◌};
 ghost use Rattle.tardis_command.specs.Answers.{answer_status};
@@ -7,7 +7,7 @@ use std::fmt;
 use std::fmt::Display;
 use verdict::Verdict;
 
-/// What a command comes to.
+/// What a command answers.
 #[derive(Clone, Copy, Debug, PartialEq, Eq)]
 pub enum Answer {
     /// The verdict on a set of logs.

@@ -16,7 +16,7 @@ use log_file::ByteSink;
 use std::alloc::Global;
 use std::thread::Threads;
 
-/// The exit status of a call whose words are no command line of the program.
+/// The exit status of a call whose words aren't a command line of the program.
 const USAGE: u8 = 3;
 
 /// Does what the words of a command line ask for; the first is the program's own name, and

@@ -18,7 +18,7 @@ use verdict::JudgeFault;
 /// Why a command was refused.
 #[derive(Clone, Copy, Debug, PartialEq, Eq, Error)]
 pub enum CommandFault {
-    /// There is no verdict, and not for want of memory.
+    /// There is no verdict, and not for lack of memory.
     Judge(JudgeFault),
     /// A number of the configuration is out of its range.
     Config(BadConfig),

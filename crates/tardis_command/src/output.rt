@@ -5,7 +5,7 @@ ghost use Rattle.std.specs.Io.KnownBytes.{Appends};
 ghost use Rattle.tardis_command.specs.Answers.{answer_text};
 ghost use Rattle.tardis_command.specs.Endings as endings;
 ghost use Rattle.tardis_command.specs.Faults as faults;
-ghost use Rattle.tardis_command.specs.Printing as printing;
+ghost use Rattle.tardis_command.specs.inner.Printing as printing;
 ghost use Rattle.tardis_command.specs.declared.fault.CommandFault.TheVariants.{OutOfMemory};
 
 use crate::answer::Answer;
@@ -32,7 +32,7 @@ pub(crate) fn print_answer<O: ByteSink>(
 }
 
 /// Tells the user of a refusal on standard error, and answers its exit status. Where there is no
-/// memory for that, it tells of this in its place.
+/// memory for that, it tells of this instead.
 pub(crate) fn refuse<E: ByteSink>(alloc: Global, err: &mut E, fault: CommandFault) -> u8
     ensures { (told : CommandFault) × ((told ≡ fault) ⊎ (told ≡ OutOfMemory))
         × endings.Takes (endings.sink_of E.contents E.failed err.old)

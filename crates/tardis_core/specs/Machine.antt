@@ -49,7 +49,7 @@ with_slice g w a s = record w { slices = slice_set w.slices (slice_number g a) s
 
 -- ---- the events without effect
 
--- whose event it is; a spill is no core's
+-- whose event it is; a spill isn't a core's
 abbrev pub core_event : Event → Option ℕ
 core_event (event.Turn c) = Some c
 core_event (event.Serve c) = Some c

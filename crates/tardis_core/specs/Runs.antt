@@ -21,7 +21,7 @@ abbrev pub run_from : CoreParts → List Event → Option CoreParts
 run_from p [] = Some p
 run_from p (e ∷ events) = option_and_then (λ q. run_from q events) (behind (step_outcome p e))
 
--- an event that comes to this may be refused so: for the cause that is due, or for the step's own want of memory
+-- an event that comes to this may be refused so: for the cause that is due, or for the step's own lack of memory
 abbrev pub MayRefuse : StepOutcome → CoreFault → Type 0
 MayRefuse (Refuses due) fault = fault ≡ due
 MayRefuse (Answers o q) fault = ⊥

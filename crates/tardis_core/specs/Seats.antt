@@ -17,12 +17,12 @@ use Rattle.tardis_core.specs.declared.event.Event.TheVariants as event
 pub data SeatOutcome : Type 0 where
   -- a refusal that is due
   Refuses : UnitFault → SeatOutcome
-  -- an outcome that isn't refused for want of memory, and the seat after it
+  -- an outcome that isn't refused for lack of memory, and the seat after it
   Answers : Outcome → SeatParts → SeatOutcome
   -- an outcome that makes an entry, and the seat after it
   Steps : Outcome → SeatParts → SeatOutcome
 
--- the event, with this result, led from s to t as the outcome says; only for want of memory may a step be refused
+-- the event, with this result, led from s to t as the outcome says; only for lack of memory may a step be refused
 abbrev pub SeatMeets : SeatOutcome → Result Outcome UnitFault → SeatParts → SeatParts → Type 0
 SeatMeets (Refuses fault) r s t = (r ≡ Err fault) × (t ≡ s)
 SeatMeets (Answers o q) r s t = (r ≡ Ok o) × (t ≡ q)

@@ -1,4 +1,4 @@
--- What an event comes to.
+-- The outcome of an event.
 use Rattle.std.specs.Prelude.{if◌then◌else◌, ◌≡◌, ◌↔◌, IfOk, OnErr, ℕ, Bool, true, false, List, ◌++◌, Option, Some, None, Result, Ok, Err, MatchResult, slice_get, slice_set}
 use Rattle.line_stamps.specs.declared.message.Message.{Message}
 use Rattle.line_stamps.specs.declared.message.Reply.{Reply}
@@ -24,9 +24,9 @@ use Rattle.tardis_core.specs.declared.fault.CoreFault.TheVariants.{Unit, Slice}
 pub data StepOutcome : Type 0 where
   -- a refusal that is due
   Refuses : CoreFault → StepOutcome
-  -- an outcome that isn't refused for want of memory, and the machine after it
+  -- an outcome that isn't refused for lack of memory, and the machine after it
   Answers : Outcome → CoreParts → StepOutcome
-  -- an outcome that makes an entry, and the machine after it; this fault tells a want of memory for it
+  -- an outcome that makes an entry, and the machine after it; this fault tells a lack of memory for it
   Steps : CoreFault → Outcome → CoreParts → StepOutcome
 
 -- 10 OutOfMemory, of a core or of a slice
@@ -35,7 +35,7 @@ is_memory (Unit unit_fault.OutOfMemory) = true
 is_memory (Slice slice_fault.OutOfMemory) = true
 is_memory fault = false
 
--- the event, with this result, led from p to q as the outcome says; a step may be refused only by its own want of memory
+-- the event, with this result, led from p to q as the outcome says; a step may be refused only by its own lack of memory
 abbrev pub Meets : StepOutcome → Result Outcome CoreFault → CoreParts → CoreParts → Type 0
 Meets (Refuses fault) r p q = (r ≡ Err fault) × (q ≡ p)
 Meets (Answers o t) r p q = (r ≡ Ok o) × (q ≡ t)

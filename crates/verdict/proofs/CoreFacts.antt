@@ -7,13 +7,13 @@ use Rattle.std.proofs.Common.{sym, ◌∙◌, ap, subst, inl, inr, arith, get_or
 use Rattle.std.proofs.lemmas.Bool.{eqb-true, eq-eqb, false_from_ne_true, cases_lt}
 use Rattle.std.proofs.lemmas.List.{append-nil, take_more}
 use Rattle.line_stamps.specs.Least.{least_of, lesser}
-use Rattle.line_stamps.specs.Ordered.{In, IsLeastIn}
+use Rattle.line_stamps.specs.inner.Ordered.{In, IsLeastIn}
 use Rattle.line_stamps.proofs.Ordered.{In-append_left, In-append_right, In-filter, In-filtered, In-flat_map, flat_map-In, least_is, one_least, same_least}
 use Rattle.log_record.specs.declared.record.Record.{Record}
 use Rattle.core_check.specs.declared.fault.CoreFault.{CoreFault}
 use Rattle.core_check.specs.FaultOrder.{core_fault_cmp, rule_number}
 use Rattle.core_check.specs.CoreOrder.{is_core_fault}
-use Rattle.core_program.specs.Least.{IsLeastWhere}
+use Rattle.core_program.specs.inner.Least.{IsLeastWhere}
 use Rattle.core_check.specs.CoreFaults.{order_fault, order_faults}
 use Rattle.core_check.proofs.FaultFacts.{core_fault_total, tied_core_faults}
 use Rattle.core_check.proofs.OrderFaultFacts.{FaultIn, fault_of_log, fault_in_log}
@@ -104,14 +104,14 @@ no_log_of_core logs core none = not_found_of_core logs core [] (ap (λ o. unwrap
     never zero = refl
     never (suc i) = refl
 
--- a core more in a list of the first cores
+-- one more core in a list of the first cores
 pub In-one_more : (cores more : List ℕ) (n added : ℕ) → more ≡ cores ++ added ∷ [] → added ≡ n → ((core : ℕ) → core < n → In core cores) → (core : ℕ) → core < n + 1 → In core more
 In-one_more cores more n added push is h core l = subst (λ (cs : List ℕ). In core cs) (sym push) (elim (cases_lt core n) [
   | inl below ↦ In-append_left core cores (added ∷ []) (h core below)
   | inr at ↦ In-append_right core cores (added ∷ []) (inl (omega arith))
 ])
 
--- cores of which every fault is give the least fault
+-- a list of cores that every fault is of gives the least fault
 pub least_by_cores : (faults : List CoreFault) (cores : List ℕ) → ((f : CoreFault) → In f faults → In f.id.core cores) → least_of_cores faults cores ≡ least_of core_fault_cmp faults
 least_by_cores faults cores whole =
     same_least core_fault_cmp core_fault_total (flat_map (faults_of_core faults) cores) faults
@@ -125,7 +125,7 @@ least_by_cores faults cores whole =
         In-flat_map (faults_of_core faults) cores f.id.core f (whole f p)
         (In-filtered (is_of f.id.core) faults f p (eq-eqb f.id.core f.id.core refl))
 
--- the least fault of the first cores, with that of one core more
+-- the least fault of the first cores, with that of one more core
 pub least_with_core : (faults : List CoreFault) (cores : List ℕ) (k core : ℕ) (least found next : Option CoreFault) → k < length cores → core ≡ get_or cores k core → least ≡ least_of_cores faults (take k cores) → found ≡ least_of_core faults core → next ≡ lesser ghosts.cmp least found → next ≡ least_of_cores faults (take (k + 1) cores)
 least_with_core faults cores k core least found next within here so_far of_core chosen =
     chosen

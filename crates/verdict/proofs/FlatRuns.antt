@@ -13,7 +13,7 @@ use Rattle.core_program.specs.declared.instruction.Instruction.{Instruction}
 use Rattle.core_program.specs.State.{State, start}
 use Rattle.core_program.specs.Meaning.{Path}
 use Rattle.core_program.specs.Conforming.{Conforms}
-use Rattle.verdict.specs.EachId.{CountsEach}
+use Rattle.verdict.specs.inner.EachId.{CountsEach}
 use Rattle.verdict.specs.FlatMachine.{Flat, flat_start, FlatRun, starts, performs, IsAnsweredBy, after, performed_by, PerformsAll, RunsFlat}
 use Rattle.verdict.proofs.Replaying.{AreNext, InOrder, next_none, next_more, refuse_absent, refuse_other, all_next, is_some-slice_get, each_from-AllPairs}
 use Rattle.verdict.proofs.FlatSoFar.{last_value-push, flat_at_middle}
@@ -157,7 +157,7 @@ module _ (programs : List (List Instruction)) (cores : List (List Operation)) (o
       length_replicate zero = refl
       length_replicate (suc n) = ap suc (length_replicate n)
 
-  -- one id more, whose operation its core issues next
+  -- one more id, whose operation its core issues next
   module _ (before : List OpId) (id : OpId) (rest : List OpId) (next : List ℕ) (conform : AllZip Conforms programs cores) (is_order : IsSequentialOrder cores order) (split : before ++ id ∷ rest ≡ order) (so_far : SoFar before next) where
     counts : CountsEach (map length cores) (before ++ id ∷ rest)
     counts = subst (CountsEach (map length cores)) (sym split) (counts_each cores order is_order)

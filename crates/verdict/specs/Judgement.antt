@@ -17,7 +17,7 @@ abbrev pub IsVerdictBy : (List (List Record) → Verdict) → List (List ℕ) �
 IsVerdictBy judged texts verdict =
     (logs : List (List Record)) × SpellSet texts logs × (verdict ≡ judged logs)
 
--- The verdict on the set that the texts spell, or their first fault. A bad count, want of memory or a
+-- The verdict on the set that the texts spell, or their first fault. A bad count, lack of memory or a
 -- failed read may come instead of either; a read fails at a file only where the texts before it
 -- spell their logs.
 abbrev pub IsAnswerBy : (List (List Record) → Verdict) → List (List ℕ) → Result Verdict JudgeFault → Type 0

@@ -1,8 +1,6 @@
-pub mod ByKey
 pub mod CoreFaultsOf
 pub mod CoreLaw
 pub mod Counts
-pub mod EachId
 pub mod FaultParts
 pub mod Faults
 pub mod FlatMachine
@@ -11,3 +9,4 @@ pub mod Laws
 pub mod SetFaults
 pub mod Texts
 pub mod VerdictOf
+pub mod inner

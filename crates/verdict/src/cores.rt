@@ -1,7 +1,7 @@
 //! The check of the logs of a set, each core alone.
 
 ghost use Rattle.std.specs.Prelude.{◌≡◌, ◌<◌, ◌≤◌, ℕ, IfOk, length, refl};
-ghost use Rattle.line_stamps.specs.Ordered.{In};
+ghost use Rattle.line_stamps.specs.inner.Ordered.{In};
 ghost use Rattle.core_check.specs.CoreFaults.{order_faults};
 ghost use Rattle.core_check.specs.FaultOrder.{core_fault_cmp};
 ghost use Rattle.line_stamps.specs.Least.{least_of};

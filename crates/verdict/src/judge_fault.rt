@@ -17,7 +17,7 @@ pub enum Count {
     Files,
     /// How many workers judge it.
     Workers,
-    /// How many programs there are, where the files are as many.
+    /// How many programs there are: there have to be as many as files.
     Programs,
 }
 

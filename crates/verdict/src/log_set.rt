@@ -53,7 +53,7 @@ impl LogSet {
         Some(log.as_slice())
     }
 
-    /// The logs, in the order of their cores, for keeps.
+    /// The logs, in the order of their cores, to be kept.
     pub(crate) fn into_logs(self) -> Vec<Vec<Record>>
         ensures logs { record_lists result.items ≡ self }
         ensures cores { vec_len result ≤ 64 }

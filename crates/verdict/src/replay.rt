@@ -4,7 +4,7 @@ ghost use Rattle.std.specs.Prelude.{◌≡◌, ℕ, ◌↔◌, IsTrue, IfOk, vec
 ghost use Rattle.std.specs.List.{filter_map};
 ghost use Rattle.mem_op.specs.Consistency.{KeepsProgramOrder, GivesFlatAnswers, IsSequentialOrder, operation_at};
 ghost use Rattle.log_record.specs.Entries.{record_lists, record_at, operations_of};
-ghost use Rattle.verdict.specs.EachId.{CountsEach};
+ghost use Rattle.verdict.specs.inner.EachId.{CountsEach};
 
 use log_record::{Act, Record};
 use mem_op::{OpId, Word};

@@ -33,7 +33,7 @@ pub fn round(machine: &mut Core, core: CoreId) -> Result<(), RoundFault>
 }
 
 /// Makes rounds of a core until it has performed one more operation. Where its program has ended,
-/// though a give-back be in hand, or the core isn't there, nothing is done.
+/// even if a give-back is in hand, or the core isn't there, nothing is done.
 ///
 /// Where 1,000 rounds weren't enough, 30 GaveUp is told with this core; where an event is refused, the
 /// core whose event it was and the cause. The machine is where the events before led.

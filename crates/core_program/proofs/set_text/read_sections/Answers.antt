@@ -1,9 +1,9 @@
--- The first line that is wrong, wherever the reader meets it; and one section more.
+-- The first line that is wrong, wherever the reader meets it; and one more section.
 use Rattle.std.proofs.Common.{refl, sym, ap, subst, ◌∙◌, ◌+◌, ◌++◌, ◌∷◌, [], arith, length, length-append, drop}
 use Rattle.std.proofs.lemmas.List.{take-append-drop}
 use Rattle.std.proofs.lemmas.Result.{err_from_is_err_and}
 use Rattle.core_program.specs.Grammar.{core_text}
-use Rattle.core_program.specs.Sections.{section_lists}
+use Rattle.core_program.specs.inner.Sections.{section_lists}
 use Rattle.core_program.proofs.SetTexts.{Standing, FromSection, bad_header, bad_line_of_set, more_behind, one_more_section, section_refused, section_lists_push, rest_is}
 use Rattle.core_program.proofs.set_text.read_sections.Goals as goal
 

@@ -1,6 +1,6 @@
 -- The sections so far are those of the lines before the rest.
 use Rattle.std.proofs.Common.{◌≡◌, length}
-use Rattle.core_program.specs.Sections.{section_lists}
+use Rattle.core_program.specs.inner.Sections.{section_lists}
 use Rattle.core_program.proofs.SetTexts.{Standing}
 use Rattle.core_program.proofs.set_text.read_sections.Given as goal
 

@@ -1,7 +1,7 @@
 -- The lines of the records, and the line that was begun.
 use Rattle.std.proofs.Common.{◌∙◌, ap, arith, length, refl, rules}
 use Rattle.std.proofs.lemmas.List.{length-append}
-use Rattle.log_file.specs.Chunks.{records_text}
+use Rattle.log_file.specs.inner.Chunks.{records_text}
 use Rattle.log_file.proofs.TakenParts.{has_front, read_front}
 use Rattle.log_file.proofs.chunks.front_of.Goals as goal
 

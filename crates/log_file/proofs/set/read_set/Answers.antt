@@ -1,4 +1,4 @@
--- The set so far, one file more; and the file that is refused.
+-- The set so far, one more file; and the file that is refused.
 use Rattle.std.proofs.Common.{◌≡◌, ℕ, length, arith, ap, subst, ◌∙◌, refl, Err, ◌++◌, ◌∷◌, [], rules}
 use Rattle.log_file.specs.declared.log_fault.LogFault.TheVariants.{OutOfMemory}
 use Rattle.log_file.specs.Devices.{Tells}

@@ -1,4 +1,4 @@
--- One address more.
+-- One more address.
 use Rattle.std.proofs.Common.{arith, ◌∙◌, ap}
 use Rattle.line_stamps.specs.Least.{lesser}
 use Rattle.address_check.specs.contracts.fault.AddressFaultOrd.TheImpl.{ghosts}

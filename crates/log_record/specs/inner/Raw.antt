@@ -14,7 +14,7 @@ use Rattle.log_record.specs.declared.raw.RawRecord.{RawRecord}
 use Rattle.log_record.specs.declared.header.Header.{Header}
 use Rattle.log_record.specs.declared.end.End.{End}
 use Rattle.decimal_text.specs.Numbers.{as_u64}
-use Rattle.log_record.specs.Reading.{Fields}
+use Rattle.log_record.specs.inner.Reading.{Fields}
 
 abbrev pub raw_source_of : Source → RawSource
 raw_source_of source.Init = raw_source.Init

@@ -1,0 +1,4 @@
+-- What only the contracts of private functions cite.
+pub mod Least
+pub mod Reading
+pub mod Sections

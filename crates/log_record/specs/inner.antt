@@ -1,0 +1,4 @@
+-- What only the contracts of private functions cite.
+pub mod FlatActs
+pub mod Raw
+pub mod Reading
