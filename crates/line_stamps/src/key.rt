@@ -1,7 +1,7 @@
 //! The order of operations.
 
-ghost use Rattle.std.specs.Prelude.{◌≡◌, ◌↔◌, IsTrue};
-ghost use Rattle.line_stamps.specs.KeyOrder.{key_cmp, KeyLess};
+ghost use Rattle.std.specs.Prelude.{◌≡◌};
+ghost use Rattle.line_stamps.specs.KeyOrder.{key_cmp};
 
 use super::rank::Rank;
 use super::stamp::Stamp;
@@ -38,12 +38,5 @@ impl Key {
         ensures { result ≡ key_cmp self.now other.now }
     {
         self.cmp(other)
-    }
-
-    /// Whether this key comes first.
-    pub fn is_before(&self, other: &Key) -> bool
-        ensures { IsTrue result ↔ KeyLess self.now other.now }
-    {
-        self < other
     }
 }
