@@ -1,7 +1,5 @@
 -- The order of keys: by stamp, then rank, then core, then index.
-use Rattle.std.specs.Prelude.{◌≡◌}
 use Rattle.std.specs.declared.cmp.Ordering.{Ordering}
-use Rattle.std.specs.declared.cmp.Ordering.TheVariants.{Less}
 use Rattle.std.specs.Ordering.{nat_cmp, on, then_cmp}
 use Rattle.line_stamps.specs.KeyParts.{KeyParts}
 
@@ -10,7 +8,3 @@ key_cmp =
     then_cmp (on (λ k. k.ts) nat_cmp)
     (then_cmp (on (λ k. k.rank) nat_cmp)
     (then_cmp (on (λ k. k.core) nat_cmp) (on (λ k. k.index) nat_cmp)))
-
--- the first key comes before the second
-abbrev pub KeyLess : KeyParts → KeyParts → Type 0
-KeyLess a b = key_cmp a b ≡ Less
