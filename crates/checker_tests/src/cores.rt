@@ -19,8 +19,8 @@ fn store(ts: u64, rank: u64) -> Result<Record, Fail> {
     })
 }
 
-fn fault(rule: CoreRule, core: u64, index: u64) -> Result<CoreFault, Fail> {
-    Ok(CoreFault {
+fn fault(rule: CoreRule, core: u64, index: u64) -> Result<RuleFault, Fail> {
+    Ok(RuleFault {
         rule,
         id: OpId {
             core: CoreId::new(core)?,

@@ -9,7 +9,7 @@ use Rattle.log_record.specs.declared.record.Record.{Record}
 use Rattle.log_record.specs.declared.record.Entry.{Entry}
 use Rattle.log_record.specs.Entries.{entries, record_at}
 use Rattle.log_record.proofs.EntryFacts.{at, entry_of_record}
-use Rattle.core_check.specs.declared.fault.CoreFault.{CoreFault}
+use Rattle.core_check.specs.declared.fault.RuleFault.{RuleFault}
 use Rattle.core_check.specs.CoreOrder.{falls, is_core_fault}
 use Rattle.core_check.specs.CoreFaults.{breaks_core_order, order_fault, order_faults}
 
@@ -36,14 +36,14 @@ fault_of_log logs id log place falls_here =
     (In-filtered (breaks_core_order logs) (entries logs) (at id found.0) (entry_of_record logs id found.0 stands) breaks)
 
 -- a fault of the set, with the log that it stands in
-pub record FaultIn (logs : List (List Record)) (f : CoreFault) : Type 0 where
+pub record FaultIn (logs : List (List Record)) (f : RuleFault) : Type 0 where
   pub log : List Record
   pub place : slice_get logs f.id.core ≡ Some log
   pub falls_there : is_core_fault log f.id.index ≡ true
   pub of_order : order_fault f.id ≡ f
 
 -- each of the set's faults is a core fault of one log
-pub fault_in_log : (logs : List (List Record)) (f : CoreFault) → In f (order_faults logs) → FaultIn logs f
+pub fault_in_log : (logs : List (List Record)) (f : RuleFault) → In f (order_faults logs) → FaultIn logs f
 fault_in_log logs f h = go (In-map (λ (e : Entry). order_fault e.id) f (filter (breaks_core_order logs) (entries logs)) h)
   where
     in_log : (o : Option (List Record)) → slice_get logs f.id.core ≡ o → option_map_or (λ l. is_core_fault l f.id.index) o false ≡ true → order_fault f.id ≡ f → FaultIn logs f
@@ -53,7 +53,7 @@ fault_in_log logs f h = go (In-map (λ (e : Entry). order_fault e.id) f (filter 
     go : (e : Entry) × In e (filter (breaks_core_order logs) (entries logs)) × (order_fault e.id ≡ f) → FaultIn logs f
     go t =
         let breaks : breaks_core_order logs t.0 ≡ true = (In-filter (breaks_core_order logs) (entries logs) t.0 t.1).1 in
-        let same : t.0.id ≡ f.id = ap (λ (g : CoreFault). g.id) t.2 in
+        let same : t.0.id ≡ f.id = ap (λ (g : RuleFault). g.id) t.2 in
         in_log (slice_get logs f.id.core) refl
         (subst (λ (id : OpId). option_map_or (λ l. is_core_fault l id.index) (slice_get logs id.core) false ≡ true) same breaks)
         (ap order_fault (sym same) ∙ t.2)

@@ -11,18 +11,18 @@ use Rattle.core_program.specs.declared.instruction.Instruction.{Instruction}
 use Rattle.core_program.specs.Conforming.{program_fault}
 use Rattle.log_record.specs.declared.record.Record.{Record}
 use Rattle.log_record.specs.Entries.{operation_of}
-use Rattle.core_check.specs.declared.fault.CoreFault.{CoreFault}
+use Rattle.core_check.specs.declared.fault.RuleFault.{RuleFault}
 use Rattle.core_check.specs.CoreFaults.{program_fault_at, program_faults_of, program_faults_from, program_faults}
 
-abbrev fault_in : ℕ → ℕ → CoreFault
+abbrev fault_in : ℕ → ℕ → RuleFault
 fault_in core i = program_fault_at (record { core = core; index = i })
 
-abbrev faults_by : ℕ → Option ℕ → List CoreFault
+abbrev faults_by : ℕ → Option ℕ → List RuleFault
 faults_by core o = option_map_or (λ i. fault_in core i ∷ []) o []
 
 -- ---- one core's
 
-in_own : (core : ℕ) (o : Option ℕ) (f : CoreFault) → In f (faults_by core o) → (i : ℕ) × (o ≡ Some i) × (fault_in core i ≡ f)
+in_own : (core : ℕ) (o : Option ℕ) (f : RuleFault) → In f (faults_by core o) → (i : ℕ) × (o ≡ Some i) × (fault_in core i ≡ f)
 in_own core None f h = absurd h
 in_own core (Some i) f (inl same) = (i, refl, same)
 in_own core (Some i) f (inr h) = absurd h
@@ -32,7 +32,7 @@ own_in core o i e = subst (λ a. In (fault_in core i) (faults_by core a)) (sym e
 
 -- ---- those of all cores
 
-in_cores : (c : ℕ) (programs : List (List Instruction)) (logs : List (List Record)) (f : CoreFault) → In f (program_faults_from c programs logs) →
+in_cores : (c : ℕ) (programs : List (List Instruction)) (logs : List (List Record)) (f : RuleFault) → In f (program_faults_from c programs logs) →
     (k : ℕ) × (p : List Instruction) × (log : List Record) × (i : ℕ) × (slice_get programs k ≡ Some p) × (slice_get logs k ≡ Some log) × (program_fault p (map operation_of log) ≡ Some i) × (fault_in (c + k) i ≡ f)
 in_cores c [] logs f h = absurd h
 in_cores c (p ∷ programs) [] f h = absurd h
@@ -65,7 +65,7 @@ program_fault_of_log programs logs id p log e f g =
     subst (λ n. In (fault_in n id.index) (program_faults programs logs)) at (cores_in 0 id.core programs logs p log id.index e f g)
 
 -- a PROGRAM fault of a set, with the log and the program that it stands in
-pub record ProgramFaultIn (programs : List (List Instruction)) (logs : List (List Record)) (f : CoreFault) : Type 0 where
+pub record ProgramFaultIn (programs : List (List Instruction)) (logs : List (List Record)) (f : RuleFault) : Type 0 where
   pub program : List Instruction
   pub program_there : slice_get programs f.id.core ≡ Some program
   pub log : List Record
@@ -74,17 +74,17 @@ pub record ProgramFaultIn (programs : List (List Instruction)) (logs : List (Lis
   pub of_program : program_fault_at f.id ≡ f
 
 -- and each of the set's is the fault of one log
-pub program_fault_in_log : (programs : List (List Instruction)) (logs : List (List Record)) (f : CoreFault) → In f (program_faults programs logs) → ProgramFaultIn programs logs f
+pub program_fault_in_log : (programs : List (List Instruction)) (logs : List (List Record)) (f : RuleFault) → In f (program_faults programs logs) → ProgramFaultIn programs logs f
 program_fault_in_log programs logs f h =
     let t = in_cores 0 programs logs f h in
-    let at : t.0 ≡ f.id.core = (let q : 0 + t.0 ≡ f.id.core = ap (λ (g : CoreFault). g.id.core) t.7 in omega arith) in
+    let at : t.0 ≡ f.id.core = (let q : 0 + t.0 ≡ f.id.core = ap (λ (g : RuleFault). g.id.core) t.7 in omega arith) in
     record {
       program = t.1;
       program_there = subst (λ n. slice_get programs n ≡ Some t.1) at t.4;
       log = t.2;
       log_there = subst (λ n. slice_get logs n ≡ Some t.2) at t.5;
-      fault = t.6 ∙ ap (λ (g : CoreFault). Some g.id.index) t.7;
-      of_program = ap (λ (g : CoreFault). program_fault_at g.id) (sym t.7) ∙ t.7;
+      fault = t.6 ∙ ap (λ (g : RuleFault). Some g.id.index) t.7;
+      of_program = ap (λ (g : RuleFault). program_fault_at g.id) (sym t.7) ∙ t.7;
     }
 
 -- the fault of the set at a place is that of the log there
@@ -101,7 +101,7 @@ program_fault_at_place programs logs id p log e f h =
 
 -- ---- the faults of one core among the set's
 
-abbrev is_of : ℕ → CoreFault → Bool
+abbrev is_of : ℕ → RuleFault → Bool
 is_of core f = f.id.core == core
 
 own_kept : (core : ℕ) (o : Option ℕ) → filter (is_of core) (faults_by core o) ≡ faults_by core o

@@ -9,7 +9,7 @@ use Rattle.log_record.specs.declared.record.Record.{Record}
 use Rattle.log_record.specs.declared.record.Entry.{Entry}
 use Rattle.log_record.specs.Entries.{entries, operation_of}
 use Rattle.core_check.specs.declared.fault.CoreRule.TheVariants.{CoreOrder, Program}
-use Rattle.core_check.specs.declared.fault.CoreFault.{CoreFault}
+use Rattle.core_check.specs.declared.fault.RuleFault.{RuleFault}
 use Rattle.core_check.specs.FaultOrder.{core_fault_cmp}
 use Rattle.core_check.specs.CoreOrder.{is_core_fault}
 
@@ -18,34 +18,34 @@ abbrev pub breaks_core_order : List (List Record) → Entry → Bool
 breaks_core_order logs e =
     option_map_or (λ log. is_core_fault log e.id.index) (slice_get logs e.id.core) false
 
-abbrev pub order_fault : OpId → CoreFault
+abbrev pub order_fault : OpId → RuleFault
 order_fault id = record { rule = CoreOrder; id = id }
 
 -- all faults of core order of the set
-abbrev pub order_faults : List (List Record) → List CoreFault
+abbrev pub order_faults : List (List Record) → List RuleFault
 order_faults logs = map (λ e. order_fault e.id) (filter (breaks_core_order logs) (entries logs))
 
-abbrev pub least_core_fault : List (List Record) → Option CoreFault
+abbrev pub least_core_fault : List (List Record) → Option RuleFault
 least_core_fault logs = least_of core_fault_cmp (order_faults logs)
 
 -- ---- with programs
 
 -- the fault of an id at which a log isn't what its core's program issues
-abbrev pub program_fault_at : OpId → CoreFault
+abbrev pub program_fault_at : OpId → RuleFault
 program_fault_at id = record { rule = Program; id = id }
 
 -- the PROGRAM fault of a core's log, if it has one
-abbrev pub program_faults_of : ℕ → List Instruction → List Record → List CoreFault
+abbrev pub program_faults_of : ℕ → List Instruction → List Record → List RuleFault
 program_faults_of core program log =
     option_map_or (λ i. program_fault_at (record { core = core; index = i }) ∷ []) (program_fault program (map operation_of log)) []
 
 -- the PROGRAM faults of a core and of those after it, each log by the program beside it
-abbrev pub program_faults_from : ℕ → List (List Instruction) → List (List Record) → List CoreFault
+abbrev pub program_faults_from : ℕ → List (List Instruction) → List (List Record) → List RuleFault
 program_faults_from core [] logs = []
 program_faults_from core (program ∷ programs) [] = []
 program_faults_from core (program ∷ programs) (log ∷ logs) =
     program_faults_of core program log ++ program_faults_from (suc core) programs logs
 
 -- all PROGRAM faults of the set
-abbrev pub program_faults : List (List Instruction) → List (List Record) → List CoreFault
+abbrev pub program_faults : List (List Instruction) → List (List Record) → List RuleFault
 program_faults programs logs = program_faults_from 0 programs logs

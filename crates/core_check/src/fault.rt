@@ -18,14 +18,14 @@ pub enum CoreRule {
 
 /// A record that breaks a rule of its core's log. Faults compare by rule, then core, then index.
 #[derive(Clone, Copy, Debug, PartialEq, Eq, PartialOrd, Ord)]
-pub struct CoreFault {
+pub struct RuleFault {
     /// The rule that it breaks.
     pub rule: CoreRule,
     /// Whose record it is, and which.
     pub id: OpId,
 }
 
-impl Model for CoreFault {
+impl Model for RuleFault {
     ghost use Rattle.core_check.specs.FaultParts.{CoreFaultParts};
 
     ghost Value = { CoreFaultParts };
@@ -35,9 +35,9 @@ impl Model for CoreFault {
     ghost inverse = { λ fault. record { rule = fault.rule; id = fault.id } };
 }
 
-impl CoreFault {
+impl RuleFault {
     /// How two faults compare: by rule, then core, then index.
-    pub fn order(&self, other: &CoreFault) -> Ordering
+    pub fn order(&self, other: &RuleFault) -> Ordering
         ensures { result ≡ core_fault_cmp self.now other.now }
     {
         self.cmp(other)

@@ -8,7 +8,7 @@ mod laws;
 
 pub use conforming::conforms;
 pub use core_order::core_fault;
-pub use fault::{CoreFault, CoreRule};
+pub use fault::{CoreRule, RuleFault};
 pub use laws::{
     core_faults_are_totally_ordered, order_faults_are_where_logs_fall,
     program_faults_are_where_logs_differ, tied_core_faults_are_one,

@@ -10,7 +10,7 @@ use Rattle.log_record.specs.declared.record.Record.{Record}
 use Rattle.log_record.specs.declared.record.Entry.{Entry}
 use Rattle.log_record.specs.Entries.{operation_of, operations_of, entries}
 use Rattle.line_stamps.specs.Least.{least_of}
-use Rattle.core_check.specs.declared.fault.CoreFault.{CoreFault}
+use Rattle.core_check.specs.declared.fault.RuleFault.{RuleFault}
 use Rattle.core_check.specs.FaultOrder.{core_fault_cmp}
 use Rattle.core_check.specs.CoreFaults.{breaks_core_order, order_fault, order_faults, least_core_fault, program_fault_at, program_faults_of, program_faults_from, program_faults}
 use Rattle.core_program.specs.declared.instruction.Instruction.{Instruction}
@@ -53,7 +53,7 @@ none_of_addresses logs none e p = go (address_fault (entries logs) e) refl
     go (Some f) h = absurd (none_from_least fault_cmp (address_faults (entries logs)) f none (In-filter_map (address_fault (entries logs)) (entries logs) e f p h))
 
 -- where the verdict is Yes there is no fault
-no_faults : (core : Option CoreFault) (address : Option AddressFault) (n count : ℕ) → option_map_or No (option_or (option_map from_core core) (option_map from_address address)) (Yes n) ≡ Yes count → (core ≡ None) × (address ≡ None)
+no_faults : (core : Option RuleFault) (address : Option AddressFault) (n count : ℕ) → option_map_or No (option_or (option_map from_core core) (option_map from_address address)) (Yes n) ≡ Yes count → (core ≡ None) × (address ≡ None)
 no_faults None None n count h = (refl, refl)
 no_faults None (Some f) n count h = absurd cc
 no_faults (Some f) address n count h = absurd cc
@@ -69,7 +69,7 @@ yes_is_consistent logs count h = (ids_by_key logs, yes_is_sequential logs count 
 -- ---- with programs
 
 -- a list without a least fault is empty
-none_at_all : (faults : List CoreFault) → least_of core_fault_cmp faults ≡ None → faults ≡ []
+none_at_all : (faults : List RuleFault) → least_of core_fault_cmp faults ≡ None → faults ≡ []
 none_at_all [] h = refl
 none_at_all (f ∷ fs) h = absurd (none_from_least core_fault_cmp (f ∷ fs) f h (inl refl))
 

@@ -10,7 +10,7 @@ use Rattle.line_stamps.specs.Least.{least_of, lesser}
 use Rattle.line_stamps.specs.inner.Ordered.{In, IsLeastIn}
 use Rattle.line_stamps.proofs.Ordered.{In-append_left, In-append_right, In-filter, In-filtered, In-flat_map, flat_map-In, least_is, one_least, same_least}
 use Rattle.log_record.specs.declared.record.Record.{Record}
-use Rattle.core_check.specs.declared.fault.CoreFault.{CoreFault}
+use Rattle.core_check.specs.declared.fault.RuleFault.{RuleFault}
 use Rattle.core_check.specs.FaultOrder.{core_fault_cmp, rule_number}
 use Rattle.core_check.specs.CoreOrder.{is_core_fault}
 use Rattle.core_program.specs.inner.Least.{IsLeastWhere}
@@ -23,16 +23,16 @@ use Rattle.verdict.specs.CoreFaultsOf.{faults_of_core, least_of_core, least_of_c
 use Rattle.verdict.proofs.ProgramOrder.{less_index, tied_core}
 
 -- what is least among faults is the least of them
-is_the_least : (faults : List CoreFault) (o : Option CoreFault) → IsLeastIn core_fault_cmp faults o → o ≡ least_of core_fault_cmp faults
+is_the_least : (faults : List RuleFault) (o : Option RuleFault) → IsLeastIn core_fault_cmp faults o → o ≡ least_of core_fault_cmp faults
 is_the_least faults o h =
     one_least core_fault_cmp core_fault_total faults faults o (least_of core_fault_cmp faults)
     (λ a b p q tied. tied_core_faults a b tied) (λ f p. p) (λ f p. p) h (least_is core_fault_cmp core_fault_total faults)
 
-abbrev is_of : ℕ → CoreFault → Bool
+abbrev is_of : ℕ → RuleFault → Bool
 is_of core f = f.id.core == core
 
 -- a fault of a core is a fault of its log
-in_log_of_core : (logs : List (List Record)) (core : ℕ) (f : CoreFault) → In f (faults_of_core (order_faults logs) core) → FaultIn logs f × (f.id.core ≡ core)
+in_log_of_core : (logs : List (List Record)) (core : ℕ) (f : RuleFault) → In f (faults_of_core (order_faults logs) core) → FaultIn logs f × (f.id.core ≡ core)
 in_log_of_core logs core f h =
     let parts = In-filter (is_of core) (order_faults logs) f h in
     (fault_in_log logs f parts.0, eqb-true f.id.core core parts.1)
@@ -41,7 +41,7 @@ in_log_of_core logs core f h =
 abbrev log_of : List (List Record) → ℕ → List Record
 log_of logs core = unwrap_or (slice_get logs core) []
 
-falls_in_read_log : (logs : List (List Record)) (core : ℕ) (f : CoreFault) → In f (faults_of_core (order_faults logs) core) → is_core_fault (log_of logs core) f.id.index ≡ true
+falls_in_read_log : (logs : List (List Record)) (core : ℕ) (f : RuleFault) → In f (faults_of_core (order_faults logs) core) → is_core_fault (log_of logs core) f.id.index ≡ true
 falls_in_read_log logs core f h =
     let found = in_log_of_core logs core f h in
     let place : slice_get logs core ≡ Some found.0.log = subst (λ c. slice_get logs c ≡ Some found.0.log) found.1 found.0.place in
@@ -60,26 +60,26 @@ place_of_fault logs core index h = go (slice_get logs core) h
     go (Some log) t = refl
 
 -- of two faults of a core's order the one that isn't of lesser index isn't less
-not_less : (a b : CoreFault) → order_fault a.id ≡ a → order_fault b.id ≡ b → a.id.core ≡ b.id.core → (a.id.index < b.id.index → ⊥) → is_lt (core_fault_cmp a b) ≡ false
+not_less : (a b : RuleFault) → order_fault a.id ≡ a → order_fault b.id ≡ b → a.id.core ≡ b.id.core → (a.id.index < b.id.index → ⊥) → is_lt (core_fault_cmp a b) ≡ false
 not_less a b p q core h =
     ap (λ o. is_lt (ordering_then o (ordering_then (nat_cmp a.id.core b.id.core) (nat_cmp a.id.index b.id.index)))) one_rule
     ∙ ap (λ o. is_lt (ordering_then o (nat_cmp a.id.index b.id.index))) (tied_core a.id.core b.id.core core)
     ∙ false_from_ne_true (is_lt (nat_cmp a.id.index b.id.index)) (λ t. h (less_index a.id.index b.id.index t))
   where
     one_rule : nat_cmp (rule_number a.rule) (rule_number b.rule) ≡ Equal
-    one_rule = ap (λ (f : CoreFault). nat_cmp (rule_number f.rule) (rule_number b.rule)) (sym p) ∙ ap (λ (f : CoreFault). nat_cmp 0 (rule_number f.rule)) (sym q)
+    one_rule = ap (λ (f : RuleFault). nat_cmp (rule_number f.rule) (rule_number b.rule)) (sym p) ∙ ap (λ (f : RuleFault). nat_cmp 0 (rule_number f.rule)) (sym q)
 
 pub first_of_core : (logs : List (List Record)) (core index : ℕ) → IsLeastWhere (is_core_fault (log_of logs core)) (Some index) → Some (order_fault (record { core = core; index = index })) ≡ least_of_core (order_faults logs) core
 first_of_core logs core index h = is_the_least (faults_of_core (order_faults logs) core) (Some fault) (here, above)
   where
-    fault : CoreFault
+    fault : RuleFault
     fault = order_fault (record { core = core; index = index })
 
     here : In fault (faults_of_core (order_faults logs) core)
     here = In-filtered (is_of core) (order_faults logs) fault
         (fault_of_log logs fault.id (log_of logs core) (place_of_fault logs core index h.0) h.0) (eq-eqb core core refl)
 
-    above : (f : CoreFault) → In f (faults_of_core (order_faults logs) core) → is_lt (core_fault_cmp f fault) ≡ false
+    above : (f : RuleFault) → In f (faults_of_core (order_faults logs) core) → is_lt (core_fault_cmp f fault) ≡ false
     above f p =
         let found = in_log_of_core logs core f p in
         not_less f fault found.0.of_order refl found.1 (λ l. (let t = h.1 f.id.index l in let u = falls_in_read_log logs core f p in cc))
@@ -112,21 +112,21 @@ In-one_more cores more n added push is h core l = subst (λ (cs : List ℕ). In 
 ])
 
 -- a list of cores that every fault is of gives the least fault
-pub least_by_cores : (faults : List CoreFault) (cores : List ℕ) → ((f : CoreFault) → In f faults → In f.id.core cores) → least_of_cores faults cores ≡ least_of core_fault_cmp faults
+pub least_by_cores : (faults : List RuleFault) (cores : List ℕ) → ((f : RuleFault) → In f faults → In f.id.core cores) → least_of_cores faults cores ≡ least_of core_fault_cmp faults
 least_by_cores faults cores whole =
     same_least core_fault_cmp core_fault_total (flat_map (faults_of_core faults) cores) faults
     (λ a b p q tied. tied_core_faults a b tied) of_set of_cores
   where
-    of_set : (f : CoreFault) → In f (flat_map (faults_of_core faults) cores) → In f faults
+    of_set : (f : RuleFault) → In f (flat_map (faults_of_core faults) cores) → In f faults
     of_set f p = let found = flat_map-In (faults_of_core faults) cores f p in (In-filter (is_of found.0) faults f found.2).0
 
-    of_cores : (f : CoreFault) → In f faults → In f (flat_map (faults_of_core faults) cores)
+    of_cores : (f : RuleFault) → In f faults → In f (flat_map (faults_of_core faults) cores)
     of_cores f p =
         In-flat_map (faults_of_core faults) cores f.id.core f (whole f p)
         (In-filtered (is_of f.id.core) faults f p (eq-eqb f.id.core f.id.core refl))
 
 -- the least fault of the first cores, with that of one more core
-pub least_with_core : (faults : List CoreFault) (cores : List ℕ) (k core : ℕ) (least found next : Option CoreFault) → k < length cores → core ≡ get_or cores k core → least ≡ least_of_cores faults (take k cores) → found ≡ least_of_core faults core → next ≡ lesser ghosts.cmp least found → next ≡ least_of_cores faults (take (k + 1) cores)
+pub least_with_core : (faults : List RuleFault) (cores : List ℕ) (k core : ℕ) (least found next : Option RuleFault) → k < length cores → core ≡ get_or cores k core → least ≡ least_of_cores faults (take k cores) → found ≡ least_of_core faults core → next ≡ lesser ghosts.cmp least found → next ≡ least_of_cores faults (take (k + 1) cores)
 least_with_core faults cores k core least found next within here so_far of_core chosen =
     chosen
     ∙ ap (λ a. lesser ghosts.cmp a found) so_far

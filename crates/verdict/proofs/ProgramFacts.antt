@@ -14,7 +14,7 @@ use Rattle.log_record.specs.declared.record.Record.{Record}
 use Rattle.log_record.specs.Entries.{operation_of}
 use Rattle.core_program.specs.declared.instruction.Instruction.{Instruction}
 use Rattle.core_program.specs.Conforming.{program_fault}
-use Rattle.core_check.specs.declared.fault.CoreFault.{CoreFault}
+use Rattle.core_check.specs.declared.fault.RuleFault.{RuleFault}
 use Rattle.core_check.specs.contracts.fault.CoreFaultOrd.TheImpl.{ghosts}
 use Rattle.core_check.specs.FaultOrder.{core_fault_cmp}
 use Rattle.core_check.specs.CoreFaults.{order_faults, program_fault_at, program_faults_from, program_faults}
@@ -23,7 +23,7 @@ use Rattle.core_check.proofs.OrderFaultFacts.{fault_in_log}
 use Rattle.std.proofs.lemmas.Option.{slice_get_within}
 use Rattle.verdict.specs.CoreFaultsOf.{core_faults, faults_by_programs, faults_of_core, least_of_core}
 
-abbrev is_of : ℕ → CoreFault → Bool
+abbrev is_of : ℕ → RuleFault → Bool
 is_of core f = f.id.core == core
 
 -- where the log of a core leaves its program
@@ -32,19 +32,19 @@ fault_at programs logs core =
     option_and_then (λ (program : List Instruction). option_and_then (λ (log : List Record). program_fault program (map operation_of log)) (slice_get logs core)) (slice_get programs core)
 
 -- the fault of a core at an index
-abbrev pub fault_of_program : ℕ → ℕ → CoreFault
+abbrev pub fault_of_program : ℕ → ℕ → RuleFault
 fault_of_program core index = program_fault_at (record { core = core; index = index })
 
 -- the one fault of a log, if it has one
-abbrev alone : ℕ → Option ℕ → List CoreFault
+abbrev alone : ℕ → Option ℕ → List RuleFault
 alone core o = option_map_or (λ i. fault_of_program core i ∷ []) o []
 
 -- the fault of a log before others
-its_own : (core from : ℕ) (o : Option ℕ) (faults : List CoreFault) → from ≡ core → filter (is_of core) (alone from o ++ faults) ≡ alone core o ++ filter (is_of core) faults
+its_own : (core from : ℕ) (o : Option ℕ) (faults : List RuleFault) → from ≡ core → filter (is_of core) (alone from o ++ faults) ≡ alone core o ++ filter (is_of core) faults
 its_own core from None faults same = refl
 its_own core from (Some i) faults same = ap (λ b. cond b (fault_of_program from i ∷ filter (is_of core) faults) (filter (is_of core) faults)) (eq-eqb from core same) ∙ ap (λ c. fault_of_program c i ∷ filter (is_of core) faults) same
 
-not_its_own : (core from : ℕ) (o : Option ℕ) (faults : List CoreFault) → (from ≡ core → ⊥) → filter (is_of core) (alone from o ++ faults) ≡ filter (is_of core) faults
+not_its_own : (core from : ℕ) (o : Option ℕ) (faults : List RuleFault) → (from ≡ core → ⊥) → filter (is_of core) (alone from o ++ faults) ≡ filter (is_of core) faults
 not_its_own core from None faults other = refl
 not_its_own core from (Some i) faults other = ap (λ b. cond b (fault_of_program from i ∷ filter (is_of core) faults) (filter (is_of core) faults)) (ne_eqb from core other)
 
@@ -104,18 +104,18 @@ fault_of_log ps logs core program log there logged =
 -- the least core fault of a core is the lesser of its two
 pub lesser_of_core : (programs : Option (List (List Instruction))) (logs : List (List Record)) (core : ℕ) → lesser ghosts.cmp (least_of_core (order_faults logs) core) (least_of_core (faults_by_programs programs logs) core) ≡ least_of_core (core_faults programs logs) core
 lesser_of_core programs logs core =
-    subst (λ (R : CoreFault → CoreFault → Ordering). lesser R (least_of_core (order_faults logs) core) (least_of_core (faults_by_programs programs logs) core) ≡ least_of_core (core_faults programs logs) core) derived_cmp
+    subst (λ (R : RuleFault → RuleFault → Ordering). lesser R (least_of_core (order_faults logs) core) (least_of_core (faults_by_programs programs logs) core) ≡ least_of_core (core_faults programs logs) core) derived_cmp
     (sym (ap (least_of core_fault_cmp) (filter-append (is_of core) (order_faults logs) (faults_by_programs programs logs))
     ∙ least_of-append core_fault_cmp core_fault_total (faults_of_core (order_faults logs) core) (faults_of_core (faults_by_programs programs logs) core)))
 
 -- ---- each fault is of a core that has a log
 
-in_one : (from : ℕ) (o : Option ℕ) (faults : List CoreFault) (f : CoreFault) → In f (alone from o ++ faults) → (from ≡ f.id.core) ⊎ In f faults
+in_one : (from : ℕ) (o : Option ℕ) (faults : List RuleFault) (f : RuleFault) → In f (alone from o ++ faults) → (from ≡ f.id.core) ⊎ In f faults
 in_one from None faults f p = inr p
-in_one from (Some i) faults f (inl e) = inl (ap (λ (g : CoreFault). g.id.core) e)
+in_one from (Some i) faults f (inl e) = inl (ap (λ (g : RuleFault). g.id.core) e)
 in_one from (Some i) faults f (inr p) = inr p
 
-in_program_faults : (from : ℕ) (programs : List (List Instruction)) (logs : List (List Record)) (f : CoreFault) → In f (program_faults_from from programs logs) → f.id.core < from + length logs
+in_program_faults : (from : ℕ) (programs : List (List Instruction)) (logs : List (List Record)) (f : RuleFault) → In f (program_faults_from from programs logs) → f.id.core < from + length logs
 in_program_faults from [] logs f h = absurd h
 in_program_faults from (program ∷ programs) [] f h = absurd h
 in_program_faults from (program ∷ programs) (log ∷ logs) f h =
@@ -124,7 +124,7 @@ in_program_faults from (program ∷ programs) (log ∷ logs) f h =
       | inr p ↦ (let l : f.id.core < suc from + length logs = in_program_faults (suc from) programs logs f p in omega arith)
     ]
 
-pub has_log : (programs : Option (List (List Instruction))) (logs : List (List Record)) (f : CoreFault) → In f (core_faults programs logs) → f.id.core < length logs
+pub has_log : (programs : Option (List (List Instruction))) (logs : List (List Record)) (f : RuleFault) → In f (core_faults programs logs) → f.id.core < length logs
 has_log programs logs f h = elim (In-append f (order_faults logs) (faults_by_programs programs logs) h) [
   | inl p ↦ (let found = fault_in_log logs f p in slice_get_within logs f.id.core found.log found.place)
   | inr p ↦ by_program programs p

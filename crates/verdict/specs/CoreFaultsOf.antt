@@ -5,7 +5,7 @@ use Rattle.std.specs.List.{flat_map}
 use Rattle.line_stamps.specs.Least.{least_of}
 use Rattle.log_record.specs.declared.record.Record.{Record}
 use Rattle.core_program.specs.declared.instruction.Instruction.{Instruction}
-use Rattle.core_check.specs.declared.fault.CoreFault.{CoreFault}
+use Rattle.core_check.specs.declared.fault.RuleFault.{RuleFault}
 use Rattle.core_check.specs.FaultOrder.{core_fault_cmp}
 use Rattle.core_check.specs.CoreFaults.{order_faults, program_faults}
 
@@ -14,21 +14,21 @@ abbrev pub given : Option (Bor (List (List Instruction))) → Option (List (List
 given = option_map (λ programs. programs.now)
 
 -- the faults against the programs of a set's cores, where they are given
-abbrev pub faults_by_programs : Option (List (List Instruction)) → List (List Record) → List CoreFault
+abbrev pub faults_by_programs : Option (List (List Instruction)) → List (List Record) → List RuleFault
 faults_by_programs None logs = []
 faults_by_programs (Some programs) logs = program_faults programs logs
 
 -- all core faults of a set
-abbrev pub core_faults : Option (List (List Instruction)) → List (List Record) → List CoreFault
+abbrev pub core_faults : Option (List (List Instruction)) → List (List Record) → List RuleFault
 core_faults programs logs = order_faults logs ++ faults_by_programs programs logs
 
 -- those of the faults that are a core's
-abbrev pub faults_of_core : List CoreFault → ℕ → List CoreFault
+abbrev pub faults_of_core : List RuleFault → ℕ → List RuleFault
 faults_of_core faults core = filter (λ f. f.id.core == core) faults
 
-abbrev pub least_of_core : List CoreFault → ℕ → Option CoreFault
+abbrev pub least_of_core : List RuleFault → ℕ → Option RuleFault
 least_of_core faults core = least_of core_fault_cmp (faults_of_core faults core)
 
 -- the least of the faults that are of these cores
-abbrev pub least_of_cores : List CoreFault → List ℕ → Option CoreFault
+abbrev pub least_of_cores : List RuleFault → List ℕ → Option RuleFault
 least_of_cores faults cores = least_of core_fault_cmp (flat_map (faults_of_core faults) cores)

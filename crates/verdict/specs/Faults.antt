@@ -1,7 +1,7 @@
 -- The faults of cores and of addresses as faults of a verdict.
 use Rattle.core_check.specs.declared.fault.CoreRule.{CoreRule}
 use Rattle.core_check.specs.declared.fault.CoreRule.TheVariants.{CoreOrder as OfCoreOrder, Program as OfProgram}
-use Rattle.core_check.specs.declared.fault.CoreFault.{CoreFault}
+use Rattle.core_check.specs.declared.fault.RuleFault.{RuleFault}
 use Rattle.address_check.specs.declared.fault.AddressRule.{AddressRule}
 use Rattle.address_check.specs.declared.fault.AddressRule.TheVariants.{Source as OfSource, Value as OfValue}
 use Rattle.address_check.specs.declared.fault.AddressFault.{AddressFault}
@@ -13,7 +13,7 @@ abbrev pub core_rule : CoreRule → Rule
 core_rule OfCoreOrder = CoreOrder
 core_rule OfProgram = Program
 
-abbrev pub from_core : CoreFault → FaultParts
+abbrev pub from_core : RuleFault → FaultParts
 from_core f = record { id = f.id; rule = core_rule f.rule }
 
 abbrev pub address_rule : AddressRule → Rule

@@ -10,7 +10,7 @@ ghost use Rattle.verdict.specs.CoreLaw.{least_of_cores-joined};
 
 use crate::log_set::LogSet;
 use address_check::{Gate, LocalCheck, Phase, fault_by_workers, lesser_fault};
-use core_check::{CoreFault, CoreRule, conforms, core_fault};
+use core_check::{CoreRule, RuleFault, conforms, core_fault};
 use core_program::ProgramSet;
 use mem_op::{CoreId, OpId, OpIndex};
 use std::alloc::{AllocError, Global};
@@ -47,7 +47,7 @@ impl<'a> CoreCheck<'a> {
     }
 
     /// Where a core's log falls first, if it does.
-    fn order_fault(&self, core: CoreId) -> Option<CoreFault>
+    fn order_fault(&self, core: CoreId) -> Option<RuleFault>
         ensures { result ≡ least_of_core (order_faults self.now.logs.now) core }
     {
         let index = core_fault(self.logs.get(core)?)?;
@@ -55,7 +55,7 @@ impl<'a> CoreCheck<'a> {
     }
 
     /// Where a core's log leaves its program first, if there are programs and it does.
-    fn program_fault(&self, core: CoreId) -> Option<CoreFault>
+    fn program_fault(&self, core: CoreId) -> Option<RuleFault>
         ensures { result
             ≡ least_of_core (faults_by_programs (given self.now.programs) self.now.logs.now) core }
     {
@@ -65,7 +65,7 @@ impl<'a> CoreCheck<'a> {
     }
 
     /// The least fault of a core.
-    fn fault_of_core(&self, core: CoreId) -> Option<CoreFault>
+    fn fault_of_core(&self, core: CoreId) -> Option<RuleFault>
         ensures { result
             ≡ least_of_core (core_faults (given self.now.programs) self.now.logs.now) core }
     {
@@ -80,7 +80,7 @@ impl<'a> CoreCheck<'a> {
         alloc: Global,
         gate: &G,
         workers: usize,
-    ) -> Result<Option<CoreFault>, AllocError>
+    ) -> Result<Option<RuleFault>, AllocError>
         requires some { 0 < workers }
         requires few { workers ≤ 64 }
         ensures { IfOk result (λ fault. fault
@@ -93,14 +93,14 @@ impl<'a> CoreCheck<'a> {
 }
 
 /// The fault at an index of a core's log.
-fn fault_at(rule: CoreRule, core: CoreId, index: usize) -> CoreFault
+fn fault_at(rule: CoreRule, core: CoreId, index: usize) -> RuleFault
     requires { index < 1048576 }
     ensures { result ≡ record { rule = rule; id = record { core = core; index = index } } }
 {
     let Ok(index) = OpIndex::new(index as u64) else {
         unreachable!()
     };
-    CoreFault {
+    RuleFault {
         rule,
         id: OpId { core, index },
     }
@@ -110,11 +110,11 @@ fn fault_at(rule: CoreRule, core: CoreId, index: usize) -> CoreFault
 impl LocalCheck for CoreCheck<'_> {
     type Item = CoreId;
 
-    type Fault = CoreFault;
+    type Fault = RuleFault;
 
     ghost fault_of = { λ check cores. least_of_cores (core_faults (given check.programs) check.logs.now) cores };
 
-    fn fault(&self, cores: &[CoreId]) -> Option<CoreFault> {
+    fn fault(&self, cores: &[CoreId]) -> Option<RuleFault> {
         let mut least = None;
         for core in cores {
             least = lesser_fault(least, self.fault_of_core(*core));

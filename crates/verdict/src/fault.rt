@@ -5,7 +5,7 @@ ghost use Rattle.verdict.specs.Faults.{from_core, from_address};
 
 use crate::rule::Rule;
 use address_check::{AddressFault, AddressRule};
-use core_check::{CoreFault, CoreRule};
+use core_check::{CoreRule, RuleFault};
 use mem_op::OpId;
 use std::fmt;
 use std::fmt::Display;
@@ -42,10 +42,10 @@ impl Display for Fault {
     }
 }
 
-impl From<CoreFault> for Fault {
+impl From<RuleFault> for Fault {
     ghost from_gives = { λ found fault. fault ≡ from_core found };
 
-    fn from(found: CoreFault) -> Fault {
+    fn from(found: RuleFault) -> Fault {
         Fault {
             id: found.id,
             rule: match found.rule {
