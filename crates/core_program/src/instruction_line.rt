@@ -13,7 +13,7 @@ use decimal_text::{after_text, read_field, read_last};
 use mem_op::{Addr, Word};
 
 /// A register with a space after it, and the bytes after them.
-#[tactic(auto, unfolding(crate::specs::Reading::register_at))]
+#[tactic(auto, unfolding(crate::specs::inner::Reading::register_at))]
 fn register(bytes: &[u8]) -> Option<(Register, &[u8])>
     ensures { front_now result ≡ register_at bytes.now }
 {
@@ -22,7 +22,7 @@ fn register(bytes: &[u8]) -> Option<(Register, &[u8])>
 }
 
 /// An address with a space after it, and the bytes after them.
-#[tactic(auto, unfolding(crate::specs::Reading::addr_at))]
+#[tactic(auto, unfolding(crate::specs::inner::Reading::addr_at))]
 fn addr(bytes: &[u8]) -> Option<(Addr, &[u8])>
     ensures { front_now result ≡ addr_at bytes.now }
 {
@@ -31,7 +31,7 @@ fn addr(bytes: &[u8]) -> Option<(Addr, &[u8])>
 }
 
 /// A register that is all there is.
-#[tactic(auto, unfolding(crate::specs::Reading::last_register))]
+#[tactic(auto, unfolding(crate::specs::inner::Reading::last_register))]
 fn last_register(bytes: &[u8]) -> Option<Register>
     ensures { result ≡ last_register bytes.now }
 {
@@ -39,7 +39,7 @@ fn last_register(bytes: &[u8]) -> Option<Register>
 }
 
 /// An address that is all there is.
-#[tactic(auto, unfolding(crate::specs::Reading::last_addr))]
+#[tactic(auto, unfolding(crate::specs::inner::Reading::last_addr))]
 fn last_addr(bytes: &[u8]) -> Option<Addr>
     ensures { result ≡ last_addr bytes.now }
 {
@@ -47,7 +47,7 @@ fn last_addr(bytes: &[u8]) -> Option<Addr>
 }
 
 /// A word that is all there is.
-#[tactic(auto, unfolding(crate::specs::Reading::last_word))]
+#[tactic(auto, unfolding(crate::specs::inner::Reading::last_word))]
 fn last_word(bytes: &[u8]) -> Option<Word>
     ensures { result ≡ last_word bytes.now }
 {
@@ -55,7 +55,7 @@ fn last_word(bytes: &[u8]) -> Option<Word>
 }
 
 /// The length of a jump that is all there is.
-#[tactic(auto, unfolding(crate::specs::Reading::last_skip))]
+#[tactic(auto, unfolding(crate::specs::inner::Reading::last_skip))]
 fn last_skip(bytes: &[u8]) -> Option<Skip>
     ensures { result ≡ last_skip bytes.now }
 {
@@ -63,7 +63,7 @@ fn last_skip(bytes: &[u8]) -> Option<Skip>
 }
 
 /// The fields of `ld rN a`.
-#[tactic(auto, unfolding(crate::specs::Reading::load_of))]
+#[tactic(auto, unfolding(crate::specs::inner::Reading::load_of))]
 fn load(fields: &[u8]) -> Option<Instruction>
     ensures { result ≡ load_of fields.now }
 {
@@ -74,7 +74,7 @@ fn load(fields: &[u8]) -> Option<Instruction>
 }
 
 /// The fields of `st a K`.
-#[tactic(auto, unfolding(crate::specs::Reading::store_of))]
+#[tactic(auto, unfolding(crate::specs::inner::Reading::store_of))]
 fn store(fields: &[u8]) -> Option<Instruction>
     ensures { result ≡ store_of fields.now }
 {
@@ -85,7 +85,7 @@ fn store(fields: &[u8]) -> Option<Instruction>
 }
 
 /// The fields of `sr a rN`.
-#[tactic(auto, unfolding(crate::specs::Reading::store_register_of))]
+#[tactic(auto, unfolding(crate::specs::inner::Reading::store_register_of))]
 fn store_register(fields: &[u8]) -> Option<Instruction>
     ensures { result ≡ store_register_of fields.now }
 {
@@ -96,7 +96,7 @@ fn store_register(fields: &[u8]) -> Option<Instruction>
 }
 
 /// The fields of `ai rN rM K`.
-#[tactic(auto, unfolding(crate::specs::Reading::add_of))]
+#[tactic(auto, unfolding(crate::specs::inner::Reading::add_of))]
 fn add(fields: &[u8]) -> Option<Instruction>
     ensures { result ≡ add_of fields.now }
 {
@@ -110,7 +110,7 @@ fn add(fields: &[u8]) -> Option<Instruction>
 }
 
 /// The fields of `jz rN k`.
-#[tactic(auto, unfolding(crate::specs::Reading::skip_of))]
+#[tactic(auto, unfolding(crate::specs::inner::Reading::skip_of))]
 fn skip(fields: &[u8]) -> Option<Instruction>
     ensures { result ≡ skip_of fields.now }
 {
@@ -121,7 +121,7 @@ fn skip(fields: &[u8]) -> Option<Instruction>
 }
 
 /// The instruction whose line this is in a format, without its line feed.
-#[tactic(auto, unfolding(crate::specs::Reading::instruction_of, decimal_text::specs::Reading::after))]
+#[tactic(auto, unfolding(crate::specs::inner::Reading::instruction_of, decimal_text::specs::inner::Reading::after))]
 pub(crate) fn read_instruction(format: Format, line: &[u8]) -> Option<Instruction>
     ensures { result ≡ instruction_of line.now }
 {

@@ -30,7 +30,7 @@ fn first_words(format: Format) -> &'static [u8]
 }
 
 /// The number of cores that a header tells, 1..64.
-#[tactic(auto, unfolding(crate::specs::Reading::cores_of))]
+#[tactic(auto, unfolding(crate::specs::inner::Reading::cores_of))]
 fn cores_of(format: Format, line: &[u8]) -> Option<u64>
     ensures { result ≡ cores_of line.now }
 {
@@ -42,7 +42,7 @@ fn cores_of(format: Format, line: &[u8]) -> Option<u64>
 }
 
 /// The core whose section a line begins.
-#[tactic(auto, unfolding(crate::specs::Reading::core_of))]
+#[tactic(auto, unfolding(crate::specs::inner::Reading::core_of))]
 fn core_of(line: &[u8]) -> Option<u64>
     ensures { result ≡ core_of line.now }
 {

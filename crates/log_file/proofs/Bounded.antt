@@ -4,8 +4,8 @@ use Rattle.std.specs.List.{AllByRecursion}
 use Rattle.log_record.specs.declared.record.Record.{Record}
 use Rattle.log_record.specs.Line.{record_text, header_text, end_text, Fits}
 use Rattle.log_record.proofs.Lines.{record_short, header_short, end_short}
-use Rattle.log_file.specs.declared.phase.Phase.{Phase}
-use Rattle.log_file.specs.declared.phase.Phase.TheVariants as phase
+use Rattle.log_file.specs.declared.progress.Phase.{Phase}
+use Rattle.log_file.specs.declared.progress.Phase.TheVariants as phase
 use Rattle.log_file.specs.declared.line_reader.LineReader.{LineReader}
 use Rattle.log_file.specs.Log.{with_lf, begun, text_of, spelling, IsLog}
 use Rattle.log_file.specs.Standing.{IsSound, Stands, read_text, whole_text}

@@ -4,8 +4,8 @@ use Rattle.std.proofs.lemmas.Bool.{cases_order}
 use Rattle.log_record.specs.declared.record.Record.{Record}
 use Rattle.log_file.specs.declared.fault.Fault.{Fault}
 use Rattle.log_file.specs.declared.fault.Fault.TheVariants.{BadHeader, BadLine, OutOfRange, TooMany, CountDiffers, TrailingBytes, Truncated, WrongCore}
-use Rattle.log_file.specs.declared.phase.Phase.{Phase}
-use Rattle.log_file.specs.declared.phase.Phase.TheVariants as phase
+use Rattle.log_file.specs.declared.progress.Phase.{Phase}
+use Rattle.log_file.specs.declared.progress.Phase.TheVariants as phase
 use Rattle.log_file.specs.Log.{begun, spelling, text_of, lines_of, FaultAt, number}
 use Rattle.log_file.specs.declared.line_reader.LineReader.{LineReader}
 use Rattle.log_file.specs.OneLine.{IsOneLine}

@@ -8,8 +8,8 @@ use Rattle.std.proofs.lemmas.List.{take-append-drop, drop_more, get_or-drop, dro
 use Rattle.std.proofs.lemmas.List.{get_or_append_left, get_or-append-add, get_or-set_same, length-set}
 use Rattle.std.proofs.lemmas.Option.{slice_get-get_or}
 use Rattle.log_record.specs.declared.record.Record.{Record}
-use Rattle.log_file.specs.declared.log_fault.LogFault.{LogFault}
-use Rattle.log_file.specs.declared.log_fault.LogFault.TheVariants.{At, OutOfMemory, Read}
+use Rattle.log_file.specs.declared.fault.LogFault.{LogFault}
+use Rattle.log_file.specs.declared.fault.LogFault.TheVariants.{At, OutOfMemory, Read}
 use Rattle.log_record.specs.Entries.{record_lists}
 use Rattle.log_file.specs.Log.{Spells}
 use Rattle.log_file.specs.Devices.{Tells, Failed}

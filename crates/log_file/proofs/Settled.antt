@@ -9,8 +9,8 @@ use Rattle.log_record.proofs.Lines.{NoLf-all, end_no_lf}
 use Rattle.log_file.specs.declared.fault.Fault.{Fault}
 use Rattle.log_file.specs.declared.fault.Fault.TheVariants.{BadHeader, BadLine, TrailingBytes}
 use Rattle.log_file.specs.Log.{begun, text_of, spelling, IsLog, lines_of, IsFirstFault}
-use Rattle.log_file.specs.declared.log_fault.LogFault.{LogFault}
-use Rattle.log_file.specs.declared.log_fault.LogFault.TheVariants.{At, OutOfMemory, Read}
+use Rattle.log_file.specs.declared.fault.LogFault.{LogFault}
+use Rattle.log_file.specs.declared.fault.LogFault.TheVariants.{At, OutOfMemory, Read}
 use Rattle.log_file.specs.Feeding.{IsSettled}
 use Rattle.log_file.specs.OneLine.{IsOneLine, LeastHeader, LeastBody}
 use Rattle.log_file.proofs.Behind.{long_first}

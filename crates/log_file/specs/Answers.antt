@@ -2,8 +2,8 @@
 use Rattle.std.specs.Prelude.{ℕ, List, Result, Ok, Err}
 use Rattle.std.specs.Global.{Vec}
 use Rattle.log_record.specs.declared.record.Record.{Record}
-use Rattle.log_file.specs.declared.log_fault.LogFault.{LogFault}
-use Rattle.log_file.specs.declared.log_fault.LogFault.TheVariants.{At, OutOfMemory, Read}
+use Rattle.log_file.specs.declared.fault.LogFault.{LogFault}
+use Rattle.log_file.specs.declared.fault.LogFault.TheVariants.{At, OutOfMemory, Read}
 use Rattle.log_file.specs.Log.{Spells, IsFirstFault}
 
 -- the first fault of the bytes

@@ -4,8 +4,8 @@ use Rattle.std.specs.Global.{Vec}
 use Rattle.log_record.specs.declared.record.Record.{Record}
 use Rattle.log_file.specs.declared.fault.Fault.{Fault}
 use Rattle.log_file.specs.declared.fault.Fault.TheVariants.{Truncated}
-use Rattle.log_file.specs.declared.log_fault.LogFault.{LogFault}
-use Rattle.log_file.specs.declared.log_fault.LogFault.TheVariants.{At, OutOfMemory, Read}
+use Rattle.log_file.specs.declared.fault.LogFault.{LogFault}
+use Rattle.log_file.specs.declared.fault.LogFault.TheVariants.{At, OutOfMemory, Read}
 use Rattle.log_file.specs.Answers.{IsFaultOf}
 use Rattle.log_file.specs.Log.{Spells, lines_of, FaultAt, IsFirstFault}
 

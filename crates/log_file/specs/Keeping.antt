@@ -1,6 +1,6 @@
 -- How a log reader keeps what it was fed.
 use Rattle.std.specs.Prelude.{List, ℕ, Result, Ok, Err, Option, None, Some}
-use Rattle.log_file.specs.declared.log_fault.LogFault.{LogFault}
+use Rattle.log_file.specs.declared.fault.LogFault.{LogFault}
 use Rattle.log_file.specs.declared.log_reader.LogReader.TheInside.{Inside}
 use Rattle.log_file.specs.Feeding.{Feeding}
 use Rattle.log_file.specs.Standing.{Stands, IsInRange, read_text}

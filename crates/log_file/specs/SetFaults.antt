@@ -1,9 +1,9 @@
 -- The text of a fault of a set: the file and the line, where there are any, a number and a name.
 use Rattle.std.specs.Prelude.{ℕ, List, ◌++◌, codes}
 use Rattle.std.specs.Fmt.{decimal}
-use Rattle.log_file.specs.declared.log_fault.LogFault.{LogFault}
-use Rattle.log_file.specs.declared.log_fault.LogFault.TheVariants.{At, OutOfMemory, Read}
-use Rattle.log_file.specs.declared.set_fault.SetFault.{SetFault}
+use Rattle.log_file.specs.declared.fault.LogFault.{LogFault}
+use Rattle.log_file.specs.declared.fault.LogFault.TheVariants.{At, OutOfMemory, Read}
+use Rattle.log_file.specs.declared.fault.SetFault.{SetFault}
 use Rattle.log_file.specs.Faults.{fault_text}
 
 abbrev pub text_in_file : ℕ → LogFault → List ℕ

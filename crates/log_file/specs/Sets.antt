@@ -5,9 +5,9 @@ use Rattle.std.specs.Global.{Vec}
 use Rattle.log_record.specs.declared.record.Record.{Record}
 use Rattle.log_record.specs.Entries.{record_lists}
 use Rattle.log_file.specs.declared.fault.Fault.{Fault}
-use Rattle.log_file.specs.declared.log_fault.LogFault.{LogFault}
-use Rattle.log_file.specs.declared.log_fault.LogFault.TheVariants.{At, OutOfMemory, Read}
-use Rattle.log_file.specs.declared.set_fault.SetFault.{SetFault}
+use Rattle.log_file.specs.declared.fault.LogFault.{LogFault}
+use Rattle.log_file.specs.declared.fault.LogFault.TheVariants.{At, OutOfMemory, Read}
+use Rattle.log_file.specs.declared.fault.SetFault.{SetFault}
 use Rattle.log_file.specs.Devices.{Failed, Tells}
 use Rattle.log_file.specs.Log.{Spells, IsFirstFault}
 

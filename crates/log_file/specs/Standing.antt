@@ -3,10 +3,10 @@ use Rattle.std.specs.Prelude.{◌≡◌, ℕ, ◌+◌, ◌<◌, ◌≤◌, ◌�
 use Rattle.log_record.specs.declared.record.Record.{Record}
 use Rattle.log_record.specs.Line.{record_text, header_text, end_text, Fits, line_limit}
 use Rattle.log_file.specs.declared.fault.Fault.TheVariants.{BadHeader, BadLine, TrailingBytes}
-use Rattle.log_file.specs.declared.log_fault.LogFault.{LogFault}
-use Rattle.log_file.specs.declared.log_fault.LogFault.TheVariants.{At, OutOfMemory, Read}
-use Rattle.log_file.specs.declared.phase.Phase.{Phase}
-use Rattle.log_file.specs.declared.phase.Phase.TheVariants as phase
+use Rattle.log_file.specs.declared.fault.LogFault.{LogFault}
+use Rattle.log_file.specs.declared.fault.LogFault.TheVariants.{At, OutOfMemory, Read}
+use Rattle.log_file.specs.declared.progress.Phase.{Phase}
+use Rattle.log_file.specs.declared.progress.Phase.TheVariants as phase
 use Rattle.log_file.specs.declared.progress.Progress.{Progress}
 use Rattle.log_file.specs.declared.line_reader.LineReader.{LineReader}
 use Rattle.log_file.specs.declared.line_reader.Line.{Line}

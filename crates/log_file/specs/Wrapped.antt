@@ -1,7 +1,7 @@
 -- What clauses read of a std device in its wrapper.
 use Rattle.std.specs.Prelude.{ℕ}
-use Rattle.log_file.specs.declared.from_read.FromRead.{FromRead}
-use Rattle.log_file.specs.declared.from_write.FromWrite.{FromWrite}
+use Rattle.log_file.specs.declared.byte_source.FromRead.{FromRead}
+use Rattle.log_file.specs.declared.byte_sink.FromWrite.{FromWrite}
 
 abbrev pub reader_of : {R : Type 0} → FromRead R → R
 reader_of source = source.reader

@@ -1,10 +1,12 @@
-//! Devices that take bytes.
+//! Devices that take bytes, and writers of std as such.
 
 ghost use Rattle.std.specs.Prelude.{◌≡◌, ◌<◌, ◌≤◌, ℕ, List, length, take, IfOk, OnOk, OnErr, None, Option};
 ghost use Rattle.std.specs.Io.KnownBytes.{WriteAppends, Appends};
 ghost use Rattle.log_file.specs.Devices.{CountsFailure, Failed};
+ghost use Rattle.log_file.specs.Wrapped.{writer_of, failed_writes};
 
 use crate::device_fault::WriteFailed;
+use std::io::Write;
 
 /// What takes bytes, some at a time, and may fail at any time.
 pub trait ByteSink {
@@ -40,4 +42,45 @@ pub fn write_all<W: ByteSink>(sink: &mut W, bytes: &[u8]) -> Result<(), WriteFai
         at += sink.write(&bytes[at..])?;
     }
     Ok(())
+}
+
+/// A writer of std as a sink. Each `Err` of the writer counts as a failure, and so does a write
+/// that takes nothing of a piece that isn't empty.
+#[derive(Drop)]
+pub struct FromWrite<W> {
+    writer: W,
+    failures: u64,
+}
+
+impl<W: Write> FromWrite<W> {
+    /// The writer as a sink that hasn't failed yet.
+    pub fn new(writer: W) -> FromWrite<W>
+        ensures writer { writer_of result ≡ writer }
+        ensures failed { failed_writes result ≡ 0 }
+    {
+        FromWrite {
+            writer,
+            failures: 0,
+        }
+    }
+}
+
+impl<W: Write> ByteSink for FromWrite<W> {
+    ghost contents = { λ sink. W.contents sink.writer };
+
+    ghost failed = { λ sink. sink.failures };
+
+    fn write(&mut self, piece: &[u8]) -> Result<usize, WriteFailed> {
+        match self.writer.write(piece) {
+            Ok(count) if count > 0 || piece.is_empty() => Ok(count),
+            _ => {
+                self.failures = self.failures.saturating_add(1);
+                Err(WriteFailed)
+            }
+        }
+    }
+
+    fn failures(&self) -> u64 {
+        self.failures
+    }
 }

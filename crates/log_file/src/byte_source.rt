@@ -1,10 +1,12 @@
-//! Devices that give bytes.
+//! Devices that give bytes, and readers of std as such.
 
 ghost use Rattle.std.specs.Prelude.{◌≡◌, ◌≤◌, ℕ, List, length, IfOk, None, Option};
 ghost use Rattle.std.specs.Io.KnownBytes.{ReadConsumes};
 ghost use Rattle.log_file.specs.Devices.{CountsFailure};
+ghost use Rattle.log_file.specs.Wrapped.{reader_of, failed_reads};
 
 use crate::device_fault::ReadFailed;
+use std::io::Read;
 
 /// What gives bytes, some at a time, and may fail at any time.
 pub trait ByteSource {
@@ -24,4 +26,44 @@ pub trait ByteSource {
     /// How many reads have failed.
     fn failures(&self) -> u64
         ensures { result ≡ failed self.now };
+}
+
+/// A reader of std as a source. Each `Err` of the reader counts as a failure, `Interrupted` too.
+#[derive(Drop)]
+pub struct FromRead<R> {
+    reader: R,
+    failures: u64,
+}
+
+impl<R: Read> FromRead<R> {
+    /// The reader as a source that hasn't failed yet.
+    pub fn new(reader: R) -> FromRead<R>
+        ensures reader { reader_of result ≡ reader }
+        ensures failed { failed_reads result ≡ 0 }
+    {
+        FromRead {
+            reader,
+            failures: 0,
+        }
+    }
+}
+
+impl<R: Read> ByteSource for FromRead<R> {
+    ghost remaining = { λ source. R.remaining source.reader };
+
+    ghost failed = { λ source. source.failures };
+
+    fn read(&mut self, buf: &mut [u8]) -> Result<usize, ReadFailed> {
+        match self.reader.read(buf) {
+            Ok(count) => Ok(count),
+            Err(_) => {
+                self.failures = self.failures.saturating_add(1);
+                Err(ReadFailed)
+            }
+        }
+    }
+
+    fn failures(&self) -> u64 {
+        self.failures
+    }
 }

@@ -1,5 +1,6 @@
-//! How devices fail.
+//! How devices fail, and why their bytes could not be had or given.
 
+use std::alloc::AllocError;
 use std::fmt;
 use std::fmt::Display;
 use thiserror::Error;
@@ -29,5 +30,95 @@ impl Display for WriteFailed {
 
     fn fmt<W: fmt::Write>(&self, f: &mut fmt::Formatter<W>) -> fmt::Result {
         f.write_str("29 Write")
+    }
+}
+
+/// Why the bytes of a device couldn't be had.
+#[derive(Clone, Copy, Debug, PartialEq, Eq, Error)]
+pub enum ReadFault {
+    /// A growth was refused.
+    OutOfMemory,
+    /// A read failed.
+    Read,
+}
+
+impl Display for ReadFault {
+    ghost use Rattle.std.specs.Prelude.{Some};
+    ghost use Rattle.log_file.specs.ReadFaults.{read_fault_text};
+
+    ghost output = { λ fault. Some (read_fault_text fault) };
+
+    fn fmt<W: fmt::Write>(&self, f: &mut fmt::Formatter<W>) -> fmt::Result {
+        match self {
+            ReadFault::OutOfMemory => f.write_str("10 OutOfMemory"),
+            ReadFault::Read => f.write_str("28 Read"),
+        }
+    }
+}
+
+impl From<AllocError> for ReadFault {
+    ghost use Rattle.std.specs.Prelude.{◌≡◌};
+    ghost use Rattle.log_file.specs.declared.device_fault.ReadFault.TheVariants.{OutOfMemory};
+
+    ghost from_gives = { λ _ fault. fault ≡ OutOfMemory };
+
+    fn from(_refused: AllocError) -> ReadFault {
+        ReadFault::OutOfMemory
+    }
+}
+
+impl From<ReadFailed> for ReadFault {
+    ghost use Rattle.std.specs.Prelude.{◌≡◌};
+    ghost use Rattle.log_file.specs.declared.device_fault.ReadFault.TheVariants.{Read};
+
+    ghost from_gives = { λ _ fault. fault ≡ Read };
+
+    fn from(_failed: ReadFailed) -> ReadFault {
+        ReadFault::Read
+    }
+}
+
+/// Why a log wasn't written whole.
+#[derive(Clone, Copy, Debug, PartialEq, Eq, Error)]
+pub enum WriteFault {
+    /// A growth was refused.
+    OutOfMemory,
+    /// A write failed.
+    Write,
+}
+
+impl Display for WriteFault {
+    ghost use Rattle.std.specs.Prelude.{Some};
+    ghost use Rattle.log_file.specs.WriteFaults.{write_fault_text};
+
+    ghost output = { λ fault. Some (write_fault_text fault) };
+
+    fn fmt<W: fmt::Write>(&self, f: &mut fmt::Formatter<W>) -> fmt::Result {
+        match self {
+            WriteFault::OutOfMemory => f.write_str("10 OutOfMemory"),
+            WriteFault::Write => f.write_str("29 Write"),
+        }
+    }
+}
+
+impl From<AllocError> for WriteFault {
+    ghost use Rattle.std.specs.Prelude.{◌≡◌};
+    ghost use Rattle.log_file.specs.declared.device_fault.WriteFault.TheVariants.{OutOfMemory};
+
+    ghost from_gives = { λ _ fault. fault ≡ OutOfMemory };
+
+    fn from(_refused: AllocError) -> WriteFault {
+        WriteFault::OutOfMemory
+    }
+}
+
+impl From<WriteFailed> for WriteFault {
+    ghost use Rattle.std.specs.Prelude.{◌≡◌};
+    ghost use Rattle.log_file.specs.declared.device_fault.WriteFault.TheVariants.{Write};
+
+    ghost from_gives = { λ _ fault. fault ≡ Write };
+
+    fn from(_failed: WriteFailed) -> WriteFault {
+        WriteFault::Write
     }
 }

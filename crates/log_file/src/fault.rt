@@ -1,5 +1,7 @@
-//! What is wrong at a line of a log.
+//! What is wrong with a log, and with a set of logs.
 
+use crate::device_fault::ReadFailed;
+use std::alloc::{AllocError, AllocFailed};
 use std::fmt;
 use std::fmt::Display;
 use thiserror::Error;
@@ -41,6 +43,89 @@ impl Display for Fault {
             Fault::TrailingBytes => f.write_str("25 TrailingBytes"),
             Fault::Truncated => f.write_str("26 Truncated"),
             Fault::WrongCore => f.write_str("27 WrongCore"),
+        }
+    }
+}
+
+/// Why no log was read.
+#[derive(Clone, Copy, Debug, PartialEq, Eq, Error)]
+pub enum LogFault {
+    /// What is wrong, and at which line, counted from 1.
+    At(u64, Fault),
+    /// A growth was refused.
+    OutOfMemory,
+    /// A read failed.
+    Read,
+}
+
+impl Display for LogFault {
+    ghost use Rattle.std.specs.Prelude.{Some};
+    ghost use Rattle.log_file.specs.Faults.{log_fault_text};
+
+    ghost output = { λ fault. Some (log_fault_text fault) };
+
+    fn fmt<W: fmt::Write>(&self, f: &mut fmt::Formatter<W>) -> fmt::Result {
+        match self {
+            LogFault::At(line, fault) => write!(f, "line {}: {}", line, fault),
+            LogFault::OutOfMemory => f.write_str("10 OutOfMemory"),
+            LogFault::Read => f.write_str("28 Read"),
+        }
+    }
+}
+
+impl<T: Drop> From<AllocFailed<T>> for LogFault {
+    ghost use Rattle.std.specs.Prelude.{◌≡◌};
+    ghost use Rattle.log_file.specs.declared.fault.LogFault.TheVariants.{OutOfMemory};
+
+    ghost from_gives = { λ _ fault. fault ≡ OutOfMemory };
+
+    fn from(_: AllocFailed<T>) -> LogFault {
+        LogFault::OutOfMemory
+    }
+}
+
+impl From<AllocError> for LogFault {
+    ghost use Rattle.std.specs.Prelude.{◌≡◌};
+    ghost use Rattle.log_file.specs.declared.fault.LogFault.TheVariants.{OutOfMemory};
+
+    ghost from_gives = { λ _ fault. fault ≡ OutOfMemory };
+
+    fn from(_: AllocError) -> LogFault {
+        LogFault::OutOfMemory
+    }
+}
+
+impl From<ReadFailed> for LogFault {
+    ghost use Rattle.std.specs.Prelude.{◌≡◌};
+    ghost use Rattle.log_file.specs.declared.fault.LogFault.TheVariants.{Read};
+
+    ghost from_gives = { λ _ fault. fault ≡ Read };
+
+    fn from(_: ReadFailed) -> LogFault {
+        LogFault::Read
+    }
+}
+
+/// Why no set of logs was read: the fault of one of its files, counted from 0.
+#[derive(Clone, Copy, Debug, PartialEq, Eq, Error)]
+pub struct SetFault {
+    /// The file.
+    pub file: usize,
+    /// Its fault.
+    pub fault: LogFault,
+}
+
+impl Display for SetFault {
+    ghost use Rattle.std.specs.Prelude.{Some};
+    ghost use Rattle.log_file.specs.SetFaults.{set_fault_text};
+
+    ghost output = { λ e. Some (set_fault_text e) };
+
+    fn fmt<W: fmt::Write>(&self, f: &mut fmt::Formatter<W>) -> fmt::Result {
+        match &self.fault {
+            LogFault::At(line, fault) => write!(f, "file {} line {}: {}", self.file, line, fault),
+            LogFault::Read => write!(f, "file {}: 28 Read", self.file),
+            LogFault::OutOfMemory => f.write_str("10 OutOfMemory"),
         }
     }
 }

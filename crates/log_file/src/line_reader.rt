@@ -2,17 +2,15 @@
 
 ghost use Rattle.std.specs.Prelude.{◌≡◌, ◌≢◌, ◌<◌, ◌≤◌, true, false, [], ◌++◌, List, IfOk, IfErr, IfSome, IsNone, OnOk, MatchResult, length};
 ghost use Rattle.log_record.specs.declared.record.Record.{Record};
-ghost use Rattle.log_file.specs.declared.phase.Phase.TheVariants as phase;
+ghost use Rattle.log_file.specs.declared.progress.Phase.TheVariants as phase;
 ghost use Rattle.log_file.specs.Answers.{IsFaultOf};
 ghost use Rattle.log_file.specs.Log.{Spells};
 ghost use Rattle.log_file.specs.Standing.{IsInRange, SameLog, IsBehind, IsTooFar, IsPartRefused, IsLineRefused};
 ghost use Rattle.log_file.specs.Standing.{HasRoom, IsPassed, Stands, IsSettledWith, TakesNext, read_text};
 
-use crate::fault::Fault;
-use crate::log_fault::LogFault;
+use crate::fault::{Fault, LogFault};
 use crate::one_line::{LINE_LIMIT, RECORD_LIMIT};
-use crate::phase::Phase;
-use crate::progress::Progress;
+use crate::progress::{Phase, Progress};
 use arrayvec::ArrayVec;
 use log_record::Record;
 use memchr::memchr;

@@ -3,8 +3,8 @@
 ghost use Rattle.std.specs.Prelude.{◌≡◌, ◌<◌, ◌≤◌, ◌^◌, [], Ok, OnOk};
 ghost use Rattle.log_file.specs.Feeding.{Feeds, Finishes, IsOpen, fed_len};
 
+use crate::fault::LogFault;
 use crate::line_reader::LineReader;
-use crate::log_fault::LogFault;
 use crate::taking::{take_piece, take_piece_by};
 use log_record::Record;
 use mem_op::CoreId;

@@ -5,7 +5,7 @@ ghost use Rattle.log_file.specs.Devices.{Failed, Tells};
 ghost use Rattle.log_file.specs.Answers.{IsReadAnswer};
 
 use crate::byte_source::ByteSource;
-use crate::log_fault::LogFault;
+use crate::fault::LogFault;
 use crate::log_reader::LogReader;
 use log_record::Record;
 use mem_op::CoreId;

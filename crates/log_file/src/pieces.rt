@@ -4,7 +4,7 @@ ghost use Rattle.std.specs.Prelude.{◌≡◌, ◌<◌, ◌≤◌, ℕ, List};
 ghost use Rattle.std.specs.List.{flat_map};
 ghost use Rattle.log_file.specs.Answers.{IsAnswer};
 
-use crate::log_fault::LogFault;
+use crate::fault::LogFault;
 use crate::log_reader::LogReader;
 use log_record::Record;
 use mem_op::CoreId;

@@ -3,11 +3,20 @@
 ghost use Rattle.std.specs.Prelude.{◌≡◌, MatchResult};
 ghost use Rattle.log_file.specs.Standing.{IsInRange, IsBehind, IsRefused, SameLog, fault_of_more};
 
-use crate::fault::Fault;
-use crate::log_fault::LogFault;
+use crate::fault::{Fault, LogFault};
 use crate::one_line::{check_body, check_header};
-use crate::phase::Phase;
 use log_record::Record;
+
+/// What was read last of a log.
+#[derive(Clone, Copy, Debug, PartialEq, Eq)]
+pub(crate) enum Phase {
+    /// No whole line.
+    Header,
+    /// The header, or a record.
+    Records,
+    /// The end line.
+    Ended,
+}
 
 /// How far the log of a core was read, in whole lines.
 #[derive(Clone, Copy, Debug)]

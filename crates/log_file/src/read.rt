@@ -4,7 +4,7 @@ ghost use Rattle.std.specs.Prelude.{◌≡◌, IfOk, IsErrOf};
 ghost use Rattle.log_file.specs.Devices.{Failed, Tells};
 
 use crate::byte_source::ByteSource;
-use crate::read_fault::ReadFault;
+use crate::device_fault::ReadFault;
 use std::alloc::Global;
 
 /// The most bytes of a piece.

@@ -4,9 +4,8 @@ ghost use Rattle.std.specs.Prelude.{◌≡◌, ◌+◌, ◌≤◌, ℕ, List, Al
 ghost use Rattle.log_file.specs.Sets.{IsSetAnswer, ReaderFailed, TellEach};
 
 use crate::byte_source::ByteSource;
-use crate::log_fault::LogFault;
+use crate::fault::{LogFault, SetFault};
 use crate::one_log::read_log;
-use crate::set_fault::SetFault;
 use log_record::Record;
 use mem_op::CoreId;
 use std::alloc::Global;

@@ -6,8 +6,8 @@ ghost use Rattle.log_file.specs.inner.Chunks.{HasFront};
 ghost use Rattle.log_file.specs.Standing.{IsInRange, IsSettledWith, SameLog, Stands, Takes};
 
 use crate::chunks::{Front, cut, front_of};
+use crate::fault::LogFault;
 use crate::line_reader::LineReader;
-use crate::log_fault::LogFault;
 use log_record::Record;
 use std::alloc::Global;
 use std::thread::{Threads, join_mut};

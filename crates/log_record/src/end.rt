@@ -16,7 +16,7 @@ pub struct End {
     pub count: Option<u64>,
 }
 
-#[tactic(auto, unfolding(crate::specs::Reading::end_of))]
+#[tactic(auto, unfolding(crate::specs::inner::Reading::end_of))]
 fn parts(line: &[u8]) -> Option<End>
     ensures { result ≡ option_map end_parts (end_of line.now) }
 {

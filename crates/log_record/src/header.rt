@@ -19,7 +19,7 @@ pub struct Header {
     pub cores: Option<u64>,
 }
 
-#[tactic(auto, unfolding(crate::specs::Reading::header_numbers))]
+#[tactic(auto, unfolding(crate::specs::inner::Reading::header_numbers))]
 fn numbers(bytes: &[u8]) -> Option<Header>
     ensures { result ≡ option_map header_parts (header_numbers bytes.now) }
 {
@@ -29,7 +29,7 @@ fn numbers(bytes: &[u8]) -> Option<Header>
     Some(Header { core, cores })
 }
 
-#[tactic(auto, unfolding(crate::specs::Reading::header_of))]
+#[tactic(auto, unfolding(crate::specs::inner::Reading::header_of))]
 fn parts(line: &[u8]) -> Option<Header>
     ensures { result ≡ option_map header_parts (header_of line.now) }
 {

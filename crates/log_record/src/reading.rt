@@ -9,7 +9,7 @@ use crate::raw::{RawAct, RawFields, RawRecord, RawSource};
 use decimal_text::{read_field, read_number};
 
 /// A core, a dot and an index.
-#[tactic(auto, unfolding(crate::specs::Reading::store_source_at))]
+#[tactic(auto, unfolding(crate::specs::inner::Reading::store_source_at))]
 fn store_source(bytes: &[u8]) -> Option<(RawSource, &[u8])>
     ensures { front_now result ≡ front_map raw_source_of (store_source_at bytes.now) }
 {
@@ -19,7 +19,7 @@ fn store_source(bytes: &[u8]) -> Option<(RawSource, &[u8])>
 }
 
 /// A source, and the bytes after it.
-#[tactic(auto, unfolding(crate::specs::Reading::source_at, decimal_text::specs::Reading::after))]
+#[tactic(auto, unfolding(crate::specs::inner::Reading::source_at, decimal_text::specs::inner::Reading::after))]
 fn source(bytes: &[u8]) -> Option<(RawSource, &[u8])>
     ensures { front_now result ≡ front_map raw_source_of (source_at bytes.now) }
 {
@@ -30,7 +30,7 @@ fn source(bytes: &[u8]) -> Option<(RawSource, &[u8])>
 }
 
 /// An address, a value and a stamp, each with a space after it.
-#[tactic(auto, unfolding(crate::specs::Reading::fields_at))]
+#[tactic(auto, unfolding(crate::specs::inner::Reading::fields_at))]
 fn fields(bytes: &[u8]) -> Option<(RawFields, &[u8])>
     ensures { front_now result ≡ front_map raw_fields_of (fields_at bytes.now) }
 {
@@ -41,7 +41,7 @@ fn fields(bytes: &[u8]) -> Option<(RawFields, &[u8])>
 }
 
 /// A store's fields.
-#[tactic(auto, unfolding(crate::specs::Reading::store_at))]
+#[tactic(auto, unfolding(crate::specs::inner::Reading::store_at))]
 fn store(bytes: &[u8]) -> Option<(RawRecord, &[u8])>
     ensures { front_now result ≡ front_map raw_of (store_at bytes.now) }
 {
@@ -52,7 +52,7 @@ fn store(bytes: &[u8]) -> Option<(RawRecord, &[u8])>
 }
 
 /// A load's fields.
-#[tactic(auto, unfolding(crate::specs::Reading::load_at))]
+#[tactic(auto, unfolding(crate::specs::inner::Reading::load_at))]
 fn load(bytes: &[u8]) -> Option<(RawRecord, &[u8])>
     ensures { front_now result ≡ front_map raw_of (load_at bytes.now) }
 {
@@ -64,7 +64,7 @@ fn load(bytes: &[u8]) -> Option<(RawRecord, &[u8])>
 }
 
 /// A record's tag and its fields.
-#[tactic(auto, unfolding(crate::specs::Reading::tagged_at, decimal_text::specs::Reading::after))]
+#[tactic(auto, unfolding(crate::specs::inner::Reading::tagged_at, decimal_text::specs::inner::Reading::after))]
 fn tagged(bytes: &[u8]) -> Option<(RawRecord, &[u8])>
     ensures { front_now result ≡ front_map raw_of (tagged_at bytes.now) }
 {
@@ -76,7 +76,7 @@ fn tagged(bytes: &[u8]) -> Option<(RawRecord, &[u8])>
 }
 
 /// The record whose line this is, its numbers of any size.
-#[tactic(auto, unfolding(crate::specs::Reading::record_of))]
+#[tactic(auto, unfolding(crate::specs::inner::Reading::record_of))]
 pub(crate) fn raw_record(line: &[u8]) -> Option<RawRecord>
     ensures { result ≡ option_map raw_of (record_of line.now) }
 {

@@ -23,7 +23,7 @@ fn core_of(cores: usize, number: u64) -> Option<CoreId>
 }
 
 /// A core with a space after it, and the bytes after them.
-#[tactic(auto, unfolding(crate::specs::Reading::core_at))]
+#[tactic(auto, unfolding(crate::specs::inner::Reading::core_at))]
 fn core_field(cores: usize, bytes: &[u8]) -> Option<(CoreId, &[u8])>
     ensures { front_now result ≡ core_at cores bytes.now }
 {
@@ -32,7 +32,7 @@ fn core_field(cores: usize, bytes: &[u8]) -> Option<(CoreId, &[u8])>
 }
 
 /// An address with a space after it, and the bytes after them.
-#[tactic(auto, unfolding(crate::specs::Reading::addr_at))]
+#[tactic(auto, unfolding(crate::specs::inner::Reading::addr_at))]
 fn addr_field(bytes: &[u8]) -> Option<(Addr, &[u8])>
     ensures { front_now result ≡ addr_at bytes.now }
 {
@@ -41,7 +41,7 @@ fn addr_field(bytes: &[u8]) -> Option<(Addr, &[u8])>
 }
 
 /// How a line is recalled with a space after it, and the bytes after them.
-#[tactic(auto, unfolding(crate::specs::Reading::kind_at, decimal_text::specs::Reading::after))]
+#[tactic(auto, unfolding(crate::specs::inner::Reading::kind_at, decimal_text::specs::inner::Reading::after))]
 fn kind_field(bytes: &[u8]) -> Option<(RecallKind, &[u8])>
     ensures { front_now result ≡ kind_at bytes.now }
 {
@@ -53,7 +53,7 @@ fn kind_field(bytes: &[u8]) -> Option<(RecallKind, &[u8])>
 }
 
 /// A core that is all there is.
-#[tactic(auto, unfolding(crate::specs::Reading::last_core))]
+#[tactic(auto, unfolding(crate::specs::inner::Reading::last_core))]
 fn last_core(cores: usize, bytes: &[u8]) -> Option<CoreId>
     ensures { result ≡ last_core cores bytes.now }
 {
@@ -61,7 +61,7 @@ fn last_core(cores: usize, bytes: &[u8]) -> Option<CoreId>
 }
 
 /// An address that is all there is.
-#[tactic(auto, unfolding(crate::specs::Reading::last_addr))]
+#[tactic(auto, unfolding(crate::specs::inner::Reading::last_addr))]
 fn last_addr(bytes: &[u8]) -> Option<Addr>
     ensures { result ≡ last_addr bytes.now }
 {
@@ -69,7 +69,7 @@ fn last_addr(bytes: &[u8]) -> Option<Addr>
 }
 
 /// A stamp that is all there is.
-#[tactic(auto, unfolding(crate::specs::Reading::last_stamp))]
+#[tactic(auto, unfolding(crate::specs::inner::Reading::last_stamp))]
 fn last_stamp(bytes: &[u8]) -> Option<Stamp>
     ensures { result ≡ last_stamp bytes.now }
 {
@@ -77,7 +77,7 @@ fn last_stamp(bytes: &[u8]) -> Option<Stamp>
 }
 
 /// The fields of `recall c a wb t` or `recall c a flush t`.
-#[tactic(auto, unfolding(crate::specs::Reading::recall_of))]
+#[tactic(auto, unfolding(crate::specs::inner::Reading::recall_of))]
 fn recall(cores: usize, fields: &[u8]) -> Option<Command>
     ensures { result ≡ recall_of cores fields.now }
 {
@@ -100,7 +100,7 @@ fn recall(cores: usize, fields: &[u8]) -> Option<Command>
 }
 
 /// The fields of `evict c a`.
-#[tactic(auto, unfolding(crate::specs::Reading::evict_of))]
+#[tactic(auto, unfolding(crate::specs::inner::Reading::evict_of))]
 fn evict(cores: usize, fields: &[u8]) -> Option<Command>
     ensures { result ≡ evict_of cores fields.now }
 {
@@ -111,7 +111,7 @@ fn evict(cores: usize, fields: &[u8]) -> Option<Command>
 }
 
 /// The command whose line this is, without its line feed, where there are `cores` cores.
-#[tactic(auto, unfolding(crate::specs::Reading::command_of))]
+#[tactic(auto, unfolding(crate::specs::inner::Reading::command_of))]
 pub(crate) fn read_command(cores: usize, line: &[u8]) -> Option<Command>
     ensures { result ≡ command_of cores line.now }
 {

@@ -1,7 +1,7 @@
 -- Faults of reading as faults of the judge.
 use Rattle.std.specs.Prelude.{ℕ}
-use Rattle.log_file.specs.declared.log_fault.LogFault.{LogFault}
-use Rattle.log_file.specs.declared.log_fault.LogFault.TheVariants.{At, OutOfMemory as NoMemory, Read as ReadFailed}
+use Rattle.log_file.specs.declared.fault.LogFault.{LogFault}
+use Rattle.log_file.specs.declared.fault.LogFault.TheVariants.{At, OutOfMemory as NoMemory, Read as ReadFailed}
 use Rattle.verdict.specs.declared.judge_fault.JudgeFault.{JudgeFault}
 use Rattle.verdict.specs.declared.judge_fault.JudgeFault.TheVariants.{Log, OutOfMemory, Read}
 

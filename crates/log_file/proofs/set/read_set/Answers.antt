@@ -1,6 +1,6 @@
 -- The set so far, one more file; and the file that is refused.
 use Rattle.std.proofs.Common.{◌≡◌, ℕ, length, arith, ap, subst, ◌∙◌, refl, Err, ◌++◌, ◌∷◌, [], rules}
-use Rattle.log_file.specs.declared.log_fault.LogFault.TheVariants.{OutOfMemory}
+use Rattle.log_file.specs.declared.fault.LogFault.TheVariants.{OutOfMemory}
 use Rattle.log_file.specs.Devices.{Tells}
 use Rattle.log_file.specs.Answers.{IsFaultOrDevice}
 use Rattle.log_file.specs.Log.{Spells}
