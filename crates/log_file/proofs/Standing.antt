@@ -147,9 +147,11 @@ short_yet q line part fits = elim (cases_lt line_limit (length (line ++ part))) 
 
 pub takes_part : (old new : LineReader) (records : List Record) (piece : List ℕ) → Stands old records
     → new.progress ≡ old.progress → new.begun.items ≡ old.begun.items ++ piece → IsOneLine piece
-    → (IsTooFar old piece → ⊥) → Takes old records piece new records
-takes_part old new records piece stands progress begun-is one fits =
+    → old.progress.limit ≡ line_limit → (IsTooFar old piece → ⊥) → Takes old records piece new records
+takes_part old new records piece stands progress begun-is one limit too_far =
     let p = old.progress in
+    let fits : TooFarAt p.phase old.begun.items piece → ⊥ = subst
+    (λ n. ((n < length (old.begun.items ++ piece)) ⊎ ((p.phase ≡ phase.Ended) × (0 < length piece))) → ⊥) limit too_far in
     let sound = stays_sound p.phase p.core p.cores old.begun.items piece records stands.sound fits in
     let sound' : IsSound p.phase p.core p.cores records new.begun.items = subst
     (λ (xs : List ℕ). IsSound p.phase p.core p.cores records xs) (sym begun-is) sound in
@@ -206,10 +208,12 @@ takes_line old new records piece part l stands behind none some within taken-is 
 -- ---- a piece that is refused
 
 pub part_refused : (old : LineReader) (records : List Record) (piece : List ℕ) (f : LogFault) → Stands old records
-    → IsOneLine piece → IsPartRefused old piece f
+    → IsOneLine piece → old.progress.limit ≡ line_limit → IsPartRefused old piece f
     → IsSettledWith old records piece f
-part_refused old records piece f stands one (far, f-is) =
+part_refused old records piece f stands one limit (too_far, f-is) =
     let p = old.progress in
+    let far : TooFarAt p.phase old.begun.items piece = subst
+    (λ n. (n < length (old.begun.items ++ piece)) ⊎ ((p.phase ≡ phase.Ended) × (0 < length piece))) limit too_far in
     subst (λ (g : LogFault). IsSettled p.core p.cores (read_text old records ++ piece) g) (sym f-is)
     (subst (λ (xs : List ℕ). IsSettled p.core p.cores xs (fault_of_more p.phase p.count))
     (sym (append_assoc (whole_text p.phase p.core p.cores records) old.begun.items piece))
@@ -217,9 +221,9 @@ part_refused old records piece f stands one (far, f-is) =
     (All-append (λ b. eqb b 10 ≡ false) old.begun.items piece stands.one one) far))
 
 pub line_of_piece_refused : (old : LineReader) (records : List Record) (piece part rest : List ℕ) (f : LogFault)
-    → Stands old records → piece ≡ with_lf part ++ rest → IsOneLine part → IsLineRefused old part f
+    → Stands old records → piece ≡ with_lf part ++ rest → IsOneLine part → old.progress.limit ≡ line_limit → IsLineRefused old part f
     → IsSettledWith old records piece f
-line_of_piece_refused old records piece part rest f stands piece-is one (inl refused) =
+line_of_piece_refused old records piece part rest f stands piece-is one limit (inl refused) =
     let p = old.progress in
     let whole = whole_text p.phase p.core p.cores records in
     let settled = line_refused p.phase p (old.begun.items ++ part) old.begun.items f records stands.sound stands.count
@@ -229,13 +233,13 @@ line_of_piece_refused old records piece part rest f stands piece-is one (inl ref
     ∙ append_assoc (read_text old records) (with_lf part) rest
     ∙ ap (λ (xs : List ℕ). read_text old records ++ xs) (sym piece-is))
     (settled_front p.core p.cores (whole ++ with_lf (old.begun.items ++ part)) rest f settled)
-line_of_piece_refused old records piece part rest f stands piece-is one (inr far) =
+line_of_piece_refused old records piece part rest f stands piece-is one limit (inr far) =
     let p = old.progress in
     subst (λ (xs : List ℕ). IsSettled p.core p.cores xs f)
     (append_assoc (read_text old records) part (10 ∷ rest)
     ∙ ap (λ (xs : List ℕ). read_text old records ++ xs) (sym (append_assoc part (10 ∷ []) rest) ∙ sym piece-is))
     (settled_front p.core p.cores (read_text old records ++ part) (10 ∷ rest) f
-    (part_refused old records part f stands one far))
+    (part_refused old records part f stands one limit far))
 
 -- ---- the end of the bytes
 

@@ -6,7 +6,7 @@ use Rattle.std.proofs.lemmas.List.{append_cancel_left, map-append}
 use Rattle.std.proofs.Math.Seq.{take-append_seam}
 use Rattle.std.proofs.lemmas.Grind.{flat_map-append}
 use Rattle.log_record.specs.declared.record.Record.{Record}
-use Rattle.log_record.specs.Line.{record_text, header_text, Fits}
+use Rattle.log_record.specs.Line.{record_text, header_text, Fits, line_limit}
 use Rattle.log_file.specs.declared.fault.LogFault.{LogFault}
 use Rattle.log_file.specs.declared.progress.Phase.TheVariants as phase
 use Rattle.log_file.specs.declared.progress.Progress.{Progress}
@@ -99,7 +99,7 @@ front_takes old new rs chunk front stands has passed =
 -- ---- what a worker reads of a chunk
 
 -- the records that were read after a header, and the line that was begun
-pub read_front : (old new : LineReader) (chunk : List ℕ) (records : List Record) → old.progress ≡ record { core = 0; cores = 1; phase = phase.Records; count = 0 }
+pub read_front : (old new : LineReader) (chunk : List ℕ) (records : List Record) → old.progress ≡ record { core = 0; cores = 1; phase = phase.Records; count = 0; limit = line_limit }
     → old.begun.items ≡ [] → SameLog old.progress new.progress → new.progress.phase ≡ phase.Records → Takes old [] chunk new records
     → (chunk ≡ records_text records ++ new.begun.items) × AllByRecursion Fits records
 read_front old new chunk records progress none same phase_is takes =

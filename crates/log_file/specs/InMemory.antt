@@ -1,6 +1,6 @@
 -- What clauses read of the devices in memory.
-use Rattle.std.specs.Prelude.{ℕ, List, Option, Some, None, slice_get}
-use Rattle.std.specs.Option.{option_map_or}
+use Rattle.std.specs.Prelude.{ℕ, ◌+◌, min, List, Option, Some, None, slice_get}
+use Rattle.std.specs.Option.{option_map, option_map_or}
 use Rattle.log_file.specs.declared.mem_source.MemSource.{MemSource}
 use Rattle.log_file.specs.declared.mem_sink.MemSink.{MemSink}
 use Rattle.log_file.specs.declared.step.Step.{Step}
@@ -14,6 +14,10 @@ limit_by Fail = None
 -- the limit by the first of the steps; after the last one it is that of a `usize`, so that a call moves what it can
 abbrev pub limit_of : List Step → Option ℕ
 limit_of steps = option_map_or limit_by (slice_get steps 0) (Some 18446744073709551615)
+
+-- how many bytes a call moves where there are so many to move, none where it fails: by the first of the steps
+abbrev pub moved_of : List Step → ℕ → Option ℕ
+moved_of steps many = option_map (λ limit. min many (limit + 1)) (limit_of steps)
 
 -- the bytes that weren't read yet
 abbrev pub bytes_left : MemSource → List ℕ

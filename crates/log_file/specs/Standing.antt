@@ -21,11 +21,13 @@ pub record IsInRange (p : Progress) : Type 0 where
   pub core : p.core < p.cores
   pub cores : p.cores ≤ 64
   pub count : p.count ≤ record_limit
+  pub limit : p.limit ≡ line_limit
 
 -- of the same log
 pub record SameLog (old new : Progress) : Type 0 where
   pub core : new.core ≡ old.core
   pub cores : new.cores ≡ old.cores
+  pub limit : new.limit ≡ old.limit
 
 -- what a whole line is that isn't refused, and the progress after it
 abbrev pub BehindAt : Phase → Progress → List ℕ → Option Record → Progress → Type 0
@@ -60,7 +62,7 @@ fault_of_more phase.Ended count = At (count + 3) TrailingBytes
 
 -- the line goes too far with this part: it is longer than a line may be, or comes after the end line
 abbrev pub IsTooFar : LineReader → List ℕ → Type 0
-IsTooFar s part = (line_limit < length (s.begun.items ++ part)) ⊎ ((s.progress.phase ≡ phase.Ended) × (0 < length part))
+IsTooFar s part = (s.progress.limit < length (s.begun.items ++ part)) ⊎ ((s.progress.phase ≡ phase.Ended) × (0 < length part))
 
 abbrev pub IsPartRefused : LineReader → List ℕ → LogFault → Type 0
 IsPartRefused s part fault = IsTooFar s part × (fault ≡ fault_of_more s.progress.phase s.progress.count)

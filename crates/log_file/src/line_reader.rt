@@ -2,6 +2,7 @@
 
 ghost use Rattle.std.specs.Prelude.{◌≡◌, ◌≢◌, ◌<◌, ◌≤◌, true, false, [], ◌++◌, List, IfOk, IfErr, IfSome, IsNone, OnOk, MatchResult, length};
 ghost use Rattle.log_record.specs.declared.record.Record.{Record};
+ghost use Rattle.log_record.specs.Line.{line_limit};
 ghost use Rattle.log_file.specs.declared.progress.Phase.TheVariants as phase;
 ghost use Rattle.log_file.specs.Answers.{IsFaultOf};
 ghost use Rattle.log_file.specs.Log.{Spells};
@@ -29,7 +30,7 @@ pub(crate) struct Line {
 pub(crate) struct LineReader {
     /// What the whole lines were.
     progress: Progress,
-    /// The bytes of the line that isn't whole yet.
+    /// The bytes of the line that isn't whole yet. The array has room for a line of any limit.
     begun: ArrayVec<u8, LINE_LIMIT>,
 }
 
@@ -48,6 +49,7 @@ impl LineReader {
         requires cores { cores ≤ 64 }
         ensures core { result.progress.core ≡ core }
         ensures cores { result.progress.cores ≡ cores }
+        ensures limit { result.progress.limit ≡ line_limit }
         ensures stands { Stands result [] }
         ensures empty { read_text result [] ≡ [] }
     {
@@ -57,6 +59,7 @@ impl LineReader {
                 cores,
                 phase: Phase::Header,
                 count: 0,
+                limit: LINE_LIMIT,
             },
             begun: ArrayVec::new(),
         }
@@ -64,7 +67,7 @@ impl LineReader {
 
     /// A reader of some log, after its header. What a header says has no part in records.
     pub(crate) fn behind_a_header() -> LineReader
-        ensures progress { result.progress ≡ record { core = 0; cores = 1; phase = phase.Records; count = 0 } }
+        ensures progress { result.progress ≡ record { core = 0; cores = 1; phase = phase.Records; count = 0; limit = line_limit } }
         ensures none_begun { result.begun.items ≡ [] }
     {
         LineReader {
@@ -73,6 +76,7 @@ impl LineReader {
                 cores: 1,
                 phase: Phase::Records,
                 count: 0,
+                limit: LINE_LIMIT,
             },
             begun: ArrayVec::new(),
         }
@@ -102,10 +106,13 @@ impl LineReader {
         if self.progress.phase == Phase::Ended && !part.is_empty() {
             return Err(self.progress.fault_of_more());
         }
-        match self.begun.try_extend_from_slice(part) {
-            Ok(()) => Ok(()),
-            Err(_) => Err(self.progress.fault_of_more()),
+        if self.begun.len() + part.len() > self.progress.limit {
+            return Err(self.progress.fault_of_more());
         }
+        let Ok(()) = self.begun.try_extend_from_slice(part) else {
+            unreachable!()
+        };
+        Ok(())
     }
 
     /// Ends the line with its last part, and answers the record if it is one.

@@ -40,13 +40,27 @@ impl<'a> MemSink<'a> {
 }
 
 impl ByteSink for MemSink<'_> {
-    ghost use Rattle.std.specs.Prelude.{Some};
+    ghost use Rattle.std.specs.Prelude.{◌<◌, ◌≤◌, drop, length, IfOk, Some};
+    ghost use Rattle.std.specs.Io.KnownBytes.{WriteAppends};
+    ghost use Rattle.log_file.specs.Devices.{CountsFailure};
+    ghost use Rattle.log_file.specs.InMemory.{moved_of};
 
     ghost contents = { λ sink. Some sink.taken.items };
 
     ghost failed = { λ sink. sink.failures };
 
-    fn write(&mut self, piece: &[u8]) -> Result<usize, WriteFailed> {
+    /// Fails where the next step is `Fail` and where memory is refused, and else takes all that the
+    /// step allows. Each call takes one step away.
+    fn write(&mut self, piece: &[u8]) -> Result<usize, WriteFailed>
+        ensures bound { IfOk result (λ n. n ≤ length piece.now) }
+        ensures some { IfOk result (λ n. 0 < length piece.now → 0 < n) }
+        ensures bytes { WriteAppends (Some (bytes_taken self.old)) (Some (bytes_taken self.new))
+            result piece.now }
+        ensures counts { CountsFailure (failed_writes self.old) (failed_writes self.new) result }
+        ensures step { IfOk result (λ n.
+            moved_of (writes_to_come self.old) (length piece.now) ≡ Some n) }
+        ensures rest { writes_to_come self.new ≡ drop 1 (writes_to_come self.old) }
+    {
         let Some(limit) = take_step(&mut self.steps) else {
             self.failures = self.failures.saturating_add(1);
             return Err(WriteFailed);

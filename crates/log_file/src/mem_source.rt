@@ -1,6 +1,6 @@
 //! A source in memory.
 
-ghost use Rattle.std.specs.Prelude.{◌≡◌, ◌<◌, ◌≤◌, length, take};
+ghost use Rattle.std.specs.Prelude.{◌≡◌, ◌+◌, ◌<◌, ◌≤◌, length, min, take};
 ghost use Rattle.log_file.specs.InMemory.{bytes_left, reads_to_come, failed_reads};
 
 use crate::byte_source::ByteSource;
@@ -37,6 +37,7 @@ fn give(bytes: &[u8], limit: usize, buf: &mut [u8]) -> usize
     ensures fits { result ≤ length buf.new }
     ensures copied { take result buf.new ≡ take result bytes.now }
     ensures some { result ≡ 0 → 0 < length buf.new → length bytes.now ≡ 0 }
+    ensures most { result ≡ min (min (length buf.old) (length bytes.now)) (limit + 1) }
 {
     let count = buf.len().min(bytes.len()).min(limit.saturating_add(1));
     buf[..count].copy_from_slice(&bytes[..count]);
@@ -44,13 +45,27 @@ fn give(bytes: &[u8], limit: usize, buf: &mut [u8]) -> usize
 }
 
 impl ByteSource for MemSource<'_> {
-    ghost use Rattle.std.specs.Prelude.{Some};
+    ghost use Rattle.std.specs.Prelude.{drop, IfOk, Some};
+    ghost use Rattle.std.specs.Result.{result_ok};
+    ghost use Rattle.std.specs.Io.KnownBytes.{ReadConsumes};
+    ghost use Rattle.log_file.specs.Devices.{CountsFailure};
+    ghost use Rattle.log_file.specs.InMemory.{moved_of};
 
     ghost remaining = { λ source. Some source.bytes.now };
 
     ghost failed = { λ source. source.failures };
 
-    fn read(&mut self, buf: &mut [u8]) -> Result<usize, ReadFailed> {
+    /// Fails where the next step is `Fail`, and else moves all that the step, the buffer and the bytes
+    /// left allow. Each call takes one step away.
+    fn read(&mut self, buf: &mut [u8]) -> Result<usize, ReadFailed>
+        ensures bound { IfOk result (λ n. n ≤ length buf.new) }
+        ensures bytes { ReadConsumes (Some (bytes_left self.old)) (Some (bytes_left self.new))
+            result buf.new }
+        ensures counts { CountsFailure (failed_reads self.old) (failed_reads self.new) result }
+        ensures step { result_ok result
+            ≡ moved_of (reads_to_come self.old) (min (length buf.old) (length (bytes_left self.old))) }
+        ensures rest { reads_to_come self.new ≡ drop 1 (reads_to_come self.old) }
+    {
         let Some(limit) = take_step(&mut self.steps) else {
             self.failures = self.failures.saturating_add(1);
             return Err(ReadFailed);

@@ -29,6 +29,8 @@ pub(crate) struct Progress {
     pub(crate) phase: Phase,
     /// How many records were read.
     pub(crate) count: u64,
+    /// The most bytes of a line, without its line feed.
+    pub(crate) limit: usize,
 }
 
 impl Progress {
