@@ -12,7 +12,7 @@ use Rattle.core_check.specs.declared.fault.CoreRule.{CoreRule}
 use Rattle.core_check.specs.declared.fault.CoreRule.TheVariants.{CoreOrder, Program}
 use Rattle.core_check.specs.FaultParts.{CoreFaultParts}
 use Rattle.core_check.specs.FaultOrder.{rule_number, core_fault_cmp}
-use Rattle.core_check.specs.contracts.fault.CoreFaultOrd.TheImpl.{ghosts}
+use Rattle.core_check.specs.contracts.fault.RuleFaultOrd.TheImpl.{ghosts}
 
 pub core_fault_total : IsTotalOrder core_fault_cmp
 core_fault_total =

@@ -17,7 +17,7 @@ use Rattle.core_program.specs.inner.Least.{IsLeastWhere}
 use Rattle.core_check.specs.CoreFaults.{order_fault, order_faults}
 use Rattle.core_check.proofs.FaultFacts.{core_fault_total, tied_core_faults}
 use Rattle.core_check.proofs.OrderFaultFacts.{FaultIn, fault_of_log, fault_in_log}
-use Rattle.core_check.specs.contracts.fault.CoreFaultOrd.TheImpl.{ghosts}
+use Rattle.core_check.specs.contracts.fault.RuleFaultOrd.TheImpl.{ghosts}
 use Rattle.verdict.specs.CoreLaw.{least_of_cores-joined}
 use Rattle.verdict.specs.CoreFaultsOf.{faults_of_core, least_of_core, least_of_cores}
 use Rattle.verdict.proofs.ProgramOrder.{less_index, tied_core}

@@ -15,7 +15,7 @@ use Rattle.log_record.specs.Entries.{operation_of}
 use Rattle.core_program.specs.declared.instruction.Instruction.{Instruction}
 use Rattle.core_program.specs.Conforming.{program_fault}
 use Rattle.core_check.specs.declared.fault.RuleFault.{RuleFault}
-use Rattle.core_check.specs.contracts.fault.CoreFaultOrd.TheImpl.{ghosts}
+use Rattle.core_check.specs.contracts.fault.RuleFaultOrd.TheImpl.{ghosts}
 use Rattle.core_check.specs.FaultOrder.{core_fault_cmp}
 use Rattle.core_check.specs.CoreFaults.{order_faults, program_fault_at, program_faults_from, program_faults}
 use Rattle.core_check.proofs.FaultFacts.{core_fault_total, derived_cmp}

@@ -7,7 +7,7 @@ use Rattle.std.specs.declared.cmp.Ordering.{Ordering}
 use Rattle.line_stamps.specs.Least.{lesser, least_of}
 use Rattle.line_stamps.proofs.Joined.{least_of-append}
 use Rattle.core_check.specs.declared.fault.RuleFault.{RuleFault}
-use Rattle.core_check.specs.contracts.fault.CoreFaultOrd.TheImpl.{ghosts}
+use Rattle.core_check.specs.contracts.fault.RuleFaultOrd.TheImpl.{ghosts}
 use Rattle.core_check.specs.FaultOrder.{core_fault_cmp}
 use Rattle.core_check.proofs.FaultFacts.{core_fault_total, derived_cmp}
 use Rattle.verdict.specs.CoreFaultsOf.{faults_of_core, least_of_cores}

@@ -1,7 +1,7 @@
 -- The lesser of a core's two faults is its least.
 use Rattle.std.proofs.Common.{◌∙◌, ap}
 use Rattle.line_stamps.specs.Least.{lesser}
-use Rattle.core_check.specs.contracts.fault.CoreFaultOrd.TheImpl.{ghosts}
+use Rattle.core_check.specs.contracts.fault.RuleFaultOrd.TheImpl.{ghosts}
 use Rattle.verdict.specs.CoreFaultsOf.{given}
 use Rattle.verdict.proofs.ProgramFacts.{lesser_of_core}
 use Rattle.verdict.proofs.cores.CoreCheck.fault_of_core.Goals as goal
