@@ -41,53 +41,6 @@ fn a_load_has_its_fields(rt: HostRuntime) {
 }
 
 #[test]
-fn other_bytes_are_no_line(rt: HostRuntime) {
-    for text in [
-        "",
-        "S 00 1 1 0",
-        "S 0 01 1 0",
-        "S 0 1 1",
-        "S 0 1 1 0 ",
-        "S 0 1 1 0 init",
-        "S  0 1 1 0",
-        "S 0 1 1 +0",
-        "S 0 1 1 0\n",
-        "s 0 1 1 0",
-        "L 0 1 1 0",
-        "L 0 1 1 0 0",
-        "L 0 1 1 0 0.01",
-        "L 0 1 1 0 initial",
-        "X 0 1 1 0 init 0",
-        "end 3",
-    ] {
-        assert_eq!(rt;
-            read_line(text.as_bytes()),
-            Err(LineFault::BadLine),
-            "at {text}"
-        );
-    }
-}
-
-#[test]
-fn numbers_out_of_range_are_told(rt: HostRuntime) {
-    for text in [
-        "S 65536 1 1 0",
-        "S 0 18446744073709551616 1 0",
-        "S 0 1 281474976710657 0",
-        "S 0 1 1 4294967296",
-        "L 0 1 1 0 64.0",
-        "L 0 1 1 0 0.1048576",
-        "S 0 12345678901234567890123456789012345678901234567890123456789012345678901234567890 1 0",
-    ] {
-        assert_eq!(rt;
-            read_line(text.as_bytes()),
-            Err(LineFault::OutOfRange),
-            "at {text}"
-        );
-    }
-}
-
-#[test]
 fn header_and_end_line(rt: HostRuntime) -> Result<(), Fail> {
     if let Ok(core) = CoreId::new(0) {
         let header = print_header(rt.alloc(), core, 1)?;

@@ -12,21 +12,7 @@ use std::thread::Threads;
 const THREE_RECORDS: &str =
     "tardis-log 1 core 0 of 1\nS 5 7 1 0\nL 5 7 1 1 0.0\nS 5 8 1 1\nend 3\n";
 
-/// How many records the bytes of core 0 of 1 spell, read from a source that follows the steps.
-fn read<R: Threads + Sync>(
-    rt: &R,
-    alloc: Global,
-    text: &str,
-    steps: &[Step],
-) -> Result<usize, LogFault> {
-    let Ok(core) = CoreId::new(0) else {
-        return Err(LogFault::Read);
-    };
-    let mut source = MemSource::new(text.as_bytes(), steps);
-    Ok(read_log(rt, alloc, &mut source, core, 1, 1)?.len())
-}
-
-/// The same of the bytes fed one by one, and whether each call after a fault answered that fault.
+/// How many records the bytes of core 0 of 1 spell, fed one by one, and whether each call after a fault answered that fault.
 fn feed_bytes(alloc: Global, text: &str) -> (Result<usize, LogFault>, bool) {
     let Ok(core) = CoreId::new(0) else {
         return (Err(LogFault::Read), false);
@@ -44,174 +30,6 @@ fn feed_bytes(alloc: Global, text: &str) -> (Result<usize, LogFault>, bool) {
         (Ok(()), Err(fault)) => (Err(fault), stays),
         (Err(fault), Ok(_)) => (Err(fault), false),
         (Err(fault), Err(again)) => (Err(fault), stays && again == fault),
-    }
-}
-
-#[test]
-fn logs_are_read(rt: HostRuntime) {
-    for (text, records) in [
-        ("tardis-log 1 core 0 of 1\nend 0\n", 0),
-        (THREE_RECORDS, 3),
-        (
-            "tardis-log 1 core 0 of 1\nS 0 1 281474976710656 0\nend 1\n",
-            1,
-        ),
-    ] {
-        assert_eq!(rt; read(&rt, rt.alloc(), text, &[]), Ok(records), "at {text}");
-        let steps = [Step::Move(0), Step::Move(29), Step::Move(2)];
-        assert_eq!(rt;
-            read(&rt, rt.alloc(), text, &steps),
-            Ok(records),
-            "cut at {text}"
-        );
-        assert_eq!(rt;
-            feed_bytes(rt.alloc(), text),
-            (Ok(records), true),
-            "byte by byte at {text}"
-        );
-    }
-}
-
-/// Texts that aren't a log of core 0 of 1, and their first fault with its line.
-const FAULTS: &[(&str, u64, Fault)] = &[
-    ("", 1, Fault::Truncated),
-    (
-        "tardis-log 1 core 0 of 1\nS 5 7 1 0\nS 5 8 1 1\n",
-        4,
-        Fault::Truncated,
-    ),
-    ("tardis-log 1 core 0 of 1\nno line", 2, Fault::Truncated),
-    (
-        "tardis-log 1 core 0 of 1\nS 5 7 1 0\nS 5 8 1 1\nend 3\n",
-        4,
-        Fault::CountDiffers,
-    ),
-    (
-        "tardis-log 1 core 0 of 1\nend 99999999999999999999\n",
-        2,
-        Fault::CountDiffers,
-    ),
-    (
-        "tardis-log 1 core 0 of 1\nend 0\nx",
-        3,
-        Fault::TrailingBytes,
-    ),
-    (
-        "tardis-log 1 core 0 of 1\nend 0\n\n",
-        3,
-        Fault::TrailingBytes,
-    ),
-    (
-        "tardis-log 1 core 0 of 1\nend 0\nS 65536 1 1 0\n",
-        3,
-        Fault::TrailingBytes,
-    ),
-    (
-        "tardis-log 1 core 0 of 1\nS 00 1 1 0\nend 1\n",
-        2,
-        Fault::BadLine,
-    ),
-    ("tardis-log 1 core 0 of 1\nend 00\n", 2, Fault::BadLine),
-    (
-        "tardis-log 1 core 0 of 1\nS 0 1 281474976710657 0\nend 1\n",
-        2,
-        Fault::OutOfRange,
-    ),
-    (
-        "tardis-log 1 core 0 of 1\nS 0 1 99999999999999999999999999 0\n",
-        2,
-        Fault::OutOfRange,
-    ),
-    ("tardis-log 1 core 1 of 2\nend 0\n", 1, Fault::WrongCore),
-    ("tardis-log 1 core 0 of 3\nend 0\n", 1, Fault::WrongCore),
-    ("tardis-log 1 core 1 of 1\nend 0\n", 1, Fault::OutOfRange),
-    ("tardis-log 1 core 0 of 65\nend 0\n", 1, Fault::OutOfRange),
-    (
-        "tardis-log 1 core 0 of 1000000000000000000000000000000000000000\n",
-        1,
-        Fault::OutOfRange,
-    ),
-    ("tardis-log 2 core 0 of 1\nend 0\n", 1, Fault::BadHeader),
-    ("\n", 1, Fault::BadHeader),
-];
-
-#[test]
-fn faults_are_told(rt: HostRuntime) {
-    for (text, line, fault) in FAULTS {
-        let expected = Err(LogFault::At(*line, *fault));
-        assert_eq!(rt; read(&rt, rt.alloc(), text, &[]), expected, "at {text}");
-        assert_eq!(rt;
-            feed_bytes(rt.alloc(), text),
-            (expected, true),
-            "byte by byte at {text}"
-        );
-    }
-}
-
-#[test]
-fn each_beginning_of_a_log_is_cut_off(rt: HostRuntime) {
-    let mut line = 1;
-    let mut begun = String::new(rt.alloc());
-    for c in THREE_RECORDS.chars() {
-        let expected = Err(LogFault::At(line, Fault::Truncated));
-        assert_eq!(rt; read(&rt, rt.alloc(), &begun, &[]), expected, "at {begun}");
-        assert_eq!(rt;
-            feed_bytes(rt.alloc(), &begun),
-            (expected, true),
-            "byte by byte at {begun}"
-        );
-        if c == '\n' && line < 9 {
-            line += 1;
-        }
-        if begun.push(c).is_err() {
-            assert!(rt; false, "memory is ample");
-        }
-    }
-    assert_eq!(rt; begun.len(), 65);
-}
-
-#[test]
-fn a_line_that_is_too_long_is_refused_at_once(rt: HostRuntime) {
-    if let Ok(core) = CoreId::new(0) {
-        let mut reader = LogReader::new(rt.alloc(), core, 1);
-        assert_eq!(rt; reader.feed(b"tardis-log 1 core 0 of 1\n"), Ok(()));
-        for k in 1..=1_000_000 {
-            let expected = if k <= 80 {
-                Ok(())
-            } else {
-                Err(LogFault::At(2, Fault::BadLine))
-            };
-            assert_eq!(rt; reader.feed(b"7"), expected, "at {k}");
-        }
-        let whole =
-            "777777777777777777777777777777777777777777777777777777777777777777777777777777777\n";
-        let mut other = LogReader::new(rt.alloc(), core, 1);
-        assert_eq!(rt;
-            other.feed(whole.as_bytes()),
-            Err(LogFault::At(1, Fault::BadHeader))
-        );
-        let mut third = LogReader::new(rt.alloc(), core, 1);
-        assert_eq!(rt; third.feed(b"tardis-log 1 core 0 of 1\n"), Ok(()));
-        assert_eq!(rt;
-            third.feed(whole.as_bytes()),
-            Err(LogFault::At(2, Fault::BadLine))
-        );
-    } else {
-        assert!(rt; false, "0 is a core");
-    }
-}
-
-#[test]
-fn a_failed_read_is_told(rt: HostRuntime) {
-    for k in 0..12 {
-        let mut steps = [Step::Move(6); 12];
-        steps[k] = Step::Fail;
-        let expected = if k < 11 { Err(LogFault::Read) } else { Ok(3) };
-        assert_eq!(rt;
-            read(&rt, rt.alloc(), THREE_RECORDS, &steps),
-            expected,
-            "at {k}"
-        );
     }
 }
 
@@ -278,39 +96,14 @@ fn read_two<'a, R: Threads + Sync>(
     (answer, readers[1].failures())
 }
 
-/// The answer to a set whose file isn't of the core that it should be of.
-fn wrong(file: usize) -> Result<usize, SetFault> {
-    Err(SetFault {
-        file,
-        fault: LogFault::At(1, Fault::WrongCore),
-    })
-}
-
 #[test]
 fn sets_are_read(rt: HostRuntime) {
-    let first = "tardis-log 1 core 0 of 2\nS 0 1 1 0\nL 1 0 1 0 init\nend 2\n";
-    let second = "tardis-log 1 core 1 of 2\nS 1 1 12 0\nL 0 1 12 0 0.0\nend 2\n";
-    let of_three = "tardis-log 1 core 0 of 3\nend 0\n";
-    for (zero, one, expected) in [
-        (first, second, Ok(2)),
-        (second, first, wrong(0)),
-        (first, first, wrong(1)),
-        (of_three, "", wrong(0)),
-    ] {
-        assert_eq!(rt;
-            read_two(&rt, rt.alloc(), zero, one, &[]),
-            (expected, 0),
-            "at {zero}, {one}"
-        );
-    }
-}
-
-#[test]
-fn a_set_whose_second_file_fails(rt: HostRuntime) {
     let first = "tardis-log 1 core 0 of 2\nS 0 1 1 0\nL 1 0 1 0 init\nend 2\n";
     // The first file comes in two pieces; the second one fails at the fourth read.
     let steps = [Step::Move(9), Step::Move(60), Step::Move(0), Step::Fail];
     let longer = "tardis-log 1 core 1 of 2\nS 1 1 12 0\nL 0 1 12 0 0.0\nL 0 1 12 0 0.0\nend 3\n";
+    let second = "tardis-log 1 core 1 of 2\nS 1 1 12 0\nL 0 1 12 0 0.0\nend 2\n";
+    assert_eq!(rt; read_two(&rt, rt.alloc(), first, second, &[]), (Ok(2), 0));
     let failed = Err(SetFault {
         file: 1,
         fault: LogFault::Read,
