@@ -17,3 +17,5 @@ mod schedules;
 mod slices;
 #[cfg(test)]
 mod units;
+#[cfg(test)]
+mod values;

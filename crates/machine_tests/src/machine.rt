@@ -6,12 +6,13 @@ mod copies;
 mod effects;
 mod rooms;
 
+use super::values::*;
 use core_program::ProgramSet;
 use lease_rule::Config;
-use line_stamps::{Line, LineStamps, Message, Rank, Recall, RecallKind, Reply, Stamp};
+use line_stamps::{Message, Recall, RecallKind, Reply, Stamp};
 use log_record::read_line;
 use manager_slice::{HistoryEntry, SliceFault};
-use mem_op::{Addr, CoreId, OpId, OpIndex, Source, Word};
+use mem_op::CoreId;
 use std::alloc::Global;
 use std::process::Abort;
 use std::test::*;
@@ -31,89 +32,6 @@ struct Sight {
     served: usize,
     hand: Option<Message>,
     kept: Option<Reply>,
-}
-
-fn addr(number: u16) -> Addr {
-    Addr::new(u64::from(number)).unwrap()
-}
-
-fn core(number: u8) -> CoreId
-    requires { number < 64 }
-{
-    CoreId::new(u64::from(number)).unwrap()
-}
-
-fn stamp(number: u32) -> Stamp {
-    Stamp::new(u64::from(number)).unwrap()
-}
-
-fn id(number: u8, index: u8) -> OpId
-    requires { number < 64 }
-{
-    OpId {
-        core: core(number),
-        index: OpIndex::new(u64::from(index)).unwrap(),
-    }
-}
-
-// A line of value 0 and no store.
-fn initial(wts: u32, rts: u32) -> Line {
-    Line::new(
-        0,
-        Source::Init,
-        LineStamps::at(stamp(wts), Rank::ZERO).leased_to(stamp(rts)),
-    )
-}
-
-// A line of rank 0 that a core wrote by its first operation.
-fn stored(value: Word, by: u8, wts: u32, rts: u32) -> Line
-    requires { by < 64 }
-{
-    Line::new(
-        value,
-        Source::Store(id(by, 0)),
-        LineStamps::at(stamp(wts), Rank::ZERO).leased_to(stamp(rts)),
-    )
-}
-
-fn read(number: u16, copy: Option<Stamp>, pts: u32) -> Message {
-    Message::ShReq {
-        addr: addr(number),
-        copy,
-        pts: stamp(pts),
-    }
-}
-
-fn write(number: u16, copy: Option<Stamp>) -> Message {
-    Message::ExReq {
-        addr: addr(number),
-        copy,
-    }
-}
-
-fn flushed(number: u16, line: Line) -> Message {
-    Message::FlushRep {
-        addr: addr(number),
-        line,
-    }
-}
-
-fn written_back(number: u16, line: Line) -> Message {
-    Message::WbRep {
-        addr: addr(number),
-        line,
-    }
-}
-
-fn recall(owner: u8, kind: RecallKind, rts: u32) -> Recall
-    requires { owner < 64 }
-{
-    Recall {
-        rts: stamp(rts),
-        addr: addr(0),
-        owner: core(owner),
-        kind,
-    }
 }
 
 // Events of core 0.
@@ -207,14 +125,14 @@ fn meets(rt: &impl Abort, machine: &mut Core, steps: &[Step]) {
         let mut came = machine.step(step.event);
         if let Err(fault) = &came {
             assert!(rt; is_memory(fault), "{fault}");
-            let behind = [shown(machine, core(0)), shown(machine, core(1))];
-            assert_eq!(rt; behind, before);
+            let after = [shown(machine, core(0)), shown(machine, core(1))];
+            assert_eq!(rt; after, before);
             came = machine.step(step.event);
         }
         assert_eq!(rt; came, Ok(step.outcome));
         if step.outcome == Outcome::NoEffect {
-            let behind = [shown(machine, core(0)), shown(machine, core(1))];
-            assert_eq!(rt; behind, before);
+            let after = [shown(machine, core(0)), shown(machine, core(1))];
+            assert_eq!(rt; after, before);
         }
     }
 }

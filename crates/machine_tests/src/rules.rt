@@ -1,12 +1,12 @@
 //! The rules of stamps, and the numbers of a machine.
 
 use lease_rule::*;
-use line_stamps::{LineStamps, Rank, Stamp, StampFault};
+use line_stamps::{LineStamps, Rank, Stamp};
 use mem_op::Addr;
 use std::test::*;
 
 #[test]
-fn the_first_bad_number_is_named(rt: HostRuntime) -> Result<(), Fail> {
+fn numbers_of_a_machine(rt: HostRuntime) -> Result<(), Fail> {
     assert!(rt; Config::new(1, 1, 1, 1, 1, 1, 1).is_ok());
     let greatest = Config::new(16, 1_000, 1_000_000, 4_096, 65_536, 1_024, 10_000_000)?;
     assert_eq!(rt; greatest.slices(), 16);
@@ -17,32 +17,13 @@ fn the_first_bad_number_is_named(rt: HostRuntime) -> Result<(), Fail> {
     assert_eq!(rt; greatest.inbox(), 1_024);
     assert_eq!(rt; greatest.turns(), 10_000_000);
     assert_eq!(rt; greatest.slice_of(Addr::new(65_535)?), 15);
-    for (bad, text) in [
-        (Config::new(17, 0, 0, 0, 0, 0, 0), "6 BadConfig slices"),
-        (Config::new(1, 1_001, 0, 0, 0, 0, 0), "6 BadConfig lease"),
-        (
-            Config::new(1, 1, 1_000_001, 0, 0, 0, 0),
-            "6 BadConfig period",
-        ),
-        (
-            Config::new(1, 1, 1, 4_097, 0, 0, 0),
-            "6 BadConfig cache_lines",
-        ),
-        (
-            Config::new(1, 1, 1, 1, 65_537, 0, 0),
-            "6 BadConfig slice_lines",
-        ),
-        (Config::new(1, 1, 1, 1, 1, 1_025, 0), "6 BadConfig inbox"),
-        (
-            Config::new(1, 1, 1, 1, 1, 1, 10_000_001),
-            "6 BadConfig turns",
-        ),
-    ] {
-        if let Err(fault) = bad {
-            assert_eq!(rt; format!(in rt.alloc(); "{fault}")?.as_str(), text);
-        } else {
-            assert!(rt; false, "{text}");
-        }
+    if let Err(fault) = Config::new(1, 1, 1, 1, 1, 1, 10_000_001) {
+        assert_eq!(rt;
+            format!(in rt.alloc(); "{fault}")?.as_str(),
+            "6 BadConfig turns"
+        );
+    } else {
+        assert!(rt; false, "too many turns");
     }
     Ok(())
 }
@@ -65,26 +46,5 @@ fn stamps_of_worked_rows(rt: HostRuntime) -> Result<(), Fail> {
     let stored = LineStamps::at(one, never);
     assert_eq!(rt; write_back_rts(stored, Stamp::new(22)?, 10), Stamp::new(22));
     assert_eq!(rt; self_increment(zero), Ok(one));
-    Ok(())
-}
-
-#[test]
-fn sums_past_the_limit(rt: HostRuntime) -> Result<(), Fail> {
-    let [zero, last] = [Stamp::ZERO, Stamp::new(281_474_976_710_656)?];
-    let [never, greatest] = [Rank::ZERO, Rank::new(4_294_967_295)?];
-    assert_eq!(rt; store_stamp(zero, last, false), Err(StampFault::StampLimit));
-    assert_eq!(rt; store_stamp(zero, last, true), Ok(last));
-    assert_eq!(rt;
-        rank_of(last, zero, never, last, greatest),
-        Err(StampFault::RankLimit)
-    );
-    assert_eq!(rt; rank_of(last, last, greatest, zero, greatest), Ok(greatest));
-    let late = LineStamps::at(last, never);
-    let early = LineStamps::at(zero, never);
-    assert_eq!(rt; renewed_rts(late, zero, 1), Err(StampFault::StampLimit));
-    assert_eq!(rt; renewed_rts(early, last, 1), Err(StampFault::StampLimit));
-    assert_eq!(rt; write_back_rts(late, zero, 1), Err(StampFault::StampLimit));
-    assert_eq!(rt; write_back_rts(early, last, 1), Ok(last));
-    assert_eq!(rt; self_increment(last), Err(StampFault::StampLimit));
     Ok(())
 }

@@ -349,6 +349,22 @@ fn verdicts(rt: HostRuntime) -> Result<(), Fail> {
 }
 
 #[test]
+fn long_set(rt: HostRuntime) -> Result<(), Fail> {
+    for (last, status, line) in [
+        ("0.4095", 0, "yes: 8192 operations\n"),
+        ("init", 1, "no: 1.4095 SOURCE\n"),
+    ] {
+        let logs = long_logs(rt.alloc(), last)?;
+        for workers in ["--workers=1", "--workers=2", "--workers=64"] {
+            let done = check_texts(&rt, rt.alloc(), &[workers], &logs)?;
+            assert_eq!(rt; done.printed.as_str(), line, "with {workers}");
+            assert_eq!(rt; done.status, status, "with {workers}");
+        }
+    }
+    Ok(())
+}
+
+#[test]
 fn refused_logs(rt: HostRuntime) -> Result<(), Fail> {
     for (texts, told) in REFUSED {
         let done = check_texts(&rt, rt.alloc(), &[], &owned(rt.alloc(), texts)?)?;
@@ -519,6 +535,19 @@ pub(super) fn logs_of(alloc: Global, records: &[&[&str]]) -> Result<Vec<Vec<u8>>
         logs.push(log.into_bytes())?;
     }
     Ok(logs)
+}
+
+/// Two logs of 4,096 records: core 1 loads what core 0 stored, and its last load names this source.
+fn long_logs(alloc: Global, last: &str) -> Result<Vec<Vec<u8>>, Fail> {
+    let mut stores = String::from_str(alloc, "tardis-log 1 core 0 of 2\n")?;
+    let mut loads = String::from_str(alloc, "tardis-log 1 core 1 of 2\n")?;
+    for i in 0..4_095u64 {
+        write!(stores, "S {i} 1 {i} 0\n")?;
+        write!(loads, "L {i} 1 {i} 1 0.{i}\n")?;
+    }
+    stores.push_str("S 4095 1 4095 0\nend 4096\n")?;
+    write!(loads, "L 4095 1 4095 1 {last}\nend 4096\n")?;
+    owned(alloc, &[stores.as_bytes(), loads.as_bytes()])
 }
 
 /// Texts of one's own.

@@ -3,29 +3,6 @@
 use super::*;
 
 #[test]
-fn a_private_write(rt: HostRuntime) -> Result<(), Fail> {
-    let text = b"tardis-programs 1 cores 1\ncore 0\nst 5 7\nld r0 5\nst 5 8\nend\n";
-    let programs = ProgramSet::parse(rt.alloc(), text)?;
-    let events = [turn(), serve(), take(), turn(), turn(), turn(), turn()];
-    let config = config_of(10, 100, 64, 64)?;
-    let machine = ran(rt.alloc(), &programs, &config, &events)?;
-    logs(
-        &rt,
-        &machine,
-        core(0),
-        &["S 5 7 1 0", "L 5 7 1 1 0.0", "S 5 8 1 1"],
-    )?;
-    let reply = Reply::ExRep(initial(0, 0));
-    served(
-        &rt,
-        &machine,
-        &[HistoryEntry::Served(core(0), write(5, None), reply)],
-    )?;
-    assert_eq!(rt; machine.config().lease(), 10);
-    Ok(())
-}
-
-#[test]
 fn a_renewal(rt: HostRuntime) -> Result<(), Fail> {
     let text = b"tardis-programs 1 cores 1\ncore 0\nld r0 0\nld r0 0\nld r0 0\nend\n";
     let mut machine = machine_of(rt.alloc(), text, &config_of(1, 1, 64, 64)?)?;
@@ -69,8 +46,8 @@ fn a_copy_that_another_core_wrote_over(rt: HostRuntime) -> Result<(), Fail> {
         b"tardis-programs 1 cores 2\ncore 0\nld r0 0\nld r0 0\nld r0 0\ncore 1\nst 0 9\nend\n";
     let mut machine = machine_of(rt.alloc(), text, &config_of(1, 1, 64, 64)?)?;
     let again = &read(0, Some(stamp(0)), 2);
-    let other = &recall(1, RecallKind::WriteBack, 3);
-    let given = written_back(0, stored(9, 1, 2, 3));
+    let other = &recall(1, 0, RecallKind::WriteBack, 3);
+    let given = written_back(0, stored(9, id(1, 0), 2, 3));
     meets(
         &rt,
         &mut machine,
@@ -91,7 +68,7 @@ fn a_copy_that_another_core_wrote_over(rt: HostRuntime) -> Result<(), Fail> {
             serves(1, Reply::Taken),
             takes(1),
             asks(0, *again),
-            serves(0, Reply::ShRep(stored(9, 1, 2, 3))),
+            serves(0, Reply::ShRep(stored(9, id(1, 0), 2, 3))),
             takes(0),
             performs(0, 2),
         ],
@@ -142,8 +119,8 @@ fn no_upgrade_of_an_old_copy(rt: HostRuntime) -> Result<(), Fail> {
     let text = b"tardis-programs 1 cores 2\ncore 0\nld r0 0\nst 0 5\ncore 1\nst 0 9\nend\n";
     let mut machine = machine_of(rt.alloc(), text, &config_of(10, 100, 64, 64)?)?;
     let owning = &write(0, Some(stamp(0)));
-    let other = &recall(1, RecallKind::Flush, 0);
-    let given = flushed(0, stored(9, 1, 11, 11));
+    let other = &recall(1, 0, RecallKind::Flush, 0);
+    let given = flushed(0, stored(9, id(1, 0), 11, 11));
     meets(
         &rt,
         &mut machine,
@@ -163,7 +140,7 @@ fn no_upgrade_of_an_old_copy(rt: HostRuntime) -> Result<(), Fail> {
             serves(1, Reply::Taken),
             takes(1),
             asks(0, *owning),
-            serves(0, Reply::ExRep(stored(9, 1, 11, 11))),
+            serves(0, Reply::ExRep(stored(9, id(1, 0), 11, 11))),
             takes(0),
             performs(0, 1),
         ],

@@ -38,7 +38,7 @@ fn a_cache_of_one_line(rt: HostRuntime) -> Result<(), Fail> {
     let machine = behind_a_cache_of_one_line(rt.alloc())?;
     let lines = ["S 0 1 1 0", "L 1 0 1 0 init", "L 0 1 1 1 0.0"];
     logs(&rt, &machine, core(0), &lines)?;
-    let given = &flushed(0, stored(1, 0, 1, 1));
+    let given = &flushed(0, stored(1, id(0, 0), 1, 1));
     let entries = [
         CoreEntry::Got(write(0, None), Reply::ExRep(initial(0, 0))),
         CoreEntry::Performed,
@@ -47,7 +47,7 @@ fn a_cache_of_one_line(rt: HostRuntime) -> Result<(), Fail> {
         CoreEntry::Got(read(1, None, 1), Reply::ShRep(initial(0, 11))),
         CoreEntry::Performed,
         CoreEntry::Dropped(addr(1)),
-        CoreEntry::Got(read(0, None, 1), Reply::ShRep(stored(1, 0, 1, 11))),
+        CoreEntry::Got(read(0, None, 1), Reply::ShRep(stored(1, id(0, 0), 1, 11))),
         CoreEntry::Performed,
     ];
     let unit = machine.unit(core(0)).ok_or("core 0 is there")?;
@@ -58,9 +58,9 @@ fn a_cache_of_one_line(rt: HostRuntime) -> Result<(), Fail> {
 #[test]
 fn the_slice_below_a_cache_of_one_line(rt: HostRuntime) -> Result<(), Fail> {
     let machine = behind_a_cache_of_one_line(rt.alloc())?;
-    let given = flushed(0, stored(1, 0, 1, 1));
+    let given = flushed(0, stored(1, id(0, 0), 1, 1));
     let first = Reply::ShRep(initial(0, 11));
-    let second = Reply::ShRep(stored(1, 0, 1, 11));
+    let second = Reply::ShRep(stored(1, id(0, 0), 1, 11));
     served(
         &rt,
         &machine,
@@ -78,8 +78,8 @@ fn a_slice_of_one_line(rt: HostRuntime) -> Result<(), Fail> {
     let text = b"tardis-programs 1 cores 1\ncore 0\nst 0 1\nld r0 1\nend\n";
     let mut machine = machine_of(rt.alloc(), text, &config_of(10, 100, 64, 1)?)?;
     let owned = &Reply::ExRep(initial(0, 0));
-    let own = &recall(0, RecallKind::Flush, 0);
-    let given = &flushed(0, stored(1, 0, 1, 1));
+    let own = &recall(0, 0, RecallKind::Flush, 0);
+    let given = &flushed(0, stored(1, id(0, 0), 1, 1));
     let reply = &Reply::ShRep(initial(1, 11));
     meets(
         &rt,
@@ -140,26 +140,4 @@ fn a_line_is_spilled(rt: HostRuntime) -> Result<(), Fail> {
             HistoryEntry::Evicted(addr(0)),
         ],
     )
-}
-
-#[test]
-fn a_full_transcript(rt: HostRuntime) -> Result<(), Fail> {
-    let text = b"tardis-programs 1 cores 1\ncore 0\nst 0 1\nend\n";
-    let programs = ProgramSet::parse(rt.alloc(), text)?;
-    let config = config_of(10, 100, 64, 64)?;
-    let mut events = Vec::new(rt.alloc());
-    for _ in 0..1_048_576 {
-        events.push(Event::Increment(core(0)))?;
-    }
-    let machine = run(rt.alloc(), &programs, &config, events.as_slice())?;
-    let unit = machine.unit(core(0)).ok_or("core 0 is there")?;
-    assert_eq!(rt; unit.transcript().len(), 1_048_576);
-    events.push(Event::Increment(core(0)))?;
-    let refused = run(rt.alloc(), &programs, &config, events.as_slice());
-    let fault = RunFault {
-        at: 1_048_576,
-        fault: CoreFault::Unit(UnitFault::TranscriptFull),
-    };
-    assert_eq!(rt; refused.err(), Some(fault));
-    Ok(())
 }
