@@ -1,7 +1,7 @@
 //! The lines of a log.
 
 use log_record::*;
-use mem_op::{CoreId, OpId, OpIndex, Source};
+use mem_op::CoreId;
 use std::test::Fail;
 
 #[test]
@@ -23,21 +23,6 @@ fn lines_are_read_and_printed(rt: HostRuntime) -> Result<(), Fail> {
         }
     }
     Ok(())
-}
-
-#[test]
-fn a_load_has_its_fields(rt: HostRuntime) {
-    let read = read_line(b"L 12 34 56 78 9.10");
-    assert!(rt; read.is_ok());
-    if let Ok(load) = read {
-        assert_eq!(rt; load.addr.get(), 12);
-        assert_eq!(rt; load.value, 34);
-        assert_eq!(rt; load.ts.get(), 56);
-        assert_eq!(rt; load.rank.get(), 78);
-        assert!(rt;
-            matches!(&load.act, Act::Load(Source::Store(id)) if id.core.get() == 9 && id.index.get() == 10)
-        );
-    }
 }
 
 #[test]
@@ -67,30 +52,4 @@ fn header_and_end_line(rt: HostRuntime) -> Result<(), Fail> {
     );
     assert_eq!(rt; read_end(b"end 00"), None);
     Ok(())
-}
-
-#[test]
-fn printed_faults(rt: HostRuntime) -> Result<(), Fail> {
-    let bad = LineFault::BadLine.to_string(rt.alloc())?;
-    assert_eq!(rt; bad.as_str(), "21 BadLine");
-    let out = LineFault::OutOfRange.to_string(rt.alloc())?;
-    assert_eq!(rt; out.as_str(), "22 OutOfRange");
-    Ok(())
-}
-
-#[test]
-fn an_entry_has_a_key(rt: HostRuntime) {
-    if let (Ok(logged), Ok(core), Ok(index)) = (
-        read_line(b"S 1 2 3 4"),
-        CoreId::new(5),
-        OpIndex::new(6),
-    ) {
-        let key = Entry::new(OpId { core, index }, &logged).key();
-        assert_eq!(rt; key.ts.get(), 3);
-        assert_eq!(rt; key.rank.get(), 4);
-        assert_eq!(rt; key.core.get(), 5);
-        assert_eq!(rt; key.index.get(), 6);
-    } else {
-        assert!(rt; false, "all are in range");
-    }
 }

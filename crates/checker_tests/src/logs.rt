@@ -115,39 +115,6 @@ fn sets_are_read(rt: HostRuntime) {
 }
 
 #[test]
-fn printed_faults(rt: HostRuntime) -> Result<(), Fail> {
-    let alloc = rt.alloc();
-    for (fault, text) in [
-        (Fault::BadHeader, "20 BadHeader"),
-        (Fault::BadLine, "21 BadLine"),
-        (Fault::OutOfRange, "22 OutOfRange"),
-        (Fault::TooMany, "23 TooMany"),
-        (Fault::CountDiffers, "24 CountDiffers"),
-        (Fault::TrailingBytes, "25 TrailingBytes"),
-        (Fault::Truncated, "26 Truncated"),
-        (Fault::WrongCore, "27 WrongCore"),
-    ] {
-        assert_eq!(rt; fault.to_string(alloc)?.as_str(), text);
-    }
-    for (fault, alone, of_file) in [
-        (
-            LogFault::At(3, Fault::Truncated),
-            "line 3: 26 Truncated",
-            "file 7 line 3: 26 Truncated",
-        ),
-        (LogFault::Read, "28 Read", "file 7: 28 Read"),
-        (LogFault::OutOfMemory, "10 OutOfMemory", "10 OutOfMemory"),
-    ] {
-        assert_eq!(rt; fault.to_string(alloc)?.as_str(), alone);
-        let set_fault = SetFault { file: 7, fault };
-        assert_eq!(rt; set_fault.to_string(alloc)?.as_str(), of_file);
-    }
-    assert_eq!(rt; ReadFailed.to_string(alloc)?.as_str(), "28 Read");
-    assert_eq!(rt; WriteFailed.to_string(alloc)?.as_str(), "29 Write");
-    Ok(())
-}
-
-#[test]
 fn bytes_are_written_through(rt: HostRuntime) {
     let steps = [Step::Move(0), Step::Move(2), Step::Fail, Step::Move(1)];
     let mut sink = MemSink::new(rt.alloc(), &steps);
