@@ -4,7 +4,7 @@ ghost use Rattle.std.specs.Prelude.{◌≡◌, ◌≢◌, ℕ, List, ◌∷◌, 
 ghost use Rattle.decimal_text.specs.Numbers.{numeral, as_u64, StandsInFront};
 ghost use Rattle.decimal_text.specs.inner.Reading.{is_digit, number_at, after, field_at, last_number, front_now, front_map};
 
-use crate::number::{behind_text, field, last, number};
+use super::number::{behind_text, field, last, number};
 
 /// The longest number at the front, and the bytes after it; None where there is no number. After a 0 no
 /// further digit is part of the number. A number that 64 bits don't hold is None.

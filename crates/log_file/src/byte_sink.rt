@@ -5,7 +5,7 @@ ghost use Rattle.std.specs.Io.KnownBytes.{WriteAppends, Appends};
 ghost use Rattle.log_file.specs.Devices.{CountsFailure, Failed};
 ghost use Rattle.log_file.specs.Wrapped.{writer_of, failed_writes};
 
-use crate::device_fault::WriteFailed;
+use super::device_fault::WriteFailed;
 use std::io::Write;
 
 /// What takes bytes, some at a time, and may fail at any time.

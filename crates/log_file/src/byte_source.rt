@@ -5,7 +5,7 @@ ghost use Rattle.std.specs.Io.KnownBytes.{ReadConsumes};
 ghost use Rattle.log_file.specs.Devices.{CountsFailure};
 ghost use Rattle.log_file.specs.Wrapped.{reader_of, failed_reads};
 
-use crate::device_fault::ReadFailed;
+use super::device_fault::ReadFailed;
 use std::io::Read;
 
 /// What gives bytes, some at a time, and may fail at any time.

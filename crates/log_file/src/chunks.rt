@@ -3,8 +3,8 @@
 ghost use Rattle.std.specs.Prelude.{◌≡◌, ◌≤◌, ◌++◌, [], length};
 ghost use Rattle.log_file.specs.inner.Chunks.{HasFront};
 
-use crate::line_reader::LineReader;
-use crate::taking::take_piece;
+use super::line_reader::LineReader;
+use super::taking::take_piece;
 use log_record::Record;
 use memchr::memchr;
 use std::alloc::Global;

@@ -1,6 +1,6 @@
 //! What is wrong with a log, and with a set of logs.
 
-use crate::device_fault::ReadFailed;
+use super::device_fault::ReadFailed;
 use std::alloc::{AllocError, AllocFailed};
 use std::fmt;
 use std::fmt::Display;

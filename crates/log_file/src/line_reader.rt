@@ -9,9 +9,9 @@ ghost use Rattle.log_file.specs.Log.{Spells};
 ghost use Rattle.log_file.specs.Standing.{IsInRange, SameLog, IsBehind, IsTooFar, IsPartRefused, IsLineRefused};
 ghost use Rattle.log_file.specs.Standing.{HasRoom, IsPassed, Stands, IsSettledWith, TakesNext, read_text};
 
-use crate::fault::{Fault, LogFault};
-use crate::one_line::{LINE_LIMIT, RECORD_LIMIT};
-use crate::progress::{Phase, Progress};
+use super::fault::{Fault, LogFault};
+use super::one_line::{LINE_LIMIT, RECORD_LIMIT};
+use super::progress::{Phase, Progress};
 use arrayvec::ArrayVec;
 use log_record::Record;
 use memchr::memchr;

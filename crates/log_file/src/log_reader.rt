@@ -3,9 +3,9 @@
 ghost use Rattle.std.specs.Prelude.{◌≡◌, ◌<◌, ◌≤◌, ◌^◌, [], Ok, OnOk};
 ghost use Rattle.log_file.specs.Feeding.{Feeds, Finishes, IsOpen, fed_len};
 
-use crate::fault::LogFault;
-use crate::line_reader::LineReader;
-use crate::taking::{take_piece, take_piece_by};
+use super::fault::LogFault;
+use super::line_reader::LineReader;
+use super::taking::{take_piece, take_piece_by};
 use log_record::Record;
 use mem_op::CoreId;
 use std::alloc::Global;

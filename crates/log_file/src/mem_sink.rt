@@ -3,9 +3,9 @@
 ghost use Rattle.std.specs.Prelude.{◌≡◌, []};
 ghost use Rattle.log_file.specs.InMemory.{bytes_taken, writes_to_come, failed_writes};
 
-use crate::byte_sink::ByteSink;
-use crate::device_fault::WriteFailed;
-use crate::step::{Step, take_step};
+use super::byte_sink::ByteSink;
+use super::device_fault::WriteFailed;
+use super::step::{Step, take_step};
 use std::alloc::Global;
 
 /// A sink that keeps in memory what it took. Each write follows a step, and after the last it takes

@@ -3,9 +3,9 @@
 ghost use Rattle.std.specs.Prelude.{◌≡◌, ◌+◌, ◌<◌, ◌≤◌, length, min, take};
 ghost use Rattle.log_file.specs.InMemory.{bytes_left, reads_to_come, failed_reads};
 
-use crate::byte_source::ByteSource;
-use crate::device_fault::ReadFailed;
-use crate::step::{Step, take_step};
+use super::byte_source::ByteSource;
+use super::device_fault::ReadFailed;
+use super::step::{Step, take_step};
 
 /// A source over bytes in memory. Each read follows a step, and after the last it gives what there
 /// is.

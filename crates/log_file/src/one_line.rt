@@ -4,7 +4,7 @@ ghost use Rattle.std.specs.Prelude.{◌≡◌, ◌<◌, ◌≤◌, MatchResult};
 ghost use Rattle.log_record.specs.Line.{header_text};
 ghost use Rattle.log_file.specs.OneLine.{LeastHeader, LeastBody, BodyIs};
 
-use crate::fault::Fault;
+use super::fault::Fault;
 use log_record::{LineFault, Record, read_end, read_header, read_line};
 
 /// The most bytes of a line, without its line feed.

@@ -4,9 +4,9 @@ ghost use Rattle.std.specs.Prelude.{◌≡◌, ◌<◌, ◌≤◌, ◌^◌, ℕ,
 ghost use Rattle.log_file.specs.Devices.{Failed, Tells};
 ghost use Rattle.log_file.specs.Answers.{IsReadAnswer};
 
-use crate::byte_source::ByteSource;
-use crate::fault::LogFault;
-use crate::log_reader::LogReader;
+use super::byte_source::ByteSource;
+use super::fault::LogFault;
+use super::log_reader::LogReader;
 use log_record::Record;
 use mem_op::CoreId;
 use std::alloc::Global;

@@ -4,8 +4,8 @@ ghost use Rattle.std.specs.Prelude.{◌≡◌, ◌<◌, ◌≤◌, ℕ, List};
 ghost use Rattle.std.specs.List.{flat_map};
 ghost use Rattle.log_file.specs.Answers.{IsAnswer};
 
-use crate::fault::LogFault;
-use crate::log_reader::LogReader;
+use super::fault::LogFault;
+use super::log_reader::LogReader;
 use log_record::Record;
 use mem_op::CoreId;
 use std::alloc::Global;

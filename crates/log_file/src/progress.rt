@@ -3,8 +3,8 @@
 ghost use Rattle.std.specs.Prelude.{◌≡◌, MatchResult};
 ghost use Rattle.log_file.specs.Standing.{IsInRange, IsBehind, IsRefused, SameLog, fault_of_more};
 
-use crate::fault::{Fault, LogFault};
-use crate::one_line::{check_body, check_header};
+use super::fault::{Fault, LogFault};
+use super::one_line::{check_body, check_header};
 use log_record::Record;
 
 /// What was read last of a log.

@@ -3,8 +3,8 @@
 ghost use Rattle.std.specs.Prelude.{◌≡◌, IfOk, IsErrOf};
 ghost use Rattle.log_file.specs.Devices.{Failed, Tells};
 
-use crate::byte_source::ByteSource;
-use crate::device_fault::ReadFault;
+use super::byte_source::ByteSource;
+use super::device_fault::ReadFault;
 use std::alloc::Global;
 
 /// The most bytes of a piece.

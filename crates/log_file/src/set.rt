@@ -3,9 +3,9 @@
 ghost use Rattle.std.specs.Prelude.{◌≡◌, ◌+◌, ◌≤◌, ℕ, List, All, drop, length, vec_len, IfOk, IfErr};
 ghost use Rattle.log_file.specs.Sets.{IsSetAnswer, ReaderFailed, TellEach};
 
-use crate::byte_source::ByteSource;
-use crate::fault::{LogFault, SetFault};
-use crate::one_log::read_log;
+use super::byte_source::ByteSource;
+use super::fault::{LogFault, SetFault};
+use super::one_log::read_log;
 use log_record::Record;
 use mem_op::CoreId;
 use std::alloc::Global;

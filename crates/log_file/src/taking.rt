@@ -5,9 +5,9 @@ ghost use Rattle.std.specs.Thread.{IsSync};
 ghost use Rattle.log_file.specs.inner.Chunks.{HasFront};
 ghost use Rattle.log_file.specs.Standing.{IsInRange, IsSettledWith, SameLog, Stands, Takes};
 
-use crate::chunks::{Front, cut, front_of};
-use crate::fault::LogFault;
-use crate::line_reader::LineReader;
+use super::chunks::{Front, cut, front_of};
+use super::fault::LogFault;
+use super::line_reader::LineReader;
 use log_record::Record;
 use std::alloc::Global;
 use std::thread::{Threads, join_mut};

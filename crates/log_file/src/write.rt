@@ -6,8 +6,8 @@ ghost use Rattle.log_record.specs.Line.{Fits, record_text};
 ghost use Rattle.log_file.specs.Devices.{Failed};
 ghost use Rattle.log_file.specs.Log.{IsLog, spelling, with_lf};
 
-use crate::byte_sink::{ByteSink, write_all};
-use crate::device_fault::WriteFault;
+use super::byte_sink::{ByteSink, write_all};
+use super::device_fault::WriteFault;
 use log_record::{Act, Record, print_end, print_header};
 use mem_op::{CoreId, Source};
 use std::alloc::Global;

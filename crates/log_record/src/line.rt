@@ -4,10 +4,10 @@ ghost use Rattle.std.specs.Prelude.{◌≡◌, IfOk, IsErrOf, Some, string_bytes
 ghost use Rattle.log_record.specs.Line.{record_text, IsRecordShape, Fits};
 ghost use Rattle.log_record.specs.declared.record.Record.{Record};
 
-use crate::fault::LineFault;
-use crate::range::in_range;
-use crate::reading::raw_record;
-use crate::record::{Act, Record};
+use super::fault::LineFault;
+use super::range::in_range;
+use super::reading::raw_record;
+use super::record::{Act, Record};
 use mem_op::Source;
 use std::alloc::{AllocError, Global};
 use std::fmt;

@@ -7,8 +7,8 @@ ghost use Rattle.log_record.specs.inner.Raw.{raw_act_of, raw_of};
 ghost use Rattle.log_record.specs.declared.record.Act.{Act};
 ghost use Rattle.log_record.specs.declared.record.Record.{Record};
 
-use crate::raw::{RawAct, RawRecord, RawSource};
-use crate::record::{Act, Record};
+use super::raw::{RawAct, RawRecord, RawSource};
+use super::record::{Act, Record};
 use line_stamps::{Rank, Stamp};
 use mem_op::{Addr, CoreId, OpId, OpIndex, Source};
 

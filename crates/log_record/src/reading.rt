@@ -5,7 +5,7 @@ ghost use Rattle.decimal_text.specs.inner.Reading.{front_now, front_map};
 ghost use Rattle.log_record.specs.inner.Raw.{raw_source_of, raw_fields_of, raw_of};
 ghost use Rattle.log_record.specs.inner.Reading.{store_source_at, source_at, fields_at, store_at, load_at, tagged_at, record_of};
 
-use crate::raw::{RawAct, RawFields, RawRecord, RawSource};
+use super::raw::{RawAct, RawFields, RawRecord, RawSource};
 use decimal_text::{read_field, read_number};
 
 /// A core, a dot and an index.

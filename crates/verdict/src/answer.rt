@@ -1,6 +1,6 @@
 //! What the judge answers.
 
-use crate::fault::Fault;
+use super::fault::Fault;
 use std::fmt;
 use std::fmt::Display;
 

@@ -5,7 +5,7 @@ ghost use Rattle.verdict.specs.Counts.{IsBadCount, IsInRange, IsOutOfRange};
 ghost use Rattle.verdict.specs.declared.judge_fault.Count.TheVariants.{Files, Workers};
 ghost use Rattle.verdict.specs.declared.judge_fault.JudgeFault.TheVariants.{BadConfig};
 
-use crate::judge_fault::{Count, JudgeFault};
+use super::judge_fault::{Count, JudgeFault};
 
 /// How many files a set has at most.
 const MAX_FILES: usize = 64;

@@ -3,7 +3,7 @@
 ghost use Rattle.std.specs.Prelude.{◌≡◌};
 ghost use Rattle.verdict.specs.Faults.{from_core, from_address};
 
-use crate::rule::Rule;
+use super::rule::Rule;
 use address_check::{AddressFault, AddressRule};
 use core_check::{CoreRule, RuleFault};
 use mem_op::OpId;

@@ -9,11 +9,11 @@ ghost use Rattle.verdict.specs.VerdictOf.{verdict_by};
 ghost use Rattle.verdict.specs.declared.judge_fault.Count.TheVariants.{Files, Workers, Programs};
 ghost use Rattle.verdict.specs.declared.judge_fault.JudgeFault.TheVariants.{BadConfig, Read};
 
-use crate::answer::Verdict;
-use crate::counts::check_counts;
-use crate::judge_fault::JudgeFault;
-use crate::log_set::LogSet;
-use crate::verdict_on::verdict_on;
+use super::answer::Verdict;
+use super::counts::check_counts;
+use super::judge_fault::JudgeFault;
+use super::log_set::LogSet;
+use super::verdict_on::verdict_on;
 use address_check::Gate;
 use core_program::ProgramSet;
 use log_file::{ByteSource, read_set};

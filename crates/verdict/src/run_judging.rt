@@ -8,10 +8,10 @@ ghost use Rattle.verdict.specs.Judgement.{AreLaterUnread, IsRunAnswerTo, IsYes, 
 ghost use Rattle.verdict.specs.declared.judge_fault.Count.TheVariants.{Files, Workers, Programs};
 ghost use Rattle.verdict.specs.declared.judge_fault.JudgeFault.TheVariants.{BadConfig, Read};
 
-use crate::answer::Verdict;
-use crate::counts::check_counts;
-use crate::judge_fault::{Count, JudgeFault};
-use crate::judging::answer_to;
+use super::answer::Verdict;
+use super::counts::check_counts;
+use super::judge_fault::{Count, JudgeFault};
+use super::judging::answer_to;
 use address_check::Gate;
 use core_program::ProgramSet;
 use log_file::ByteSource;

@@ -6,10 +6,10 @@ ghost use Rattle.verdict.specs.CoreFaultsOf.{given};
 ghost use Rattle.verdict.specs.Counts.{IsInRange};
 ghost use Rattle.verdict.specs.VerdictOf.{verdict_by, verdict_with};
 
-use crate::answer::Verdict;
-use crate::cores::CoreCheck;
-use crate::fault::Fault;
-use crate::log_set::LogSet;
+use super::answer::Verdict;
+use super::cores::CoreCheck;
+use super::fault::Fault;
+use super::log_set::LogSet;
 use address_check::{AddressIndex, Gate};
 use core_program::ProgramSet;
 use std::alloc::{AllocError, Global};
