@@ -1,4 +1,4 @@
--- What only the contracts of private functions cite.
+-- Definitions that serve mostly private contracts; a few of them stand under public clauses too.
 pub mod Least
 pub mod Reading
 pub mod Sections

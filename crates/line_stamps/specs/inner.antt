@@ -1,2 +1,2 @@
--- What only the contracts of private functions cite.
+-- Definitions that serve mostly private contracts; a few of them stand under public clauses too.
 pub mod Ordered
