@@ -8,7 +8,7 @@ use Rattle.std.proofs.lemmas.Bool.{and_parts, eqb-true, eq-eqb}
 use Rattle.std.proofs.lemmas.Bool.Decides.{leb_tells}
 use Rattle.std.proofs.lemmas.List.{append-nil, take_more, take_all}
 use Rattle.line_stamps.specs.Least.{lesser, least_of}
-use Rattle.line_stamps.specs.inner.Ordered.{In}
+use Rattle.line_stamps.specs.Ordered.{In}
 use Rattle.line_stamps.proofs.Ordered.{In-append_left, In-append_right, In-filter, In-filtered, In-filter_map, filter_map-In, In-flat_map, flat_map-In, same_least}
 use Rattle.log_record.specs.declared.record.Entry.{Entry}
 use Rattle.log_record.specs.Entries.{entry_cmp}

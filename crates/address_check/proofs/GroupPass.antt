@@ -7,7 +7,7 @@ use Rattle.std.proofs.lemmas.List.{take_more, drop_more, take-append-drop, take_
 use Rattle.std.proofs.lemmas.Option.{slice_get_read}
 use Rattle.mem_op.specs.declared.id.Source.{Source}
 use Rattle.line_stamps.specs.KeyOrder.{key_cmp}
-use Rattle.line_stamps.specs.inner.Ordered.{In, EachPair, Ascends, IsGreatest, IsLeastIn}
+use Rattle.line_stamps.specs.Ordered.{In, EachPair, Ascends, IsGreatest, IsLeastIn}
 use Rattle.line_stamps.proofs.Order.{lt_irrefl, lt_asym}
 use Rattle.line_stamps.proofs.Ordered.{In-append, In-take, In-slice_get, In-get_or, Ascends-take, before_from_take, take_from_before, last_is_greatest, greatest_from_least, In-filter_map, filter_map-In, least_is, one_least}
 use Rattle.log_record.specs.declared.record.Entry.{Entry}

@@ -1,2 +1,2 @@
--- Definitions that serve mostly private contracts; a few of them stand under public clauses too.
+-- Definitions that serve private contracts alone.
 pub mod Piece

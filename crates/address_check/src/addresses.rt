@@ -2,7 +2,7 @@
 
 ghost use Rattle.std.specs.Prelude.{◌≡◌, ◌<◌, ◌≤◌, ◌-◌, IfOk, get_or, length, refl};
 ghost use Rattle.line_stamps.specs.Least.{least_of};
-ghost use Rattle.line_stamps.specs.inner.Ordered.{In};
+ghost use Rattle.line_stamps.specs.Ordered.{In};
 ghost use Rattle.log_record.specs.declared.record.Entry.{Entry};
 ghost use Rattle.address_check.specs.AddressFaults.{least_address_fault};
 ghost use Rattle.address_check.specs.AddressLaw.{least_fault_at-joined};

@@ -44,6 +44,11 @@ fn all_bytes_are_read(rt: HostRuntime) -> Result<(), Fail> {
         0,
         "the end stays"
     );
+    Ok(())
+}
+
+#[test]
+fn a_failed_read_is_told(rt: HostRuntime) -> Result<(), Fail> {
     for k in 0..3 {
         let mut steps = [Step::Move(6); 12];
         steps[k] = Step::Fail;
@@ -52,6 +57,11 @@ fn all_bytes_are_read(rt: HostRuntime) -> Result<(), Fail> {
         assert_eq!(rt; answer.err(), Some(ReadFault::Read), "read {k} fails");
         assert_eq!(rt; source.failures(), 1);
     }
+    Ok(())
+}
+
+#[test]
+fn faults_of_reading_are_printed(rt: HostRuntime) -> Result<(), Fail> {
     assert_eq!(rt; ReadFault::Read.to_string(rt.alloc())?.as_str(), "28 Read");
     assert_eq!(rt;
         ReadFault::OutOfMemory.to_string(rt.alloc())?.as_str(),
@@ -72,7 +82,7 @@ fn pieces_are_read_together(rt: HostRuntime) -> Result<(), Fail> {
     pieces.pop();
     assert_eq!(rt;
         read_pieces(alloc, &pieces, core, 1).err(),
-        Some(LogFault::At(2, Fault::Truncated))
+        Some(LogFault::At(2, FormatFault::Truncated))
     );
     Ok(())
 }
@@ -147,7 +157,7 @@ impl Write for Broken {
 }
 
 #[test]
-fn devices_of_std_are_wrapped(rt: HostRuntime) {
+fn readers_of_std_are_wrapped(rt: HostRuntime) {
     let mut buf = [0; 4];
     let mut source = FromRead::new(b"abcdef".as_slice());
     assert_eq!(rt; source.read(&mut buf), Ok(4));
@@ -155,12 +165,19 @@ fn devices_of_std_are_wrapped(rt: HostRuntime) {
     assert_eq!(rt; source.read(&mut buf), Ok(2));
     assert_eq!(rt; source.read(&mut buf), Ok(0));
     assert_eq!(rt; source.failures(), 0);
+}
 
+#[test]
+fn writers_of_std_are_wrapped(rt: HostRuntime) {
     let mut sink = FromWrite::new(Vec::new(rt.alloc()));
     assert_eq!(rt; sink.write(b"abc"), Ok(3));
     assert_eq!(rt; sink.write(b""), Ok(0));
     assert_eq!(rt; sink.failures(), 0);
+}
 
+#[test]
+fn failures_of_std_are_counted(rt: HostRuntime) {
+    let mut buf = [0; 4];
     let mut bad_source = FromRead::new(Broken);
     assert_eq!(rt;
         ByteSource::read(&mut bad_source, &mut buf),

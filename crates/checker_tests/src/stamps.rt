@@ -3,7 +3,7 @@
 use line_stamps::*;
 
 #[test]
-fn limits(rt: HostRuntime) {
+fn stamps_have_a_limit(rt: HostRuntime) {
     assert_eq!(rt;
         Stamp::new(281_474_976_710_657),
         Err(StampFault::StampLimit)
@@ -17,6 +17,10 @@ fn limits(rt: HostRuntime) {
     } else {
         assert!(rt; false, "2^48 is a stamp");
     }
+}
+
+#[test]
+fn ranks_have_a_limit(rt: HostRuntime) {
     assert_eq!(rt; Rank::new(4_294_967_296), Err(StampFault::RankLimit));
     if let Ok(last) = Rank::new(4_294_967_295) {
         assert_eq!(rt; last.get(), 4_294_967_295);

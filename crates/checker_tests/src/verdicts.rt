@@ -103,32 +103,42 @@ impl Gate for Both {
     }
 }
 
-#[test]
-fn gates(rt: HostRuntime) -> Result<(), Fail> {
-    let alloc = rt.alloc();
+/// What the judge of two logs prints, in which core 1 doesn't see core 0's store.
+fn judged_by<R: Threads + Sync, G: Gate + Sync>(
+    rt: &R,
+    alloc: Global,
+    workers: usize,
+    gate: &G,
+) -> Result<String, Fail> {
     let core_0 = log_text(alloc, 0, 2, "S 0 1 1 0\nL 1 0 1 0 init\n")?;
     let core_1 = log_text(alloc, 1, 2, "S 1 1 1 0\nL 0 0 1 0 init\n")?;
+    let mut readers = [
+        MemSource::new(core_0.as_bytes(), &[]),
+        MemSource::new(core_1.as_bytes(), &[]),
+    ];
+    printed(alloc, judge(rt, alloc, &mut readers, workers, gate))
+}
+
+#[test]
+fn a_single_worker_enters_each_phase_once(rt: HostRuntime) -> Result<(), Fail> {
     let steps = Steps {
         seen: AtomicUsize::new(0),
     };
+    let answer = judged_by(&rt, rt.alloc(), 1, &steps)?;
+    assert_eq!(rt; answer.as_str(), "no: 1.1 SOURCE");
+    assert_eq!(rt; steps.seen.load(Ordering::SeqCst), 101_201);
+    Ok(())
+}
+
+#[test]
+fn two_workers_enter_at_once(rt: HostRuntime) -> Result<(), Fail> {
     let both = Both {
         cores: AtomicUsize::new(0),
         addresses: AtomicUsize::new(0),
         late: AtomicUsize::new(0),
     };
-    let mut readers = [
-        MemSource::new(core_0.as_bytes(), &[]),
-        MemSource::new(core_1.as_bytes(), &[]),
-    ];
-    let alone = printed(alloc, judge(&rt, alloc, &mut readers, 1, &steps))?;
-    let mut readers = [
-        MemSource::new(core_0.as_bytes(), &[]),
-        MemSource::new(core_1.as_bytes(), &[]),
-    ];
-    let together = printed(alloc, judge(&rt, alloc, &mut readers, 2, &both))?;
-    assert_eq!(rt; alone.as_str(), "no: 1.1 SOURCE");
-    assert_eq!(rt; together.as_str(), "no: 1.1 SOURCE");
-    assert_eq!(rt; steps.seen.load(Ordering::SeqCst), 101_201);
+    let answer = judged_by(&rt, rt.alloc(), 2, &both)?;
+    assert_eq!(rt; answer.as_str(), "no: 1.1 SOURCE");
     assert_eq!(rt; both.late.load(Ordering::SeqCst), 0);
     Ok(())
 }

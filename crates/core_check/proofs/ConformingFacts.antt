@@ -6,7 +6,7 @@ use Rattle.std.proofs.lemmas.List.{length-map}
 use Rattle.std.proofs.lemmas.Option.{slice_get-map, slice_get_past}
 use Rattle.std.proofs.Math.Seq.{take-length}
 use Rattle.mem_op.specs.declared.id.Op.{Op}
-use Rattle.mem_op.specs.Consistency.{Operation, value_of}
+use Rattle.mem_op.specs.Consistency.{Operation, word_answered}
 use Rattle.core_program.specs.declared.instruction.Instruction.{Instruction}
 use Rattle.core_program.specs.State.{State}
 use Rattle.core_program.specs.Shape.{IsProgram}
@@ -41,7 +41,7 @@ take_snoc (y ∷ ys) (suc i) x e = ap (λ zs. y ∷ zs) (take_snoc ys i x e)
 operation_here : (log : List Record) (i : ℕ) (r : Record) → slice_get log i ≡ Some r → slice_get (map operation_of log) i ≡ Some (operation_of r)
 operation_here log i r here = slice_get-map operation_of log i ∙ ap (option_map operation_of) here
 
-value_by : (act : Act) (addr value : ℕ) → value_of (operation_by act addr value) ≡ value
+value_by : (act : Act) (addr value : ℕ) → word_answered (operation_by act addr value) ≡ value
 value_by (Load source) addr value = refl
 value_by Store addr value = refl
 

@@ -3,7 +3,7 @@ use Rattle.std.specs.Prelude.{◌≡◌, ℕ, zero, suc, true, false, List, Opti
 use Rattle.std.specs.Option.{option_map_or}
 use Rattle.std.proofs.Common.{sym, ◌∙◌, ap, subst}
 use Rattle.mem_op.specs.declared.id.OpId.{OpId}
-use Rattle.line_stamps.specs.inner.Ordered.{In}
+use Rattle.line_stamps.specs.Ordered.{In}
 use Rattle.line_stamps.proofs.Ordered.{In-map, In-mapped, In-filter, In-filtered}
 use Rattle.log_record.specs.declared.record.Record.{Record}
 use Rattle.log_record.specs.declared.record.Entry.{Entry}

@@ -3,7 +3,7 @@ use Rattle.std.specs.Prelude.{◌≡◌, ◌↔◌, true, List, Some, map, slice
 use Rattle.std.specs.declared.cmp.Ordering.TheVariants.{Equal}
 use Rattle.std.specs.Cmp.{IsTotalOrder}
 use Rattle.mem_op.specs.declared.id.OpId.{OpId}
-use Rattle.line_stamps.specs.inner.Ordered.{In}
+use Rattle.line_stamps.specs.Ordered.{In}
 use Rattle.core_program.specs.declared.instruction.Instruction.{Instruction}
 use Rattle.core_program.specs.Conforming.{DiffersAt}
 use Rattle.core_program.specs.Shape.{IsProgram}

@@ -1,7 +1,7 @@
 //! The order of a core's records.
 
 ghost use Rattle.std.specs.Prelude.{◌<◌, length, IfSome};
-ghost use Rattle.core_program.specs.inner.Least.{IsLeastWhere};
+ghost use Rattle.core_program.specs.Least.{IsLeastWhere};
 ghost use Rattle.core_check.specs.CoreOrder.{is_core_fault};
 
 use log_record::Record;

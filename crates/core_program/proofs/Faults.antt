@@ -4,7 +4,7 @@ use Rattle.std.proofs.Common.{sym, ◌∙◌, ap, subst, arith}
 use Rattle.std.proofs.lemmas.Option.{slice_get_past}
 use Rattle.std.proofs.lemmas.List.{length-take-le}
 use Rattle.mem_op.specs.declared.id.Op.{Op}
-use Rattle.mem_op.specs.Consistency.{Operation, value_of}
+use Rattle.mem_op.specs.Consistency.{Operation, word_answered}
 use Rattle.core_program.specs.declared.instruction.Instruction.{Instruction}
 use Rattle.core_program.specs.State.{State}
 use Rattle.core_program.specs.Shape.{IsProgram}
@@ -45,7 +45,7 @@ pub record RunsAt (p : List Instruction) (s : State) (xs : List Operation) (n : 
   pub before : run_from p s (take n xs) ≡ Some state
   pub next : next_op p state ≡ Some (op_of x)
   -- the state after
-  pub behind : run_from p s (take (suc n) xs) ≡ Some (answered p (value_of x) state)
+  pub behind : run_from p s (take (suc n) xs) ≡ Some (answered p (word_answered x) state)
 
 pub runs_at : (p : List Instruction) (s t : State) (xs : List Operation) (n : ℕ) (x : Operation) → run_from p s xs ≡ Some t → slice_get xs n ≡ Some x → RunsAt p s xs n x
 runs_at p s t [] n x h e = cc
@@ -54,20 +54,20 @@ runs_at p s t (y ∷ xs) zero x h e = go (is_issued (next_op p s) y) refl h
     same : y ≡ x
     same = cc
 
-    go : (b : Bool) → is_issued (next_op p s) y ≡ b → (if b then run_from p (answered p (value_of y) s) xs else None) ≡ Some t → RunsAt p s (y ∷ xs) zero x
+    go : (b : Bool) → is_issued (next_op p s) y ≡ b → (if b then run_from p (answered p (word_answered y) s) xs else None) ≡ Some t → RunsAt p s (y ∷ xs) zero x
     go true is k =
         let next : next_op p s ≡ Some (op_of y) = issued_op (next_op p s) y is in
         record {
           state = s;
           before = refl;
           next = next ∙ ap (λ o. Some (op_of o)) same;
-          behind = run_from-next p s y [] next ∙ ap (λ o. Some (answered p (value_of o) s)) same;
+          behind = run_from-next p s y [] next ∙ ap (λ o. Some (answered p (word_answered o) s)) same;
         }
     go false is k = cc
-runs_at p s t (y ∷ xs) (suc n) x h e = go (is_issued (next_op p s) y) refl h (λ k. runs_at p (answered p (value_of y) s) t xs n x k e)
+runs_at p s t (y ∷ xs) (suc n) x h e = go (is_issued (next_op p s) y) refl h (λ k. runs_at p (answered p (word_answered y) s) t xs n x k e)
   where
-    go : (b : Bool) → is_issued (next_op p s) y ≡ b → (if b then run_from p (answered p (value_of y) s) xs else None) ≡ Some t →
-        (run_from p (answered p (value_of y) s) xs ≡ Some t → RunsAt p (answered p (value_of y) s) xs n x) → RunsAt p s (y ∷ xs) (suc n) x
+    go : (b : Bool) → is_issued (next_op p s) y ≡ b → (if b then run_from p (answered p (word_answered y) s) xs else None) ≡ Some t →
+        (run_from p (answered p (word_answered y) s) xs ≡ Some t → RunsAt p (answered p (word_answered y) s) xs n x) → RunsAt p s (y ∷ xs) (suc n) x
     go true is k step =
         let r = step k in
         let next : next_op p s ≡ Some (op_of y) = issued_op (next_op p s) y is in
@@ -96,27 +96,27 @@ none-run p s [] h = go (next_op p s) refl h
     go : (o : Option Op) → next_op p s ≡ o → end_fault o ≡ None → (t : State) × (Some s ≡ Some t) × (next_op p t ≡ None)
     go None e h = (s, refl, e)
     go (Some a) e h = cc
-none-run p s (x ∷ xs) h = go (is_issued (next_op p s) x) h (none-run p (answered p (value_of x) s) xs)
+none-run p s (x ∷ xs) h = go (is_issued (next_op p s) x) h (none-run p (answered p (word_answered x) s) xs)
   where
     none_before : (o : Option ℕ) → option_map suc o ≡ None → o ≡ None
     none_before None h = refl
     none_before (Some k) h = cc
 
-    go : (b : Bool) → (if b then option_map suc (fault_from p (answered p (value_of x) s) xs) else Some 0) ≡ None →
-        (fault_from p (answered p (value_of x) s) xs ≡ None → (t : State) × (run_from p (answered p (value_of x) s) xs ≡ Some t) × (next_op p t ≡ None)) →
-        (t : State) × ((if b then run_from p (answered p (value_of x) s) xs else None) ≡ Some t) × (next_op p t ≡ None)
-    go true h behind = behind (none_before (fault_from p (answered p (value_of x) s) xs) h)
+    go : (b : Bool) → (if b then option_map suc (fault_from p (answered p (word_answered x) s) xs) else Some 0) ≡ None →
+        (fault_from p (answered p (word_answered x) s) xs ≡ None → (t : State) × (run_from p (answered p (word_answered x) s) xs ≡ Some t) × (next_op p t ≡ None)) →
+        (t : State) × ((if b then run_from p (answered p (word_answered x) s) xs else None) ≡ Some t) × (next_op p t ≡ None)
+    go true h behind = behind (none_before (fault_from p (answered p (word_answered x) s) xs) h)
     go false h behind = cc
 
 run-none : (p : List Instruction) (s t : State) (xs : List Operation) → run_from p s xs ≡ Some t → next_op p t ≡ None → fault_from p s xs ≡ None
 run-none p s t [] h e =
     let same : s ≡ t = cc in
     ap end_fault (ap (next_op p) same ∙ e)
-run-none p s t (x ∷ xs) h e = go (is_issued (next_op p s) x) h (λ k. run-none p (answered p (value_of x) s) t xs k e)
+run-none p s t (x ∷ xs) h e = go (is_issued (next_op p s) x) h (λ k. run-none p (answered p (word_answered x) s) t xs k e)
   where
-    go : (b : Bool) → (if b then run_from p (answered p (value_of x) s) xs else None) ≡ Some t →
-        (run_from p (answered p (value_of x) s) xs ≡ Some t → fault_from p (answered p (value_of x) s) xs ≡ None) →
-        (if b then option_map suc (fault_from p (answered p (value_of x) s) xs) else Some 0) ≡ None
+    go : (b : Bool) → (if b then run_from p (answered p (word_answered x) s) xs else None) ≡ Some t →
+        (run_from p (answered p (word_answered x) s) xs ≡ Some t → fault_from p (answered p (word_answered x) s) xs ≡ None) →
+        (if b then option_map suc (fault_from p (answered p (word_answered x) s) xs) else Some 0) ≡ None
     go true h behind = ap (option_map suc) (behind h)
     go false h behind = cc
 
@@ -139,10 +139,10 @@ fault-turns p s [] i h = go (next_op p s) refl h
     go (Some a) e h =
         let here : 0 ≡ i = cc in
         subst (TurnsAt p s []) here (record { within = omega arith; state = s; run = refl; differs = λ same. cc })
-fault-turns p s (x ∷ xs) i h = go (is_issued (next_op p s) x) refl h (fault-turns p (answered p (value_of x) s) xs)
+fault-turns p s (x ∷ xs) i h = go (is_issued (next_op p s) x) refl h (fault-turns p (answered p (word_answered x) s) xs)
   where
-    from_behind : (o : Option ℕ) → fault_from p (answered p (value_of x) s) xs ≡ o → option_map suc o ≡ Some i → is_issued (next_op p s) x ≡ true →
-        ((j : ℕ) → fault_from p (answered p (value_of x) s) xs ≡ Some j → TurnsAt p (answered p (value_of x) s) xs j) → TurnsAt p s (x ∷ xs) i
+    from_behind : (o : Option ℕ) → fault_from p (answered p (word_answered x) s) xs ≡ o → option_map suc o ≡ Some i → is_issued (next_op p s) x ≡ true →
+        ((j : ℕ) → fault_from p (answered p (word_answered x) s) xs ≡ Some j → TurnsAt p (answered p (word_answered x) s) xs j) → TurnsAt p s (x ∷ xs) i
     from_behind None e h is behind = cc
     from_behind (Some j) e h is behind =
         let here : suc j ≡ i = cc in
@@ -154,9 +154,9 @@ fault-turns p s (x ∷ xs) i h = go (is_issued (next_op p s) x) refl h (fault-tu
           differs = turns.differs;
         })
 
-    go : (b : Bool) → is_issued (next_op p s) x ≡ b → (if b then option_map suc (fault_from p (answered p (value_of x) s) xs) else Some 0) ≡ Some i →
-        ((j : ℕ) → fault_from p (answered p (value_of x) s) xs ≡ Some j → TurnsAt p (answered p (value_of x) s) xs j) → TurnsAt p s (x ∷ xs) i
-    go true is h behind = from_behind (fault_from p (answered p (value_of x) s) xs) refl h is behind
+    go : (b : Bool) → is_issued (next_op p s) x ≡ b → (if b then option_map suc (fault_from p (answered p (word_answered x) s) xs) else Some 0) ≡ Some i →
+        ((j : ℕ) → fault_from p (answered p (word_answered x) s) xs ≡ Some j → TurnsAt p (answered p (word_answered x) s) xs j) → TurnsAt p s (x ∷ xs) i
+    go true is h behind = from_behind (fault_from p (answered p (word_answered x) s) xs) refl h is behind
     go false is h behind =
         let here : 0 ≡ i = cc in
         subst (TurnsAt p s (x ∷ xs)) here (record { within = omega arith; state = s; run = refl; differs = not_issued (next_op p s) x is })
@@ -170,18 +170,18 @@ fault-here p s [] differs = go (next_op p s) differs
     go (Some a) differs = refl
 fault-here p s (x ∷ xs) differs = go (is_issued (next_op p s) x) refl
   where
-    go : (b : Bool) → is_issued (next_op p s) x ≡ b → (if b then option_map suc (fault_from p (answered p (value_of x) s) xs) else Some 0) ≡ Some 0
+    go : (b : Bool) → is_issued (next_op p s) x ≡ b → (if b then option_map suc (fault_from p (answered p (word_answered x) s) xs) else Some 0) ≡ Some 0
     go true is = absurd (differs (issued_op (next_op p s) x is))
     go false is = refl
 
 turns-fault : (p : List Instruction) (s : State) (xs : List Operation) (i : ℕ) → TurnsAt p s xs i → fault_from p s xs ≡ Some i
 turns-fault p s xs zero h = let same : s ≡ h.state = (let run = h.run in cc) in fault-here p s xs (subst (λ u. next_op p u ≢ option_map op_of (slice_get xs 0)) (sym same) h.differs)
 turns-fault p s [] (suc i) h = absurd (let inside : suc i ≤ 0 = h.within in omega arith)
-turns-fault p s (x ∷ xs) (suc i) h = go (is_issued (next_op p s) x) h.run (λ k. turns-fault p (answered p (value_of x) s) xs i (record { within = (let inside : suc i ≤ length (x ∷ xs) = h.within in omega arith); state = h.state; run = k; differs = h.differs }))
+turns-fault p s (x ∷ xs) (suc i) h = go (is_issued (next_op p s) x) h.run (λ k. turns-fault p (answered p (word_answered x) s) xs i (record { within = (let inside : suc i ≤ length (x ∷ xs) = h.within in omega arith); state = h.state; run = k; differs = h.differs }))
   where
-    go : (b : Bool) → (if b then run_from p (answered p (value_of x) s) (take i xs) else None) ≡ Some h.state →
-        (run_from p (answered p (value_of x) s) (take i xs) ≡ Some h.state → fault_from p (answered p (value_of x) s) xs ≡ Some i) →
-        (if b then option_map suc (fault_from p (answered p (value_of x) s) xs) else Some 0) ≡ Some (suc i)
+    go : (b : Bool) → (if b then run_from p (answered p (word_answered x) s) (take i xs) else None) ≡ Some h.state →
+        (run_from p (answered p (word_answered x) s) (take i xs) ≡ Some h.state → fault_from p (answered p (word_answered x) s) xs ≡ Some i) →
+        (if b then option_map suc (fault_from p (answered p (word_answered x) s) xs) else Some 0) ≡ Some (suc i)
     go true k behind = ap (option_map suc) (behind k)
     go false k behind = cc
 

@@ -4,7 +4,7 @@ use Rattle.std.specs.Prelude.{codes}
 use Rattle.std.specs.Option.{option_eq}
 use Rattle.std.proofs.lemmas.Bool.{cases_Bool, cond-true, cond-false, eqb-true, eqb-false, ne_eqb}
 use Rattle.decimal_text.specs.Numbers.{numeral}
-use Rattle.decimal_text.specs.inner.Reading.{◌>>=◌, after, last_number}
+use Rattle.decimal_text.specs.Reading.{◌>>=◌, after, last_number}
 use Rattle.decimal_text.proofs.Lines.{NoLf}
 use Rattle.decimal_text.proofs.Numbers.{after_takes, after_again}
 use Rattle.decimal_text.proofs.Reading.{bind_some, some_is, last_takes, last_again}

@@ -4,7 +4,7 @@ use Rattle.std.specs.Prelude.{codes}
 use Rattle.std.proofs.lemmas.Bool.{cases_Bool, cond_below, cond-true, cond-false, eqb-false, ne_eqb, ltb-true}
 use Rattle.std.proofs.Math.Dec.{ltb}
 use Rattle.decimal_text.specs.Numbers.{numeral}
-use Rattle.decimal_text.specs.inner.Reading.{◌>>=◌, after, field_at, last_number}
+use Rattle.decimal_text.specs.Reading.{◌>>=◌, after, field_at, last_number}
 use Rattle.decimal_text.proofs.Lines.{NoLf, NoLf-append, numeral_no_lf}
 use Rattle.decimal_text.proofs.Numbers.{guard_some, after_takes, after_again}
 use Rattle.decimal_text.proofs.Reading.{bind_some, some_is, field_takes, field_again, last_takes, last_again}

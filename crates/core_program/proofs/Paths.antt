@@ -5,7 +5,7 @@ use Rattle.std.proofs.Common.{sym, ◌∙◌, ap, subst, append_assoc, append-ni
 use Rattle.std.proofs.lemmas.Bool.{and_parts, and_from, eqb-true, eqb-false, eq-eqb}
 use Rattle.mem_op.specs.declared.id.Op.{Op}
 use Rattle.mem_op.specs.declared.id.Op.TheVariants as op
-use Rattle.mem_op.specs.Consistency.{Operation, Loaded, Stored, value_of}
+use Rattle.mem_op.specs.Consistency.{Operation, Loaded, Stored, word_answered}
 use Rattle.core_program.specs.declared.instruction.Instruction.{Instruction}
 use Rattle.core_program.specs.declared.instruction.Instruction.TheVariants.{Load, Store, StoreRegister, Add, SkipIfZero}
 use Rattle.core_program.specs.State.{State, reg, with_reg, further}
@@ -46,7 +46,7 @@ op_issued (Loaded a v) = eq-eqb a a refl
 op_issued (Stored a v) = and_from (a == a) (v == v) (eq-eqb a a refl) (eq-eqb v v refl)
 
 -- an instruction that touches memory leads on by its operation
-pub path-performs : (p : List Instruction) (s t : State) (done : List Operation) (i : Instruction) (x : Operation) → Path p s done t → slice_get p t.position ≡ Some i → issued i t ≡ Some (op_of x) → Path p s (done ++ x ∷ []) (after i (value_of x) t)
+pub path-performs : (p : List Instruction) (s t : State) (done : List Operation) (i : Instruction) (x : Operation) → Path p s done t → slice_get p t.position ≡ Some i → issued i t ≡ Some (op_of x) → Path p s (done ++ x ∷ []) (after i (word_answered x) t)
 path-performs p s t done (Load to addr) (Loaded a v) h e f =
     let same : addr ≡ a = cc in
     subst (λ n. Path p s (done ++ Loaded n v ∷ []) (further 1 (with_reg t to v))) same (loads done t to addr v h e)
@@ -107,11 +107,11 @@ pub answered-is : (p : List Instruction) (s : State) (x : ℕ) (i : Instruction)
 answered-is p s x i e = ap (λ o. option_map_or (λ j. at_rest p (after j x s)) o s) e
 
 -- the answer to an operation leads on by it
-pub answered-path : (p : List Instruction) (s t : State) (done : List Operation) (x : Operation) → Path p s done t → next_op p t ≡ Some (op_of x) → Path p s (done ++ x ∷ []) (answered p (value_of x) t)
+pub answered-path : (p : List Instruction) (s t : State) (done : List Operation) (x : Operation) → Path p s done t → next_op p t ≡ Some (op_of x) → Path p s (done ++ x ∷ []) (answered p (word_answered x) t)
 answered-path p s t done x h e =
     let w = waits p t (op_of x) e in
-    subst (λ u. Path p s (done ++ x ∷ []) u) (sym (answered-is p t (value_of x) w.instruction w.next))
-    (at_rest-path p s (after w.instruction (value_of x) t) (done ++ x ∷ []) (path-performs p s t done w.instruction x h w.next w.issues))
+    subst (λ u. Path p s (done ++ x ∷ []) u) (sym (answered-is p t (word_answered x) w.instruction w.next))
+    (at_rest-path p s (after w.instruction (word_answered x) t) (done ++ x ∷ []) (path-performs p s t done w.instruction x h w.next w.issues))
 
 -- to a state at rest
 pub answered-rests : (p : List Instruction) (s : State) (x : ℕ) → IsProgram p → IsSome (next_op p s) → IsAtRest p (answered p x s)
@@ -129,7 +129,7 @@ op_of-performed (op.Load addr) x = refl
 op_of-performed (op.Store addr value) x = refl
 
 -- an instruction leads on by the answer to its operation
-pub after-performed : (i : Instruction) (s : State) (a : Op) (x : ℕ) → issued i s ≡ Some a → after i (value_of (performed a x)) s ≡ after i x s
+pub after-performed : (i : Instruction) (s : State) (a : Op) (x : ℕ) → issued i s ≡ Some a → after i (word_answered (performed a x)) s ≡ after i x s
 after-performed (Load to addr) s (op.Load b) x h = refl
 after-performed (Load to addr) s (op.Store b w) x h = cc
 after-performed (Store addr value) s a x h = refl
@@ -145,7 +145,7 @@ answer-path p s t i x e same = go (next_op p s) refl
     go None f = tt
     go (Some a) f =
         let issues : issued i s ≡ Some a = sym (ap (option_and_then (λ j. issued j s)) e) ∙ f in
-        let state : answered p (value_of (performed a x)) s ≡ t =
-        answered-is p s (value_of (performed a x)) i e ∙ ap (at_rest p) (after-performed i s a x issues) ∙ sym same in
+        let state : answered p (word_answered (performed a x)) s ≡ t =
+        answered-is p s (word_answered (performed a x)) i e ∙ ap (at_rest p) (after-performed i s a x issues) ∙ sym same in
         let next : next_op p s ≡ Some (op_of (performed a x)) = f ∙ ap (λ b. Some b) (sym (op_of-performed a x)) in
         subst (λ u. Path p s (performed a x ∷ []) u) state (answered-path p s s [] (performed a x) stays next)

@@ -2,7 +2,7 @@
 use Rattle.std.specs.Prelude.{◌≡◌, ◌+◌, ◌≤◌, Bool, true, false, ◌==◌, if◌then◌else◌, List, [], ◌∷◌, ◌++◌, length, Some, None, IsSome, option_and_then, slice_get, refl}
 use Rattle.std.proofs.Common.{◌∙◌, ap, subst, arith, length-append}
 use Rattle.std.proofs.lemmas.Bool.{eq-eqb, ne_eqb}
-use Rattle.mem_op.specs.Consistency.{Operation, Loaded, Stored, value_of}
+use Rattle.mem_op.specs.Consistency.{Operation, Loaded, Stored, word_answered}
 use Rattle.core_program.specs.declared.instruction.Instruction.{Instruction}
 use Rattle.core_program.specs.declared.instruction.Instruction.TheVariants.{Load, Store, StoreRegister, Add, SkipIfZero}
 use Rattle.core_program.specs.State.{State, start, reg, further}
@@ -17,42 +17,42 @@ use Rattle.core_program.proofs.Paths.{path-join, at_rest-path, answered-is, answ
 
 pub run_from-append : (p : List Instruction) (s : State) (xs ys : List Operation) → run_from p s (xs ++ ys) ≡ option_and_then (λ t. run_from p t ys) (run_from p s xs)
 run_from-append p s [] ys = refl
-run_from-append p s (x ∷ xs) ys = go (is_issued (next_op p s) x) (run_from-append p (answered p (value_of x) s) xs ys)
+run_from-append p s (x ∷ xs) ys = go (is_issued (next_op p s) x) (run_from-append p (answered p (word_answered x) s) xs ys)
   where
-    go : (b : Bool) → run_from p (answered p (value_of x) s) (xs ++ ys) ≡ option_and_then (λ t. run_from p t ys) (run_from p (answered p (value_of x) s) xs) →
-        (if b then run_from p (answered p (value_of x) s) (xs ++ ys) else None) ≡ option_and_then (λ t. run_from p t ys) (if b then run_from p (answered p (value_of x) s) xs else None)
+    go : (b : Bool) → run_from p (answered p (word_answered x) s) (xs ++ ys) ≡ option_and_then (λ t. run_from p t ys) (run_from p (answered p (word_answered x) s) xs) →
+        (if b then run_from p (answered p (word_answered x) s) (xs ++ ys) else None) ≡ option_and_then (λ t. run_from p t ys) (if b then run_from p (answered p (word_answered x) s) xs else None)
     go true behind = behind
     go false behind = refl
 
 -- a run of the operation that is next
-pub run_from-next : (p : List Instruction) (s : State) (x : Operation) (xs : List Operation) → next_op p s ≡ Some (op_of x) → run_from p s (x ∷ xs) ≡ run_from p (answered p (value_of x) s) xs
+pub run_from-next : (p : List Instruction) (s : State) (x : Operation) (xs : List Operation) → next_op p s ≡ Some (op_of x) → run_from p s (x ∷ xs) ≡ run_from p (answered p (word_answered x) s) xs
 run_from-next p s x xs e =
     let is : is_issued (next_op p s) x ≡ true = ap (λ o. is_issued o x) e ∙ op_issued x in
-    ap (λ b. if b then run_from p (answered p (value_of x) s) xs else None) is
+    ap (λ b. if b then run_from p (answered p (word_answered x) s) xs else None) is
 
 -- a run, and then the operation that is next
-pub run_from-snoc : (p : List Instruction) (s t : State) (xs : List Operation) (x : Operation) → run_from p s xs ≡ Some t → next_op p t ≡ Some (op_of x) → run_from p s (xs ++ x ∷ []) ≡ Some (answered p (value_of x) t)
+pub run_from-snoc : (p : List Instruction) (s t : State) (xs : List Operation) (x : Operation) → run_from p s xs ≡ Some t → next_op p t ≡ Some (op_of x) → run_from p s (xs ++ x ∷ []) ≡ Some (answered p (word_answered x) t)
 run_from-snoc p s t xs x run next = run_from-append p s xs (x ∷ []) ∙ ap (option_and_then (λ u. run_from p u (x ∷ []))) run ∙ run_from-next p t x [] next
 
 -- ---- runs are paths
 
 pub run-path : (p : List Instruction) (s t : State) (xs : List Operation) → run_from p s xs ≡ Some t → Path p s xs t
 run-path p s t [] h = let same : s ≡ t = cc in subst (λ u. Path p s [] u) same stays
-run-path p s t (x ∷ xs) h = go (is_issued (next_op p s) x) refl h (run-path p (answered p (value_of x) s) t xs)
+run-path p s t (x ∷ xs) h = go (is_issued (next_op p s) x) refl h (run-path p (answered p (word_answered x) s) t xs)
   where
-    go : (b : Bool) → is_issued (next_op p s) x ≡ b → (if b then run_from p (answered p (value_of x) s) xs else None) ≡ Some t →
-        (run_from p (answered p (value_of x) s) xs ≡ Some t → Path p (answered p (value_of x) s) xs t) → Path p s (x ∷ xs) t
-    go true is h behind = path-join p s (answered p (value_of x) s) t (x ∷ []) xs (answered-path p s s [] x stays (issued_op (next_op p s) x is)) (behind h)
+    go : (b : Bool) → is_issued (next_op p s) x ≡ b → (if b then run_from p (answered p (word_answered x) s) xs else None) ≡ Some t →
+        (run_from p (answered p (word_answered x) s) xs ≡ Some t → Path p (answered p (word_answered x) s) xs t) → Path p s (x ∷ xs) t
+    go true is h behind = path-join p s (answered p (word_answered x) s) t (x ∷ []) xs (answered-path p s s [] x stays (issued_op (next_op p s) x is)) (behind h)
     go false is h behind = cc
 
 pub run-rests : (p : List Instruction) (s t : State) (xs : List Operation) → IsProgram p → IsAtRest p s → run_from p s xs ≡ Some t → IsAtRest p t
 run-rests p s t [] program rests h = let same : s ≡ t = cc in subst (IsAtRest p) same rests
 run-rests p s t (x ∷ xs) program rests h =
     go (is_issued (next_op p s) x) refl h
-    (λ some. run-rests p (answered p (value_of x) s) t xs program (answered-rests p s (value_of x) program some))
+    (λ some. run-rests p (answered p (word_answered x) s) t xs program (answered-rests p s (word_answered x) program some))
   where
-    go : (b : Bool) → is_issued (next_op p s) x ≡ b → (if b then run_from p (answered p (value_of x) s) xs else None) ≡ Some t →
-        (IsSome (next_op p s) → run_from p (answered p (value_of x) s) xs ≡ Some t → IsAtRest p t) → IsAtRest p t
+    go : (b : Bool) → is_issued (next_op p s) x ≡ b → (if b then run_from p (answered p (word_answered x) s) xs else None) ≡ Some t →
+        (IsSome (next_op p s) → run_from p (answered p (word_answered x) s) xs ≡ Some t → IsAtRest p t) → IsAtRest p t
     go true is h behind = behind (let next = issued_op (next_op p s) x is in cc) h
     go false is h behind = cc
 
@@ -60,12 +60,12 @@ run-rests p s t (x ∷ xs) program rests h =
 
 -- along an operation
 performs : (p : List Instruction) (s t : State) (done : List Operation) (i : Instruction) (x : Operation) →
-    run_from p (at_rest p s) done ≡ Some (at_rest p t) → slice_get p t.position ≡ Some i → issued i t ≡ Some (op_of x) → run_from p (at_rest p s) (done ++ x ∷ []) ≡ Some (at_rest p (after i (value_of x) t))
+    run_from p (at_rest p s) done ≡ Some (at_rest p t) → slice_get p t.position ≡ Some i → issued i t ≡ Some (op_of x) → run_from p (at_rest p s) (done ++ x ∷ []) ≡ Some (at_rest p (after i (word_answered x) t))
 performs p s t done i x run e issues =
     let next : next_op p t ≡ Some (op_of x) = ap (option_and_then (λ j. issued j t)) e ∙ issues in
     let here : at_rest p t ≡ t = at_rest-waits p t (cc) in
     run_from-snoc p (at_rest p s) t done x (run ∙ ap (λ u. Some u) here) next
-    ∙ ap (λ u. Some u) (answered-is p t (value_of x) i e)
+    ∙ ap (λ u. Some u) (answered-is p t (word_answered x) i e)
 
 -- along an instruction that touches no memory
 moves : (p : List Instruction) (s t : State) (done : List Operation) (i : Instruction) →
@@ -106,7 +106,7 @@ pub state_after-rests : (p : List Instruction) (xs : List Operation) (t : State)
 state_after-rests p xs t program h = run-rests p (start_of p) t xs program (start_of-rests p program) h
 
 -- the state after one more operation
-pub state_after-snoc : (p : List Instruction) (xs : List Operation) (x : Operation) (t : State) → state_after p xs ≡ Some t → next_op p t ≡ Some (op_of x) → state_after p (xs ++ x ∷ []) ≡ Some (answered p (value_of x) t)
+pub state_after-snoc : (p : List Instruction) (xs : List Operation) (x : Operation) (t : State) → state_after p xs ≡ Some t → next_op p t ≡ Some (op_of x) → state_after p (xs ++ x ∷ []) ≡ Some (answered p (word_answered x) t)
 state_after-snoc p xs x t h next = run_from-snoc p (start_of p) t xs x h next
 
 -- operations lead to one state at rest

@@ -4,7 +4,7 @@ use Rattle.std.specs.Prelude.{codes, replicate}
 use Rattle.std.specs.List.{AllByRecursion}
 use Rattle.std.proofs.lemmas.List.{append_cancel_left, length-replicate}
 use Rattle.decimal_text.specs.Numbers.{numeral}
-use Rattle.decimal_text.specs.inner.Reading.{last_number}
+use Rattle.decimal_text.specs.Reading.{last_number}
 use Rattle.decimal_text.proofs.Lines.{NoLf, NoLf-append, numeral_no_lf, const_no_lf}
 use Rattle.decimal_text.proofs.Reading.{some_is, last_again}
 use Rattle.core_program.specs.declared.instruction.Instruction.{Instruction}

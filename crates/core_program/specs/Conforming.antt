@@ -1,7 +1,7 @@
 -- Logs that conform to a program, and the fault of one that doesn't.
 use Rattle.std.specs.Prelude.{◌≡◌, ◌≢◌, ℕ, suc, ◌≤◌, if◌then◌else◌, List, [], ◌∷◌, length, Option, Some, None, is_some, option_map, slice_get, take}
 use Rattle.mem_op.specs.declared.id.Op.{Op}
-use Rattle.mem_op.specs.Consistency.{Operation, value_of}
+use Rattle.mem_op.specs.Consistency.{Operation, word_answered}
 use Rattle.core_program.specs.declared.instruction.Instruction.{Instruction}
 use Rattle.core_program.specs.State.{State, start}
 use Rattle.core_program.specs.Meaning.{Path}
@@ -35,7 +35,7 @@ pub record DiffersAt (program : List Instruction) (operations : List Operation) 
 abbrev pub fault_from : List Instruction → State → List Operation → Option ℕ
 fault_from program s [] = if is_some (next_op program s) then Some 0 else None
 fault_from program s (operation ∷ operations) =
-    if is_issued (next_op program s) operation then option_map suc (fault_from program (answered program (value_of operation) s) operations) else Some 0
+    if is_issued (next_op program s) operation then option_map suc (fault_from program (answered program (word_answered operation) s) operations) else Some 0
 
 -- the PROGRAM fault of a log, or none where it conforms
 abbrev pub program_fault : List Instruction → List Operation → Option ℕ

@@ -3,7 +3,7 @@ use Rattle.std.specs.Prelude.{ℕ, zero, suc, ◌+◌, ◌%◌, ◌^◌, ◌<◌
 use Rattle.std.specs.Option.{option_map_or}
 use Rattle.mem_op.specs.declared.id.Op.{Op}
 use Rattle.mem_op.specs.declared.id.Op.TheVariants as op
-use Rattle.mem_op.specs.Consistency.{Operation, Loaded, Stored, value_of}
+use Rattle.mem_op.specs.Consistency.{Operation, Loaded, Stored, word_answered}
 use Rattle.core_program.specs.declared.instruction.Instruction.{Instruction}
 use Rattle.core_program.specs.declared.instruction.Instruction.TheVariants.{Load, Store, StoreRegister, Add, SkipIfZero}
 use Rattle.core_program.specs.State.{State, start, reg, with_reg, further}
@@ -78,7 +78,7 @@ answered program answer s = option_map_or (λ instruction. at_rest program (afte
 abbrev pub run_from : List Instruction → State → List Operation → Option State
 run_from program s [] = Some s
 run_from program s (operation ∷ operations) =
-    if is_issued (next_op program s) operation then run_from program (answered program (value_of operation) s) operations else None
+    if is_issued (next_op program s) operation then run_from program (answered program (word_answered operation) s) operations else None
 
 -- the state at rest in which a core starts
 abbrev pub start_of : List Instruction → State

@@ -1,4 +1,3 @@
--- Definitions that serve mostly private contracts; a few of them stand under public clauses too.
-pub mod Least
+-- Definitions that serve private contracts alone.
 pub mod Reading
 pub mod Sections

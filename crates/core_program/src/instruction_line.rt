@@ -1,7 +1,7 @@
 //! Reads an instruction's line from left to right.
 
 ghost use Rattle.std.specs.Prelude.{◌≡◌};
-ghost use Rattle.decimal_text.specs.inner.Reading.{front_now};
+ghost use Rattle.decimal_text.specs.Reading.{front_now};
 ghost use Rattle.core_program.specs.inner.Reading.{register_at, addr_at, last_register, last_addr, last_word, last_skip};
 ghost use Rattle.core_program.specs.inner.Reading.{load_of, store_of, store_register_of, add_of, skip_of, instruction_of};
 
@@ -121,7 +121,7 @@ fn skip(fields: &[u8]) -> Option<Instruction>
 }
 
 /// The instruction whose line this is in a format, without its line feed.
-#[tactic(auto, unfolding(crate::specs::inner::Reading::instruction_of, decimal_text::specs::inner::Reading::after))]
+#[tactic(auto, unfolding(crate::specs::inner::Reading::instruction_of, decimal_text::specs::Reading::after))]
 pub(crate) fn read_instruction(format: Format, line: &[u8]) -> Option<Instruction>
     ensures { result ≡ instruction_of line.now }
 {

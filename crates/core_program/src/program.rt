@@ -1,7 +1,7 @@
 //! Programs.
 
 ghost use Rattle.std.specs.Prelude.{◌≡◌, ◌<◌, ◌≤◌, length, IfSome, MatchOption};
-ghost use Rattle.core_program.specs.inner.Least.{IsLeastWhere};
+ghost use Rattle.core_program.specs.Least.{IsLeastWhere};
 ghost use Rattle.core_program.specs.Shape.{IsProgram, is_skip_past_end};
 
 use super::instruction::Instruction;

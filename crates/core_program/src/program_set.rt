@@ -15,13 +15,13 @@ pub struct ProgramSet {
 }
 
 impl Model for ProgramSet {
-    ghost use Rattle.std.specs.Prelude.{List, ◌≤◌, length, All};
-    ghost use Rattle.core_program.specs.declared.instruction.Instruction.{Instruction};
+    ghost use Rattle.std.specs.Prelude.{◌≤◌, length, All};
+    ghost use Rattle.core_program.specs.SetParts.{SetParts};
     ghost use Rattle.core_program.specs.Shape.{IsProgram};
 
-    ghost Value = { List (List Instruction) };
+    ghost Value = { SetParts };
 
-    ghost view = { λ set. set.programs.items };
+    ghost view = { λ set. record { programs = set.programs.items } };
 
     ghost invariant = { λ set. (1 ≤ length set.programs.items) × (length set.programs.items ≤ 64)
         × All IsProgram set.programs.items };
@@ -32,7 +32,7 @@ impl ProgramSet {
     pub fn new(programs: Vec<Program>) -> Option<ProgramSet>
         ensures { MatchOption result
             ((length programs.items ≡ 0) ⊎ (65 ≤ length programs.items))
-            (λ set. (set ≡ programs.items) × (1 ≤ length programs.items) × (length programs.items ≤ 64)) }
+            (λ set. (set.programs ≡ programs.items) × (1 ≤ length programs.items) × (length programs.items ≤ 64)) }
     {
         if programs.is_empty() || programs.len() > 64 {
             return None;
@@ -43,16 +43,16 @@ impl ProgramSet {
 
     /// How many cores there are, 1..64.
     pub fn len(&self) -> usize
-        ensures value { result ≡ length self.now }
-        ensures programs { All IsProgram self.now }
-        ensures in_range { (1 ≤ length self.now) × (length self.now ≤ 64) }
+        ensures value { result ≡ length self.now.programs }
+        ensures programs { All IsProgram self.now.programs }
+        ensures in_range { (1 ≤ length self.now.programs) × (length self.now.programs ≤ 64) }
     {
         self.programs.len()
     }
 
     /// The program of a core, if it is among them.
     pub fn get(&self, core: CoreId) -> Option<&Program>
-        ensures { option_copied result ≡ slice_get self.now core }
+        ensures { option_copied result ≡ slice_get self.now.programs core }
     {
         self.programs.get(core.get() as usize)
     }

@@ -132,7 +132,7 @@ impl ProgramSet {
     /// is neither, SkipPastEnd at the first jump past the end of its program.
     pub fn parse(alloc: Global, text: &[u8]) -> Result<ProgramSet, ProgramFault>
         ensures { MatchResult result
-            (λ set. SpellsSet text.now set × AllByRecursion IsProgram set)
+            (λ set. SpellsSet text.now set.programs × AllByRecursion IsProgram set.programs)
             (λ fault. IsSetFault text.now fault) }
     {
         let sections = read_sections(alloc, Format::First, text)?;

@@ -4,7 +4,7 @@ use Rattle.std.specs.Prelude.{IfSome, IsNone, IsTrue}
 use Rattle.std.proofs.lemmas.Bool.{cases_lt, false_from_ne_true}
 use denote.Ref.{Bor}
 use Rattle.decimal_text.specs.Numbers.{numeral, as_u64, StandsInFront}
-use Rattle.decimal_text.specs.inner.Reading.{is_digit, onward, number_at, after, field_at, last_number, front_now, front_map}
+use Rattle.decimal_text.specs.Reading.{is_digit, onward, number_at, after, field_at, last_number, front_now, front_map}
 use Rattle.decimal_text.proofs.Numbers.{numeral_zero, number_zero, number_onward, after_takes, after_again}
 use Rattle.decimal_text.proofs.Reading.{stands_in_front, field_takes, field_again, last_takes, last_again}
 

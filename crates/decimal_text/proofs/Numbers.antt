@@ -5,7 +5,7 @@ use Rattle.std.proofs.lemmas.Int.Digits.{digits_of_step}
 use Rattle.std.specs.Int.Digits.{digits_of}
 use Rattle.std.specs.Str.{bytes_eq}
 use Rattle.decimal_text.specs.Numbers.{numeral, as_u64}
-use Rattle.decimal_text.specs.inner.Reading.{is_digit, onward, number_at, after}
+use Rattle.decimal_text.specs.Reading.{is_digit, onward, number_at, after}
 
 -- a test that passed
 pub guard_some : {A : Type 0} (b : Bool) (x y : A) → cond b (Some x) None ≡ Some y → (b ≡ true) × (x ≡ y)

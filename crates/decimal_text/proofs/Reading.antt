@@ -3,7 +3,7 @@ use Rattle.std.proofs.Common.{◌≡◌, ℕ, ◌+◌, ◌*◌, ◌-◌, ◌≤�
 use Rattle.std.proofs.lemmas.Bool.{cases_Bool, cases_lt, eqb-true}
 use Rattle.std.proofs.lemmas.List.{append-nil, nil_from_length}
 use Rattle.decimal_text.specs.Numbers.{numeral, StandsInFront}
-use Rattle.decimal_text.specs.inner.Reading.{◌>>=◌, whole, is_digit, onward, number_at, after, field_at, last_number}
+use Rattle.decimal_text.specs.Reading.{◌>>=◌, whole, is_digit, onward, number_at, after, field_at, last_number}
 use Rattle.decimal_text.proofs.Numbers.{guard_some, onward_digit, onward_end, number_takes, number_again, number_onward, after_takes, after_again}
 
 -- the value of a step that did not fail

@@ -2,7 +2,7 @@
 
 ghost use Rattle.std.specs.Prelude.{◌≡◌, ℕ, ◌+◌, ◌-◌, ◌*◌, ◌<◌, [], ◌∷◌, option_map, IsTrue};
 ghost use Rattle.decimal_text.specs.Numbers.{as_u64};
-ghost use Rattle.decimal_text.specs.inner.Reading.{is_digit, onward, number_at, after, field_at, last_number, front_now, front_map};
+ghost use Rattle.decimal_text.specs.Reading.{is_digit, onward, number_at, after, field_at, last_number, front_now, front_map};
 
 /// The number with one more digit, where 64 bits hold it.
 fn with_digit(value: Option<u64>, digit: u8) -> Option<u64>
@@ -46,7 +46,7 @@ fn digits(start: u64, bytes: &[u8]) -> (Option<u64>, &[u8])
 }
 
 /// The number at the front, and the bytes after it. After a 0 no further digit is part of the number.
-#[tactic(auto, unfolding(crate::specs::inner::Reading::number_at))]
+#[tactic(auto, unfolding(crate::specs::Reading::number_at))]
 pub(crate) fn number(bytes: &[u8]) -> Option<(Option<u64>, &[u8])>
     ensures { front_now result ≡ front_map as_u64 (number_at bytes.now) }
 {
@@ -66,7 +66,7 @@ pub(crate) fn behind_text<'a>(text: &[u8], bytes: &'a [u8]) -> Option<&'a [u8]>
 }
 
 /// The bytes after this byte.
-#[tactic(auto, unfolding(crate::specs::inner::Reading::after))]
+#[tactic(auto, unfolding(crate::specs::Reading::after))]
 fn behind_byte(byte: u8, bytes: &[u8]) -> Option<&[u8]>
     ensures { option_map (λ x. x.now) result ≡ after (byte ∷ []) bytes.now }
 {
@@ -77,7 +77,7 @@ fn behind_byte(byte: u8, bytes: &[u8]) -> Option<&[u8]>
 }
 
 /// A number, and the bytes after the byte that ends it.
-#[tactic(auto, unfolding(crate::specs::inner::Reading::field_at))]
+#[tactic(auto, unfolding(crate::specs::Reading::field_at))]
 pub(crate) fn field(end: u8, bytes: &[u8]) -> Option<(Option<u64>, &[u8])>
     ensures { front_now result ≡ front_map as_u64 (field_at end bytes.now) }
 {
@@ -87,7 +87,7 @@ pub(crate) fn field(end: u8, bytes: &[u8]) -> Option<(Option<u64>, &[u8])>
 }
 
 /// A number that is all there is.
-#[tactic(auto, unfolding(crate::specs::inner::Reading::last_number))]
+#[tactic(auto, unfolding(crate::specs::Reading::last_number))]
 pub(crate) fn last(bytes: &[u8]) -> Option<Option<u64>>
     ensures { result ≡ option_map as_u64 (last_number bytes.now) }
 {

@@ -2,7 +2,7 @@
 
 ghost use Rattle.std.specs.Prelude.{◌≡◌, ◌≢◌, ℕ, List, ◌∷◌, ◌++◌, option_map, IfSome, IsNone, IsTrue};
 ghost use Rattle.decimal_text.specs.Numbers.{numeral, as_u64, StandsInFront};
-ghost use Rattle.decimal_text.specs.inner.Reading.{is_digit, number_at, after, field_at, last_number, front_now, front_map};
+ghost use Rattle.decimal_text.specs.Reading.{is_digit, number_at, after, field_at, last_number, front_now, front_map};
 
 use super::number::{behind_text, field, last, number};
 

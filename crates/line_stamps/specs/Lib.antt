@@ -5,6 +5,6 @@ pub mod Laws
 pub mod Least
 pub mod LineParts
 pub mod Messages
+pub mod Ordered
 pub mod RecallParts
 pub mod StampParts
-pub mod inner

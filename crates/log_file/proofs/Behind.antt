@@ -4,9 +4,9 @@ use Rattle.std.proofs.lemmas.Bool.{cases_order}
 use Rattle.log_record.specs.declared.record.Record.{Record}
 use Rattle.log_record.specs.Line.{end_text, IsRecordShape, IsEndShape, line_limit}
 use Rattle.log_record.proofs.Lines.{end_short, end_once, record_no_end}
-use Rattle.log_file.specs.declared.fault.Fault.{Fault}
-use Rattle.log_file.specs.declared.fault.Fault.TheVariants.{BadHeader, BadLine, OutOfRange, TooMany, CountDiffers, TrailingBytes, Truncated, WrongCore}
-use Rattle.log_file.specs.Log.{line, IsWhole, IsBody, IsEnd, IsLong, FaultAt, number}
+use Rattle.log_file.specs.declared.fault.FormatFault.{FormatFault}
+use Rattle.log_file.specs.declared.fault.FormatFault.TheVariants.{BadHeader, BadLine, OutOfRange, TooMany, CountDiffers, TrailingBytes, Truncated, WrongCore}
+use Rattle.log_file.specs.Log.{line, IsWhole, IsBody, IsEnd, IsLong, FaultAt, number, first_format}
 use Rattle.log_file.specs.OneLine.{BodyHolds, LeastBody}
 use Rattle.log_file.proofs.Front.{Front, body_there, front_length, no_end, quiet, rest_line}
 
@@ -26,9 +26,9 @@ whole_there core cores records lines l ls h whole =
 
 -- a whole line's least fault
 pub body_first : (core cores : ℕ) (records : List Record) (lines : List (List ℕ)) (l : List ℕ) (ls : List (List ℕ))
-    (f : Fault) → Front core cores records lines (l ∷ ls) → 0 < length ls → LeastBody (length records) l f
-    → FaultAt core cores lines (length records + 2) f
-    × ((g : Fault) → FaultAt core cores lines (length records + 2) g → number f ≤ number g)
+    (f : FormatFault) → Front core cores records lines (l ∷ ls) → 0 < length ls → LeastBody (length records) l f
+    → FaultAt first_format core cores lines (length records + 2) f
+    × ((g : FormatFault) → FaultAt first_format core cores lines (length records + 2) g → number f ≤ number g)
 body_first core cores records lines l ls f h whole found = (holds f found.0, λ g p. least g p)
   where
     k : ℕ
@@ -43,7 +43,7 @@ body_first core cores records lines l ls f h whole found = (holds f found.0, λ 
     is-whole : IsWhole lines (length records + 2)
     is-whole = whole_there core cores records lines l ls h whole
 
-    holds : (f : Fault) → BodyHolds (length records) l f → FaultAt core cores lines (length records + 2) f
+    holds : (f : FormatFault) → BodyHolds (length records) l f → FaultAt first_format core cores lines (length records + 2) f
     holds BadLine (inl long) = (body, inl (subst (λ (x : List ℕ). IsLong x) (sym at) long))
     holds BadLine (inr bad) = (
       body,
@@ -70,7 +70,7 @@ body_first core cores records lines l ls f h whole found = (holds f found.0, λ 
     holds Truncated p = absurd p
     holds WrongCore p = absurd p
 
-    least : (g : Fault) → FaultAt core cores lines (length records + 2) g → number f ≤ number g
+    least : (g : FormatFault) → FaultAt first_format core cores lines (length records + 2) g → number f ≤ number g
     least BadHeader p = absurd (omega (arith, p.0))
     least BadLine (b, inl long) = found.1 BadLine (inl (subst (λ (x : List ℕ). IsLong x) at long))
     least BadLine (b, inr bad) =
@@ -90,8 +90,8 @@ body_first core cores records lines l ls f h whole found = (holds f found.0, λ 
 -- a line that is too long, whole or not
 pub long_first : (core cores : ℕ) (records : List Record) (lines : List (List ℕ)) (l : List ℕ) (ls : List (List ℕ))
     → Front core cores records lines (l ∷ ls) → line_limit < length l
-    → FaultAt core cores lines (length records + 2) BadLine
-    × ((g : Fault) → FaultAt core cores lines (length records + 2) g → 21 ≤ number g)
+    → FaultAt first_format core cores lines (length records + 2) BadLine
+    × ((g : FormatFault) → FaultAt first_format core cores lines (length records + 2) g → 21 ≤ number g)
 long_first core cores records lines l ls h long = (
   (
     body_there core cores records lines (l ∷ ls) h,
@@ -101,7 +101,7 @@ long_first core cores records lines l ls h long = (
   λ g p. least g p,
 )
   where
-    least : (g : Fault) → FaultAt core cores lines (length records + 2) g → 21 ≤ number g
+    least : (g : FormatFault) → FaultAt first_format core cores lines (length records + 2) g → 21 ≤ number g
     least BadHeader p = absurd (omega (arith, p.0))
     least BadLine p = omega arith
     least OutOfRange p = omega arith
@@ -114,8 +114,8 @@ long_first core cores records lines l ls h long = (
 -- the bytes end in a line that isn't whole
 pub cut_first : (core cores : ℕ) (records : List Record) (lines : List (List ℕ)) (l : List ℕ)
     → Front core cores records lines (l ∷ []) → length l ≤ line_limit
-    → FaultAt core cores lines (length records + 2) Truncated
-    × ((g : Fault) → FaultAt core cores lines (length records + 2) g → 26 ≤ number g)
+    → FaultAt first_format core cores lines (length records + 2) Truncated
+    × ((g : FormatFault) → FaultAt first_format core cores lines (length records + 2) g → 26 ≤ number g)
 cut_first core cores records lines l h short = (
   (
     omega (arith, len),
@@ -131,7 +131,7 @@ cut_first core cores records lines l h short = (
     not-whole : IsWhole lines (length records + 2) → ⊥
     not-whole w = omega (arith, w.1, len)
 
-    least : (g : Fault) → FaultAt core cores lines (length records + 2) g → 26 ≤ number g
+    least : (g : FormatFault) → FaultAt first_format core cores lines (length records + 2) g → 26 ≤ number g
     least BadHeader p = absurd (omega (arith, p.0))
     least BadLine (b, inl long) =
         let l' : line_limit < length l = subst (λ (x : List ℕ). IsLong x)
@@ -158,14 +158,14 @@ end_is core cores records lines ls h whole = record {
 
 -- the right end line has no fault
 pub end_quiet : (core cores : ℕ) (records : List Record) (lines ls : List (List ℕ))
-    → Front core cores records lines (end_text (length records) ∷ ls) → 0 < length ls → (g : Fault)
-    → FaultAt core cores lines (length records + 2) g → ⊥
+    → Front core cores records lines (end_text (length records) ∷ ls) → 0 < length ls → (g : FormatFault)
+    → FaultAt first_format core cores lines (length records + 2) g → ⊥
 end_quiet core cores records lines ls h whole g p = quiet-at g p
   where
     at : line lines (length records + 2) ≡ end_text (length records)
     at = here core cores records lines (end_text (length records)) ls h
 
-    quiet-at : (g : Fault) → FaultAt core cores lines (length records + 2) g → ⊥
+    quiet-at : (g : FormatFault) → FaultAt first_format core cores lines (length records + 2) g → ⊥
     quiet-at BadHeader p = omega (arith, p.0)
     quiet-at BadLine (b, inl long) =
         let l : line_limit < length (end_text (length records)) = subst
@@ -186,8 +186,8 @@ end_quiet core cores records lines ls h whole g p = quiet-at g p
 pub trailing_first : (core cores : ℕ) (records : List Record) (lines : List (List ℕ)) (l : List ℕ)
     (ls : List (List ℕ)) → Front core cores records lines (end_text (length records) ∷ (l ∷ ls)) → (0 < length l)
     ⊎ (0 < length ls)
-    → FaultAt core cores lines (length records + 3) TrailingBytes
-    × ((j : ℕ) (g : Fault) → FaultAt core cores lines j g → (length records + 3 < j)
+    → FaultAt first_format core cores lines (length records + 3) TrailingBytes
+    × ((j : ℕ) (g : FormatFault) → FaultAt first_format core cores lines j g → (length records + 3 < j)
     ⊎ ((length records + 3 ≡ j) × (25 ≤ number g)))
 trailing_first core cores records lines l ls h more = (((length records + 2, end, omega arith), follows more), first)
   where
@@ -213,7 +213,7 @@ trailing_first core cores records lines l ls h more = (((length records + 2, end
     closed : IsBody lines (length records + 3) → ⊥
     closed b = b.open_yet (length records + 2) (omega arith) (omega arith) end.shape
 
-    least : (g : Fault) → FaultAt core cores lines (length records + 3) g → 25 ≤ number g
+    least : (g : FormatFault) → FaultAt first_format core cores lines (length records + 3) g → 25 ≤ number g
     least BadHeader p = absurd (omega (arith, p.0))
     least BadLine p = absurd (closed p.0)
     least OutOfRange (inl p) = absurd (omega (arith, p.0))
@@ -224,16 +224,16 @@ trailing_first core cores records lines l ls h more = (((length records + 2, end
     least Truncated p = omega arith
     least WrongCore p = omega arith
 
-    first : (j : ℕ) (g : Fault) → FaultAt core cores lines j g → (length records + 3 < j)
+    first : (j : ℕ) (g : FormatFault) → FaultAt first_format core cores lines j g → (length records + 3 < j)
         ⊎ ((length records + 3 ≡ j) × (25 ≤ number g))
     first j g p =
         elim (cases_order (length records + 3) j) [
-          | inl same ↦ inr (same, least g (subst (λ (k : ℕ). FaultAt core cores lines k g) (sym same) p))
+          | inl same ↦ inr (same, least g (subst (λ (k : ℕ). FaultAt first_format core cores lines k g) (sym same) p))
           | inr (inl before) ↦ inl before
           | inr (inr later) ↦
               elim (cases_order (length records + 2) j) [
                 | inl same ↦ absurd (end_quiet core cores records lines (l ∷ ls) h (omega arith) g
-                    (subst (λ (k : ℕ). FaultAt core cores lines k g) (sym same) p))
+                    (subst (λ (k : ℕ). FaultAt first_format core cores lines k g) (sym same) p))
                 | inr (inl before) ↦ absurd (omega arith)
                 | inr (inr much-later) ↦ absurd
                     (quiet core cores records lines (end_text (length records) ∷ (l ∷ ls)) h j g much-later p)

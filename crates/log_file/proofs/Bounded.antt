@@ -4,10 +4,10 @@ use Rattle.std.specs.List.{AllByRecursion}
 use Rattle.log_record.specs.declared.record.Record.{Record}
 use Rattle.log_record.specs.Line.{record_text, header_text, end_text, Fits}
 use Rattle.log_record.proofs.Lines.{record_short, header_short, end_short}
-use Rattle.log_file.specs.declared.progress.Phase.{Phase}
-use Rattle.log_file.specs.declared.progress.Phase.TheVariants as phase
+use Rattle.log_file.specs.declared.progress.Stage.{Stage}
+use Rattle.log_file.specs.declared.progress.Stage.TheVariants as stage
 use Rattle.log_file.specs.declared.line_reader.LineReader.{LineReader}
-use Rattle.log_file.specs.Log.{with_lf, begun, text_of, spelling, IsLog}
+use Rattle.log_file.specs.Log.{with_lf, begun, text_of, spelling, IsLog, first_format}
 use Rattle.log_file.specs.Standing.{IsSound, Stands, read_text, whole_text}
 use Rattle.log_file.proofs.Lines.{spelling_text}
 
@@ -25,7 +25,7 @@ records_long (r ∷ records) all =
     )
 
 begun_long : (core cores : ℕ) (records : List Record) → IsLog core cores records
-    → length (text_of (begun core cores records)) ≤ 81 * length records + 81
+    → length (text_of (begun first_format core cores records)) ≤ 81 * length records + 81
 begun_long core cores records log =
     omega (
       arith,
@@ -39,15 +39,15 @@ begun_long core cores records log =
     )
 
 spelling_long : (core cores : ℕ) (records : List Record) → IsLog core cores records
-    → length (spelling core cores records) ≤ 81 * length records + 162
+    → length (spelling first_format core cores records) ≤ 81 * length records + 162
 spelling_long core cores records log =
-    let e : length (spelling core cores records) ≡ length
-    (text_of (begun core cores records) ++ (end_text (length records) ++ 10 ∷ [])) = ap length
-    (sym (append-nil (spelling core cores records)) ∙ spelling_text core cores records []) in
+    let e : length (spelling first_format core cores records) ≡ length
+    (text_of (begun first_format core cores records) ++ (end_text (length records) ++ 10 ∷ [])) = ap length
+    (sym (append-nil (spelling first_format core cores records)) ∙ spelling_text core cores records []) in
     omega (
       arith,
       e,
-      length-append (text_of (begun core cores records))
+      length-append (text_of (begun first_format core cores records))
           (end_text (length records) ++ 10 ∷ []),
       length-append (end_text (length records))
           (10 ∷ []),
@@ -55,14 +55,14 @@ spelling_long core cores records log =
       end_short (length records) log.few,
     )
 
-whole_long : (q : Phase) (core cores : ℕ) (records : List Record) (line : List ℕ) → IsSound q core cores records line
+whole_long : (q : Stage) (core cores : ℕ) (records : List Record) (line : List ℕ) → IsSound q core cores records line
     → length (whole_text q core cores records) < 2 ^ 27 - 100
-whole_long phase.Header core cores records line sound = omega arith
-whole_long phase.Records core cores records line sound = omega (arith, begun_long core cores records sound, sound.few)
-whole_long phase.Ended core cores records line sound = omega
+whole_long stage.Header core cores records line sound = omega arith
+whole_long stage.Records core cores records line sound = omega (arith, begun_long core cores records sound, sound.few)
+whole_long stage.Ended core cores records line sound = omega
     (arith, spelling_long core cores records sound.0, sound.0.few)
 
 pub read_long : (s : LineReader) (records : List Record) → Stands s records → length (read_text s records) < 2 ^ 27
 read_long s records stands =
-    let whole = whole_text s.progress.phase s.progress.core s.progress.cores records in
-    omega (arith, length-append whole s.begun.items, stands.short, whole_long s.progress.phase s.progress.core s.progress.cores records s.begun.items stands.sound)
+    let whole = whole_text s.progress.stage s.progress.core s.progress.cores records in
+    omega (arith, length-append whole s.begun.items, stands.short, whole_long s.progress.stage s.progress.core s.progress.cores records s.begun.items stands.sound)

@@ -7,14 +7,14 @@ use Rattle.std.proofs.lemmas.List.Splits.{length-slice_split}
 use Rattle.log_record.specs.declared.record.Record.{Record}
 use Rattle.log_record.specs.Line.{record_text, header_text, IsEndShape, Fits, line_limit}
 use Rattle.log_record.proofs.Lines.{record_short, header_short, record_once, header_once, record_no_end}
-use Rattle.log_file.specs.declared.fault.Fault.{Fault}
-use Rattle.log_file.specs.declared.fault.Fault.TheVariants.{BadHeader, BadLine, OutOfRange, TooMany, CountDiffers, TrailingBytes, Truncated, WrongCore}
-use Rattle.log_file.specs.Log.{begun, text_of, IsLog, lines_of, line, IsBody, FaultAt, number}
+use Rattle.log_file.specs.declared.fault.FormatFault.{FormatFault}
+use Rattle.log_file.specs.declared.fault.FormatFault.TheVariants.{BadHeader, BadLine, OutOfRange, TooMany, CountDiffers, TrailingBytes, Truncated, WrongCore}
+use Rattle.log_file.specs.Log.{begun, text_of, IsLog, lines_of, line, IsBody, FaultAt, number, first_format}
 use Rattle.log_file.proofs.Lines.{begun_no_lf, lines_of_text}
 
 pub record Front (core cores : ℕ) (records : List Record) (lines rest : List (List ℕ)) : Type 0 where
   pub log : IsLog core cores records
-  pub parts : lines ≡ begun core cores records ++ rest
+  pub parts : lines ≡ begun first_format core cores records ++ rest
   pub more : 0 < length rest
 
 record_at : (records : List Record) (rest : List (List ℕ)) (i : ℕ) → AllByRecursion Fits records → i < length records
@@ -71,8 +71,8 @@ body_there core cores records lines rest h = record {
 
 -- no fault holds up to there
 pub quiet : (core cores : ℕ) (records : List Record) (lines rest : List (List ℕ))
-    → Front core cores records lines rest → (j : ℕ) (g : Fault) → j < length records + 2
-    → FaultAt core cores lines j g → ⊥
+    → Front core cores records lines rest → (j : ℕ) (g : FormatFault) → j < length records + 2
+    → FaultAt first_format core cores lines j g → ⊥
 quiet core cores records lines rest h j BadHeader lt (at, inl long) =
     let e = header_line core cores records lines rest h in
     let s = header_short core cores h.log.core_fits (omega (arith, h.log.cores_fit)) in
@@ -108,20 +108,20 @@ quiet core cores records lines rest h j WrongCore lt (at, whole, (c, (n, e, inr 
 
 -- the fault of the line after them is the first, where it is the least of that line
 pub first_there : (core cores : ℕ) (records : List Record) (lines rest : List (List ℕ))
-    → Front core cores records lines rest → (f : Fault)
-    → ((g : Fault) → FaultAt core cores lines (length records + 2) g → number f ≤ number g) → (j : ℕ) (g : Fault)
-    → FaultAt core cores lines j g → (length records + 2 < j) ⊎ ((length records + 2 ≡ j) × (number f ≤ number g))
+    → Front core cores records lines rest → (f : FormatFault)
+    → ((g : FormatFault) → FaultAt first_format core cores lines (length records + 2) g → number f ≤ number g) → (j : ℕ) (g : FormatFault)
+    → FaultAt first_format core cores lines j g → (length records + 2 < j) ⊎ ((length records + 2 ≡ j) × (number f ≤ number g))
 first_there core cores records lines rest h f least j g p =
     elim (cases_order (length records + 2) j) [
-      | inl same ↦ inr (same, least g (subst (λ (k : ℕ). FaultAt core cores lines k g) (sym same) p))
+      | inl same ↦ inr (same, least g (subst (λ (k : ℕ). FaultAt first_format core cores lines k g) (sym same) p))
       | inr (inl before) ↦ inl before
       | inr (inr later) ↦ absurd (quiet core cores records lines rest h j g later p)
     ]
 
 pub front_from : (core cores : ℕ) (records : List Record) (bytes rest : List ℕ) → IsLog core cores records
-    → bytes ≡ text_of (begun core cores records) ++ rest → Front core cores records (lines_of bytes) (lines_of rest)
+    → bytes ≡ text_of (begun first_format core cores records) ++ rest → Front core cores records (lines_of bytes) (lines_of rest)
 front_from core cores records bytes rest log e = record {
   log = log;
-  parts = ap lines_of e ∙ lines_of_text (begun core cores records) rest (begun_no_lf core cores records);
+  parts = ap lines_of e ∙ lines_of_text (begun first_format core cores records) rest (begun_no_lf core cores records);
   more = omega (arith, length-slice_split (λ b. eqb b 10) rest);
 }

@@ -3,17 +3,17 @@ use Rattle.std.proofs.Common.{◌≡◌, ℕ, List, [], ◌∷◌, ◌++◌, len
 use Rattle.log_record.specs.declared.record.Record.{Record}
 use Rattle.log_record.specs.Line.{record_text, header_text, end_text}
 use Rattle.log_record.proofs.Lines.{NoLf-all, end_no_lf, record_once, header_once, record_no_end}
-use Rattle.log_file.specs.Log.{Spells, begun, spelling, lines_of}
+use Rattle.log_file.specs.Log.{Spells, begun, spelling, lines_of, first_format}
 use Rattle.log_file.proofs.Lines.{lines_of_line, lines_of_text, begun_no_lf, spelling_text}
 
 spelled_lines : (core cores : ℕ) (records : List Record) (x : List ℕ)
-    → lines_of (spelling core cores records ++ x) ≡ begun core cores records ++
+    → lines_of (spelling first_format core cores records ++ x) ≡ begun first_format core cores records ++
     (end_text (length records) ∷ lines_of x)
 spelled_lines core cores records x =
     ap lines_of (spelling_text core cores records x)
-    ∙ lines_of_text (begun core cores records) (end_text (length records) ++ 10 ∷ x)
+    ∙ lines_of_text (begun first_format core cores records) (end_text (length records) ++ 10 ∷ x)
     (begun_no_lf core cores records)
-    ∙ ap (λ (ls : List (List ℕ)). begun core cores records ++ ls)
+    ∙ ap (λ (ls : List (List ℕ)). begun first_format core cores records ++ ls)
     (lines_of_line (end_text (length records)) x (NoLf-all (end_text (length records)) (end_no_lf (length records))))
 
 same_records : (m n : ℕ) (rs qs : List Record) (xs ys : List (List ℕ))
@@ -28,7 +28,7 @@ same_records m n (r ∷ rs) (q ∷ qs) xs ys e =
     ap (λ (x : Record). x ∷ rs) (record_once r q first)
     ∙ ap (λ (l : List Record). q ∷ l) (same_records m n rs qs xs ys rest)
 
-pub spelled_once : (a b c d : ℕ) (rs qs : List Record) (x y : List ℕ) → spelling a b rs ++ x ≡ spelling c d qs ++ y
+pub spelled_once : (a b c d : ℕ) (rs qs : List Record) (x y : List ℕ) → spelling first_format a b rs ++ x ≡ spelling first_format c d qs ++ y
     → (a ≡ c) × (b ≡ d) × (rs ≡ qs)
 spelled_once a b c d rs qs x y e =
     let lines = sym (spelled_lines a b rs x) ∙ ap lines_of e ∙ spelled_lines c d qs y in
@@ -45,9 +45,9 @@ spelled_once a b c d rs qs x y e =
     tails e = cc
 
 -- bytes spell one log at most
-pub one_log : (core cores : ℕ) (bytes : List ℕ) (rs qs : List Record) → Spells core cores bytes rs
-    → Spells core cores bytes qs → rs ≡ qs
+pub one_log : (core cores : ℕ) (bytes : List ℕ) (rs qs : List Record) → Spells first_format core cores bytes rs
+    → Spells first_format core cores bytes qs → rs ≡ qs
 one_log core cores bytes rs qs p q =
-    let e : spelling core cores rs ++ [] ≡ spelling core cores qs ++ [] = ap (λ (xs : List ℕ). xs ++ [])
+    let e : spelling first_format core cores rs ++ [] ≡ spelling first_format core cores qs ++ [] = ap (λ (xs : List ℕ). xs ++ [])
     (sym p.1 ∙ q.1) in
     (spelled_once core cores core cores rs qs [] [] e).2

@@ -1,13 +1,14 @@
 -- The least fault of one line.
 use Rattle.std.proofs.Common.{◌≡◌, ◌≢◌, ℕ, ◌^◌, ◌<◌, ◌≤◌, ◌⊎◌, Bool, true, false, cond, List, length, Some, None, sym, subst, ◌∙◌, arith, inl, inr}
 use Rattle.std.specs.Prelude.{nat_lt}
+use Rattle.mem_op.specs.Limits.{operation_limit}
 use Rattle.log_record.specs.declared.record.Record.{Record}
 use Rattle.log_record.specs.Line.{record_text, header_text, Fits, line_limit}
 use Rattle.log_record.specs.Numbers.{as_u64}
 use Rattle.log_record.proofs.Lines.{record_once, header_once}
-use Rattle.log_file.specs.declared.fault.Fault.{Fault}
-use Rattle.log_file.specs.declared.fault.Fault.TheVariants.{BadHeader, BadLine, OutOfRange, TooMany, CountDiffers, TrailingBytes, Truncated, WrongCore}
-use Rattle.log_file.specs.Log.{number, record_limit}
+use Rattle.log_file.specs.declared.fault.FormatFault.{FormatFault}
+use Rattle.log_file.specs.declared.fault.FormatFault.TheVariants.{BadHeader, BadLine, OutOfRange, TooMany, CountDiffers, TrailingBytes, Truncated, WrongCore}
+use Rattle.log_file.specs.Log.{number, first_format}
 use Rattle.log_file.specs.OneLine.{HeaderHolds, BodyHolds, LeastHeader, LeastBody}
 
 -- a number that 64 bits hold is kept as it is
@@ -22,7 +23,7 @@ abbrev Header : List ℕ → ℕ → ℕ → Type 0
 Header line a b = (c : ℕ) × ((n : ℕ) × (line ≡ header_text 1 c n) × (Some a ≡ as_u64 c) × (Some b ≡ as_u64 n))
 
 pub wrong_core : (line : List ℕ) (core cores a b : ℕ) → length line ≤ line_limit → Header line a b → a < b → b ≤ 64
-    → (a ≢ core) ⊎ (b ≢ cores) → LeastHeader core cores line WrongCore
+    → (a ≢ core) ⊎ (b ≢ cores) → LeastHeader first_format core cores line WrongCore
 wrong_core line core cores a b short h lt few other =
     let a-is = as_u64_is h.0 a h.1.2 in
     let b-is = as_u64_is h.1.0 b h.1.3 in
@@ -39,7 +40,7 @@ wrong_core line core cores a b short h lt few other =
         let b-is = as_u64_is h.1.0 b h.1.3 in
         (omega (arith, same.0, same.1), omega (arith, same.1))
 
-    least : (g : Fault) → HeaderHolds core cores line g → 27 ≤ number g
+    least : (g : FormatFault) → HeaderHolds first_format core cores line g → 27 ≤ number g
     least BadHeader (inl long) = absurd (omega arith)
     least BadHeader (inr bad) = absurd (bad (h.0, (h.1.0, h.1.1)))
     least OutOfRange p = absurd (p.1.2 (in-range p.0 p.1.0 p.1.1))
@@ -51,10 +52,10 @@ wrong_core line core cores a b short h lt few other =
     least Truncated p = absurd p
 
 pub too_many : (line : List ℕ) (count : ℕ) (r : Record) → length line ≤ line_limit → line ≡ record_text r → Fits r
-    → record_limit ≤ count → LeastBody count line TooMany
+    → operation_limit ≤ count → LeastBody count line TooMany
 too_many line count r short e fits many = (((r, e), many), least)
   where
-    least : (g : Fault) → BodyHolds count line g → 23 ≤ number g
+    least : (g : FormatFault) → BodyHolds count line g → 23 ≤ number g
     least BadLine (inl long) = absurd (omega arith)
     least BadLine (inr bad) = absurd (bad.0 (r, e))
     least OutOfRange p = absurd (p.2 (subst Fits (record_once r p.0 (sym e ∙ p.1)) fits))

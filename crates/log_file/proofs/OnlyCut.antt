@@ -2,11 +2,11 @@
 use Rattle.std.proofs.Common.{append-nil, ◌≡◌, ℕ, zero, suc, ◌+◌, ◌<◌, ◌≤◌, ◌⊎◌, List, [], ◌∷◌, ◌++◌, length, refl, sym, ap, subst, ◌∙◌, arith, inl, inr}
 use Rattle.std.proofs.lemmas.Bool.{cases_order}
 use Rattle.log_record.specs.declared.record.Record.{Record}
-use Rattle.log_file.specs.declared.fault.Fault.{Fault}
-use Rattle.log_file.specs.declared.fault.Fault.TheVariants.{BadHeader, BadLine, OutOfRange, TooMany, CountDiffers, TrailingBytes, Truncated, WrongCore}
-use Rattle.log_file.specs.declared.progress.Phase.{Phase}
-use Rattle.log_file.specs.declared.progress.Phase.TheVariants as phase
-use Rattle.log_file.specs.Log.{begun, spelling, text_of, lines_of, FaultAt, number}
+use Rattle.log_file.specs.declared.fault.FormatFault.{FormatFault}
+use Rattle.log_file.specs.declared.fault.FormatFault.TheVariants.{BadHeader, BadLine, OutOfRange, TooMany, CountDiffers, TrailingBytes, Truncated, WrongCore}
+use Rattle.log_file.specs.declared.progress.Stage.{Stage}
+use Rattle.log_file.specs.declared.progress.Stage.TheVariants as stage
+use Rattle.log_file.specs.Log.{begun, spelling, text_of, lines_of, FaultAt, number, first_format}
 use Rattle.log_file.specs.declared.line_reader.LineReader.{LineReader}
 use Rattle.log_file.specs.OneLine.{IsOneLine}
 use Rattle.log_file.specs.Standing.{IsSound, Stands, read_text, whole_text}
@@ -18,7 +18,7 @@ use Rattle.log_file.proofs.Lines.{lines_of_last}
 use Rattle.log_file.proofs.Spelled.{spelled_quiet}
 
 -- 26 or 27
-cut_or_core : (g : Fault) → 26 ≤ number g → (g ≡ Truncated) ⊎ (g ≡ WrongCore)
+cut_or_core : (g : FormatFault) → 26 ≤ number g → (g ≡ Truncated) ⊎ (g ≡ WrongCore)
 cut_or_core BadHeader h = absurd (omega (arith, h))
 cut_or_core BadLine h = absurd (omega (arith, h))
 cut_or_core OutOfRange h = absurd (omega (arith, h))
@@ -28,18 +28,18 @@ cut_or_core TrailingBytes h = absurd (omega (arith, h))
 cut_or_core Truncated h = inl refl
 cut_or_core WrongCore h = inr refl
 
-header_only : (core cores : ℕ) (l : List ℕ) (k : ℕ) (g : Fault) → length l ≤ line_limit
-    → FaultAt core cores (l ∷ []) k g → g ≡ Truncated
+header_only : (core cores : ℕ) (l : List ℕ) (k : ℕ) (g : FormatFault) → length l ≤ line_limit
+    → FaultAt first_format core cores (l ∷ []) k g → g ≡ Truncated
 header_only core cores l zero g short p = absurd (none_at_zero core cores (l ∷ []) g (omega arith) p)
 header_only core cores l (suc zero) g short p =
     elim (cut_or_core g ((header_cut core cores l short).1 g p)) [
       | inl e ↦ e
-      | inr e ↦ let q = subst (λ (f : Fault). FaultAt core cores (l ∷ []) 1 f) e p in let w : 1 < 1 = q.1.1 in absurd
+      | inr e ↦ let q = subst (λ (f : FormatFault). FaultAt first_format core cores (l ∷ []) 1 f) e p in let w : 1 < 1 = q.1.1 in absurd
           (omega arith)
     ]
 header_only core cores l (suc (suc k)) g short p = absurd (none g p)
   where
-    none : (g : Fault) → FaultAt core cores (l ∷ []) (suc (suc k)) g → ⊥
+    none : (g : FormatFault) → FaultAt first_format core cores (l ∷ []) (suc (suc k)) g → ⊥
     none BadHeader p = omega (arith, p.0)
     none BadLine p = let b = p.0.there in omega arith
     none OutOfRange (inl p) = omega (arith, p.0)
@@ -50,15 +50,15 @@ header_only core cores l (suc (suc k)) g short p = absurd (none g p)
     none Truncated p = omega (arith, p.0)
     none WrongCore p = omega (arith, p.0)
 
-body_only : (core cores : ℕ) (records : List Record) (lines : List (List ℕ)) (l : List ℕ) (k : ℕ) (g : Fault)
-    → Front core cores records lines (l ∷ []) → length l ≤ line_limit → FaultAt core cores lines k g → g ≡ Truncated
+body_only : (core cores : ℕ) (records : List Record) (lines : List (List ℕ)) (l : List ℕ) (k : ℕ) (g : FormatFault)
+    → Front core cores records lines (l ∷ []) → length l ≤ line_limit → FaultAt first_format core cores lines k g → g ≡ Truncated
 body_only core cores records lines l k g front short p =
     elim (cases_order (length records + 2) k) [
       | inl same ↦
-          let p' = subst (λ (j : ℕ). FaultAt core cores lines j g) (sym same) p in
+          let p' = subst (λ (j : ℕ). FaultAt first_format core cores lines j g) (sym same) p in
           elim (cut_or_core g ((cut_first core cores records lines l front short).1 g p')) [
             | inl e ↦ e
-            | inr e ↦ let q = subst (λ (f : Fault). FaultAt core cores lines (length records + 2) f) e p' in absurd
+            | inr e ↦ let q = subst (λ (f : FormatFault). FaultAt first_format core cores lines (length records + 2) f) e p' in absurd
                 (omega (arith, q.0))
           ]
       | inr (inl before) ↦ absurd (none g before p)
@@ -68,7 +68,7 @@ body_only core cores records lines l k g front short p =
     len : length lines ≡ length records + 2
     len = omega (arith, front_length core cores records lines (l ∷ []) front)
 
-    none : (g : Fault) → length records + 2 < k → FaultAt core cores lines k g → ⊥
+    none : (g : FormatFault) → length records + 2 < k → FaultAt first_format core cores lines k g → ⊥
     none BadHeader lt p = omega (arith, p.0)
     none BadLine lt p = omega (arith, p.0.there, len)
     none OutOfRange lt (inl p) = omega (arith, p.0)
@@ -81,25 +81,25 @@ body_only core cores records lines l k g front short p =
     none Truncated lt p = omega (arith, p.0, len)
     none WrongCore lt p = omega (arith, p.0)
 
-bytes_only : (p : Phase) (core cores : ℕ) (records : List Record) (line : List ℕ) → IsSound p core cores records line
-    → IsOneLine line → length line ≤ line_limit → (k : ℕ) (g : Fault)
-    → FaultAt core cores (lines_of (whole_text p core cores records ++ line)) k g → g ≡ Truncated
-bytes_only phase.Header core cores records line sound one short k g f = header_only core cores line k g short
-    (subst (λ (ls : List (List ℕ)). FaultAt core cores ls k g) (lines_of_last line one) f)
-bytes_only phase.Records core cores records line sound one short k g f =
-    let bytes = text_of (begun core cores records) ++ line in
+bytes_only : (p : Stage) (core cores : ℕ) (records : List Record) (line : List ℕ) → IsSound p core cores records line
+    → IsOneLine line → length line ≤ line_limit → (k : ℕ) (g : FormatFault)
+    → FaultAt first_format core cores (lines_of (whole_text p core cores records ++ line)) k g → g ≡ Truncated
+bytes_only stage.Header core cores records line sound one short k g f = header_only core cores line k g short
+    (subst (λ (ls : List (List ℕ)). FaultAt first_format core cores ls k g) (lines_of_last line one) f)
+bytes_only stage.Records core cores records line sound one short k g f =
+    let bytes = text_of (begun first_format core cores records) ++ line in
     let front : Front core cores records (lines_of bytes) (line ∷ []) = subst
     (λ (ls : List (List ℕ)). Front core cores records (lines_of bytes) ls) (lines_of_last line one)
     (front_from core cores records bytes line sound refl) in
     body_only core cores records (lines_of bytes) line k g front short f
-bytes_only phase.Ended core cores records line sound one short k g f =
-    absurd (spelled_quiet core cores (spelling core cores records ++ line) records (
+bytes_only stage.Ended core cores records line sound one short k g f =
+    absurd (spelled_quiet core cores (spelling first_format core cores records ++ line) records (
       sound.0,
-      ap (λ (xs : List ℕ). spelling core cores records ++ xs) sound.1
-          ∙ append-nil (spelling core cores records),
+      ap (λ (xs : List ℕ). spelling first_format core cores records ++ xs) sound.1
+          ∙ append-nil (spelling first_format core cores records),
     ) k g f)
 
-pub only_cut : (s : LineReader) (records : List Record) → Stands s records → (k : ℕ) (g : Fault)
-    → FaultAt s.progress.core s.progress.cores (lines_of (read_text s records)) k g → g ≡ Truncated
+pub only_cut : (s : LineReader) (records : List Record) → Stands s records → (k : ℕ) (g : FormatFault)
+    → FaultAt first_format s.progress.core s.progress.cores (lines_of (read_text s records)) k g → g ≡ Truncated
 only_cut s records stands k g f =
-    bytes_only s.progress.phase s.progress.core s.progress.cores records s.begun.items stands.sound stands.one stands.short k g f
+    bytes_only s.progress.stage s.progress.core s.progress.cores records s.begun.items stands.sound stands.one stands.short k g f

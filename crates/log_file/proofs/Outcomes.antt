@@ -1,15 +1,16 @@
 -- A whole line is what may stand there, or has a least fault.
 use Rattle.std.proofs.Common.{◌≡◌, ◌≢◌, ℕ, ◌<◌, ◌≤◌, ◌⊎◌, List, length, Option, None, Some, refl, sym, ap, ◌∙◌, arith, inl, inr}
 use Rattle.std.proofs.lemmas.Bool.{cases_lt, cases_eq}
+use Rattle.mem_op.specs.Limits.{operation_limit}
 use Rattle.log_record.specs.declared.record.Record.{Record}
 use Rattle.log_record.specs.Line.{record_text, header_text, end_text, Fits, IsRecordShape, IsEndShape, IsHeaderShape, line_limit}
 use Rattle.log_record.specs.inner.Reading.{record_of, end_of, header_of}
 use Rattle.log_record.proofs.Records.{record_takes, record_again}
 use Rattle.log_record.proofs.Ends.{end_takes, end_again, header_takes, header_again}
 use Rattle.log_record.proofs.Lines.{header_once, record_no_end}
-use Rattle.log_file.specs.declared.fault.Fault.{Fault}
-use Rattle.log_file.specs.declared.fault.Fault.TheVariants.{BadHeader, BadLine, OutOfRange, TooMany, CountDiffers, TrailingBytes, Truncated, WrongCore}
-use Rattle.log_file.specs.Log.{number, IsLong, record_limit}
+use Rattle.log_file.specs.declared.fault.FormatFault.{FormatFault}
+use Rattle.log_file.specs.declared.fault.FormatFault.TheVariants.{BadHeader, BadLine, OutOfRange, TooMany, CountDiffers, TrailingBytes, Truncated, WrongCore}
+use Rattle.log_file.specs.Log.{number, IsLong, first_format}
 use Rattle.log_file.specs.OneLine.{HeaderHolds, BodyHolds, LeastHeader, LeastBody}
 use Rattle.log_file.proofs.OneLine.{too_many}
 use Rattle.log_file.proofs.Ranges.{record_fits}
@@ -18,13 +19,13 @@ use Rattle.log_file.proofs.Ranges.{record_fits}
 
 abbrev pub BodyOutcome : ℕ → List ℕ → Type 0
 BodyOutcome count l =
-    ((r : Record) × (l ≡ record_text r) × Fits r × (count < record_limit))
-    ⊎ ((l ≡ end_text count) ⊎ ((f : Fault) × LeastBody count l f))
+    ((r : Record) × (l ≡ record_text r) × Fits r × (count < operation_limit))
+    ⊎ ((l ≡ end_text count) ⊎ ((f : FormatFault) × LeastBody count l f))
 
 long_least : (count : ℕ) (l : List ℕ) → line_limit < length l → LeastBody count l BadLine
 long_least count l long = (inl long, λ g p. least g p)
   where
-    least : (g : Fault) → BodyHolds count l g → 21 ≤ number g
+    least : (g : FormatFault) → BodyHolds count l g → 21 ≤ number g
     least BadHeader p = absurd p
     least BadLine p = omega arith
     least OutOfRange p = omega arith
@@ -37,7 +38,7 @@ long_least count l long = (inl long, λ g p. least g p)
 bad_least : (count : ℕ) (l : List ℕ) → (IsRecordShape l → ⊥) → (IsEndShape l → ⊥) → LeastBody count l BadLine
 bad_least count l no-record no-end = (inr (no-record, no-end), λ g p. least g p)
   where
-    least : (g : Fault) → BodyHolds count l g → 21 ≤ number g
+    least : (g : FormatFault) → BodyHolds count l g → 21 ≤ number g
     least BadHeader p = absurd p
     least BadLine p = omega arith
     least OutOfRange p = omega arith
@@ -51,7 +52,7 @@ range_least : (count : ℕ) (l : List ℕ) (r : Record) → length l ≤ line_li
     → LeastBody count l OutOfRange
 range_least count l r short e bad = ((r, e, bad), λ g p. least g p)
   where
-    least : (g : Fault) → BodyHolds count l g → 22 ≤ number g
+    least : (g : FormatFault) → BodyHolds count l g → 22 ≤ number g
     least BadHeader p = absurd p
     least BadLine (inl long) = absurd (omega arith)
     least BadLine (inr p) = absurd (p.0 (r, e))
@@ -66,7 +67,7 @@ count_least : (count : ℕ) (l : List ℕ) (n : ℕ) → length l ≤ line_limit
     → LeastBody count l CountDiffers
 count_least count l n short e ne = ((n, e, ne), λ g p. least g p)
   where
-    least : (g : Fault) → BodyHolds count l g → 24 ≤ number g
+    least : (g : FormatFault) → BodyHolds count l g → 24 ≤ number g
     least BadHeader p = absurd p
     least BadLine (inl long) = absurd (omega arith)
     least BadLine (inr p) = absurd (p.1 (n, e))
@@ -104,7 +105,7 @@ body_outcome count l =
         let is = record_takes l r e in
         elim (record_fits r) [
           | inr bad ↦ inr (inr (OutOfRange, range_least count l r short is bad))
-          | inl fits ↦ elim (cases_lt count record_limit) [
+          | inl fits ↦ elim (cases_lt count operation_limit) [
             | inl few ↦ inl (r, is, fits, few)
             | inr many ↦ inr (inr (TooMany, too_many l count r short is fits many))
           ]
@@ -113,12 +114,12 @@ body_outcome count l =
 -- ---- the first line
 
 abbrev pub HeaderOutcome : ℕ → ℕ → List ℕ → Type 0
-HeaderOutcome core cores l = (l ≡ header_text 1 core cores) ⊎ ((f : Fault) × LeastHeader core cores l f)
+HeaderOutcome core cores l = (l ≡ header_text 1 core cores) ⊎ ((f : FormatFault) × LeastHeader first_format core cores l f)
 
-header_bad : (core cores : ℕ) (l : List ℕ) → IsLong l ⊎ (IsHeaderShape 1 l → ⊥) → LeastHeader core cores l BadHeader
+header_bad : (core cores : ℕ) (l : List ℕ) → IsLong l ⊎ (IsHeaderShape 1 l → ⊥) → LeastHeader first_format core cores l BadHeader
 header_bad core cores l bad = (bad, λ g p. least g p)
   where
-    least : (g : Fault) → HeaderHolds core cores l g → 20 ≤ number g
+    least : (g : FormatFault) → HeaderHolds first_format core cores l g → 20 ≤ number g
     least BadHeader p = omega arith
     least OutOfRange p = omega arith
     least WrongCore p = omega arith
@@ -129,10 +130,10 @@ header_bad core cores l bad = (bad, λ g p. least g p)
     least Truncated p = absurd p
 
 header_range : (core cores c n : ℕ) (l : List ℕ) → length l ≤ line_limit → l ≡ header_text 1 c n
-    → ((c < n) × (n ≤ 64) → ⊥) → LeastHeader core cores l OutOfRange
+    → ((c < n) × (n ≤ 64) → ⊥) → LeastHeader first_format core cores l OutOfRange
 header_range core cores c n l short e bad = ((c, (n, e, bad)), λ g p. least g p)
   where
-    least : (g : Fault) → HeaderHolds core cores l g → 22 ≤ number g
+    least : (g : FormatFault) → HeaderHolds first_format core cores l g → 22 ≤ number g
     least BadHeader (inl long) = absurd (omega arith)
     least BadHeader (inr no-shape) = absurd (no-shape (c, (n, e)))
     least OutOfRange p = omega arith
@@ -144,10 +145,10 @@ header_range core cores c n l short e bad = ((c, (n, e, bad)), λ g p. least g p
     least Truncated p = absurd p
 
 header_wrong : (core cores c n : ℕ) (l : List ℕ) → length l ≤ line_limit → l ≡ header_text 1 c n → c < n → n ≤ 64
-    → (c ≢ core) ⊎ (n ≢ cores) → LeastHeader core cores l WrongCore
+    → (c ≢ core) ⊎ (n ≢ cores) → LeastHeader first_format core cores l WrongCore
 header_wrong core cores c n l short e lt few other = ((c, (n, e, other)), λ g p. least g p)
   where
-    least : (g : Fault) → HeaderHolds core cores l g → 27 ≤ number g
+    least : (g : FormatFault) → HeaderHolds first_format core cores l g → 27 ≤ number g
     least BadHeader (inl long) = absurd (omega arith)
     least BadHeader (inr no-shape) = absurd (no-shape (c, (n, e)))
     least OutOfRange p =

@@ -3,17 +3,17 @@ use Rattle.std.proofs.Common.{◌^◌, ◌⊎◌, arith, inl, inr}
 use Rattle.std.proofs.lemmas.Bool.{cases_lt}
 use Rattle.mem_op.specs.declared.id.Source.{Source}
 use Rattle.mem_op.specs.declared.id.Source.TheVariants as source
+use Rattle.mem_op.specs.Limits.{operation_limit}
 use Rattle.log_record.specs.declared.record.Act.{Act}
 use Rattle.log_record.specs.declared.record.Act.TheVariants as act
 use Rattle.log_record.specs.declared.record.Record.{Record}
 use Rattle.log_record.specs.Line.{Fits, ActFits, SourceFits}
-use Rattle.log_file.specs.Log.{record_limit}
 
 source_fits : (s : Source) → SourceFits s ⊎ (SourceFits s → ⊥)
 source_fits source.Init = inl tt
 source_fits (source.Store id) =
     elim (cases_lt id.core 64) [
-      | inl a ↦ elim (cases_lt id.index record_limit) [ inl b ↦ inl (a, b) | inr b ↦ inr (λ h. let x = h.1 in omega arith) ]
+      | inl a ↦ elim (cases_lt id.index operation_limit) [ inl b ↦ inl (a, b) | inr b ↦ inr (λ h. let x = h.1 in omega arith) ]
       | inr a ↦ inr (λ h. let x = h.0 in omega arith)
     ]
 

@@ -5,27 +5,27 @@ use Rattle.std.proofs.lemmas.Bool.{cases_order}
 use Rattle.log_record.specs.declared.record.Record.{Record}
 use Rattle.log_record.specs.Line.{end_text}
 use Rattle.log_record.proofs.Lines.{NoLf-all, end_no_lf}
-use Rattle.log_file.specs.declared.fault.Fault.{Fault}
-use Rattle.log_file.specs.declared.fault.Fault.TheVariants.{BadHeader, BadLine, OutOfRange, TooMany, CountDiffers, TrailingBytes, Truncated, WrongCore}
-use Rattle.log_file.specs.Log.{begun, text_of, spelling, Spells, lines_of, line, NoEndBefore, IsEnd, FaultAt}
+use Rattle.log_file.specs.declared.fault.FormatFault.{FormatFault}
+use Rattle.log_file.specs.declared.fault.FormatFault.TheVariants.{BadHeader, BadLine, OutOfRange, TooMany, CountDiffers, TrailingBytes, Truncated, WrongCore}
+use Rattle.log_file.specs.Log.{begun, text_of, spelling, Spells, lines_of, line, NoEndBefore, IsEnd, FaultAt, first_format}
 use Rattle.log_file.proofs.Behind.{end_is, end_quiet}
 use Rattle.log_file.proofs.Front.{Front, front_from, front_length, no_end, quiet, rest_line}
 use Rattle.log_file.proofs.Lines.{lines_of_line, spelling_text}
 
 -- bytes that spell a log have no fault
-pub spelled_quiet : (core cores : ℕ) (bytes : List ℕ) (records : List Record) → Spells core cores bytes records
-    → (k : ℕ) (f : Fault) → FaultAt core cores (lines_of bytes) k f → ⊥
+pub spelled_quiet : (core cores : ℕ) (bytes : List ℕ) (records : List Record) → Spells first_format core cores bytes records
+    → (k : ℕ) (f : FormatFault) → FaultAt first_format core cores (lines_of bytes) k f → ⊥
 spelled_quiet core cores bytes records spells k f p =
     elim (cases_order (length records + 2) k) [
       | inl same ↦ end_quiet core cores records (lines_of bytes) ([] ∷ []) front (omega arith) f
-          (subst (λ (j : ℕ). FaultAt core cores (lines_of bytes) j f) (sym same) p)
+          (subst (λ (j : ℕ). FaultAt first_format core cores (lines_of bytes) j f) (sym same) p)
       | inr (inl before) ↦ behind-end f before p
       | inr (inr later) ↦ quiet core cores records (lines_of bytes)
           (end_text (length records) ∷ ([] ∷ [])) front k f later p
     ]
   where
-    last : bytes ≡ text_of (begun core cores records) ++ (end_text (length records) ++ 10 ∷ [])
-    last = spells.1 ∙ sym (append-nil (spelling core cores records)) ∙ spelling_text core cores records []
+    last : bytes ≡ text_of (begun first_format core cores records) ++ (end_text (length records) ++ 10 ∷ [])
+    last = spells.1 ∙ sym (append-nil (spelling first_format core cores records)) ∙ spelling_text core cores records []
 
     front : Front core cores records (lines_of bytes) (end_text (length records) ∷ ([] ∷ []))
     front =
@@ -60,7 +60,7 @@ spelled_quiet core cores bytes records spells k f p =
               (end_text (length records) ∷ ([] ∷ [])) front q.0 q.1.body.later later q.1.shape)
         ]
 
-    behind-end : (f : Fault) → length records + 2 < k → FaultAt core cores (lines_of bytes) k f → ⊥
+    behind-end : (f : FormatFault) → length records + 2 < k → FaultAt first_format core cores (lines_of bytes) k f → ⊥
     behind-end BadHeader lt p = omega (arith, p.0)
     behind-end BadLine lt p = closed k lt p.0.open_yet
     behind-end OutOfRange lt (inl p) = omega (arith, p.0)

@@ -8,13 +8,13 @@ use Rattle.std.proofs.lemmas.Grind.{flat_map-append}
 use Rattle.log_record.specs.declared.record.Record.{Record}
 use Rattle.log_record.specs.Line.{record_text, header_text, Fits, line_limit}
 use Rattle.log_file.specs.declared.fault.LogFault.{LogFault}
-use Rattle.log_file.specs.declared.progress.Phase.TheVariants as phase
+use Rattle.log_file.specs.declared.progress.Stage.TheVariants as stage
 use Rattle.log_file.specs.declared.progress.Progress.{Progress}
 use Rattle.log_file.specs.declared.line_reader.LineReader.{LineReader}
 use Rattle.log_file.specs.declared.chunks.Front.{Front}
 use Rattle.log_file.specs.inner.Chunks.{HasFront, records_text}
 use Rattle.log_file.specs.Feeding.{IsSettled}
-use Rattle.log_file.specs.Log.{IsLog, begun, text_of, with_lf}
+use Rattle.log_file.specs.Log.{IsLog, begun, text_of, with_lf, first_format}
 use Rattle.log_file.specs.Standing.{IsPassed, IsSettledWith, IsSound, SameLog, Stands, Takes, read_text}
 use Rattle.log_file.proofs.Settled.{settled_front}
 
@@ -55,7 +55,7 @@ all_append : (xs ys : List Record) → AllByRecursion Fits xs → AllByRecursion
 all_append [] ys p q = q
 all_append (x ∷ xs) ys p q = (p.0, all_append xs ys p.1 q)
 
-begun_more : (core cores : ℕ) (rs found : List Record) → text_of (begun core cores (rs ++ found)) ≡ text_of (begun core cores rs) ++ records_text found
+begun_more : (core cores : ℕ) (rs found : List Record) → text_of (begun first_format core cores (rs ++ found)) ≡ text_of (begun first_format core cores rs) ++ records_text found
 begun_more core cores rs found =
     ap (λ (ls : List (List ℕ)). with_lf (header_text 1 core cores) ++ text_of ls) (map-append record_text rs found)
     ∙ ap (λ (xs : List ℕ). with_lf (header_text 1 core cores) ++ xs) (flat_map-append with_lf (map record_text rs) (map record_text found))
@@ -67,27 +67,27 @@ pub passed_takes : (old new : LineReader) (rs found : List Record) → Stands ol
 passed_takes old new rs found stands passed fit =
     let room = passed.had_room in
     let p = old.progress in
-    let log : IsLog p.core p.cores rs = subst (λ q. IsSound q p.core p.cores rs old.begun.items) room.phase stands.sound in
+    let log : IsLog p.core p.cores rs = subst (λ q. IsSound q p.core p.cores rs old.begun.items) room.stage stands.sound in
     let more : IsLog p.core p.cores (rs ++ found) = record {
       core_fits = log.core_fits;
       cores_fit = log.cores_fit;
       few = omega (arith, length-append rs found, room.room, stands.count);
       each_fits = all_append rs found log.each_fits fit;
     } in
-    let phase_is : new.progress.phase ≡ phase.Records = ap (λ (n : Progress). n.phase) passed.progress ∙ room.phase in
+    let stage_is : new.progress.stage ≡ stage.Records = ap (λ (n : Progress). n.stage) passed.progress ∙ room.stage in
     let core_is : new.progress.core ≡ p.core = ap (λ (n : Progress). n.core) passed.progress in
     let cores_is : new.progress.cores ≡ p.cores = ap (λ (n : Progress). n.cores) passed.progress in
     record {
       stands = record {
-        sound = rw (phase_is, core_is, cores_is) more;
+        sound = rw (stage_is, core_is, cores_is) more;
         count = omega (arith, ap (λ (n : Progress). n.count) passed.progress, stands.count, length-append rs found);
         one = rw passed.between (λ k d lt. absurd (omega arith));
         short = rw passed.between (omega arith);
       };
       text =
-          rw (phase_is, core_is, cores_is, passed.between, room.phase, room.between)
-          (append-nil (text_of (begun p.core p.cores (rs ++ found))) ∙ begun_more p.core p.cores rs found
-          ∙ ap (λ (xs : List ℕ). xs ++ records_text found) (sym (append-nil (text_of (begun p.core p.cores rs)))));
+          rw (stage_is, core_is, cores_is, passed.between, room.stage, room.between)
+          (append-nil (text_of (begun first_format p.core p.cores (rs ++ found))) ∙ begun_more p.core p.cores rs found
+          ∙ ap (λ (xs : List ℕ). xs ++ records_text found) (sym (append-nil (text_of (begun first_format p.core p.cores rs)))));
     }
 
 pub front_takes : (old new : LineReader) (rs : List Record) (chunk : List ℕ) (front : Front) → Stands old rs → HasFront chunk front
@@ -99,15 +99,15 @@ front_takes old new rs chunk front stands has passed =
 -- ---- what a worker reads of a chunk
 
 -- the records that were read after a header, and the line that was begun
-pub read_front : (old new : LineReader) (chunk : List ℕ) (records : List Record) → old.progress ≡ record { core = 0; cores = 1; phase = phase.Records; count = 0; limit = line_limit }
-    → old.begun.items ≡ [] → SameLog old.progress new.progress → new.progress.phase ≡ phase.Records → Takes old [] chunk new records
+pub read_front : (old new : LineReader) (chunk : List ℕ) (records : List Record) → old.progress ≡ record { core = 0; cores = 1; stage = stage.Records; count = 0; limit = line_limit }
+    → old.begun.items ≡ [] → SameLog old.progress new.progress → new.progress.stage ≡ stage.Records → Takes old [] chunk new records
     → (chunk ≡ records_text records ++ new.begun.items) × AllByRecursion Fits records
-read_front old new chunk records progress none same phase_is takes =
+read_front old new chunk records progress none same stage_is takes =
     let core_is : new.progress.core ≡ 0 = same.core ∙ ap (λ (n : Progress). n.core) progress in
     let cores_is : new.progress.cores ≡ 1 = same.cores ∙ ap (λ (n : Progress). n.cores) progress in
-    let log : IsLog new.progress.core new.progress.cores records = subst (λ q. IsSound q new.progress.core new.progress.cores records new.begun.items) phase_is takes.stands.sound in
+    let log : IsLog new.progress.core new.progress.cores records = subst (λ q. IsSound q new.progress.core new.progress.cores records new.begun.items) stage_is takes.stands.sound in
     let header = with_lf (header_text 1 0 1) in
-    let text : ((header ++ records_text records) ++ new.begun.items) ≡ (((header ++ []) ++ []) ++ chunk) = rw (phase_is, core_is, cores_is, progress, none) at takes.text in
+    let text : ((header ++ records_text records) ++ new.begun.items) ≡ (((header ++ []) ++ []) ++ chunk) = rw (stage_is, core_is, cores_is, progress, none) at takes.text in
     let behind : header ++ (records_text records ++ new.begun.items) ≡ header ++ chunk =
     sym (append_assoc header (records_text records) new.begun.items) ∙ text
     ∙ ap (λ (xs : List ℕ). xs ++ chunk) (append-nil (header ++ []) ∙ append-nil header) in

@@ -5,9 +5,9 @@ use Rattle.std.proofs.lemmas.Bool.{cases_lt, cases_Bool, eqb-true}
 use Rattle.std.proofs.lemmas.List.Elements.{All-nil, All-cons}
 use Rattle.log_record.specs.declared.record.Record.{Record}
 use Rattle.log_record.specs.Line.{line_limit}
-use Rattle.log_file.specs.declared.fault.Fault.{Fault}
-use Rattle.log_file.specs.declared.fault.Fault.TheVariants.{BadHeader, BadLine, OutOfRange, TooMany, CountDiffers, TrailingBytes, Truncated, WrongCore}
-use Rattle.log_file.specs.Log.{begun, text_of, Spells, IsFirstFault, FaultAt, lines_of, number}
+use Rattle.log_file.specs.declared.fault.FormatFault.{FormatFault}
+use Rattle.log_file.specs.declared.fault.FormatFault.TheVariants.{BadHeader, BadLine, OutOfRange, TooMany, CountDiffers, TrailingBytes, Truncated, WrongCore}
+use Rattle.log_file.specs.Log.{begun, text_of, Spells, IsFirstFault, FaultAt, lines_of, number, first_format}
 use Rattle.log_file.specs.OneLine.{IsOneLine}
 use Rattle.log_file.proofs.Steps.{SoFar, body_refused, body_taken, body_cut_off, body_too_long, end_taken, end_followed, header_refused, header_taken, header_cut_off, header_too_long, none_so_far}
 use Rattle.log_file.proofs.Settled.{body_long_settled, header_long_settled}
@@ -38,16 +38,16 @@ split_feed (b ∷ xs) =
 -- the first fault, which stays unless it is Truncated
 abbrev pub Stays : ℕ → ℕ → List ℕ → Type 0
 Stays core cores bytes =
-    (k : ℕ) × ((f : Fault) × IsFirstFault core cores bytes k f
-    × (f ≢ Truncated → (more : List ℕ) → IsFirstFault core cores (bytes ++ more) k f))
+    (k : ℕ) × ((f : FormatFault) × IsFirstFault first_format core cores bytes k f
+    × (f ≢ Truncated → (more : List ℕ) → IsFirstFault first_format core cores (bytes ++ more) k f))
 
 abbrev pub Answered : ℕ → ℕ → List ℕ → Type 0
-Answered core cores bytes = ((records : List Record) × Spells core cores bytes records) ⊎ Stays core cores bytes
+Answered core cores bytes = ((records : List Record) × Spells first_format core cores bytes records) ⊎ Stays core cores bytes
 
 far_more : (core cores : ℕ) (records : List Record) (bytes rest more : List ℕ) → SoFar core cores records bytes rest
     → SoFar core cores records (bytes ++ more) (rest ++ more)
 far_more core cores records bytes rest more far =
-    (far.0, ap (λ (x : List ℕ). x ++ more) far.1 ∙ append_assoc (text_of (begun core cores records)) rest more)
+    (far.0, ap (λ (x : List ℕ). x ++ more) far.1 ∙ append_assoc (text_of (begun first_format core cores records)) rest more)
 
 split_more : (rest l after more : List ℕ) → rest ≡ l ++ 10 ∷ after → rest ++ more ≡ l ++ 10 ∷ (after ++ more)
 split_more rest l after more e = ap (λ (x : List ℕ). x ++ more) e ∙ append_assoc l (10 ∷ after) more
@@ -95,7 +95,7 @@ step core cores records bytes rest far again = by_split (split_feed rest)
             (
               BadLine,
               body_too_long core cores records bytes rest far one long,
-              λ ne more. subst (λ (x : List ℕ). IsFirstFault core cores (x ++ more) (length records + 2) BadLine)
+              λ ne more. subst (λ (x : List ℕ). IsFirstFault first_format core cores (x ++ more) (length records + 2) BadLine)
                   (sym far.1) (body_long_settled core cores records rest far.0 one long more),
             ),
           )
@@ -142,7 +142,7 @@ answered core cores bytes lt few = by_split (split_feed bytes)
 -- ---- the laws
 
 -- the fault of a number
-abbrev fault_of : ℕ → Fault
+abbrev fault_of : ℕ → FormatFault
 fault_of n =
     cond (eqb n 20) BadHeader
     (cond (eqb n 21) BadLine
@@ -150,7 +150,7 @@ fault_of n =
     (cond (eqb n 23) TooMany
     (cond (eqb n 24) CountDiffers (cond (eqb n 25) TrailingBytes (cond (eqb n 26) Truncated WrongCore))))))
 
-fault_back : (f : Fault) → fault_of (number f) ≡ f
+fault_back : (f : FormatFault) → fault_of (number f) ≡ f
 fault_back BadHeader = refl
 fault_back BadLine = refl
 fault_back OutOfRange = refl
@@ -160,11 +160,11 @@ fault_back TrailingBytes = refl
 fault_back Truncated = refl
 fault_back WrongCore = refl
 
-pub number_once : (f g : Fault) → number f ≡ number g → f ≡ g
+pub number_once : (f g : FormatFault) → number f ≡ number g → f ≡ g
 number_once f g e = sym (fault_back f) ∙ ap fault_of e ∙ fault_back g
 
-first_once : (core cores : ℕ) (bytes : List ℕ) (k j : ℕ) (f g : Fault) → IsFirstFault core cores bytes k f
-    → IsFirstFault core cores bytes j g → (k ≡ j) × (number f ≡ number g)
+first_once : (core cores : ℕ) (bytes : List ℕ) (k j : ℕ) (f g : FormatFault) → IsFirstFault first_format core cores bytes k f
+    → IsFirstFault first_format core cores bytes j g → (k ≡ j) × (number f ≡ number g)
 first_once core cores bytes k j f g p q = go (p.least j g q.holds) (q.least k f p.holds)
   where
     go : (k < j) ⊎ ((k ≡ j) × (number f ≤ number g)) → (j < k) ⊎ ((j ≡ k) × (number g ≤ number f)) → (k ≡ j)
@@ -176,21 +176,21 @@ first_once core cores bytes k j f g p q = go (p.least j g q.holds) (q.least k f 
 
 -- a text without a fault spells a log
 pub faultless_spells : (core cores : ℕ) (bytes : List ℕ) → core < cores → cores ≤ 64
-    → ((k : ℕ) (f : Fault) → FaultAt core cores (lines_of bytes) k f → ⊥) → (records : List Record)
-    × Spells core cores bytes records
+    → ((k : ℕ) (f : FormatFault) → FaultAt first_format core cores (lines_of bytes) k f → ⊥) → (records : List Record)
+    × Spells first_format core cores bytes records
 faultless_spells core cores bytes lt few none =
     elim (answered core cores bytes lt few) [ inl p ↦ p | inr p ↦ absurd (none p.0 p.1.0 p.1.1.holds) ]
 
 -- a first fault other than Truncated stays, however the bytes go on
-pub first_stays : (core cores : ℕ) (bytes more : List ℕ) (k : ℕ) (f : Fault) → core < cores → cores ≤ 64
-    → IsFirstFault core cores bytes k f → f ≢ Truncated → IsFirstFault core cores (bytes ++ more) k f
+pub first_stays : (core cores : ℕ) (bytes more : List ℕ) (k : ℕ) (f : FormatFault) → core < cores → cores ≤ 64
+    → IsFirstFault first_format core cores bytes k f → f ≢ Truncated → IsFirstFault first_format core cores (bytes ++ more) k f
 first_stays core cores bytes more k f lt few first ne =
     elim (answered core cores bytes lt few) [
       | inl p ↦ absurd (spelled_quiet core cores bytes p.0 p.1 k f first.holds)
       | inr p ↦
           let same = first_once core cores bytes p.0 k p.1.0 f p.1.1 first in
           let g-is : p.1.0 ≡ f = number_once p.1.0 f same.1 in
-          subst (λ (j : ℕ). IsFirstFault core cores (bytes ++ more) j f) same.0
-          (subst (λ (g : Fault). IsFirstFault core cores (bytes ++ more) p.0 g) g-is
+          subst (λ (j : ℕ). IsFirstFault first_format core cores (bytes ++ more) j f) same.0
+          (subst (λ (g : FormatFault). IsFirstFault first_format core cores (bytes ++ more) p.0 g) g-is
           (p.1.2 (λ e. ne (sym g-is ∙ e)) more))
     ]

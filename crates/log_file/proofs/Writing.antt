@@ -7,7 +7,7 @@ use Rattle.std.specs.Io.KnownBytes.{Appends}
 use Rattle.std.specs.List.{AllByRecursion}
 use Rattle.log_record.specs.declared.record.Record.{Record}
 use Rattle.log_record.specs.Line.{record_text, end_text, Fits}
-use Rattle.log_file.specs.Log.{with_lf, begun, text_of, spelling}
+use Rattle.log_file.specs.Log.{with_lf, begun, text_of, spelling, first_format}
 use Rattle.log_file.proofs.Devices.{appends_more}
 use Rattle.log_file.proofs.Lines.{flat_map_push}
 
@@ -46,29 +46,29 @@ line_taken old mid new front line whole f p q =
     (appends_more old mid new front (take q.0 line) p q.2)
 
 pub begun_push : (core cores : ℕ) (records : List Record) (r : Record)
-    → text_of (begun core cores (records ++ r ∷ [])) ≡ text_of (begun core cores records) ++ with_lf (record_text r)
+    → text_of (begun first_format core cores (records ++ r ∷ [])) ≡ text_of (begun first_format core cores records) ++ with_lf (record_text r)
 begun_push core cores records r =
-    ap (λ (ls : List (List ℕ)). text_of (begun core cores [] ++ ls)) (map-append record_text records (r ∷ []))
-    ∙ sym (append-nil (text_of (begun core cores records ++ record_text r ∷ [])))
-    ∙ flat_map_push (begun core cores records) (record_text r) []
+    ap (λ (ls : List (List ℕ)). text_of (begun first_format core cores [] ++ ls)) (map-append record_text records (r ∷ []))
+    ∙ sym (append-nil (text_of (begun first_format core cores records ++ record_text r ∷ [])))
+    ∙ flat_map_push (begun first_format core cores records) (record_text r) []
 
 -- the text begins with that of its first records
 records_front : (core cores : ℕ) (some more : List Record)
-    → IsFront (text_of (begun core cores some)) (spelling core cores (some ++ more))
+    → IsFront (text_of (begun first_format core cores some)) (spelling first_format core cores (some ++ more))
 records_front core cores some more =
     let behind : List (List ℕ) = end_text (length (some ++ more)) ∷ [] in
     record {
       rest = text_of (map record_text more ++ behind);
       joined =
-          sym (flat_map-append with_lf (begun core cores some) (map record_text more ++ behind))
-          ∙ ap text_of (sym (append_assoc (begun core cores some) (map record_text more) behind))
-          ∙ ap (λ (ls : List (List ℕ)). text_of ((begun core cores [] ++ ls) ++ behind)) (sym (map-append record_text some more));
+          sym (flat_map-append with_lf (begun first_format core cores some) (map record_text more ++ behind))
+          ∙ ap text_of (sym (append_assoc (begun first_format core cores some) (map record_text more) behind))
+          ∙ ap (λ (ls : List (List ℕ)). text_of ((begun first_format core cores [] ++ ls) ++ behind)) (sym (map-append record_text some more));
     }
 
 pub begun_front : (core cores : ℕ) (records : List Record) (i : ℕ)
-    → IsFront (text_of (begun core cores (take i records))) (spelling core cores records)
+    → IsFront (text_of (begun first_format core cores (take i records))) (spelling first_format core cores records)
 begun_front core cores records i =
-    subst (λ (all : List Record). IsFront (text_of (begun core cores (take i records))) (spelling core cores all))
+    subst (λ (all : List Record). IsFront (text_of (begun first_format core cores (take i records))) (spelling first_format core cores all))
     (take-append-drop i records) (records_front core cores (take i records) (drop i records))
 
 -- one record more
@@ -77,24 +77,24 @@ pub take_next : (records : List Record) (i : ℕ) (r : Record) → i < length re
 take_next records i r below at = take_more records i r below ∙ ap (λ (x : Record). take i records ++ x ∷ []) (sym at)
 
 pub text_next : (core cores : ℕ) (records : List Record) (i : ℕ) (r : Record) → i < length records → r ≡ get_or records i r
-    → text_of (begun core cores (take (i + 1) records)) ≡ text_of (begun core cores (take i records)) ++ with_lf (record_text r)
+    → text_of (begun first_format core cores (take (i + 1) records)) ≡ text_of (begun first_format core cores (take i records)) ++ with_lf (record_text r)
 text_next core cores records i r below at =
-    ap (λ (some : List Record). text_of (begun core cores some)) (take_next records i r below at)
+    ap (λ (some : List Record). text_of (begun first_format core cores some)) (take_next records i r below at)
     ∙ begun_push core cores (take i records) r
 
 pub next_front : (core cores : ℕ) (records : List Record) (i : ℕ) (r : Record) → i < length records → r ≡ get_or records i r
-    → IsFront (text_of (begun core cores (take i records)) ++ with_lf (record_text r)) (spelling core cores records)
+    → IsFront (text_of (begun first_format core cores (take i records)) ++ with_lf (record_text r)) (spelling first_format core cores records)
 next_front core cores records i r below at =
-    subst (λ (x : List ℕ). IsFront x (spelling core cores records)) (text_next core cores records i r below at)
+    subst (λ (x : List ℕ). IsFront x (spelling first_format core cores records)) (text_next core cores records i r below at)
     (begun_front core cores records (i + 1))
 
 -- the end line completes the text
 pub end_joined : (core cores : ℕ) (records : List Record) (i : ℕ) → length records ≤ i
-    → text_of (begun core cores (take i records)) ++ with_lf (end_text (length records)) ≡ spelling core cores records
+    → text_of (begun first_format core cores (take i records)) ++ with_lf (end_text (length records)) ≡ spelling first_format core cores records
 end_joined core cores records i all =
-    ap (λ (some : List Record). text_of (begun core cores some) ++ with_lf (end_text (length records))) (take_all i records all)
-    ∙ sym (flat_map_push (begun core cores records) (end_text (length records)) [])
-    ∙ append-nil (spelling core cores records)
+    ap (λ (some : List Record). text_of (begun first_format core cores some) ++ with_lf (end_text (length records))) (take_all i records all)
+    ∙ sym (flat_map_push (begun first_format core cores records) (end_text (length records)) [])
+    ∙ append-nil (spelling first_format core cores records)
 
 -- ---- the numbers of each record
 

@@ -1,12 +1,12 @@
 -- The texts of the faults: a number and a name, after the line where there is one.
 use Rattle.std.specs.Prelude.{ℕ, List, ◌++◌, codes}
 use Rattle.std.specs.Fmt.{decimal}
-use Rattle.log_file.specs.declared.fault.Fault.{Fault}
-use Rattle.log_file.specs.declared.fault.Fault.TheVariants.{BadHeader, BadLine, OutOfRange, TooMany, CountDiffers, TrailingBytes, Truncated, WrongCore}
+use Rattle.log_file.specs.declared.fault.FormatFault.{FormatFault}
+use Rattle.log_file.specs.declared.fault.FormatFault.TheVariants.{BadHeader, BadLine, OutOfRange, TooMany, CountDiffers, TrailingBytes, Truncated, WrongCore}
 use Rattle.log_file.specs.declared.fault.LogFault.{LogFault}
 use Rattle.log_file.specs.declared.fault.LogFault.TheVariants.{At, OutOfMemory, Read}
 
-abbrev pub fault_text : Fault → List ℕ
+abbrev pub fault_text : FormatFault → List ℕ
 fault_text BadHeader = codes "20 BadHeader"
 fault_text BadLine = codes "21 BadLine"
 fault_text OutOfRange = codes "22 OutOfRange"

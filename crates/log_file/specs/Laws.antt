@@ -1,30 +1,30 @@
 -- Laws of the definitions.
 use Rattle.std.specs.Prelude.{◌≡◌, ◌≢◌, ◌<◌, ◌≤◌, ℕ, List, ◌++◌}
 use Rattle.log_record.specs.declared.record.Record.{Record}
-use Rattle.log_file.specs.declared.fault.Fault.{Fault}
-use Rattle.log_file.specs.declared.fault.Fault.TheVariants.{Truncated}
-use Rattle.log_file.specs.Log.{Spells, HasNoFault, IsFirstFault, spelling}
+use Rattle.log_file.specs.declared.fault.FormatFault.{FormatFault}
+use Rattle.log_file.specs.declared.fault.FormatFault.TheVariants.{Truncated}
+use Rattle.log_file.specs.Log.{Spells, HasNoFault, IsFirstFault, spelling, first_format}
 
 -- bytes that spell a log have no fault
 abbrev pub SpelledHasNoFault : Type 0
 SpelledHasNoFault =
-    (core cores : ℕ) (bytes : List ℕ) (records : List Record) → Spells core cores bytes records → HasNoFault core cores bytes
+    (core cores : ℕ) (bytes : List ℕ) (records : List Record) → Spells first_format core cores bytes records → HasNoFault first_format core cores bytes
 
 -- bytes without a fault spell a log, and one log only
 abbrev pub FaultlessSpellsOne : Type 0
 FaultlessSpellsOne =
-    (core cores : ℕ) (bytes : List ℕ) → core < cores → cores ≤ 64 → HasNoFault core cores bytes
-    → (records : List Record) × (Spells core cores bytes records)
-    × ((others : List Record) → Spells core cores bytes others → others ≡ records)
+    (core cores : ℕ) (bytes : List ℕ) → core < cores → cores ≤ 64 → HasNoFault first_format core cores bytes
+    → (records : List Record) × (Spells first_format core cores bytes records)
+    × ((others : List Record) → Spells first_format core cores bytes others → others ≡ records)
 
 -- no spelling begins another, and one log has one spelling
 abbrev pub NoSpellingBeginsAnother : Type 0
 NoSpellingBeginsAnother =
     (a b c d : ℕ) (rs qs : List Record) (x y : List ℕ)
-    → spelling a b rs ++ x ≡ spelling c d qs ++ y → (a ≡ c) × (b ≡ d) × (rs ≡ qs)
+    → spelling first_format a b rs ++ x ≡ spelling first_format c d qs ++ y → (a ≡ c) × (b ≡ d) × (rs ≡ qs)
 
 -- a first fault other than Truncated is that of the whole, however the bytes go on
 abbrev pub FaultStays : Type 0
 FaultStays =
-    (core cores : ℕ) (bytes more : List ℕ) (k : ℕ) (f : Fault) → core < cores → cores ≤ 64
-    → IsFirstFault core cores bytes k f → f ≢ Truncated → IsFirstFault core cores (bytes ++ more) k f
+    (core cores : ℕ) (bytes more : List ℕ) (k : ℕ) (f : FormatFault) → core < cores → cores ≤ 64
+    → IsFirstFault first_format core cores bytes k f → f ≢ Truncated → IsFirstFault first_format core cores (bytes ++ more) k f

@@ -1,17 +1,18 @@
 -- Where a reader of lines stands in a log. Clauses of private functions cite these.
 use Rattle.std.specs.Prelude.{◌≡◌, ℕ, ◌+◌, ◌<◌, ◌≤◌, ◌⊎◌, List, [], ◌∷◌, ◌++◌, length, take, Option, None, Some}
+use Rattle.mem_op.specs.Limits.{operation_limit}
 use Rattle.log_record.specs.declared.record.Record.{Record}
 use Rattle.log_record.specs.Line.{record_text, header_text, end_text, Fits, line_limit}
-use Rattle.log_file.specs.declared.fault.Fault.TheVariants.{BadHeader, BadLine, TrailingBytes}
+use Rattle.log_file.specs.declared.fault.FormatFault.TheVariants.{BadHeader, BadLine, TrailingBytes}
 use Rattle.log_file.specs.declared.fault.LogFault.{LogFault}
 use Rattle.log_file.specs.declared.fault.LogFault.TheVariants.{At, OutOfMemory, Read}
-use Rattle.log_file.specs.declared.progress.Phase.{Phase}
-use Rattle.log_file.specs.declared.progress.Phase.TheVariants as phase
+use Rattle.log_file.specs.declared.progress.Stage.{Stage}
+use Rattle.log_file.specs.declared.progress.Stage.TheVariants as stage
 use Rattle.log_file.specs.declared.progress.Progress.{Progress}
 use Rattle.log_file.specs.declared.line_reader.LineReader.{LineReader}
-use Rattle.log_file.specs.declared.line_reader.Line.{Line}
+use Rattle.log_file.specs.declared.line_reader.TakenLine.{TakenLine}
 use Rattle.log_file.specs.Feeding.{IsSettled}
-use Rattle.log_file.specs.Log.{IsLog, begun, text_of, spelling, record_limit}
+use Rattle.log_file.specs.Log.{IsLog, begun, text_of, spelling, first_format}
 use Rattle.log_file.specs.OneLine.{IsOneLine, LeastHeader, LeastBody}
 
 -- ---- one line
@@ -20,7 +21,7 @@ use Rattle.log_file.specs.OneLine.{IsOneLine, LeastHeader, LeastBody}
 pub record IsInRange (p : Progress) : Type 0 where
   pub core : p.core < p.cores
   pub cores : p.cores ≤ 64
-  pub count : p.count ≤ record_limit
+  pub count : p.count ≤ operation_limit
   pub limit : p.limit ≡ line_limit
 
 -- of the same log
@@ -30,42 +31,42 @@ pub record SameLog (old new : Progress) : Type 0 where
   pub limit : new.limit ≡ old.limit
 
 -- what a whole line is that isn't refused, and the progress after it
-abbrev pub BehindAt : Phase → Progress → List ℕ → Option Record → Progress → Type 0
-BehindAt phase.Header old line None new =
-    (line ≡ header_text 1 old.core old.cores) × (new ≡ record old { phase = phase.Records })
-BehindAt phase.Header old line (Some r) new = ⊥
-BehindAt phase.Records old line None new =
-    (line ≡ end_text old.count) × (new ≡ record old { phase = phase.Ended })
-BehindAt phase.Records old line (Some r) new =
-    (line ≡ record_text r) × Fits r × (old.count < record_limit) × (new ≡ record old { count = old.count + 1 })
-BehindAt phase.Ended old line r new = ⊥
+abbrev pub BehindAt : Stage → Progress → List ℕ → Option Record → Progress → Type 0
+BehindAt stage.Header old line None new =
+    (line ≡ header_text first_format old.core old.cores) × (new ≡ record old { stage = stage.Records })
+BehindAt stage.Header old line (Some r) new = ⊥
+BehindAt stage.Records old line None new =
+    (line ≡ end_text old.count) × (new ≡ record old { stage = stage.Ended })
+BehindAt stage.Records old line (Some r) new =
+    (line ≡ record_text r) × Fits r × (old.count < operation_limit) × (new ≡ record old { count = old.count + 1 })
+BehindAt stage.Ended old line r new = ⊥
 
 abbrev pub IsBehind : Progress → List ℕ → Option Record → Progress → Type 0
-IsBehind old line r new = BehindAt old.phase old line r new
+IsBehind old line r new = BehindAt old.stage old line r new
 
 -- why a whole line is refused
-abbrev pub RefusedAt : Phase → Progress → List ℕ → LogFault → Type 0
-RefusedAt phase.Header p line (At k f) = (k ≡ 1) × LeastHeader p.core p.cores line f
-RefusedAt phase.Records p line (At k f) = (k ≡ p.count + 2) × LeastBody p.count line f
-RefusedAt phase.Ended p line (At k f) = (k ≡ p.count + 3) × (f ≡ TrailingBytes)
+abbrev pub RefusedAt : Stage → Progress → List ℕ → LogFault → Type 0
+RefusedAt stage.Header p line (At k f) = (k ≡ 1) × LeastHeader first_format p.core p.cores line f
+RefusedAt stage.Records p line (At k f) = (k ≡ p.count + 2) × LeastBody p.count line f
+RefusedAt stage.Ended p line (At k f) = (k ≡ p.count + 3) × (f ≡ TrailingBytes)
 RefusedAt q p line OutOfMemory = ⊥
 RefusedAt q p line Read = ⊥
 
 abbrev pub IsRefused : Progress → List ℕ → LogFault → Type 0
-IsRefused p line fault = RefusedAt p.phase p line fault
+IsRefused p line fault = RefusedAt p.stage p line fault
 
 -- the fault of a line that goes on too far
-abbrev pub fault_of_more : Phase → ℕ → LogFault
-fault_of_more phase.Header count = At 1 BadHeader
-fault_of_more phase.Records count = At (count + 2) BadLine
-fault_of_more phase.Ended count = At (count + 3) TrailingBytes
+abbrev pub fault_of_more : Stage → ℕ → LogFault
+fault_of_more stage.Header count = At 1 BadHeader
+fault_of_more stage.Records count = At (count + 2) BadLine
+fault_of_more stage.Ended count = At (count + 3) TrailingBytes
 
 -- the line goes too far with this part: it is longer than a line may be, or comes after the end line
 abbrev pub IsTooFar : LineReader → List ℕ → Type 0
-IsTooFar s part = (s.progress.limit < length (s.begun.items ++ part)) ⊎ ((s.progress.phase ≡ phase.Ended) × (0 < length part))
+IsTooFar s part = (s.progress.limit < length (s.begun.items ++ part)) ⊎ ((s.progress.stage ≡ stage.Ended) × (0 < length part))
 
 abbrev pub IsPartRefused : LineReader → List ℕ → LogFault → Type 0
-IsPartRefused s part fault = IsTooFar s part × (fault ≡ fault_of_more s.progress.phase s.progress.count)
+IsPartRefused s part fault = IsTooFar s part × (fault ≡ fault_of_more s.progress.stage s.progress.count)
 
 -- the line that ends with this part is refused
 abbrev pub IsLineRefused : LineReader → List ℕ → LogFault → Type 0
@@ -74,23 +75,23 @@ IsLineRefused s part fault = IsRefused s.progress (s.begun.items ++ part) fault 
 -- ---- all lines
 
 -- the whole lines, after which the records are these
-abbrev pub whole_text : Phase → ℕ → ℕ → List Record → List ℕ
-whole_text phase.Header core cores records = []
-whole_text phase.Records core cores records = text_of (begun core cores records)
-whole_text phase.Ended core cores records = spelling core cores records
+abbrev pub whole_text : Stage → ℕ → ℕ → List Record → List ℕ
+whole_text stage.Header core cores records = []
+whole_text stage.Records core cores records = text_of (begun first_format core cores records)
+whole_text stage.Ended core cores records = spelling first_format core cores records
 
 -- the bytes that were read: whole lines, and the beginning of one more
 abbrev pub read_text : LineReader → List Record → List ℕ
-read_text s records = whole_text s.progress.phase s.progress.core s.progress.cores records ++ s.begun.items
+read_text s records = whole_text s.progress.stage s.progress.core s.progress.cores records ++ s.begun.items
 
-abbrev pub IsSound : Phase → ℕ → ℕ → List Record → List ℕ → Type 0
-IsSound phase.Header core cores records line = (core < cores) × (cores ≤ 64) × (records ≡ [])
-IsSound phase.Records core cores records line = IsLog core cores records
-IsSound phase.Ended core cores records line = IsLog core cores records × (line ≡ [])
+abbrev pub IsSound : Stage → ℕ → ℕ → List Record → List ℕ → Type 0
+IsSound stage.Header core cores records line = (core < cores) × (cores ≤ 64) × (records ≡ [])
+IsSound stage.Records core cores records line = IsLog core cores records
+IsSound stage.Ended core cores records line = IsLog core cores records × (line ≡ [])
 
 -- the reader stands after these records
 pub record Stands (s : LineReader) (records : List Record) : Type 0 where
-  pub sound : IsSound s.progress.phase s.progress.core s.progress.cores records s.begun.items
+  pub sound : IsSound s.progress.stage s.progress.core s.progress.cores records s.begun.items
   pub count : s.progress.count ≡ length records
   pub one : IsOneLine s.begun.items
   pub short : length s.begun.items ≤ line_limit
@@ -107,9 +108,9 @@ pub record Takes (old : LineReader) (records : List Record) (bytes : List ℕ) (
 
 -- the reader stands between the records of a log that has room for `many` more
 pub record HasRoom (s : LineReader) (many : ℕ) : Type 0 where
-  pub phase : s.progress.phase ≡ phase.Records
+  pub stage : s.progress.stage ≡ stage.Records
   pub between : s.begun.items ≡ []
-  pub room : s.progress.count + many ≤ record_limit
+  pub room : s.progress.count + many ≤ operation_limit
 
 -- it stands `many` records further on
 pub record IsPassed (old : LineReader) (many : ℕ) (new : LineReader) : Type 0 where
@@ -122,7 +123,7 @@ abbrev pub IsSettledWith : LineReader → List Record → List ℕ → LogFault 
 IsSettledWith s records bytes fault = IsSettled s.progress.core s.progress.cores (read_text s records ++ bytes) fault
 
 -- what was taken of a piece: the next line, or all of it, a part of a line
-abbrev pub TakesNext : LineReader → List Record → List ℕ → Option Line → LineReader → Type 0
+abbrev pub TakesNext : LineReader → List Record → List ℕ → Option TakenLine → LineReader → Type 0
 TakesNext old records piece None new = Takes old records piece new records
 TakesNext old records piece (Some l) new =
     (0 < l.taken) × (l.taken ≤ length piece) × Takes old records (take l.taken piece) new (with_read records l.logged)

@@ -8,7 +8,7 @@ use thiserror::Error;
 
 /// What is wrong at a line of a log.
 #[derive(Clone, Copy, Debug, PartialEq, Eq, Error)]
-pub enum Fault {
+pub enum FormatFault {
     /// Line 1 is too long, or whole and not a header.
     BadHeader,
     /// A later line is too long, or whole and neither a record nor the end line.
@@ -27,7 +27,7 @@ pub enum Fault {
     WrongCore,
 }
 
-impl Display for Fault {
+impl Display for FormatFault {
     ghost use Rattle.std.specs.Prelude.{Some};
     ghost use Rattle.log_file.specs.Faults.{fault_text};
 
@@ -35,14 +35,14 @@ impl Display for Fault {
 
     fn fmt<W: fmt::Write>(&self, f: &mut fmt::Formatter<W>) -> fmt::Result {
         match self {
-            Fault::BadHeader => f.write_str("20 BadHeader"),
-            Fault::BadLine => f.write_str("21 BadLine"),
-            Fault::OutOfRange => f.write_str("22 OutOfRange"),
-            Fault::TooMany => f.write_str("23 TooMany"),
-            Fault::CountDiffers => f.write_str("24 CountDiffers"),
-            Fault::TrailingBytes => f.write_str("25 TrailingBytes"),
-            Fault::Truncated => f.write_str("26 Truncated"),
-            Fault::WrongCore => f.write_str("27 WrongCore"),
+            FormatFault::BadHeader => f.write_str("20 BadHeader"),
+            FormatFault::BadLine => f.write_str("21 BadLine"),
+            FormatFault::OutOfRange => f.write_str("22 OutOfRange"),
+            FormatFault::TooMany => f.write_str("23 TooMany"),
+            FormatFault::CountDiffers => f.write_str("24 CountDiffers"),
+            FormatFault::TrailingBytes => f.write_str("25 TrailingBytes"),
+            FormatFault::Truncated => f.write_str("26 Truncated"),
+            FormatFault::WrongCore => f.write_str("27 WrongCore"),
         }
     }
 }
@@ -51,7 +51,7 @@ impl Display for Fault {
 #[derive(Clone, Copy, Debug, PartialEq, Eq, Error)]
 pub enum LogFault {
     /// What is wrong, and at which line, counted from 1.
-    At(u64, Fault),
+    At(u64, FormatFault),
     /// A growth was refused.
     OutOfMemory,
     /// A read failed.

@@ -24,7 +24,7 @@ mod write;
 pub use byte_sink::{ByteSink, FromWrite, write_all};
 pub use byte_source::{ByteSource, FromRead};
 pub use device_fault::{ReadFailed, ReadFault, WriteFailed, WriteFault};
-pub use fault::{Fault, LogFault, SetFault};
+pub use fault::{FormatFault, LogFault, SetFault};
 pub use laws::{
     fault_stays, faultless_spells_one, no_spelling_begins_another, spelled_has_no_fault,
 };

@@ -3,22 +3,22 @@
 ghost use Rattle.std.specs.Prelude.{◌≡◌, ◌≢◌, ◌<◌, ◌≤◌, true, false, [], ◌++◌, List, IfOk, IfErr, IfSome, IsNone, OnOk, MatchResult, length};
 ghost use Rattle.log_record.specs.declared.record.Record.{Record};
 ghost use Rattle.log_record.specs.Line.{line_limit};
-ghost use Rattle.log_file.specs.declared.progress.Phase.TheVariants as phase;
+ghost use Rattle.log_file.specs.declared.progress.Stage.TheVariants as stage;
 ghost use Rattle.log_file.specs.Answers.{IsFaultOf};
-ghost use Rattle.log_file.specs.Log.{Spells};
+ghost use Rattle.log_file.specs.Log.{Spells, first_format};
 ghost use Rattle.log_file.specs.Standing.{IsInRange, SameLog, IsBehind, IsTooFar, IsPartRefused, IsLineRefused};
 ghost use Rattle.log_file.specs.Standing.{HasRoom, IsPassed, Stands, IsSettledWith, TakesNext, read_text};
 
-use super::fault::{Fault, LogFault};
+use super::fault::{FormatFault, LogFault};
 use super::one_line::{LINE_LIMIT, RECORD_LIMIT};
-use super::progress::{Phase, Progress};
+use super::progress::{Stage, Progress};
 use arrayvec::ArrayVec;
 use log_record::Record;
 use memchr::memchr;
 
 /// A whole line that was taken.
 #[derive(Clone, Copy)]
-pub(crate) struct Line {
+pub(crate) struct TakenLine {
     /// The record, if the line is one.
     pub(crate) logged: Option<Record>,
     /// How many bytes of the piece were taken, its line feed with them.
@@ -57,7 +57,7 @@ impl LineReader {
             progress: Progress {
                 core,
                 cores,
-                phase: Phase::Header,
+                stage: Stage::Header,
                 count: 0,
                 limit: LINE_LIMIT,
             },
@@ -67,14 +67,14 @@ impl LineReader {
 
     /// A reader of some log, after its header. What a header says has no part in records.
     pub(crate) fn behind_a_header() -> LineReader
-        ensures progress { result.progress ≡ record { core = 0; cores = 1; phase = phase.Records; count = 0; limit = line_limit } }
+        ensures progress { result.progress ≡ record { core = 0; cores = 1; stage = stage.Records; count = 0; limit = line_limit } }
         ensures none_begun { result.begun.items ≡ [] }
     {
         LineReader {
             progress: Progress {
                 core: 0,
                 cores: 1,
-                phase: Phase::Records,
+                stage: Stage::Records,
                 count: 0,
                 limit: LINE_LIMIT,
             },
@@ -85,10 +85,10 @@ impl LineReader {
     /// The bytes of the line that isn't whole yet, where the header or a record was read last.
     pub(crate) fn begun_line(&self) -> Option<&[u8]>
         ensures some { IfSome result (λ begun. (begun.now ≡ self.now.begun.items)
-            × (self.now.progress.phase ≡ phase.Records)) }
-        ensures none { IsNone result → self.now.progress.phase ≢ phase.Records }
+            × (self.now.progress.stage ≡ stage.Records)) }
+        ensures none { IsNone result → self.now.progress.stage ≢ stage.Records }
     {
-        if self.progress.phase == Phase::Records {
+        if self.progress.stage == Stage::Records {
             Some(self.begun.as_slice())
         } else {
             None
@@ -103,7 +103,7 @@ impl LineReader {
         ensures fits { OnOk result (¬ IsTooFar self.old part.now) }
         ensures refused { IfErr result (IsPartRefused self.old part.now) }
     {
-        if self.progress.phase == Phase::Ended && !part.is_empty() {
+        if self.progress.stage == Stage::Ended && !part.is_empty() {
             return Err(self.progress.fault_of_more());
         }
         if self.begun.len() + part.len() > self.progress.limit {
@@ -138,7 +138,7 @@ impl LineReader {
 
     /// Takes the bytes of the piece up to its first line feed, and answers what line they end.
     /// Where no line feed is in the piece, it takes all of it as a part of a line: None.
-    pub(crate) fn next_line(&mut self, piece: &[u8]) -> Result<Option<Line>, LogFault>
+    pub(crate) fn next_line(&mut self, piece: &[u8]) -> Result<Option<TakenLine>, LogFault>
         requires { IsInRange self.old.progress }
         ensures same { SameLog self.old.progress self.new.progress }
         ensures in_range { IsInRange self.new.progress }
@@ -151,7 +151,7 @@ impl LineReader {
             return Ok(None);
         };
         let logged = self.end(&piece[..at])?;
-        Ok(Some(Line {
+        Ok(Some(TakenLine {
             logged,
             taken: at + 1,
         }))
@@ -168,7 +168,7 @@ impl LineReader {
     {
         let progress = &mut self.progress;
         let room = RECORD_LIMIT - progress.count;
-        if progress.phase != Phase::Records || !self.begun.is_empty() || records as u64 > room {
+        if progress.stage != Stage::Records || !self.begun.is_empty() || records as u64 > room {
             return false;
         }
         progress.count += records as u64;
@@ -179,15 +179,15 @@ impl LineReader {
     pub(crate) fn finish(&self) -> Result<(), LogFault>
         requires { IsInRange self.now.progress }
         ensures { (records : List Record) → Stands self.now records → MatchResult result
-            (λ _. Spells self.now.progress.core self.now.progress.cores
+            (λ _. Spells first_format self.now.progress.core self.now.progress.cores
             (read_text self.now records) records)
             (IsFaultOf self.now.progress.core self.now.progress.cores
             (read_text self.now records)) }
     {
-        match self.progress.phase {
-            Phase::Header => Err(LogFault::At(1, Fault::Truncated)),
-            Phase::Records => Err(LogFault::At(self.progress.count + 2, Fault::Truncated)),
-            Phase::Ended => Ok(()),
+        match self.progress.stage {
+            Stage::Header => Err(LogFault::At(1, FormatFault::Truncated)),
+            Stage::Records => Err(LogFault::At(self.progress.count + 2, FormatFault::Truncated)),
+            Stage::Ended => Ok(()),
         }
     }
 }

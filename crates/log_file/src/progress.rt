@@ -3,13 +3,13 @@
 ghost use Rattle.std.specs.Prelude.{◌≡◌, MatchResult};
 ghost use Rattle.log_file.specs.Standing.{IsInRange, IsBehind, IsRefused, SameLog, fault_of_more};
 
-use super::fault::{Fault, LogFault};
+use super::fault::{FormatFault, LogFault};
 use super::one_line::{check_body, check_header};
 use log_record::Record;
 
 /// What was read last of a log.
 #[derive(Clone, Copy, Debug, PartialEq, Eq)]
-pub(crate) enum Phase {
+pub(crate) enum Stage {
     /// No whole line.
     Header,
     /// The header, or a record.
@@ -26,7 +26,7 @@ pub(crate) struct Progress {
     /// The number of cores that there are to be.
     pub(crate) cores: u64,
     /// What was read last.
-    pub(crate) phase: Phase,
+    pub(crate) stage: Stage,
     /// How many records were read.
     pub(crate) count: u64,
     /// The most bytes of a line, without its line feed.
@@ -43,38 +43,38 @@ impl Progress {
             (λ logged. IsBehind self.old line.now logged self.new)
             (λ fault. IsRefused self.old line.now fault) }
     {
-        match self.phase {
-            Phase::Header => match check_header(line, self.core, self.cores) {
+        match self.stage {
+            Stage::Header => match check_header(line, self.core, self.cores) {
                 Ok(()) => {
-                    self.phase = Phase::Records;
+                    self.stage = Stage::Records;
                     Ok(None)
                 }
                 Err(fault) => Err(LogFault::At(1, fault)),
             },
-            Phase::Records => match check_body(line, self.count) {
+            Stage::Records => match check_body(line, self.count) {
                 Ok(Some(logged)) => {
                     self.count += 1;
                     Ok(Some(logged))
                 }
                 Ok(None) => {
-                    self.phase = Phase::Ended;
+                    self.stage = Stage::Ended;
                     Ok(None)
                 }
                 Err(fault) => Err(LogFault::At(self.count + 2, fault)),
             },
-            Phase::Ended => Err(self.fault_of_more()),
+            Stage::Ended => Err(self.fault_of_more()),
         }
     }
 
     /// The fault of a line that goes on too far: after the end line, any byte does.
     pub(crate) fn fault_of_more(&self) -> LogFault
         requires { IsInRange self.now }
-        ensures { result ≡ fault_of_more self.now.phase self.now.count }
+        ensures { result ≡ fault_of_more self.now.stage self.now.count }
     {
-        match self.phase {
-            Phase::Header => LogFault::At(1, Fault::BadHeader),
-            Phase::Records => LogFault::At(self.count + 2, Fault::BadLine),
-            Phase::Ended => LogFault::At(self.count + 3, Fault::TrailingBytes),
+        match self.stage {
+            Stage::Header => LogFault::At(1, FormatFault::BadHeader),
+            Stage::Records => LogFault::At(self.count + 2, FormatFault::BadLine),
+            Stage::Ended => LogFault::At(self.count + 3, FormatFault::TrailingBytes),
         }
     }
 }

@@ -1,6 +1,7 @@
 //! A set of logs read from devices.
 
 ghost use Rattle.std.specs.Prelude.{◌≡◌, ◌+◌, ◌≤◌, ℕ, List, All, drop, length, vec_len, IfOk, IfErr};
+ghost use Rattle.mem_op.specs.Limits.{operation_limit};
 ghost use Rattle.log_file.specs.Sets.{IsSetAnswer, ReaderFailed, TellEach};
 
 use super::byte_source::ByteSource;
@@ -32,14 +33,12 @@ pub fn read_set<R: Threads + Sync, S: ByteSource>(
     ensures unread { IfErr result (λ e.
         drop (e.file + 1) readers.new ≡ drop (e.file + 1) readers.old) }
     ensures count { IfOk result (λ logs. vec_len logs ≡ length readers.old) }
-    ensures short { IfOk result (λ logs. All (λ log. vec_len log ≤ 1048576) logs.items) }
+    ensures short { IfOk result (λ logs. All (λ log. vec_len log ≤ operation_limit) logs.items) }
 {
     let cores = readers.len() as u64;
     let mut logs = Vec::new(alloc);
     for (file, reader) in readers.iter_mut().enumerate() {
-        let Ok(core) = CoreId::new(file as u64) else {
-            unreachable!();
-        };
+        let core = CoreId::at(file);
         let log = match read_log(rt, alloc, reader, core, cores, workers) {
             Ok(log) => log,
             Err(fault) => return Err(SetFault { file, fault }),

@@ -2,9 +2,10 @@
 
 ghost use Rattle.std.specs.Prelude.{◌≡◌, ◌<◌, ◌≤◌, ℕ, length, take, OnOk, IsErrOf, string_bytes};
 ghost use Rattle.std.specs.Io.KnownBytes.{Appends};
+ghost use Rattle.mem_op.specs.Limits.{operation_limit};
 ghost use Rattle.log_record.specs.Line.{Fits, record_text};
 ghost use Rattle.log_file.specs.Devices.{Failed};
-ghost use Rattle.log_file.specs.Log.{IsLog, spelling, with_lf};
+ghost use Rattle.log_file.specs.Log.{IsLog, spelling, with_lf, first_format};
 
 use super::byte_sink::{ByteSink, write_all};
 use super::device_fault::WriteFault;
@@ -23,14 +24,14 @@ pub fn write_log<W: ByteSink>(
 ) -> Result<(), WriteFault>
     requires core { core < cores }
     requires cores { cores ≤ 64 }
-    requires few { length records.now ≤ 1048576 }
+    requires few { length records.now ≤ operation_limit }
     // What is written spells a log, the one of these records.
     ensures log { OnOk result (IsLog core cores records.now) }
     ensures written { OnOk result
-        (Appends (W.contents sink.old) (W.contents sink.new) (spelling core cores records.now)) }
-    ensures begun { (n : ℕ) × (n ≤ length (spelling core cores records.now))
+        (Appends (W.contents sink.old) (W.contents sink.new) (spelling first_format core cores records.now)) }
+    ensures begun { (n : ℕ) × (n ≤ length (spelling first_format core cores records.now))
         × Appends (W.contents sink.old) (W.contents sink.new)
-        (take n (spelling core cores records.now)) }
+        (take n (spelling first_format core cores records.now)) }
     // A failed write is answered only where the sink failed in this call.
     ensures failed { IsErrOf result WriteFault.Write →
         Failed (W.failed sink.old) (W.failed sink.new) }

@@ -4,7 +4,7 @@ use Rattle.std.specs.Prelude.{codes, IfSome, IsNone}
 use Rattle.log_record.specs.declared.header.Header.{Header}
 use Rattle.log_record.specs.declared.end.End.{End}
 use Rattle.decimal_text.specs.Numbers.{numeral, as_u64}
-use Rattle.decimal_text.specs.inner.Reading.{◌>>=◌, number_at, after, last_number}
+use Rattle.decimal_text.specs.Reading.{◌>>=◌, number_at, after, last_number}
 use Rattle.log_record.specs.Line.{header_text, end_text, IsHeaderShape, IsEndShape}
 use Rattle.log_record.specs.inner.Reading.{header_numbers, header_of, end_of}
 use Rattle.log_record.specs.inner.Raw.{header_parts, end_parts}

@@ -10,7 +10,7 @@ use Rattle.mem_op.specs.Consistency.{operation_at, is_same_id}
 use Rattle.log_record.specs.declared.record.Record.{Record}
 use Rattle.log_record.specs.declared.record.Entry.{Entry}
 use Rattle.log_record.specs.Entries.{operation_of, operations_of, core_entries, entries_from, entries, record_at}
-use Rattle.line_stamps.specs.inner.Ordered.{In, EachPair}
+use Rattle.line_stamps.specs.Ordered.{In, EachPair}
 use Rattle.line_stamps.proofs.Ordered.{In-append, In-append_left, In-append_right}
 
 pub same_id : (a b : OpId) → a.core ≡ b.core → a.index ≡ b.index → a ≡ b

@@ -5,6 +5,7 @@ use Rattle.std.specs.Prelude.{codes}
 use Rattle.std.proofs.lemmas.Fmt.{length-decimal-le}
 use Rattle.mem_op.specs.declared.id.Source.{Source}
 use Rattle.mem_op.specs.declared.id.Source.TheVariants as source
+use Rattle.mem_op.specs.Limits.{operation_limit}
 use Rattle.log_record.specs.declared.record.Act.{Act}
 use Rattle.log_record.specs.declared.record.Act.TheVariants as act
 use Rattle.log_record.specs.declared.record.Record.{Record}
@@ -97,7 +98,7 @@ header_short core cores lt few =
       numeral_short 2 cores (omega arith) (omega arith) (omega arith),
     ))
 
-pub end_short : (count : ℕ) → count ≤ 1048576 → length (end_text count) ≤ line_limit
+pub end_short : (count : ℕ) → count ≤ operation_limit → length (end_text count) ≤ line_limit
 unfolding end_text
 end_short count le = omega (arith, numeral_short 7 count (omega arith) (omega arith) (omega arith))
 

@@ -9,7 +9,7 @@ use Rattle.log_record.specs.declared.record.Act.{Act}
 use Rattle.log_record.specs.declared.record.Act.TheVariants as act
 use Rattle.log_record.specs.declared.record.Record.{Record}
 use Rattle.decimal_text.specs.Numbers.{numeral}
-use Rattle.decimal_text.specs.inner.Reading.{◌>>=◌, number_at, after, field_at, is_digit}
+use Rattle.decimal_text.specs.Reading.{◌>>=◌, number_at, after, field_at, is_digit}
 use Rattle.log_record.specs.Line.{source_text, record_text}
 use Rattle.log_record.specs.inner.Reading.{store_source_at, source_at, Fields, fields_at, made, store_at, load_at, tagged_at, record_of}
 use Rattle.decimal_text.proofs.Numbers.{NoDigit, number_takes, number_again, after_takes, after_again, AreDigits, numeral_digits, numeral_some}

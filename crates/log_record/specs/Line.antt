@@ -4,6 +4,7 @@ use Rattle.std.specs.List.{join_with_byte}
 use Rattle.decimal_text.specs.Numbers.{numeral}
 use Rattle.mem_op.specs.declared.id.Source.{Source}
 use Rattle.mem_op.specs.declared.id.Source.TheVariants as source
+use Rattle.mem_op.specs.Limits.{operation_limit}
 use Rattle.log_record.specs.declared.record.Act.{Act}
 use Rattle.log_record.specs.declared.record.Act.TheVariants as act
 use Rattle.log_record.specs.declared.record.Record.{Record}
@@ -58,7 +59,7 @@ IsEndShape line = (count : ℕ) × (line ≡ end_text count)
 
 abbrev pub SourceFits : Source → Type 0
 SourceFits source.Init = Unit {0}
-SourceFits (source.Store id) = (id.core < 64) × (id.index < 1048576)
+SourceFits (source.Store id) = (id.core < 64) × (id.index < operation_limit)
 
 abbrev pub ActFits : Act → Type 0
 ActFits act.Store = Unit {0}

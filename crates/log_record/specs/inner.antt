@@ -1,4 +1,4 @@
--- Definitions that serve mostly private contracts; a few of them stand under public clauses too.
+-- Definitions that serve private contracts alone.
 pub mod FlatActs
 pub mod Raw
 pub mod Reading

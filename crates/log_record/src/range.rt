@@ -1,6 +1,7 @@
 //! The record of numbers that are in range.
 
 ghost use Rattle.std.specs.Prelude.{◌≡◌, ◌<◌, ℕ, IfSome, IfNone};
+ghost use Rattle.mem_op.specs.Limits.{operation_limit};
 ghost use Rattle.log_record.specs.Line.{Fits, ActFits};
 ghost use Rattle.decimal_text.specs.Numbers.{as_u64};
 ghost use Rattle.log_record.specs.inner.Raw.{raw_act_of, raw_of};
@@ -15,9 +16,9 @@ use mem_op::{Addr, CoreId, OpId, OpIndex, Source};
 /// The id, where the core and the index are in range.
 fn id_in_range(core: Option<u64>, index: Option<u64>) -> Option<OpId>
     ensures found { IfSome result
-        (λ id. (core ≡ as_u64 id.core) × (index ≡ as_u64 id.index) × (id.core < 64) × (id.index < 1048576)) }
+        (λ id. (core ≡ as_u64 id.core) × (index ≡ as_u64 id.index) × (id.core < 64) × (id.index < operation_limit)) }
     ensures none { IfNone result
-        ((c i : ℕ) → core ≡ as_u64 c → index ≡ as_u64 i → c < 64 → i < 1048576 → ⊥) }
+        ((c i : ℕ) → core ≡ as_u64 c → index ≡ as_u64 i → c < 64 → i < operation_limit → ⊥) }
 {
     Some(OpId {
         core: CoreId::new(core?).ok()?,

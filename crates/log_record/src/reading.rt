@@ -1,7 +1,7 @@
 //! Reads a record's line from left to right.
 
 ghost use Rattle.std.specs.Prelude.{◌≡◌, option_map};
-ghost use Rattle.decimal_text.specs.inner.Reading.{front_now, front_map};
+ghost use Rattle.decimal_text.specs.Reading.{front_now, front_map};
 ghost use Rattle.log_record.specs.inner.Raw.{raw_source_of, raw_fields_of, raw_of};
 ghost use Rattle.log_record.specs.inner.Reading.{store_source_at, source_at, fields_at, store_at, load_at, tagged_at, record_of};
 
@@ -19,7 +19,7 @@ fn store_source(bytes: &[u8]) -> Option<(RawSource, &[u8])>
 }
 
 /// A source, and the bytes after it.
-#[tactic(auto, unfolding(crate::specs::inner::Reading::source_at, decimal_text::specs::inner::Reading::after))]
+#[tactic(auto, unfolding(crate::specs::inner::Reading::source_at, decimal_text::specs::Reading::after))]
 fn source(bytes: &[u8]) -> Option<(RawSource, &[u8])>
     ensures { front_now result ≡ front_map raw_source_of (source_at bytes.now) }
 {
@@ -64,7 +64,7 @@ fn load(bytes: &[u8]) -> Option<(RawRecord, &[u8])>
 }
 
 /// A record's tag and its fields.
-#[tactic(auto, unfolding(crate::specs::inner::Reading::tagged_at, decimal_text::specs::inner::Reading::after))]
+#[tactic(auto, unfolding(crate::specs::inner::Reading::tagged_at, decimal_text::specs::Reading::after))]
 fn tagged(bytes: &[u8]) -> Option<(RawRecord, &[u8])>
     ensures { front_now result ≡ front_map raw_of (tagged_at bytes.now) }
 {

@@ -29,13 +29,19 @@ abbrev pub is_store_to : ℕ → Operation → Bool
 is_store_to addr (Loaded a v) = false
 is_store_to addr (Stored a v) = a == addr
 
-abbrev pub value_of : Operation → ℕ
-value_of (Loaded a v) = v
-value_of (Stored a v) = v
+-- the word that its core has of an operation: the one that a load reads, the one that a store writes
+abbrev pub word_answered : Operation → ℕ
+word_answered (Loaded a v) = v
+word_answered (Stored a v) = v
+
+-- the word that stands at its address after an operation: a load leaves the one that it reads
+abbrev pub word_left : Operation → ℕ
+word_left (Loaded a v) = v
+word_left (Stored a v) = v
 
 abbrev pub value_or_zero : Option Operation → ℕ
 value_or_zero None = 0
-value_or_zero (Some operation) = value_of operation
+value_or_zero (Some operation) = word_left operation
 
 -- the flat answer: the value of the last store to the address among the operations, or 0
 abbrev pub last_value : ℕ → List Operation → ℕ

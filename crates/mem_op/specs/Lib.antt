@@ -1,3 +1,4 @@
 pub mod Consistency
 pub mod Faults
+pub mod Limits
 pub mod Parts

@@ -39,6 +39,16 @@ impl CoreId {
         })
     }
 
+    /// The core of a number that is below 64.
+    pub fn at(number: usize) -> CoreId
+        requires { number < 64 }
+        ensures { result ≡ number }
+    {
+        CoreId {
+            number: number as u8,
+        }
+    }
+
     /// Its number.
     pub fn get(self) -> u64
         ensures value { result ≡ self }

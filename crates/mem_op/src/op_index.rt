@@ -2,6 +2,7 @@
 
 ghost use Rattle.std.specs.Prelude.{◌≡◌, ◌<◌, ◌≤◌, MatchResult};
 ghost use Rattle.mem_op.specs.declared.fault.RangeFault.TheVariants.{IndexRange};
+ghost use Rattle.mem_op.specs.Limits.{operation_limit};
 
 use super::fault::RangeFault;
 use std::marker::Model;
@@ -14,12 +15,13 @@ pub struct OpIndex {
 
 impl Model for OpIndex {
     ghost use Rattle.std.specs.Prelude.{ℕ, ◌<◌};
+    ghost use Rattle.mem_op.specs.Limits.{operation_limit};
 
     ghost Value = { ℕ };
 
     ghost view = { λ index. index.number };
 
-    ghost invariant = { λ index. index.number < 1048576 };
+    ghost invariant = { λ index. index.number < operation_limit };
 
     ghost inverse = { λ n. record { number = n } };
 }
@@ -28,8 +30,8 @@ impl OpIndex {
     /// The index of this number; 3 IndexRange where it is above 1,048,575.
     pub fn new(number: u64) -> Result<OpIndex, RangeFault>
         ensures { MatchResult result
-            (λ index. (index ≡ number) × (number < 1048576))
-            (λ fault. (fault ≡ IndexRange) × (1048576 ≤ number)) }
+            (λ index. (index ≡ number) × (number < operation_limit))
+            (λ fault. (fault ≡ IndexRange) × (operation_limit ≤ number)) }
     {
         if number >= 1_048_576 {
             return Err(RangeFault::IndexRange);
@@ -39,10 +41,20 @@ impl OpIndex {
         })
     }
 
+    /// The index of a number that is below 1,048,576.
+    pub fn at(number: usize) -> OpIndex
+        requires { number < operation_limit }
+        ensures { result ≡ number }
+    {
+        OpIndex {
+            number: number as u32,
+        }
+    }
+
     /// Its number.
     pub fn get(self) -> u64
         ensures value { result ≡ self }
-        ensures in_range { self < 1048576 }
+        ensures in_range { self < operation_limit }
     {
         u64::from(self.number)
     }

@@ -291,9 +291,12 @@ const FAILING_WRITES: &[(&[u8], &[Step], &[Step], u8, &str, &str)] = &[
 struct Texts<'a> {
     texts: &'a [Vec<u8>],
     reads: &'a [Step],
+    failures: u64,
 }
 
 impl<'a> Folder for Texts<'a> {
+    ghost failed = { λ folder. folder.failures };
+
     type Source = MemSource<'a>;
 
     fn open_file(&self, name: &str) -> Result<MemSource<'a>, ReadFailed> {
@@ -307,6 +310,7 @@ impl<'a> Folder for Texts<'a> {
     }
 
     fn put(&mut self, _name: &str, _bytes: &[u8]) -> Result<(), WriteFailed> {
+        self.failures = self.failures.saturating_add(1);
         Err(WriteFailed)
     }
 }
@@ -606,6 +610,7 @@ fn call<R: Threads + Sync>(
     let mut folder = Texts {
         texts: texts.as_slice(),
         reads: devices.reads,
+        failures: 0,
     };
     let mut out = MemSink::new(alloc, devices.writes);
     let mut err = MemSink::new(alloc, devices.complaints);

@@ -1,3 +1,5 @@
+ghost use Rattle.std.specs.Prelude.{◌≡◌};
+
 use super::checks::logs_of;
 use log_file::{MemSink, MemSource, ReadFailed, WriteFailed};
 use std::alloc::Global;
@@ -240,22 +242,14 @@ struct Shelf<'a> {
     room: usize,
     names: Vec<String>,
     logs: Vec<Vec<u8>>,
+    failures: u64,
 }
 
-impl<'a> Folder for Shelf<'a> {
-    type Source = MemSource<'a>;
-
-    fn open_file(&self, name: &str) -> Result<MemSource<'a>, ReadFailed> {
-        let Ok(number) = name.parse::<usize>() else {
-            return Err(ReadFailed);
-        };
-        match self.texts.get(number) {
-            Some(text) => Ok(MemSource::new(text.as_slice(), &[])),
-            None => Err(ReadFailed),
-        }
-    }
-
-    fn put(&mut self, name: &str, bytes: &[u8]) -> Result<(), WriteFailed> {
+impl Shelf<'_> {
+    /// Puts a file, where there is room for it.
+    fn take(&mut self, name: &str, bytes: &[u8]) -> Result<(), WriteFailed>
+        ensures { self.new.failures ≡ self.old.failures }
+    {
         if self.logs.len() >= self.room {
             return Err(WriteFailed);
         }
@@ -269,6 +263,30 @@ impl<'a> Folder for Shelf<'a> {
             return Err(WriteFailed);
         }
         Ok(())
+    }
+}
+
+impl<'a> Folder for Shelf<'a> {
+    ghost failed = { λ folder. folder.failures };
+
+    type Source = MemSource<'a>;
+
+    fn open_file(&self, name: &str) -> Result<MemSource<'a>, ReadFailed> {
+        let Ok(number) = name.parse::<usize>() else {
+            return Err(ReadFailed);
+        };
+        match self.texts.get(number) {
+            Some(text) => Ok(MemSource::new(text.as_slice(), &[])),
+            None => Err(ReadFailed),
+        }
+    }
+
+    fn put(&mut self, name: &str, bytes: &[u8]) -> Result<(), WriteFailed> {
+        let taken = self.take(name, bytes);
+        if taken.is_err() {
+            self.failures = self.failures.saturating_add(1);
+        }
+        taken
     }
 }
 
@@ -453,6 +471,7 @@ fn call<R: Threads + Sync>(
         room,
         names: Vec::new(alloc),
         logs: Vec::new(alloc),
+        failures: 0,
     };
     let mut out = MemSink::new(alloc, &[]);
     let mut err = MemSink::new(alloc, &[]);

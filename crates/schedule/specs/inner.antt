@@ -1,3 +1,3 @@
--- Definitions that serve mostly private contracts; a few of them stand under public clauses too.
+-- Definitions that serve private contracts alone.
 pub mod Lines
 pub mod Reading

@@ -1,7 +1,7 @@
 //! Reads a command's line from left to right.
 
 ghost use Rattle.std.specs.Prelude.{◌≡◌, min};
-ghost use Rattle.decimal_text.specs.inner.Reading.{front_now};
+ghost use Rattle.decimal_text.specs.Reading.{front_now};
 ghost use Rattle.schedule.specs.inner.Reading.{below, core_at, addr_at, kind_at, last_core, last_addr, last_stamp};
 ghost use Rattle.schedule.specs.inner.Reading.{recall_of, evict_of, command_of};
 
@@ -41,7 +41,7 @@ fn addr_field(bytes: &[u8]) -> Option<(Addr, &[u8])>
 }
 
 /// How a line is recalled with a space after it, and the bytes after them.
-#[tactic(auto, unfolding(crate::specs::inner::Reading::kind_at, decimal_text::specs::inner::Reading::after))]
+#[tactic(auto, unfolding(crate::specs::inner::Reading::kind_at, decimal_text::specs::Reading::after))]
 fn kind_field(bytes: &[u8]) -> Option<(RecallKind, &[u8])>
     ensures { front_now result ≡ kind_at bytes.now }
 {

@@ -80,9 +80,7 @@ fn list_cores_left(alloc: Global, machine: &Core) -> Result<Vec<CoreId>, AllocEr
 {
     let mut left = Vec::new(alloc);
     for number in 0..64 {
-        let Ok(core) = CoreId::new(number) else {
-            unreachable!()
-        };
+        let core = CoreId::at(number);
         if has_next(machine, core) {
             left.push(core)?;
         }

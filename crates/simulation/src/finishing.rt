@@ -15,10 +15,7 @@ pub(crate) fn finish_all(machine: &mut Core) -> Result<(), SimulationFault>
         (λ fault. IsUnfinished machine.old machine.new fault) }
 {
     for number in 0..64 {
-        let Ok(core) = CoreId::new(number) else {
-            unreachable!()
-        };
-        finish(machine, core)?;
+        finish(machine, CoreId::at(number))?;
     }
     Ok(())
 }

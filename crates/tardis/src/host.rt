@@ -40,18 +40,22 @@ impl ByteSource for HostSource {
 #[derive(Clone, Copy)]
 pub(crate) struct HostFolder<'a> {
     rt: &'a HostRuntime,
+    failures: u64,
 }
 
 impl<'a> HostFolder<'a> {
     /// The files of the host.
     pub(crate) fn new(rt: &'a HostRuntime) -> HostFolder<'a>
-        ensures { result.rt ≡ rt.entry }
+        ensures host { result.rt ≡ rt.entry }
+        ensures failed { result.failures ≡ 0 }
     {
-        HostFolder { rt }
+        HostFolder { rt, failures: 0 }
     }
 }
 
 impl<'a> Folder for HostFolder<'a> {
+    ghost failed = { λ folder. folder.failures };
+
     type Source = HostSource;
 
     fn open_file(&self, name: &str) -> Result<HostSource, ReadFailed> {
@@ -68,7 +72,10 @@ impl<'a> Folder for HostFolder<'a> {
     fn put(&mut self, name: &str, bytes: &[u8]) -> Result<(), WriteFailed> {
         match fs::write(self.rt, name, bytes) {
             Ok(()) => Ok(()),
-            Err(_) => Err(WriteFailed),
+            Err(_) => {
+                self.failures = self.failures.saturating_add(1);
+                Err(WriteFailed)
+            }
         }
     }
 }

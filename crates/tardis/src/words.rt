@@ -1,6 +1,6 @@
 //! The words of the command line, as the host gives them.
 
-ghost use Rattle.std.specs.Prelude.{◌≡◌};
+ghost use Rattle.std.specs.Prelude.{◌≡◌, IfOk, map, string_bytes};
 ghost use Rattle.tardis.specs.Words.{words_fault_status};
 ghost use Rattle.tardis.specs.declared.words.WordsFault.TheVariants.{OutOfMemory};
 
@@ -73,7 +73,9 @@ pub(crate) fn words(rt: &HostRuntime) -> Result<Vec<String>, WordsFault> {
 }
 
 /// The texts of words.
-pub(crate) fn texts(alloc: Global, words: &[String]) -> Result<Vec<&str>, WordsFault> {
+pub(crate) fn texts(alloc: Global, words: &[String]) -> Result<Vec<&str>, WordsFault>
+    ensures { IfOk result (λ texts. map (λ text. text.now) texts.items ≡ map string_bytes words.now) }
+{
     let mut texts = Vec::new(alloc);
     for word in words {
         texts.push(word.as_str())?;

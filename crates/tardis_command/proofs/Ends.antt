@@ -9,6 +9,7 @@ use Rattle.tardis_command.specs.Answers.{answer_status, answer_text}
 use Rattle.tardis_command.specs.declared.answer.Answer.{Answer}
 use Rattle.tardis_command.specs.inner.Printing.{IsUnprinted}
 use Rattle.tardis_command.specs.Endings.{Answered, Ending, EndsBy, HasFailed, IsAnswered, IsDoneBy, Misused, OutputAt, Refused, IsAnswerTo, Sink, Takes, Unprinted, line, status_of}
+use Rattle.tardis_command.specs.Files.{Files}
 use Rattle.tardis_command.specs.Faults.{command_fault_text, fault_status}
 use Rattle.tardis_command.specs.declared.fault.CommandFault.{CommandFault}
 use Rattle.tardis_command.specs.declared.fault.CommandFault.TheVariants.{Judge, Config, Programs, ProgramsUnread, Schedule, ScheduleUnread, Simulation, LogUnwritten, Output, OutOfMemory}
@@ -26,37 +27,37 @@ unless_failed old new fault (Refused reason) answered output = output
 unless_failed old new fault (Misused text) answered output = absurd answered
 
 -- lack of memory may end whatever was asked
-memory_ends : (told told' : List ℕ → Option (List ℕ)) (asked : Request) → IsAnswerTo told told' asked (Err OutOfMemory)
-memory_ends told told' (request.Check check) = tt
-memory_ends told told' (request.Sim sim) = tt
+memory_ends : (before after : Files) (asked : Request) → IsAnswerTo before after asked (Err OutOfMemory)
+memory_ends before after (request.Check check) = tt
+memory_ends before after (request.Sim sim) = tt
 
 -- an answer whose line wasn't printed
-pub unprinted : (told told' : List ℕ → Option (List ℕ)) (asked : Request) (answer : Answer) (out out' : Sink) (fault : CommandFault)
-    → IsAnswerTo told told' asked (Ok answer) → IsUnprinted out out' (line (answer_text answer)) fault
-    → (ending : Ending) × IsAnswered ending (Err fault) × IsDoneBy told told' asked out out' ending
-unprinted told told' asked answer out out' Output answered failed = (Unprinted answer, refl, (answered, failed))
-unprinted told told' asked answer out out' OutOfMemory answered same =
-    (Refused OutOfMemory, refl, (memory_ends told told' asked, subst (λ (s : Sink). Keeps out.contents s.contents ⊎ HasFailed out s) (sym same) (inl (kept out.contents))))
-unprinted told told' asked answer out out' (Judge reason) answered never = absurd never
-unprinted told told' asked answer out out' (Config reason) answered never = absurd never
-unprinted told told' asked answer out out' (Programs reason) answered never = absurd never
-unprinted told told' asked answer out out' ProgramsUnread answered never = absurd never
-unprinted told told' asked answer out out' (Schedule reason) answered never = absurd never
-unprinted told told' asked answer out out' ScheduleUnread answered never = absurd never
-unprinted told told' asked answer out out' (Simulation reason) answered never = absurd never
-unprinted told told' asked answer out out' (LogUnwritten file) answered never = absurd never
+pub unprinted : (before after : Files) (asked : Request) (answer : Answer) (out out' : Sink) (fault : CommandFault)
+    → IsAnswerTo before after asked (Ok answer) → IsUnprinted out out' (line (answer_text answer)) fault
+    → (ending : Ending) × IsAnswered ending (Err fault) × IsDoneBy before after asked out out' ending
+unprinted before after asked answer out out' Output answered failed = (Unprinted answer, refl, (answered, failed))
+unprinted before after asked answer out out' OutOfMemory answered same =
+    (Refused OutOfMemory, refl, (memory_ends before after asked, subst (λ (s : Sink). Keeps out.contents s.contents ⊎ HasFailed out s) (sym same) (inl (kept out.contents))))
+unprinted before after asked answer out out' (Judge reason) answered never = absurd never
+unprinted before after asked answer out out' (Config reason) answered never = absurd never
+unprinted before after asked answer out out' (Programs reason) answered never = absurd never
+unprinted before after asked answer out out' ProgramsUnread answered never = absurd never
+unprinted before after asked answer out out' (Schedule reason) answered never = absurd never
+unprinted before after asked answer out out' ScheduleUnread answered never = absurd never
+unprinted before after asked answer out out' (Simulation reason) answered never = absurd never
+unprinted before after asked answer out out' (LogUnwritten file) answered never = absurd never
 
-module _ (told told' : List ℕ → Option (List ℕ)) (words : List (List ℕ)) (out err : Sink) where
+module _ (before after : Files) (words : List (List ℕ)) (out err : Sink) where
   pub ends_misused : (err' : Sink) (text : List ℕ) → ¬ (IsCommandLine words) → Takes err err' text
-      → EndsBy told told' words out out err err' (Misused text)
+      → EndsBy before after words out out err err' (Misused text)
   ends_misused err' text misused takes = record { end = misused; output = kept out.contents; complaint = takes }
 
   -- the call answered this status, and told of this fault
   abbrev pub EndsAt : Sink → Sink → ℕ → Type 0
-  EndsAt out' err' status = (ending : Ending) × (status ≡ status_of ending) × EndsBy told told' words out out' err err' ending
+  EndsAt out' err' status = (ending : Ending) × (status ≡ status_of ending) × EndsBy before after words out out' err err' ending
 
   pub ends_answered : (asked : Request) (ending : Ending) (out' : Sink) (status : ℕ) → Asks words asked → IsAnswered ending (Ok status)
-      → IsDoneBy told told' asked out out' ending → EndsAt out' err status
+      → IsDoneBy before after asked out out' ending → EndsAt out' err status
   ends_answered asked (Answered answer) out' status asks answered done =
       let same : status ≡ answer_status answer = cc in
       (Answered answer, same, record { end = (asked, asks, done.0); output = done.1; complaint = inl (Appends-nil err.contents) })
@@ -71,7 +72,7 @@ module _ (told told' : List ℕ → Option (List ℕ)) (words : List (List ℕ))
 
   -- the fault was told
   ends_told : (asked : Request) (ending : Ending) (fault : CommandFault) (out' err' : Sink) (status : ℕ) → Asks words asked
-      → IsAnswered ending (Err fault) → IsDoneBy told told' asked out out' ending → Takes err err' (line (command_fault_text fault))
+      → IsAnswered ending (Err fault) → IsDoneBy before after asked out out' ending → Takes err err' (line (command_fault_text fault))
       → status ≡ fault_status fault → EndsAt out' err' status
   ends_told asked (Answered answer) fault out' err' status asks answered done takes same = cc
   ends_told asked (Unprinted answer) fault out' err' status asks answered done takes same =
@@ -97,7 +98,7 @@ module _ (told told' : List ℕ → Option (List ℕ)) (words : List (List ℕ))
   ends_told asked (Misused text) fault out' err' status asks answered done takes same = absurd answered
 
   pub ends_refused : (asked : Request) (ending : Ending) (fault reported : CommandFault) (out' err' : Sink) (status : ℕ) → Asks words asked
-      → IsAnswered ending (Err fault) → IsDoneBy told told' asked out out' ending → (reported ≡ fault) ⊎ (reported ≡ OutOfMemory)
+      → IsAnswered ending (Err fault) → IsDoneBy before after asked out out' ending → (reported ≡ fault) ⊎ (reported ≡ OutOfMemory)
       → Takes err err' (line (command_fault_text reported)) → status ≡ fault_status reported → EndsAt out' err' status
   ends_refused asked ending fault reported out' err' status asks answered done (inl is) takes same =
       ends_told asked ending fault out' err' status asks answered done

@@ -9,21 +9,22 @@ use Rattle.simulation.specs.Simulating.{IsSimulated, IsSimulationFault}
 use Rattle.simulation.specs.declared.fault.SimulationFault.{SimulationFault}
 use Rattle.tardis_core.specs.Opening.{opening_parts}
 use Rattle.tardis_core.specs.Parts.{CoreParts, world}
+use Rattle.tardis_command.specs.Files.{Files}
 use Rattle.tardis_command.specs.Logs.{ArePut, ArePutAsFar, ArePutUpTo}
 use Rattle.tardis_command.specs.Simulating.{AreCommandsOf, AreProgramsIn, IsRun, IsUnwritten, config_of, performed_below}
 use Rattle.tardis_command.specs.declared.fault.CommandFault.{CommandFault}
 use Rattle.tardis_command.specs.declared.fault.CommandFault.TheVariants.{Judge, Config, Programs, ProgramsUnread, Schedule, ScheduleUnread, Simulation, LogUnwritten, Output, OutOfMemory}
 
-module _ (told told' : List ℕ → Option (List ℕ)) (asked : Sim) (programs : List (List Instruction)) (commands : List Command) (q : CoreParts)
-    (sound : first_bad (config_of asked) ≡ None) (read : AreProgramsIn told asked.programs.now programs)
-    (parsed : AreCommandsOf told asked.schedule (length programs) commands) where
+module _ (old new : Files) (asked : Sim) (programs : List (List Instruction)) (commands : List Command) (q : CoreParts)
+    (sound : first_bad (config_of asked) ≡ None) (read : AreProgramsIn old.told asked.programs.now programs)
+    (parsed : AreCommandsOf old.told asked.schedule (length programs) commands) where
   pub faulted : (fault : SimulationFault) → IsSimulationFault commands asked.seed (opening_parts programs (config_of asked)) q fault
-      → ArePutAsFar told told' asked.out.now (length programs) (world q) → IsRun told told' asked (Err (Simulation fault))
+      → ArePutAsFar old new asked.out.now (length programs) (world q) → IsRun old new asked (Err (Simulation fault))
   faulted fault is far = (sound, programs, read, (commands, parsed, (q, is, far)))
 
   pub ended : IsSimulated commands asked.seed (opening_parts programs (config_of asked)) q → (written : Result ℕ CommandFault)
-      → IfOk written (λ count. count ≡ performed_below (world q) (length programs)) → OnOk written (ArePut told told' asked.out.now (length programs) (world q))
-      → IfErr written (IsUnwritten (ArePutUpTo told told' asked.out.now (length programs) (world q))) → IsRun told told' asked written
+      → IfOk written (λ count. count ≡ performed_below (world q) (length programs)) → OnOk written (ArePut old new asked.out.now (length programs) (world q))
+      → IfErr written (IsUnwritten (ArePutUpTo old new asked.out.now (length programs) (world q))) → IsRun old new asked written
   ended simulated (Ok count) counted put unwritten = (sound, programs, read, (commands, parsed, (q, simulated, (counted, put))))
   ended simulated (Err (LogUnwritten file)) counted put unwritten = (sound, programs, read, (commands, parsed, (q, simulated, unwritten)))
   ended simulated (Err OutOfMemory) counted put unwritten = tt

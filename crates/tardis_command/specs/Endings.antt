@@ -7,6 +7,7 @@ use Rattle.command_line.specs.declared.request.Request.TheVariants.{Check, Sim}
 use Rattle.log_file.specs.Devices.{Failed}
 use Rattle.tardis_command.specs.Answers.{answer_status, answer_text}
 use Rattle.tardis_command.specs.Checking.{FilesAreConsistent, FilesRunFlat, IsChecked}
+use Rattle.tardis_command.specs.Files.{Files}
 use Rattle.tardis_command.specs.Faults.{command_fault_text, fault_status}
 use Rattle.tardis_command.specs.Logs.{log_name}
 use Rattle.tardis_command.specs.Simulating.{IsRun}
@@ -43,32 +44,32 @@ complaint_of (Misused text) = text
 
 -- ---- why
 
--- this may be the answer to what was asked, or why there is none; the folder told `told` before and tells `told'` after
-abbrev pub IsAnswerTo : (List ℕ → Option (List ℕ)) → (List ℕ → Option (List ℕ)) → Request → Result Answer CommandFault → Type 0
-IsAnswerTo told told' (Check asked) (Ok (Judged verdict)) = IsChecked told asked (Ok verdict)
-IsAnswerTo told told' (Check asked) (Ok (Done count)) = ⊥
-IsAnswerTo told told' (Check asked) (Err fault) = IsChecked told asked (Err fault)
-IsAnswerTo told told' (Sim asked) (Ok (Judged verdict)) = ⊥
-IsAnswerTo told told' (Sim asked) (Ok (Done count)) = IsRun told told' asked (Ok count)
-IsAnswerTo told told' (Sim asked) (Err fault) = IsRun told told' asked (Err fault)
+-- this may be the answer to what was asked, or why there is none; the folder was `old` before and is `new` after
+abbrev pub IsAnswerTo : Files → Files → Request → Result Answer CommandFault → Type 0
+IsAnswerTo old new (Check asked) (Ok (Judged verdict)) = IsChecked old.told asked (Ok verdict)
+IsAnswerTo old new (Check asked) (Ok (Done count)) = ⊥
+IsAnswerTo old new (Check asked) (Err fault) = IsChecked old.told asked (Err fault)
+IsAnswerTo old new (Sim asked) (Ok (Judged verdict)) = ⊥
+IsAnswerTo old new (Sim asked) (Ok (Done count)) = IsRun old new asked (Ok count)
+IsAnswerTo old new (Sim asked) (Err fault) = IsRun old new asked (Err fault)
 
 -- what was asked may end so
-abbrev pub IsEndOf : (List ℕ → Option (List ℕ)) → (List ℕ → Option (List ℕ)) → Request → Ending → Type 0
-IsEndOf told told' asked (Answered answer) = IsAnswerTo told told' asked (Ok answer)
-IsEndOf told told' asked (Unprinted answer) = IsAnswerTo told told' asked (Ok answer)
-IsEndOf told told' asked (Refused fault) = IsAnswerTo told told' asked (Err fault)
-IsEndOf told told' asked (Misused text) = ⊥
+abbrev pub IsEndOf : Files → Files → Request → Ending → Type 0
+IsEndOf old new asked (Answered answer) = IsAnswerTo old new asked (Ok answer)
+IsEndOf old new asked (Unprinted answer) = IsAnswerTo old new asked (Ok answer)
+IsEndOf old new asked (Refused fault) = IsAnswerTo old new asked (Err fault)
+IsEndOf old new asked (Misused text) = ⊥
 
 -- this holds of what the words ask for
 abbrev pub AskFor : List (List ℕ) → (Request → Type 0) → Type 0
 AskFor words Holds = (asked : Request) × Asks words asked × Holds asked
 
 -- a call with these words may end so; memory may run out before it is known what they ask for
-abbrev pub IsEnd : (List ℕ → Option (List ℕ)) → (List ℕ → Option (List ℕ)) → List (List ℕ) → Ending → Type 0
-IsEnd told told' words (Misused text) = ¬ (IsCommandLine words)
-IsEnd told told' words (Refused fault) = AskFor words (λ asked. IsEndOf told told' asked (Refused fault)) ⊎ (fault ≡ OutOfMemory)
-IsEnd told told' words (Answered answer) = AskFor words (λ asked. IsEndOf told told' asked (Answered answer))
-IsEnd told told' words (Unprinted answer) = AskFor words (λ asked. IsEndOf told told' asked (Unprinted answer))
+abbrev pub IsEnd : Files → Files → List (List ℕ) → Ending → Type 0
+IsEnd old new words (Misused text) = ¬ (IsCommandLine words)
+IsEnd old new words (Refused fault) = AskFor words (λ asked. IsEndOf old new asked (Refused fault)) ⊎ (fault ≡ OutOfMemory)
+IsEnd old new words (Answered answer) = AskFor words (λ asked. IsEndOf old new asked (Answered answer))
+IsEnd old new words (Unprinted answer) = AskFor words (λ asked. IsEndOf old new asked (Unprinted answer))
 
 -- where a check was asked for, its files spell a set whose operations are sequentially consistent
 abbrev pub AreConsistent : (List ℕ → Option (List ℕ)) → Request → Type 0
@@ -119,8 +120,8 @@ OutputAt old new (Misused text) = Keeps old.contents new.contents
 -- ---- all of it
 
 -- what was asked ended so, and left standard output so
-abbrev pub IsDoneBy : (List ℕ → Option (List ℕ)) → (List ℕ → Option (List ℕ)) → Request → Sink → Sink → Ending → Type 0
-IsDoneBy told told' asked out out' ending = IsEndOf told told' asked ending × OutputAt out out' ending
+abbrev pub IsDoneBy : Files → Files → Request → Sink → Sink → Ending → Type 0
+IsDoneBy old new asked out out' ending = IsEndOf old new asked ending × OutputAt out out' ending
 
 -- how an ending is answered: by an exit status, or by a fault
 abbrev pub IsAnswered : Ending → Result ℕ CommandFault → Type 0
@@ -130,7 +131,7 @@ IsAnswered (Refused fault) came = came ≡ Err fault
 IsAnswered (Misused text) came = ⊥
 
 -- a call with these words ended so, and left the folder, standard output and standard error so
-pub record EndsBy (told told' : List ℕ → Option (List ℕ)) (words : List (List ℕ)) (out out' err err' : Sink) (ending : Ending) : Type 0 where
-  pub end : IsEnd told told' words ending
+pub record EndsBy (old new : Files) (words : List (List ℕ)) (out out' err err' : Sink) (ending : Ending) : Type 0 where
+  pub end : IsEnd old new words ending
   pub output : OutputAt out out' ending
   pub complaint : Takes err err' (complaint_of ending)

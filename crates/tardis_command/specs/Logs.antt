@@ -1,10 +1,11 @@
 -- The logs that the folder tells.
 use Rattle.std.specs.Prelude.{◌≡◌, ◌≢◌, ◌⊎◌, ℕ, ◌+◌, ◌<◌, List, ◌++◌, Option, codes}
 use Rattle.std.specs.Fmt.{decimal}
-use Rattle.log_file.specs.Devices.{Tells}
-use Rattle.log_file.specs.Log.{spelling}
+use Rattle.log_file.specs.Devices.{Failed, Tells}
+use Rattle.log_file.specs.Log.{spelling, first_format}
 use Rattle.tardis_core.specs.Machine.{World}
 use Rattle.tardis_core.specs.Works.{log_at}
+use Rattle.tardis_command.specs.Files.{Files}
 
 -- the name of core c's log: that of the logs, a dot and the core's number
 abbrev pub log_name : List ℕ → ℕ → List ℕ
@@ -12,7 +13,7 @@ log_name out c = out ++ (codes "." ++ decimal c)
 
 -- core c's log, of `cores`, is told under its name, in its one spelling
 abbrev pub TellsLog : (List ℕ → Option (List ℕ)) → List ℕ → ℕ → World → ℕ → Type 0
-TellsLog told out cores w c = Tells (told (log_name out c)) (spelling c cores (log_at w c))
+TellsLog told out cores w c = Tells (told (log_name out c)) (spelling first_format c cores (log_at w c))
 
 -- so are the logs of the first n cores
 abbrev pub TellsFirst : (List ℕ → Option (List ℕ)) → List ℕ → ℕ → World → ℕ → Type 0
@@ -27,16 +28,25 @@ pub record ArePutFirst (told told' : List ℕ → Option (List ℕ)) (out : List
   pub logs : TellsFirst told' out cores w n
   pub others : KeepsOthers told told' out n
 
--- those of all cores were
-abbrev pub ArePut : (List ℕ → Option (List ℕ)) → (List ℕ → Option (List ℕ)) → List ℕ → ℕ → World → Type 0
-ArePut told told' out cores w = ArePutFirst told told' out cores w cores
+-- those of all cores were, and no put failed
+abbrev pub ArePut : Files → Files → List ℕ → ℕ → World → Type 0
+ArePut old new out cores w = ArePutFirst old.told new.told out cores w cores × (new.failed ≡ old.failed)
 
--- the logs before core c's were put, and nothing else but what may stand instead of core c's
-pub record ArePutUpTo (told told' : List ℕ → Option (List ℕ)) (out : List ℕ) (cores : ℕ) (w : World) (c : ℕ) : Type 0 where
+-- the put of core c's log failed: the logs before it were put, and nothing else but what may stand in its place
+pub record ArePutUpTo (old new : Files) (out : List ℕ) (cores : ℕ) (w : World) (c : ℕ) : Type 0 where
   pub core : c < cores
-  pub logs : TellsFirst told' out cores w c
-  pub others : KeepsOthers told told' out (c + 1)
+  pub logs : TellsFirst new.told out cores w c
+  pub others : KeepsOthers old.told new.told out (c + 1)
+  pub failed : Failed old.failed new.failed
 
--- the logs of all cores were put, or those before one
-abbrev pub ArePutAsFar : (List ℕ → Option (List ℕ)) → (List ℕ → Option (List ℕ)) → List ℕ → ℕ → World → Type 0
-ArePutAsFar told told' out cores w = ArePut told told' out cores w ⊎ ((c : ℕ) × ArePutUpTo told told' out cores w c)
+-- memory ran out before the put of core c's log: the logs before it were put, nothing else, and no put failed
+pub record ArePutBefore (old new : Files) (out : List ℕ) (cores : ℕ) (w : World) (c : ℕ) : Type 0 where
+  pub core : c < cores
+  pub put : ArePutFirst old.told new.told out cores w c
+  pub quiet : new.failed ≡ old.failed
+
+-- the logs of all cores were put, or those before one whose put failed or for which memory ran out
+abbrev pub ArePutAsFar : Files → Files → List ℕ → ℕ → World → Type 0
+ArePutAsFar old new out cores w =
+    ArePut old new out cores w
+    ⊎ (((c : ℕ) × ArePutUpTo old new out cores w c) ⊎ ((c : ℕ) × ArePutBefore old new out cores w c))

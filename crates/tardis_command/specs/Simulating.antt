@@ -16,6 +16,7 @@ use Rattle.tardis_core.specs.Parts.{CoreParts, world}
 use Rattle.tardis_core.specs.Works.{log_at}
 use Rattle.simulation.specs.Simulating.{IsSimulated, IsSimulationFault}
 use Rattle.tardis_command.specs.Checking.{IsTextFault}
+use Rattle.tardis_command.specs.Files.{Files}
 use Rattle.tardis_command.specs.Logs.{ArePut, ArePutAsFar, ArePutUpTo}
 use Rattle.tardis_command.specs.declared.fault.CommandFault.{CommandFault}
 use Rattle.tardis_command.specs.declared.fault.CommandFault.TheVariants.{Judge, Config, Programs, ProgramsUnread, Schedule, ScheduleUnread, Simulation, LogUnwritten, Output, OutOfMemory}
@@ -96,24 +97,24 @@ EndsIn asked programs commands Holds = (q : CoreParts) × IsSimulated commands a
 
 -- The number of operations that the programs performed, or why there is none. The configuration is looked at first, then
 -- the programs, then the schedule; what a simulation is refused for is told before a log that can't be written. The
--- folder told `told` before and tells `told'` after: the logs of the machine to which the simulation came. After a log that
+-- folder was `old` before and is `new` after: the logs of the machine to which the simulation came. After a log that
 -- can't be written they are those before it, and after a fault of the simulation all, or those of the first cores.
-abbrev pub IsRun : (List ℕ → Option (List ℕ)) → (List ℕ → Option (List ℕ)) → Sim → Result ℕ CommandFault → Type 0
-IsRun told told' asked (Ok count) =
-    Scheduled told asked (λ programs commands. EndsIn asked programs commands (λ q.
-    (count ≡ performed_below (world q) (length programs)) × ArePut told told' asked.out.now (length programs) (world q)))
-IsRun told told' asked (Err (Config fault)) = first_bad (config_of asked) ≡ Some fault
-IsRun told told' asked (Err (Programs fault)) = (first_bad (config_of asked) ≡ None) × IsTextFault told asked.programs.now fault
-IsRun told told' asked (Err ProgramsUnread) = first_bad (config_of asked) ≡ None
-IsRun told told' asked (Err (Schedule fault)) = Programmed told asked (λ programs. IsFaultOfSchedule told asked.schedule (length programs) fault)
-IsRun told told' asked (Err ScheduleUnread) = Programmed told asked (λ programs. IsSome asked.schedule)
-IsRun told told' asked (Err (Simulation fault)) =
-    Scheduled told asked (λ programs commands. (q : CoreParts)
+abbrev pub IsRun : Files → Files → Sim → Result ℕ CommandFault → Type 0
+IsRun old new asked (Ok count) =
+    Scheduled old.told asked (λ programs commands. EndsIn asked programs commands (λ q.
+    (count ≡ performed_below (world q) (length programs)) × ArePut old new asked.out.now (length programs) (world q)))
+IsRun old new asked (Err (Config fault)) = first_bad (config_of asked) ≡ Some fault
+IsRun old new asked (Err (Programs fault)) = (first_bad (config_of asked) ≡ None) × IsTextFault old.told asked.programs.now fault
+IsRun old new asked (Err ProgramsUnread) = first_bad (config_of asked) ≡ None
+IsRun old new asked (Err (Schedule fault)) = Programmed old.told asked (λ programs. IsFaultOfSchedule old.told asked.schedule (length programs) fault)
+IsRun old new asked (Err ScheduleUnread) = Programmed old.told asked (λ programs. IsSome asked.schedule)
+IsRun old new asked (Err (Simulation fault)) =
+    Scheduled old.told asked (λ programs commands. (q : CoreParts)
     × IsSimulationFault commands asked.seed (opening_parts programs (config_of asked)) q fault
-    × ArePutAsFar told told' asked.out.now (length programs) (world q))
-IsRun told told' asked (Err (LogUnwritten file)) =
-    Scheduled told asked (λ programs commands. EndsIn asked programs commands (λ q.
-    ArePutUpTo told told' asked.out.now (length programs) (world q) file))
-IsRun told told' asked (Err OutOfMemory) = ⊤
-IsRun told told' asked (Err (Judge fault)) = ⊥
-IsRun told told' asked (Err Output) = ⊥
+    × ArePutAsFar old new asked.out.now (length programs) (world q))
+IsRun old new asked (Err (LogUnwritten file)) =
+    Scheduled old.told asked (λ programs commands. EndsIn asked programs commands (λ q.
+    ArePutUpTo old new asked.out.now (length programs) (world q) file))
+IsRun old new asked (Err OutOfMemory) = ⊤
+IsRun old new asked (Err (Judge fault)) = ⊥
+IsRun old new asked (Err Output) = ⊥

@@ -4,13 +4,14 @@ ghost use Rattle.std.specs.Prelude.{◌≡◌, IfOk};
 ghost use Rattle.command_line.specs.Asking.{texts};
 ghost use Rattle.tardis_command.specs.Answers.{answer_status};
 ghost use Rattle.tardis_command.specs.Endings as endings;
+ghost use Rattle.tardis_command.specs.Files.{files_of};
 
-use crate::answer::Answer;
-use crate::check::check;
-use crate::fault::CommandFault;
-use crate::folder::Folder;
-use crate::output::{print_answer, refuse, tell};
-use crate::run::run;
+use super::answer::Answer;
+use super::check::check;
+use super::fault::CommandFault;
+use super::folder::Folder;
+use super::output::{print_answer, refuse, tell};
+use super::run::run;
 use command_line::{Refusal, Request, read};
 use log_file::ByteSink;
 use std::alloc::Global;
@@ -32,7 +33,8 @@ pub fn command<R: Threads + Sync, F: Folder, O: ByteSink, E: ByteSink>(
     err: &mut E,
 ) -> u8
     ensures ends { (ending : endings.Ending) × (result ≡ endings.status_of ending)
-        × endings.EndsBy (F.told folder.old) (F.told folder.new) (texts words.entry.now)
+        × endings.EndsBy (files_of F.told F.failed folder.old)
+        (files_of F.told F.failed folder.new) (texts words.entry.now)
         (endings.sink_of O.contents O.failed out.old)
         (endings.sink_of O.contents O.failed out.new)
         (endings.sink_of E.contents E.failed err.old)
@@ -69,7 +71,8 @@ fn perform<R: Threads + Sync, F: Folder, O: ByteSink>(
     out: &mut O,
 ) -> Result<u8, CommandFault>
     ensures exact { (ending : endings.Ending) × endings.IsAnswered ending result
-        × endings.IsDoneBy (F.told folder.old) (F.told folder.new) request.now
+        × endings.IsDoneBy (files_of F.told F.failed folder.old)
+        (files_of F.told F.failed folder.new) request.now
         (endings.sink_of O.contents O.failed out.old)
         (endings.sink_of O.contents O.failed out.new) ending }
     ensures files { endings.KeepsFiles (F.told folder.old) (F.told folder.new)
@@ -91,7 +94,8 @@ fn answer<R: Threads + Sync, F: Folder>(
     request: &Request<'_>,
     folder: &mut F,
 ) -> Result<Answer, CommandFault>
-    ensures exact { endings.IsAnswerTo (F.told folder.old) (F.told folder.new) request.now result }
+    ensures exact { endings.IsAnswerTo (files_of F.told F.failed folder.old)
+        (files_of F.told F.failed folder.new) request.now result }
     ensures files { endings.KeepsFiles (F.told folder.old) (F.told folder.new)
         (endings.IsLogName request.now) }
     ensures sound { IfOk result (λ answer. answer_status answer ≡ 0

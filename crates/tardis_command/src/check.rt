@@ -4,10 +4,10 @@ ghost use Rattle.std.specs.Prelude.{IfErr, IfOk, None, Some, length};
 ghost use Rattle.verdict.specs.Judgement.{IsYes};
 ghost use Rattle.tardis_command.specs.Checking as checking;
 
-use crate::fault::CommandFault;
-use crate::folder::Folder;
-use crate::gate::OpenGate;
-use crate::text::read_programs;
+use super::fault::CommandFault;
+use super::folder::Folder;
+use super::gate::OpenGate;
+use super::text::read_programs;
 use command_line::Check;
 use core_program::ProgramSet;
 use std::alloc::Global;
@@ -68,12 +68,12 @@ fn judge_run_files<R: Threads + Sync, F: Folder>(
     programs: &ProgramSet,
 ) -> Result<Verdict, JudgeFault>
     requires { checking.AreInRange asked.now }
-    ensures exact { checking.IsCheckedAgainst (F.told folder.now) (Some programs.now) asked.now
+    ensures exact { checking.IsCheckedAgainst (F.told folder.now) (Some programs.now.programs) asked.now
         result }
     ensures sound { IfOk result (λ verdict. IsYes verdict
         → checking.FilesAreConsistent (F.told folder.now) asked.now) }
     ensures flat { IfOk result (λ verdict. IsYes verdict
-        → checking.FilesRunFlatBy (F.told folder.now) asked.now (Some programs.now)) }
+        → checking.FilesRunFlatBy (F.told folder.now) asked.now (Some programs.now.programs)) }
 {
     let mut sources = open_all(alloc, folder, asked.files.as_slice())?;
     let workers = asked.workers as usize;

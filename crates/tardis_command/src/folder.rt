@@ -1,7 +1,7 @@
 //! Files by their names.
 
 ghost use Rattle.std.specs.Prelude.{◌≡◌, ◌≢◌, ℕ, List, Option, None, Some, IfOk, IfSome, OnOk};
-ghost use Rattle.log_file.specs.Devices.{Tells};
+ghost use Rattle.log_file.specs.Devices.{CountsFailure, Tells};
 
 use log_file::{ByteSource, ReadFailed, WriteFailed};
 
@@ -9,6 +9,9 @@ use log_file::{ByteSource, ReadFailed, WriteFailed};
 pub trait Folder {
     /// The bytes of the file of a name, where the folder tells them.
     ghost told: { Self → List ℕ → Option (List ℕ) } = { λ _ _. None };
+
+    /// How many puts have failed: at most 18,446,744,073,709,551,615 are counted.
+    ghost failed: { Self → ℕ };
 
     /// A file that was opened, at its first byte.
     type Source: ByteSource + Drop;
@@ -24,5 +27,6 @@ pub trait Folder {
     fn put(&mut self, name: &str, bytes: &[u8]) -> Result<(), WriteFailed>
         ensures bytes { OnOk result (Tells (told self.new name.now) bytes.now) }
         ensures others { (other : List ℕ) → other ≢ name.now
-            → told self.new other ≡ told self.old other };
+            → told self.new other ≡ told self.old other }
+        ensures counts { CountsFailure (failed self.old) (failed self.new) result };
 }

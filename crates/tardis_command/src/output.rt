@@ -8,8 +8,8 @@ ghost use Rattle.tardis_command.specs.Faults as faults;
 ghost use Rattle.tardis_command.specs.inner.Printing as printing;
 ghost use Rattle.tardis_command.specs.declared.fault.CommandFault.TheVariants.{OutOfMemory};
 
-use crate::answer::Answer;
-use crate::fault::CommandFault;
+use super::answer::Answer;
+use super::fault::CommandFault;
 use log_file::{ByteSink, write_all};
 use std::alloc::Global;
 

@@ -1,17 +1,20 @@
 //! Programs run on the core machine.
 
 ghost use Rattle.std.specs.Prelude.{◌≡◌, ◌≢◌, ◌≤◌, ◌<◌, ℕ, List, length, IfErr, IfOk, OnOk, MatchResult, None, Some};
+ghost use Rattle.mem_op.specs.Limits.{operation_limit};
 ghost use Rattle.lease_rule.specs.Ranges.{first_bad};
 ghost use Rattle.log_file.specs.Devices.{Tells};
-ghost use Rattle.log_file.specs.Log.{spelling};
+ghost use Rattle.log_file.specs.Log.{spelling, first_format};
 ghost use Rattle.tardis_core.specs.Parts.{world};
 ghost use Rattle.tardis_core.specs.Works.{log_at};
+ghost use Rattle.tardis_command.specs.Files.{files_of};
 ghost use Rattle.tardis_command.specs.Logs as logs;
 ghost use Rattle.tardis_command.specs.Simulating as simulating;
+ghost use Rattle.tardis_command.specs.inner.Putting.{IsUnput};
 
-use crate::fault::CommandFault;
-use crate::folder::Folder;
-use crate::text::{read_programs, read_text};
+use super::fault::CommandFault;
+use super::folder::Folder;
+use super::text::{read_programs, read_text};
 use command_line::Sim;
 use lease_rule::{BadConfig, Config};
 use log_file::{MemSink, ReadFault, write_log};
@@ -34,7 +37,8 @@ pub(crate) fn run<F: Folder>(
     folder: &mut F,
     asked: &Sim<'_>,
 ) -> Result<u64, CommandFault>
-    ensures exact { simulating.IsRun (F.told folder.old) (F.told folder.new) asked.now result }
+    ensures exact { simulating.IsRun (files_of F.told F.failed folder.old)
+        (files_of F.told F.failed folder.new) asked.now result }
     ensures files { logs.KeepsOthers (F.told folder.old) (F.told folder.new) asked.now.out.now 64 }
 {
     let config = config_of(asked)?;
@@ -105,18 +109,17 @@ fn write_logs<F: Folder>(
     requires { cores ≤ 64 }
     ensures ok { IfOk result (λ count.
         count ≡ simulating.performed_below (world machine.now) cores) }
-    ensures logs { OnOk result (logs.ArePut (F.told folder.old) (F.told folder.new) out.now cores
-        (world machine.now)) }
-    ensures err { IfErr result (simulating.IsUnwritten (logs.ArePutUpTo (F.told folder.old)
-        (F.told folder.new) out.now cores (world machine.now))) }
-    ensures far { logs.ArePutAsFar (F.told folder.old) (F.told folder.new) out.now cores
-        (world machine.now) }
+    ensures logs { OnOk result (logs.ArePut (files_of F.told F.failed folder.old)
+        (files_of F.told F.failed folder.new) out.now cores (world machine.now)) }
+    ensures err { IfErr result (simulating.IsUnwritten (logs.ArePutUpTo
+        (files_of F.told F.failed folder.old) (files_of F.told F.failed folder.new)
+        out.now cores (world machine.now))) }
+    ensures far { logs.ArePutAsFar (files_of F.told F.failed folder.old)
+        (files_of F.told F.failed folder.new) out.now cores (world machine.now) }
 {
     let mut count = 0;
     for number in 0..cores {
-        let Ok(core) = CoreId::new(number as u64) else {
-            unreachable!()
-        };
+        let core = CoreId::at(number);
         let records = log_of(machine, core);
         write_log_of(alloc, folder, out, core, cores, records)?;
         count += records.len() as u64;
@@ -127,7 +130,7 @@ fn write_logs<F: Folder>(
 /// The records of a core.
 fn log_of(machine: &Core, core: CoreId) -> &[Record]
     ensures records { result.now ≡ log_at (world machine.now) core }
-    ensures few { length result.now ≤ 1048576 }
+    ensures few { length result.now ≤ operation_limit }
 {
     let Some(unit) = machine.unit(core) else {
         return &[];
@@ -146,12 +149,14 @@ fn write_log_of<F: Folder>(
 ) -> Result<(), CommandFault>
     requires core { core < cores }
     requires cores { cores ≤ 64 }
-    requires few { length records.now ≤ 1048576 }
+    requires few { length records.now ≤ operation_limit }
     ensures ok { OnOk result (Tells (F.told folder.new (logs.log_name out.now core))
-        (spelling core cores records.now)) }
+        (spelling first_format core cores records.now)) }
     ensures others { (name : List ℕ) → name ≢ logs.log_name out.now core
         → F.told folder.new name ≡ F.told folder.old name }
-    ensures err { IfErr result (simulating.IsUnwritten (λ file. file ≡ core)) }
+    ensures quiet { OnOk result (F.failed folder.new ≡ F.failed folder.old) }
+    ensures err { IfErr result (IsUnput (files_of F.told F.failed folder.old)
+        (files_of F.told F.failed folder.new) core) }
 {
     let name = format!(in alloc; "{out}.{}", core.get())?;
     let mut text = MemSink::new(alloc, &[]);

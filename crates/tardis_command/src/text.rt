@@ -5,8 +5,8 @@ ghost use Rattle.core_program.specs.Answers.{SpellsSet};
 ghost use Rattle.log_file.specs.Devices.{Tells};
 ghost use Rattle.tardis_command.specs.Checking as checking;
 
-use crate::fault::CommandFault;
-use crate::folder::Folder;
+use super::fault::CommandFault;
+use super::folder::Folder;
 use core_program::ProgramSet;
 use log_file::{ReadFault, read_all};
 use std::alloc::Global;
@@ -32,7 +32,7 @@ pub(crate) fn read_programs<F: Folder>(
     name: &str,
 ) -> Result<ProgramSet, CommandFault>
     ensures ok { IfOk result (λ programs. (text : List ℕ) × Tells (F.told folder.now name.now) text
-        × SpellsSet text programs) }
+        × SpellsSet text programs.programs) }
     ensures err { IfErr result (checking.IsUnprogrammed (F.told folder.now) name.now) }
 {
     let text = match read_text(alloc, folder, name) {

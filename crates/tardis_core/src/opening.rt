@@ -20,8 +20,8 @@ impl Core {
     /// The machine with each core at the start of its program and all slices empty; 10 OutOfMemory
     /// alone is refused.
     pub fn new(alloc: Global, programs: &ProgramSet, config: &Config) -> Result<Core, CoreFault>
-        ensures parts { IfOk result (λ m. m ≡ opening_parts programs.now config.now) }
-        ensures opening { IfOk result (λ m. world m ≡ opening programs.now config.now.slices) }
+        ensures parts { IfOk result (λ m. m ≡ opening_parts programs.now.programs config.now) }
+        ensures opening { IfOk result (λ m. world m ≡ opening programs.now.programs config.now.slices) }
         ensures refused { IfErr result (λ fault. is_memory fault ≡ true) }
     {
         let seats = seats_of(alloc, programs, config)?;
@@ -36,7 +36,7 @@ impl Core {
 
 // A seat for each core at the start of its program.
 fn seats_of(alloc: Global, programs: &ProgramSet, config: &Config) -> Result<Vec<Seat>, CoreFault>
-    ensures seats { IfOk result (λ seats. seats.items ≡ new_seats config.now 0 programs.now) }
+    ensures seats { IfOk result (λ seats. seats.items ≡ new_seats config.now 0 programs.now.programs) }
     ensures refused { IfErr result (λ fault. is_memory fault ≡ true) }
 {
     let mut seats = Vec::new(alloc);

@@ -31,10 +31,10 @@ pub fn run(
     events: &[Event],
 ) -> Result<Core, RunFault>
     ensures run { IfOk result
-        (λ m. Run config.now (opening programs.now config.now.slices) events.now (world m)) }
+        (λ m. Run config.now (opening programs.now.programs config.now.slices) events.now (world m)) }
     ensures reached { IfOk result
-        (λ m. run_from (opening_parts programs.now config.now) events.now ≡ Some m) }
-    ensures refused { IfErr result (λ r. IsRunFault programs.now config.now events.now r) }
+        (λ m. run_from (opening_parts programs.now.programs config.now) events.now ≡ Some m) }
+    ensures refused { IfErr result (λ r. IsRunFault programs.now.programs config.now events.now r) }
 {
     let mut machine = match Core::new(alloc, programs, config) {
         Ok(machine) => machine,

@@ -21,7 +21,7 @@ use Rattle.address_check.specs.declared.fault.AddressFault.{AddressFault}
 use Rattle.address_check.specs.FaultOrder.{fault_cmp}
 use Rattle.address_check.specs.AddressFaults.{address_fault, address_faults, least_address_fault}
 use Rattle.verdict.specs.declared.answer.Verdict.TheVariants.{Yes, No}
-use Rattle.verdict.specs.inner.ByKey.{ids_by_key}
+use Rattle.verdict.specs.ByKey.{ids_by_key}
 use Rattle.verdict.specs.Faults.{from_core, from_address}
 use Rattle.verdict.specs.FlatMachine.{RunsFlat}
 use Rattle.verdict.specs.VerdictOf.{verdict_of, least_run_fault, run_verdict_of}

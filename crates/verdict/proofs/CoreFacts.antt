@@ -7,13 +7,13 @@ use Rattle.std.proofs.Common.{sym, ◌∙◌, ap, subst, inl, inr, arith, get_or
 use Rattle.std.proofs.lemmas.Bool.{eqb-true, eq-eqb, false_from_ne_true, cases_lt}
 use Rattle.std.proofs.lemmas.List.{append-nil, take_more}
 use Rattle.line_stamps.specs.Least.{least_of, lesser}
-use Rattle.line_stamps.specs.inner.Ordered.{In, IsLeastIn}
+use Rattle.line_stamps.specs.Ordered.{In, IsLeastIn}
 use Rattle.line_stamps.proofs.Ordered.{In-append_left, In-append_right, In-filter, In-filtered, In-flat_map, flat_map-In, least_is, one_least, same_least}
 use Rattle.log_record.specs.declared.record.Record.{Record}
 use Rattle.core_check.specs.declared.fault.RuleFault.{RuleFault}
 use Rattle.core_check.specs.FaultOrder.{core_fault_cmp, rule_number}
 use Rattle.core_check.specs.CoreOrder.{is_core_fault}
-use Rattle.core_program.specs.inner.Least.{IsLeastWhere}
+use Rattle.core_program.specs.Least.{IsLeastWhere}
 use Rattle.core_check.specs.CoreFaults.{order_fault, order_faults}
 use Rattle.core_check.proofs.FaultFacts.{core_fault_total, tied_core_faults}
 use Rattle.core_check.proofs.OrderFaultFacts.{FaultIn, fault_of_log, fault_in_log}

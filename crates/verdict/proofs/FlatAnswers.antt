@@ -8,8 +8,8 @@ use Rattle.std.proofs.lemmas.Bool.{and_parts, and_from, eqb-true, false_from_ne_
 use Rattle.std.proofs.lemmas.List.{take-map, map-append}
 use Rattle.std.proofs.lemmas.Option.{slice_get-map}
 use Rattle.mem_op.specs.declared.id.Source.{Source}
-use Rattle.mem_op.specs.Consistency.{Operation, Loaded, operation_at, is_store_to, value_of, value_or_zero, last_value, GivesFlatAnswers}
-use Rattle.line_stamps.specs.inner.Ordered.{In, IsGreatest}
+use Rattle.mem_op.specs.Consistency.{Operation, Loaded, operation_at, is_store_to, word_left, value_or_zero, last_value, GivesFlatAnswers}
+use Rattle.line_stamps.specs.Ordered.{In, IsGreatest}
 use Rattle.line_stamps.proofs.Order.{lt_cases}
 use Rattle.line_stamps.proofs.Ordered.{reverse-cons, In-slice_get, In-take, In-from_sorted, Ascends-take, before_from_take, take_from_before, last_is_greatest, greatest_from_least}
 use Rattle.log_record.specs.declared.record.Record.{Record}
@@ -21,7 +21,7 @@ use Rattle.log_record.proofs.EntryFacts.{record_of_entry, same_record, operation
 use Rattle.address_check.specs.declared.fault.AddressRule.TheVariants.{Source as WrongSource, Value as WrongValue}
 use Rattle.address_check.specs.AddressFaults.{is_store, is_earlier_store, right_store, is_source, value_from, broken_rule, fault_by, act_fault, address_fault}
 use Rattle.address_check.proofs.Totals.{entry_total}
-use Rattle.verdict.specs.inner.ByKey.{by_key, ids_by_key}
+use Rattle.verdict.specs.ByKey.{by_key, ids_by_key}
 use Rattle.verdict.proofs.SerialOrder.{tied_id, by_key-ascends, in_set_by_key}
 
 -- no load of the set has a fault of source or value
@@ -63,7 +63,7 @@ find-map {X} {Y} p f (x ∷ xs) = go (p (f x)) (find-map p f xs)
     go true h = refl
     go false h = h
 
-value_of_operation : (act : Act) (addr value : ℕ) → value_of (operation_by act addr value) ≡ value
+value_of_operation : (act : Act) (addr value : ℕ) → word_left (operation_by act addr value) ≡ value
 value_of_operation (Load source) addr value = refl
 value_of_operation Store addr value = refl
 

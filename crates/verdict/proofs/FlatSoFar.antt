@@ -9,17 +9,17 @@ use Rattle.std.proofs.lemmas.List.{get_or-set_same, get_or-set_other, length-set
 use Rattle.std.proofs.lemmas.List.Elements.{filter_map-append}
 use Rattle.std.proofs.lemmas.Option.{slice_get_within}
 use Rattle.mem_op.specs.declared.id.OpId.{OpId}
-use Rattle.mem_op.specs.Consistency.{Operation, Loaded, Stored, operation_at, is_store_to, value_of, value_or_zero, last_value, GivesFlatAnswers}
+use Rattle.mem_op.specs.Consistency.{Operation, Loaded, Stored, operation_at, is_store_to, word_left, value_or_zero, last_value, GivesFlatAnswers}
 use Rattle.log_record.specs.declared.record.Record.{Record}
 use Rattle.log_record.specs.declared.record.Act.{Act}
 use Rattle.log_record.specs.declared.record.Act.TheVariants.{Load, Store}
 use Rattle.log_record.specs.Entries.{operation_by, operation_of, operations_of, record_at, record_lists}
 use Rattle.log_record.proofs.EntryFacts.{operation_at-operations_of}
 
-pub last_value-push : (addr : ℕ) (xs : List Operation) (y : Operation) → last_value addr (xs ++ y ∷ []) ≡ cond (is_store_to addr y) (value_of y) (last_value addr xs)
+pub last_value-push : (addr : ℕ) (xs : List Operation) (y : Operation) → last_value addr (xs ++ y ∷ []) ≡ cond (is_store_to addr y) (word_left y) (last_value addr xs)
 last_value-push addr xs y = ap (λ l. value_or_zero (find (is_store_to addr) l)) (reverse-append xs (y ∷ [])) ∙ go (is_store_to addr y)
   where
-    go : (b : Bool) → value_or_zero (cond b (Some y) (find (is_store_to addr) (reverse xs))) ≡ cond b (value_of y) (last_value addr xs)
+    go : (b : Bool) → value_or_zero (cond b (Some y) (find (is_store_to addr) (reverse xs))) ≡ cond b (word_left y) (last_value addr xs)
     go true = refl
     go false = refl
 
@@ -131,7 +131,7 @@ flat_load logs order k words addr memory id r source h l at e s p w v =
       flat = flat_push (operations_done logs (take k order)) (operation_of r) h.flat (λ a u q.
           let t = loaded_parts r.addr r.value a u (sym y ∙ q) in
           sym t.1 ∙ sym v ∙ h.memory_is addr w ∙ ap (λ z. last_value z (operations_done logs (take k order))) (p ∙ t.0));
-      memory_is = λ a b. h.memory_is a b ∙ sym (last_value-push a (operations_done logs (take k order)) (operation_of r) ∙ ap (λ x. cond x (value_of (operation_of r)) (last_value a (operations_done logs (take k order)))) (not_store a r.addr r.value (operation_of r) y));
+      memory_is = λ a b. h.memory_is a b ∙ sym (last_value-push a (operations_done logs (take k order)) (operation_of r) ∙ ap (λ x. cond x (word_left (operation_of r)) (last_value a (operations_done logs (take k order)))) (not_store a r.addr r.value (operation_of r) y));
       size = h.size;
     })
 

@@ -7,7 +7,7 @@ use Rattle.std.proofs.lemmas.List.{append-nil}
 use Rattle.std.proofs.lemmas.List.Elements.{filter-append}
 use Rattle.std.specs.declared.cmp.Ordering.{Ordering}
 use Rattle.line_stamps.specs.Least.{least_of, lesser}
-use Rattle.line_stamps.specs.inner.Ordered.{In}
+use Rattle.line_stamps.specs.Ordered.{In}
 use Rattle.line_stamps.proofs.Ordered.{In-append}
 use Rattle.line_stamps.proofs.Joined.{least_of-append}
 use Rattle.log_record.specs.declared.record.Record.{Record}

@@ -12,7 +12,7 @@ use Rattle.std.proofs.lemmas.Bool.Decides.{nat_tests}
 use Rattle.std.proofs.lemmas.Option.{slice_get_within, slice_get-get_or}
 use Rattle.mem_op.specs.declared.id.OpId.{OpId}
 use Rattle.mem_op.specs.Consistency.{KeepsProgramOrder}
-use Rattle.line_stamps.specs.inner.Ordered.{In}
+use Rattle.line_stamps.specs.Ordered.{In}
 use Rattle.line_stamps.proofs.Order.{lt_irrefl, not_lt_trans}
 use Rattle.line_stamps.proofs.Ordered.{AllPairs-from_each, EachPair-map}
 use Rattle.log_record.specs.declared.record.Record.{Record}
@@ -21,7 +21,7 @@ use Rattle.log_record.specs.Entries.{entry_cmp, entries, record_at}
 use Rattle.log_record.proofs.EntryFacts.{at, record_of_entry, entry_of_record}
 use Rattle.core_check.specs.CoreOrder.{stamp_cmp, falls, is_core_fault}
 use Rattle.core_check.specs.CoreFaults.{breaks_core_order}
-use Rattle.verdict.specs.inner.ByKey.{by_key, ids_by_key}
+use Rattle.verdict.specs.ByKey.{by_key, ids_by_key}
 use Rattle.verdict.proofs.SerialOrder.{by_key-ascends, in_set_by_key}
 
 -- (ts, rank) falls along no core

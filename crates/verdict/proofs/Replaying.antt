@@ -13,7 +13,7 @@ use Rattle.std.proofs.lemmas.Option.{slice_get_cases, slice_get_past}
 use Rattle.mem_op.specs.Consistency.{is_same_id, KeepsProgramOrder, IsSerialOrder, operation_at}
 use Rattle.log_record.specs.declared.record.Record.{Record}
 use Rattle.log_record.specs.Entries.{operation_of, operations_of, record_at, record_lists}
-use Rattle.line_stamps.specs.inner.Ordered.{In, EachPair}
+use Rattle.line_stamps.specs.Ordered.{In, EachPair}
 use Rattle.line_stamps.proofs.Ordered.{In-get_or, AllPairs-from_each}
 use Rattle.log_record.proofs.EntryFacts.{operation_at-operations_of, one_if, EachPair-append, same_id-true, same_id-refl}
 use Rattle.verdict.specs.inner.EachId.{CountsEach}

@@ -8,7 +8,7 @@ use Rattle.std.proofs.lemmas.Bool.{false_from_ne_true}
 use Rattle.mem_op.specs.declared.id.OpId.{OpId}
 use Rattle.mem_op.specs.Consistency.{is_same_id, IsSerialOrder}
 use Rattle.line_stamps.specs.KeyParts.{KeyParts}
-use Rattle.line_stamps.specs.inner.Ordered.{In, Ascends}
+use Rattle.line_stamps.specs.Ordered.{In, Ascends}
 use Rattle.line_stamps.proofs.Keys.{tied_keys}
 use Rattle.line_stamps.proofs.Order.{lt_irrefl}
 use Rattle.line_stamps.proofs.Ordered.{In-map, In-mapped, In-sorted, In-from_sorted, EachPair-map, Ascends-sorted}
@@ -18,7 +18,7 @@ use Rattle.log_record.specs.Entries.{key_of, entry_cmp, operation_of, operations
 use Rattle.log_record.proofs.EntryFacts.{at, same_id, same_id-true, same_id-refl, record_of_entry, entry_of_record, same_record, Apart, apart, count_none, count_one, operation_at-operations_of}
 use Rattle.address_check.proofs.Pairs.{EachPair-weaken}
 use Rattle.address_check.proofs.Totals.{entry_total}
-use Rattle.verdict.specs.inner.ByKey.{by_key, ids_by_key}
+use Rattle.verdict.specs.ByKey.{by_key, ids_by_key}
 
 -- entries that tie have one id
 pub tied_id : (a b : Entry) → entry_cmp a b ≡ Equal → a.id ≡ b.id

@@ -5,13 +5,14 @@ use Rattle.std.specs.List.{flat_map}
 use Rattle.line_stamps.specs.Least.{least_of}
 use Rattle.log_record.specs.declared.record.Record.{Record}
 use Rattle.core_program.specs.declared.instruction.Instruction.{Instruction}
+use Rattle.core_program.specs.SetParts.{SetParts}
 use Rattle.core_check.specs.declared.fault.RuleFault.{RuleFault}
 use Rattle.core_check.specs.FaultOrder.{core_fault_cmp}
 use Rattle.core_check.specs.CoreFaults.{order_faults, program_faults}
 
 -- the programs that a reference leads to, where it is given
-abbrev pub given : Option (Bor (List (List Instruction))) → Option (List (List Instruction))
-given = option_map (λ programs. programs.now)
+abbrev pub given : Option (Bor SetParts) → Option (List (List Instruction))
+given = option_map (λ set. set.now.programs)
 
 -- the faults against the programs of a set's cores, where they are given
 abbrev pub faults_by_programs : Option (List (List Instruction)) → List (List Record) → List RuleFault

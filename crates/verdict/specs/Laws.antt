@@ -7,7 +7,7 @@ use Rattle.core_program.specs.declared.instruction.Instruction.{Instruction}
 use Rattle.verdict.specs.declared.answer.Verdict.{Verdict}
 use Rattle.verdict.specs.declared.answer.Verdict.TheVariants.{Yes}
 use Rattle.verdict.specs.declared.judge_fault.JudgeFault.{JudgeFault}
-use Rattle.verdict.specs.inner.ByKey.{ids_by_key}
+use Rattle.verdict.specs.ByKey.{ids_by_key}
 use Rattle.verdict.specs.Judgement.{IsAnswerBy, IsOfTexts}
 use Rattle.verdict.specs.VerdictOf.{verdict_of, run_verdict_of}
 

@@ -1,7 +1,8 @@
 //! The check of the logs of a set, each core alone.
 
 ghost use Rattle.std.specs.Prelude.{◌≡◌, ◌<◌, ◌≤◌, ℕ, IfOk, length, refl};
-ghost use Rattle.line_stamps.specs.inner.Ordered.{In};
+ghost use Rattle.mem_op.specs.Limits.{operation_limit};
+ghost use Rattle.line_stamps.specs.Ordered.{In};
 ghost use Rattle.core_check.specs.CoreFaults.{order_faults};
 ghost use Rattle.core_check.specs.FaultOrder.{core_fault_cmp};
 ghost use Rattle.line_stamps.specs.Least.{least_of};
@@ -38,10 +39,7 @@ impl<'a> CoreCheck<'a> {
     {
         let mut cores = Vec::new(alloc);
         for number in 0..self.logs.len() {
-            let Ok(core) = CoreId::new(number as u64) else {
-                unreachable!()
-            };
-            cores.push(core)?;
+            cores.push(CoreId::at(number))?;
         }
         Ok(cores)
     }
@@ -94,12 +92,10 @@ impl<'a> CoreCheck<'a> {
 
 /// The fault at an index of a core's log.
 fn fault_at(rule: CoreRule, core: CoreId, index: usize) -> RuleFault
-    requires { index < 1048576 }
+    requires { index < operation_limit }
     ensures { result ≡ record { rule = rule; id = record { core = core; index = index } } }
 {
-    let Ok(index) = OpIndex::new(index as u64) else {
-        unreachable!()
-    };
+    let index = OpIndex::at(index);
     RuleFault {
         rule,
         id: OpId { core, index },

@@ -4,7 +4,7 @@ ghost use Rattle.std.specs.Prelude.{◌≡◌};
 ghost use Rattle.verdict.specs.declared.judge_fault.JudgeFault.TheVariants.{OutOfMemory};
 ghost use Rattle.verdict.specs.SetFaults.{from_set};
 
-use log_file::{Fault, LogFault, SetFault};
+use log_file::{FormatFault, LogFault, SetFault};
 use std::alloc::AllocError;
 use std::fmt;
 use std::fmt::Display;
@@ -45,7 +45,7 @@ pub enum JudgeFault {
     Log {
         file: usize,
         line: u64,
-        fault: Fault,
+        fault: FormatFault,
     },
     /// A growth was refused.
     OutOfMemory,

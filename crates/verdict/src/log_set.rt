@@ -1,6 +1,7 @@
 //! The logs of a set.
 
 ghost use Rattle.std.specs.Prelude.{◌≡◌, ◌≤◌, All, IfSome, length, option_map, slice_get, vec_len};
+ghost use Rattle.mem_op.specs.Limits.{operation_limit};
 ghost use Rattle.log_record.specs.Entries.{record_lists};
 
 use log_record::Record;
@@ -15,6 +16,7 @@ pub(crate) struct LogSet {
 
 impl Model for LogSet {
     ghost use Rattle.std.specs.Prelude.{◌≤◌, List, All, vec_len};
+    ghost use Rattle.mem_op.specs.Limits.{operation_limit};
     ghost use Rattle.log_record.specs.declared.record.Record.{Record};
     ghost use Rattle.log_record.specs.Entries.{record_lists};
 
@@ -23,14 +25,14 @@ impl Model for LogSet {
     ghost view = { λ set. record_lists set.logs.items };
 
     ghost invariant = { λ set. (vec_len set.logs ≤ 64)
-        × All (λ log. vec_len log ≤ 1048576) set.logs.items };
+        × All (λ log. vec_len log ≤ operation_limit) set.logs.items };
 }
 
 impl LogSet {
     /// The set of these logs.
     pub(crate) fn new(logs: Vec<Vec<Record>>) -> LogSet
         requires cores { vec_len logs ≤ 64 }
-        requires records { All (λ log. vec_len log ≤ 1048576) logs.items }
+        requires records { All (λ log. vec_len log ≤ operation_limit) logs.items }
         ensures { result ≡ record_lists logs.items }
     {
         LogSet { logs }
@@ -47,7 +49,7 @@ impl LogSet {
     /// The log of a core, if it is there.
     pub(crate) fn get(&self, core: CoreId) -> Option<&[Record]>
         ensures log { option_map (λ log. log.now) result ≡ slice_get self.now core }
-        ensures short { IfSome result (λ log. length log.now ≤ 1048576) }
+        ensures short { IfSome result (λ log. length log.now ≤ operation_limit) }
     {
         let log = self.logs.get(core.get() as usize)?;
         Some(log.as_slice())
@@ -57,7 +59,7 @@ impl LogSet {
     pub(crate) fn into_logs(self) -> Vec<Vec<Record>>
         ensures logs { record_lists result.items ≡ self }
         ensures cores { vec_len result ≤ 64 }
-        ensures records { All (λ log. vec_len log ≤ 1048576) result.items }
+        ensures records { All (λ log. vec_len log ≤ operation_limit) result.items }
     {
         self.logs
     }

@@ -32,15 +32,15 @@ fn run_answer_to<R: Threads + Sync, S: ByteSource, G: Gate + Sync>(
         ↔ (IsInRange (length readers.old) × IsOutOfRange workers) }
     ensures programs { IsErrOf result (BadConfig Programs)
         ↔ (IsInRange (length readers.old) × IsInRange workers
-        × (length programs.now ≢ length readers.old)) }
+        × (length programs.now.programs ≢ length readers.old)) }
     ensures unread { IfErr result (λ fault. IsBadCount fault → readers.new ≡ readers.old) }
     ensures later { IfErr result (λ fault. AreLaterUnread fault readers.old readers.new) }
     ensures exact { (texts : List (List ℕ)) × TellEach S.remaining readers.old texts
-        × IsRunAnswerTo programs.now texts result }
+        × IsRunAnswerTo programs.now.programs texts result }
     ensures read { IfErr result (λ fault. (file : ℕ) → fault ≡ Read file
         → ReaderFailed S.failed readers.old readers.new file) }
-    ensures each { OnOk result (All IsProgram programs.now
-        × (length programs.now ≡ length readers.old)) }
+    ensures each { OnOk result (All IsProgram programs.now.programs
+        × (length programs.now.programs ≡ length readers.old)) }
 {
     check_counts(readers.len(), workers)?;
     if programs.len() != readers.len() {
@@ -72,7 +72,7 @@ pub fn judge_run<R: Threads + Sync, S: ByteSource, G: Gate + Sync>(
         ↔ (IsInRange (length readers.old) × IsOutOfRange workers) }
     ensures programs { IsErrOf result (BadConfig Programs)
         ↔ (IsInRange (length readers.old) × IsInRange workers
-        × (length programs.now ≢ length readers.old)) }
+        × (length programs.now.programs ≢ length readers.old)) }
     ensures unread { IfErr result (λ fault. IsBadCount fault → readers.new ≡ readers.old) }
     // No file after the one that is refused is read.
     ensures later { IfErr result (λ fault. AreLaterUnread fault readers.old readers.new) }
@@ -80,7 +80,7 @@ pub fn judge_run<R: Threads + Sync, S: ByteSource, G: Gate + Sync>(
     // The readers tell texts, and the answer is the verdict on the set that these spell, against the
     // programs, or their first fault. It names no number of workers.
     ensures exact { (texts : List (List ℕ)) × TellEach S.remaining readers.old texts
-        × IsRunAnswerTo programs.now texts result }
+        × IsRunAnswerTo programs.now.programs texts result }
     ensures read { IfErr result (λ fault. (file : ℕ) → fault ≡ Read file
         → ReaderFailed S.failed readers.old readers.new file) }
 
@@ -90,7 +90,7 @@ pub fn judge_run<R: Threads + Sync, S: ByteSource, G: Gate + Sync>(
 
     // And some whole run of the flat machine performs just its operations, each with its answer.
     ensures flat { (texts : List (List ℕ)) × TellEach S.remaining readers.old texts
-        × IfOk result (λ verdict. IsYes verdict → SpellFlatRun programs.now texts) }
+        × IfOk result (λ verdict. IsYes verdict → SpellFlatRun programs.now.programs texts) }
 {
     run_answer_to(rt, alloc, programs, readers, workers, gate)
 }

@@ -1,7 +1,7 @@
 -- Reading a line from left to right, as functions on its bytes. Private contracts cite these; the public ones
 -- speak of the texts alone.
 use Rattle.std.specs.Prelude.{ℕ, ◌^◌, ◌==◌, nat_lt, if◌then◌else◌, List, Option, Some, None, is_some, codes}
-use Rattle.decimal_text.specs.inner.Reading.{◌>>=◌, after, field_at, last_number}
+use Rattle.decimal_text.specs.Reading.{◌>>=◌, after, field_at, last_number}
 use Rattle.core_program.specs.declared.instruction.Instruction.{Instruction}
 use Rattle.core_program.specs.declared.instruction.Instruction.TheVariants.{Load, Store, StoreRegister, Add, SkipIfZero}
 

@@ -1,7 +1,7 @@
 -- Reading a line from left to right, as functions on its bytes. Private contracts cite these; the public ones
 -- speak of the texts alone.
 use Rattle.std.specs.Prelude.{ℕ, if◌then◌else◌, List, Option, Some, is_some, codes}
-use Rattle.decimal_text.specs.inner.Reading.{◌>>=◌, whole, number_at, after, field_at, last_number}
+use Rattle.decimal_text.specs.Reading.{◌>>=◌, whole, number_at, after, field_at, last_number}
 use Rattle.mem_op.specs.declared.id.Source.{Source}
 use Rattle.mem_op.specs.declared.id.Source.TheVariants as source
 use Rattle.log_record.specs.declared.record.Act.{Act}

@@ -1,7 +1,7 @@
 -- Reading a line from left to right, as functions on its bytes. Private contracts cite these; the public ones
 -- speak of the texts alone.
 use Rattle.std.specs.Prelude.{ℕ, min, nat_lt, if◌then◌else◌, List, Option, Some, None, is_some, option_map, codes}
-use Rattle.decimal_text.specs.inner.Reading.{◌>>=◌, after, field_at, last_number}
+use Rattle.decimal_text.specs.Reading.{◌>>=◌, after, field_at, last_number}
 use Rattle.line_stamps.specs.declared.message.RecallKind.{RecallKind}
 use Rattle.line_stamps.specs.declared.message.RecallKind.TheVariants.{WriteBack, Flush}
 use Rattle.schedule.specs.declared.command.Command.{Command}

@@ -1,5 +1,5 @@
 use Rattle.std.proofs.Common.{◌≡◌, ◌<◌, length}
-use Rattle.decimal_text.specs.inner.Reading.{onward}
+use Rattle.decimal_text.specs.Reading.{onward}
 use Rattle.decimal_text.proofs.number.digits.Given as goal
 
 abbrev pub invariant-loop-rest : goal.invariant-loop-rest

@@ -1,6 +1,6 @@
 use Rattle.std.proofs.Common.{◌≡◌, ℕ, length}
 use Rattle.decimal_text.specs.Numbers.{as_u64}
-use Rattle.decimal_text.specs.inner.Reading.{onward}
+use Rattle.decimal_text.specs.Reading.{onward}
 use Rattle.decimal_text.proofs.number.long_number.Given as goal
 
 abbrev pub invariant-loop-rest : goal.invariant-loop-rest

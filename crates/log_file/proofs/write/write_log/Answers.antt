@@ -3,7 +3,7 @@ use Rattle.std.proofs.Common.{◌++◌, List, [], ℕ, take, length, arith, subs
 use Rattle.std.proofs.lemmas.List.{append-nil}
 use Rattle.std.specs.Io.KnownBytes.{Appends}
 use Rattle.log_record.specs.Line.{record_text, end_text}
-use Rattle.log_file.specs.Log.{begun, spelling, text_of, with_lf}
+use Rattle.log_file.specs.Log.{begun, spelling, text_of, with_lf, first_format}
 use Rattle.log_file.proofs.Devices.{appends_more}
 use Rattle.log_file.proofs.Writing.{IsFront, begun_front, next_front, end_joined, front_taken, line_taken, text_next, fits_next}
 use Rattle.log_file.proofs.write.write_log.Goals as goal
@@ -12,8 +12,8 @@ pub returns-in_err-write_record-clause-begun : goal.returns-in_err-write_record-
 returns-in_err-write_record-clause-begun g c =
     let held = g.W.ByteSink.contents in
     line_taken (held c.args.sink.now) (held c.loop-logged.sink) (held c.write_record.new.sink)
-    (text_of (begun c.args.core c.args.cores (take c.loop-logged.logged-index c.args.records.now)))
-    (with_lf (record_text c.logged-item.result)) (spelling c.args.core c.args.cores c.args.records.now)
+    (text_of (begun first_format c.args.core c.args.cores (take c.loop-logged.logged-index c.args.records.now)))
+    (with_lf (record_text c.logged-item.result)) (spelling first_format c.args.core c.args.cores c.args.records.now)
     (next_front c.args.core c.args.cores c.args.records.now c.loop-logged.logged-index c.logged-item.result c.loop-logged-test.true c.logged-item.is)
     c.loop-logged.invariant.written c.write_record.ensures.begun
 
@@ -31,7 +31,7 @@ loop-logged-preserved g c =
           subst (λ (x : List ℕ). Appends (held c.args.sink.now) (held c.write_record.new.sink) x)
           (sym (text_next core cores records i here c.loop-logged-test.true c.logged-item.is))
           (appends_more (held c.args.sink.now) (held c.loop-logged.sink) (held c.write_record.new.sink)
-          (text_of (begun core cores (take i records))) (with_lf (record_text here)) c.loop-logged.invariant.written told);
+          (text_of (begun first_format core cores (take i records))) (with_lf (record_text here)) c.loop-logged.invariant.written told);
       fits = fits_next records i here c.loop-logged-test.true c.logged-item.is c.loop-logged.invariant.fits c.in_range.ensures;
       quiet = c.in_ok-write_record.ensures.quiet (λ x. cc) ∙ c.loop-logged.invariant.quiet;
     }
@@ -46,8 +46,8 @@ pub returns-clause-begun : goal.returns-clause-begun
 returns-clause-begun g c =
     let held = g.W.ByteSink.contents in
     let records = c.args.records.now in
-    let whole = spelling c.args.core c.args.cores records in
-    let front = text_of (begun c.args.core c.args.cores (take c.loop-logged.logged-index records)) in
+    let whole = spelling first_format c.args.core c.args.cores records in
+    let front = text_of (begun first_format c.args.core c.args.cores (take c.loop-logged.logged-index records)) in
     let line = with_lf (end_text (length records)) in
     let joined = end_joined c.args.core c.args.cores records c.loop-logged.logged-index (omega arith) in
     let all : IsFront (front ++ line) whole = record { rest = []; joined = append-nil (front ++ line) ∙ joined } in

@@ -8,6 +8,6 @@ loop-number-init c = no_core
 
 pub loop-number-preserved : goal.loop-number-preserved
 loop-number-preserved c =
-    let number : c.in-Ok.core ≡ c.loop-number.number = search rules in
+    let number : c.at.result ≡ c.loop-number.number = search rules in
     one_more c.loop-number.number c.loop-number.machine c.finish.new.machine c.loop-number.invariant
     (subst (λ (n : ℕ). IsFinished n c.loop-number.machine c.finish.new.machine) number c.in_ok-finish.ensures.finish)

@@ -10,7 +10,7 @@ returns-in_err-check_counts-clause-exact g c =
     let texts = map (λ reader. told (g.S.ByteSource.remaining reader)) c.args.readers.now in (
       texts,
       each_tells g.S.ByteSource.remaining c.args.readers.now,
-      refusal_answers (run_verdict_of c.args.programs.now) texts c.from_residual.result c.in_err-check_counts.field-0.0 c.from_residual.ensures.1 c.in_err-check_counts.ensures.err,
+      refusal_answers (run_verdict_of c.args.programs.now.programs) texts c.from_residual.result c.in_err-check_counts.field-0.0 c.from_residual.ensures.1 c.in_err-check_counts.ensures.err,
     )
 
 pub returns-then-len-readers-clause-exact : goal.returns-then-len-readers-clause-exact

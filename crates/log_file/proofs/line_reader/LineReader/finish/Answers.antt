@@ -6,11 +6,11 @@ use Rattle.log_file.proofs.line_reader.LineReader.finish.Goals as goal
 pub returns-in-Header : goal.returns-in-Header
 returns-in-Header c = λ records stands.
     let s = c.args.self.now in
-    ends_in_header s.progress.core s.progress.cores s.begun.items records s.progress.phase
+    ends_in_header s.progress.core s.progress.cores s.begun.items records s.progress.stage
     (search rules) stands.one stands.short
 
 pub returns-in-Records : goal.returns-in-Records
 returns-in-Records c = λ records stands.
     let s = c.args.self.now in
-    ends_in_records s.progress.core s.progress.cores s.progress.count s.begun.items records s.progress.phase
+    ends_in_records s.progress.core s.progress.cores s.progress.count s.begun.items records s.progress.stage
     (search rules) stands.sound stands.count stands.one stands.short

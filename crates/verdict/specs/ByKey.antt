@@ -1,7 +1,7 @@
 -- The records of a set in the order of their keys.
 use Rattle.std.specs.Prelude.{List, map}
 use Rattle.mem_op.specs.declared.id.OpId.{OpId}
-use Rattle.line_stamps.specs.inner.Ordered.{sorted}
+use Rattle.line_stamps.specs.Ordered.{sorted}
 use Rattle.log_record.specs.declared.record.Record.{Record}
 use Rattle.log_record.specs.declared.record.Entry.{Entry}
 use Rattle.log_record.specs.Entries.{entries, entry_cmp}

@@ -1,2 +1,0 @@
--- Definitions that serve mostly private contracts; a few of them stand under public clauses too.
-pub mod Reading
