@@ -1,0 +1,6 @@
+-- The texts so far are those of the words so far.
+use Rattle.std.proofs.Common.{◌≡◌, map, take, string_bytes}
+use Rattle.tardis.proofs.words.texts.Given as goal
+
+abbrev pub invariant-loop-word : goal.invariant-loop-word
+invariant-loop-word l = map (λ text. text.now) l.texts.items ≡ map string_bytes (take l.word-index l.words)
