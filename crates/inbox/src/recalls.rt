@@ -1,0 +1,38 @@
+//! The recalls that wait for a core.
+
+ghost use Rattle.std.specs.Prelude.{◌≡◌, ◌≤◌, IfErr};
+
+use crossbeam_queue::ArrayQueue;
+use line_stamps::Recall;
+use std::alloc::{AllocError, Global};
+use std::sync::Wait;
+
+/// The recalls that wait for a core, which any thread may offer and the core's own thread takes. A recall is a hint: no promise
+/// rests on its delivery or order.
+#[derive(Drop)]
+pub struct Inbox {
+    queue: ArrayQueue<Recall>,
+}
+
+impl Inbox {
+    /// An empty inbox, for at most this many recalls; the caller owes room for one at least. 10 OutOfMemory alone is refused.
+    pub fn new(alloc: Global, capacity: usize) -> Result<Inbox, AllocError>
+        requires { 1 ≤ capacity }
+    {
+        Ok(Inbox {
+            queue: ArrayQueue::new(alloc, capacity)?,
+        })
+    }
+
+    /// Leaves a recall for the core. Where the inbox is full, the recall comes back.
+    pub fn offer<R: Wait>(&self, rt: &R, recall: Recall) -> Result<(), Recall>
+        ensures { IfErr result (λ refused. refused ≡ recall) }
+    {
+        self.queue.push(rt, recall)
+    }
+
+    /// Takes the recall that has waited longest, if one waits.
+    pub fn poll<R: Wait>(&self, rt: &R) -> Option<Recall> {
+        self.queue.pop(rt)
+    }
+}

@@ -1,0 +1,3 @@
+pub mod Opening
+pub mod Parts
+pub mod Serving

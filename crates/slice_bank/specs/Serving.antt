@@ -1,0 +1,35 @@
+-- What a slice among several does about a message.
+use Rattle.std.specs.Prelude.{◌≡◌, ℕ, ◌%◌, List, Some, Result, IfOk, slice_get, slice_set}
+use Rattle.lease_rule.specs.ConfigParts.{ConfigParts}
+use Rattle.line_stamps.specs.declared.message.Message.{Message}
+use Rattle.line_stamps.specs.declared.message.Reply.{Reply}
+use Rattle.manager_slice.specs.Outcome.{IsHandled, Meets, handle_outcome}
+use Rattle.manager_slice.specs.Parts.{SliceParts}
+use Rattle.manager_slice.specs.Replay.{Replays}
+use Rattle.manager_slice.specs.declared.fault.SliceFault.{SliceFault}
+
+-- slice p served core c's message m with the result r, and was left as q
+pub record IsServed (p : SliceParts) (c : ℕ) (m : Message) (r : Result Reply SliceFault) (q : SliceParts) : Type 0 where
+  -- a reply, its entries and what is left are of the manager's table
+  pub table : IfOk r (λ reply. IsHandled p c m reply q)
+  -- which of them, and which refusal, follows from the order of service
+  pub outcome : Meets (handle_outcome p c m) r p q
+
+-- some slice served it so, from a state to which its history leads by the configuration that it keeps
+pub record IsServedBySome (c : ℕ) (m : Message) (r : Result Reply SliceFault) : Type 0 where
+  pub slice : SliceParts
+  pub replays : Replays slice
+  pub left : SliceParts
+  pub served : IsServed slice c m r left
+
+-- the slice of an address
+abbrev pub slice_number : ConfigParts → ℕ → ℕ
+slice_number g a = a % g.slices
+
+-- of these slices number n served it so, and the others stayed
+pub record IsServedAt (n : ℕ) (before : List SliceParts) (c : ℕ) (m : Message) (r : Result Reply SliceFault) (after : List SliceParts) : Type 0 where
+  pub slice : SliceParts
+  pub there : slice_get before n ≡ Some slice
+  pub left : SliceParts
+  pub served : IsServed slice c m r left
+  pub others : after ≡ slice_set before n left
