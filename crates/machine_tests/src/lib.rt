@@ -4,6 +4,8 @@
 #[cfg(test)]
 mod caches;
 #[cfg(test)]
+mod inboxes;
+#[cfg(test)]
 mod machine;
 #[cfg(test)]
 mod memory;
