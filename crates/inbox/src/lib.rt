@@ -1,5 +1,4 @@
-//! The inbox of a core: the recalls that were offered to it, in a bounded queue. A crate of its own, since what stands on that
-//! queue checks slowly.
+//! The inbox of a core: the recalls that were offered to it, in a bounded queue.
 #![tactic(auto)]
 
 mod recalls;
