@@ -4,6 +4,7 @@ pub mod Leads
 pub mod Limits
 pub mod Lines
 pub mod Messages
+pub mod Opening
 pub mod Outcome
 pub mod Parts
 pub mod Replay

@@ -4,6 +4,7 @@
 mod fault;
 mod lines;
 mod managed;
+mod opening;
 mod row;
 mod slice;
 mod state;
@@ -11,5 +12,6 @@ mod state;
 pub use fault::SliceFault;
 pub use lines::ServedLines;
 pub use managed::{HistoryEntry, ManagedLine};
+pub use opening::new_slices;
 pub use slice::ManagerSlice;
 pub use state::SliceState;

@@ -2,7 +2,6 @@
 
 ghost use Rattle.std.specs.Prelude.{◌≡◌, ◌+◌, ◌<◌, ◌≤◌, ◌++◌, ◌⊎◌, ◌↔◌, ◌∷◌, [], Ok, IfOk, IfErr, OnOk, OnErr, length, nat_eq, vec_len, vec_capacity};
 ghost use Rattle.std.specs.Bool.{OnTrue};
-ghost use Rattle.std.specs.FinMap as map;
 ghost use Rattle.std.specs.Map.{lookup};
 ghost use Rattle.line_stamps.specs.RecallParts.{RecallParts};
 ghost use Rattle.line_stamps.specs.declared.message.Reply.TheVariants.{Busy};
@@ -13,6 +12,7 @@ ghost use Rattle.line_stamps.specs.Messages.{addr_of};
 ghost use Rattle.manager_slice.specs.Outcome.{Answers, Meets, handle_outcome, evict_outcome, step_of, IsEvicted, IsHandled};
 ghost use Rattle.manager_slice.specs.Limits.{entry_limit};
 ghost use Rattle.manager_slice.specs.Lines.{is_some_shared};
+ghost use Rattle.manager_slice.specs.Opening.{new_slice};
 ghost use Rattle.manager_slice.specs.Replay.{Replays};
 ghost use Rattle.manager_slice.specs.Rows.{row_of};
 
@@ -67,12 +67,7 @@ impl Model for ManagerSlice {
 impl ManagerSlice {
     /// The slice of this number as a machine of this configuration starts; 10 OutOfMemory alone is refused.
     pub fn new(alloc: Global, number: usize, config: &Config) -> Result<ManagerSlice, SliceFault>
-        ensures opening { IfOk result (λ slice. slice ≡ record {
-          number = number;
-          config = config.now;
-          state = record { lines = []; memory = record { words = map.empty; mts = 0; mrank = 0 } };
-          history = [];
-        }) }
+        ensures opening { IfOk result (λ slice. slice ≡ new_slice config.now number) }
         ensures refused { IfErr result (λ fault. fault ≡ OutOfMemory) }
     {
         prove!(config.slice_lines() >= 1);

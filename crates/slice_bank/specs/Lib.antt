@@ -1,3 +1,2 @@
-pub mod Opening
 pub mod Parts
 pub mod Serving

@@ -5,10 +5,10 @@ ghost use Rattle.manager_slice.specs.declared.fault.SliceFault.TheVariants.{OutO
 ghost use Rattle.slice_bank.specs.Serving.{IsServedBySome};
 
 use super::port::Port;
-use super::slices::{new_slices, serve};
+use super::slices::serve;
 use lease_rule::Config;
 use line_stamps::{Message, Reply};
-use manager_slice::{ManagerSlice, SliceFault};
+use manager_slice::{ManagerSlice, SliceFault, new_slices};
 use mem_op::CoreId;
 use std::alloc::Global;
 use std::marker::Model;

@@ -4,13 +4,13 @@ ghost use Rattle.std.specs.Prelude.{◌≡◌, IfOk, IfErr, OnErr};
 ghost use Rattle.manager_slice.specs.declared.fault.SliceFault.TheVariants.{OutOfMemory};
 ghost use Rattle.line_stamps.specs.Messages.{addr_of};
 ghost use Rattle.slice_bank.specs.Serving.{IsServedAt, IsServedBySome, slice_number};
-ghost use Rattle.slice_bank.specs.Opening.{new_slices};
+ghost use Rattle.manager_slice.specs.Opening.{new_slices};
 
 use super::port::Port;
-use super::slices::{new_slices, serve};
+use super::slices::serve;
 use lease_rule::Config;
 use line_stamps::{Message, Reply};
-use manager_slice::{ManagerSlice, SliceFault};
+use manager_slice::{ManagerSlice, SliceFault, new_slices};
 use mem_op::CoreId;
 use std::alloc::Global;
 use std::marker::Model;

@@ -10,7 +10,8 @@ use Rattle.manager_slice.specs.Parts.{SliceParts}
 use Rattle.manager_slice.specs.Table.{Slice, opening as empty_slice}
 use Rattle.core_unit.specs.Core.{Core, new_core}
 use Rattle.tardis_core.specs.Machine.{opening}
-use Rattle.tardis_core.specs.Opening.{new_seat, new_seats, new_slice, new_slices, opening_parts}
+use Rattle.manager_slice.specs.Opening.{new_slice, new_slices}
+use Rattle.tardis_core.specs.Opening.{new_seat, new_seats, opening_parts}
 use Rattle.tardis_core.specs.Parts.{world, IsMachine, IsPlaced}
 use Rattle.tardis_core.specs.SeatParts.{SeatParts}
 use Rattle.tardis_core.specs.Seats.{seen}

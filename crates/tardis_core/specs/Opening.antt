@@ -1,11 +1,10 @@
 -- The machine as it starts.
-use Rattle.std.specs.Prelude.{ℕ, zero, suc, List, [], ◌∷◌, ◌++◌, None}
-use Rattle.std.specs.FinMap as map
+use Rattle.std.specs.Prelude.{ℕ, suc, List, [], ◌∷◌, None}
 use Rattle.lease_rule.specs.ConfigParts.{ConfigParts}
 use Rattle.core_program.specs.declared.instruction.Instruction.{Instruction}
 use Rattle.core_program.specs.Running.{start_of}
 use Rattle.private_cache.specs.Steps.{empty_cache}
-use Rattle.manager_slice.specs.Parts.{SliceParts}
+use Rattle.manager_slice.specs.Opening.{new_slices}
 use Rattle.tardis_core.specs.Parts.{CoreParts}
 use Rattle.tardis_core.specs.SeatParts.{SeatParts}
 
@@ -31,20 +30,6 @@ new_seat g c program = record {
 abbrev pub new_seats : ConfigParts → ℕ → List (List Instruction) → List SeatParts
 new_seats g c [] = []
 new_seats g c (program ∷ programs) = new_seat g c program ∷ new_seats g (suc c) programs
-
--- slice n with no lines and nothing in memory
-abbrev pub new_slice : ConfigParts → ℕ → SliceParts
-new_slice g n = record {
-  number = n;
-  config = g;
-  state = record { lines = []; memory = record { words = map.empty; mts = 0; mrank = 0 } };
-  history = [];
-}
-
--- the first slices
-abbrev pub new_slices : ConfigParts → ℕ → List SliceParts
-new_slices g zero = []
-new_slices g (suc n) = new_slices g n ++ new_slice g n ∷ []
 
 abbrev pub opening_parts : List (List Instruction) → ConfigParts → CoreParts
 opening_parts programs g = record { config = g; seats = new_seats g 0 programs; slices = new_slices g g.slices }

@@ -2,7 +2,7 @@
 
 ghost use Rattle.std.specs.Prelude.{◌≡◌, true, IfOk, IfErr, vec_len};
 ghost use Rattle.tardis_core.specs.Machine.{opening};
-ghost use Rattle.tardis_core.specs.Opening.{new_seats, new_slices, opening_parts};
+ghost use Rattle.tardis_core.specs.Opening.{new_seats, opening_parts};
 ghost use Rattle.tardis_core.specs.Parts.{world};
 ghost use Rattle.tardis_core.specs.Steps.{is_memory};
 
@@ -12,7 +12,7 @@ use super::seat::Seat;
 use core_program::ProgramSet;
 use core_unit::CoreUnit;
 use lease_rule::Config;
-use manager_slice::ManagerSlice;
+use manager_slice::new_slices;
 use mem_op::CoreId;
 use std::alloc::Global;
 
@@ -25,7 +25,7 @@ impl Core {
         ensures refused { IfErr result (λ fault. is_memory fault ≡ true) }
     {
         let seats = seats_of(alloc, programs, config)?;
-        let slices = slices_of(alloc, config)?;
+        let slices = new_slices(alloc, config)?;
         Ok(Core {
             config: *config,
             seats,
@@ -48,18 +48,4 @@ fn seats_of(alloc: Global, programs: &ProgramSet, config: &Config) -> Result<Vec
         seats.push_reserved(Seat { unit, kept: None });
     }
     Ok(seats)
-}
-
-// As many empty slices as the configuration says.
-fn slices_of(alloc: Global, config: &Config) -> Result<Vec<ManagerSlice>, CoreFault>
-    ensures slices { IfOk result (λ slices. slices.items ≡ new_slices config.now config.now.slices) }
-    ensures refused { IfErr result (λ fault. is_memory fault ≡ true) }
-{
-    let mut slices = Vec::new(alloc);
-    for number in 0..config.slices() {
-        let slice = ManagerSlice::new(alloc, number, config)?;
-        slices.reserve(1)?;
-        slices.push_reserved(slice);
-    }
-    Ok(slices)
 }
