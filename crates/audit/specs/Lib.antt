@@ -1,0 +1,4 @@
+pub mod Lists
+pub mod Merges
+pub mod Pairs
+pub mod inner

@@ -1,0 +1,3 @@
+-- Definitions that serve mostly private contracts.
+pub mod Fronts
+pub mod Words

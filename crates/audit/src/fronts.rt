@@ -1,0 +1,140 @@
+//! Fronts of all lists that move on as far as one order of their entries goes.
+
+ghost use Rattle.std.specs.Prelude.{◌≡◌, ◌≢◌, ◌<◌, ◌≤◌, ◌+◌, ◌*◌, ◌^◌, ℕ, Some, MatchBool, MatchOption, false, length, slice_get, slice_index, slice_set, sum};
+ghost use Rattle.std.specs.Option.{option_copied};
+ghost use Rattle.core_unit.specs.declared.entry.CoreEntry.TheVariants.{Got};
+ghost use Rattle.audit.specs.Lists.{transcripts, histories, transcript_of, history_of};
+ghost use Rattle.audit.specs.inner.Fronts.{FrontsFit, IsOneOn, Reached, SliceStuck, Small, Stuck, StuckButFor, goes_alone, waits_for};
+ghost use Rattle.audit.specs.inner.Steps.{Enabled};
+
+use super::lists::{CORES, SLICES, entry_at, history_at, is_same, served_entry, slice_of, transcript_at};
+use core_unit::{CoreEntry, CoreUnit};
+use line_stamps::{Message, Reply};
+use manager_slice::{HistoryEntry, ManagerSlice};
+
+// What a slice does next.
+#[derive(Clone, Copy)]
+enum SliceStep {
+    // It evicts a line.
+    Evicts,
+    // It serves this core, which takes the reply.
+    Passes(usize),
+}
+
+// One entry further.
+fn bump(places: &mut [usize], at: usize)
+    requires within { at < length places.old }
+    requires fits { slice_index places.old at + 1 < 2 ^ 64 }
+    ensures { places.new ≡ slice_set places.old at (slice_index places.old at + 1) }
+{
+    places[at] += 1;
+}
+
+// Says whether a slice is due for a look, by 1 or 0.
+fn set_due(due: &mut [usize], slice: usize, value: usize)
+    requires { slice < length due.old }
+    ensures { due.new ≡ slice_set due.old slice value }
+{
+    due[slice] = value;
+}
+
+// Whether a core's entry at a place is its own.
+fn is_alone(transcript: &[CoreEntry], at: usize) -> bool
+    ensures { result ≡ goes_alone transcript.now at }
+{
+    match entry_at(transcript, at) {
+        None => false,
+        Some(CoreEntry::Got(..)) => false,
+        Some(CoreEntry::Performed) => true,
+        Some(CoreEntry::Dropped(_)) => true,
+        Some(CoreEntry::Gave(_)) => true,
+        Some(CoreEntry::Bumped) => true,
+    }
+}
+
+// Whether this reply to this message is taken at a place.
+fn is_got(transcript: &[CoreEntry], at: usize, message: &Message, reply: &Reply) -> bool
+    ensures { MatchBool result
+        (slice_get transcript.now at ≡ Some (Got message.now reply.now))
+        (slice_get transcript.now at ≢ Some (Got message.now reply.now)) }
+{
+    match entry_at(transcript, at) {
+        Some(CoreEntry::Got(asked, answer)) => is_same(asked, answer, message, reply),
+        None => false,
+        Some(CoreEntry::Performed) => false,
+        Some(CoreEntry::Dropped(_)) => false,
+        Some(CoreEntry::Gave(_)) => false,
+        Some(CoreEntry::Bumped) => false,
+    }
+}
+
+// The slice, of so many, whose reply a core takes at a place, if it takes one there.
+fn waited_for(transcript: &[CoreEntry], at: usize, count: usize) -> Option<usize>
+    requires { 0 < count }
+    ensures { result ≡ waits_for count (slice_get transcript.now at) }
+{
+    match entry_at(transcript, at) {
+        Some(CoreEntry::Got(message, _)) => Some(slice_of(count, message.addr())),
+        None => None,
+        Some(CoreEntry::Performed) => None,
+        Some(CoreEntry::Dropped(_)) => None,
+        Some(CoreEntry::Gave(_)) => None,
+        Some(CoreEntry::Bumped) => None,
+    }
+}
+
+// What a slice can do next.
+fn slice_step(
+    units: &[CoreUnit],
+    slices: &[ManagerSlice],
+    cores: &[usize],
+    fronts: &[usize],
+    slice: usize,
+) -> Option<SliceStep>
+    requires some { 0 < length slices.now }
+    requires cores { length cores.now ≡ 64 }
+    requires slice { slice < length fronts.now }
+    ensures { MatchOption result
+        (SliceStuck (transcripts units.now) (histories slices.now) cores.now fronts.now slice)
+        (λ step. Enabled (transcripts units.now) (histories slices.now) cores.now fronts.now slice step) }
+{
+    let history = history_at(slices, slice);
+    match served_entry(history, fronts[slice]) {
+        None => None,
+        Some(HistoryEntry::Evicted(_)) => Some(SliceStep::Evicts),
+        Some(HistoryEntry::Served(by, message, reply)) => {
+            let core = by.get() as usize;
+            if !is_got(transcript_at(units, core), cores[core], message, reply) {
+                return None;
+            }
+            if slice_of(slices.len(), message.addr()) != slice {
+                return None;
+            }
+            Some(SliceStep::Passes(core))
+        }
+    }
+}
+
+// Moves a core on over its own entries.
+fn core_on(
+    units: &[CoreUnit],
+    slices: &[ManagerSlice],
+    cores: &mut [usize],
+    fronts: &[usize],
+    core: usize,
+)
+    requires core { core < 64 }
+    requires cores { length cores.old ≡ 64 }
+    requires reached { Reached (transcripts units.now) (histories slices.now) cores.old fronts.now }
+    requires fit { FrontsFit (transcripts units.now) (histories slices.now) cores.old fronts.now }
+    requires small { Small (transcripts units.now) (histories slices.now) }
+    ensures reached { Reached (transcripts units.now) (histories slices.now) cores.new fronts.now }
+    ensures fit { FrontsFit (transcripts units.now) (histories slices.now) cores.new fronts.now }
+    ensures on { IsOneOn core cores.old cores.new }
+    ensures alone { goes_alone (transcript_of (transcripts units.now) core) (slice_index cores.new core) ≡ false }
+{
+    let transcript = transcript_at(units, core);
+    while is_alone(transcript, cores[core]) {
+        bump(cores, core);
+    }
+}

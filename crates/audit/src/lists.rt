@@ -1,0 +1,90 @@
+//! The lists of a run, and what stands in them.
+
+ghost use Rattle.std.specs.Prelude.{◌≡◌, ◌≢◌, ◌<◌, ◌≤◌, length, MatchBool, slice_get};
+ghost use Rattle.std.specs.Option.{option_copied};
+ghost use Rattle.core_unit.specs.declared.entry.CoreEntry.TheVariants.{Got};
+ghost use Rattle.audit.specs.Lists.{transcripts, histories, transcript_of, history_of};
+ghost use Rattle.audit.specs.Pairs.{slice_of};
+
+use core_unit::{CoreEntry, CoreUnit};
+use line_stamps::{Message, Reply};
+use manager_slice::{HistoryEntry, ManagerSlice};
+use mem_op::Addr;
+
+/// As many cores as there may be.
+pub(crate) const CORES: usize = 64;
+
+/// As many slices as there may be.
+pub(crate) const SLICES: usize = 16;
+
+/// The slice of an address, of so many slices.
+pub(crate) fn slice_of(count: usize, addr: Addr) -> usize
+    requires { 0 < count }
+    ensures value { result ≡ slice_of count addr }
+    ensures in_range { result < count }
+{
+    addr.get() as usize % count
+}
+
+/// The transcript of a core, which is empty where it has no unit.
+pub(crate) fn transcript_at(units: &[CoreUnit], core: usize) -> &[CoreEntry]
+    ensures { result.now ≡ transcript_of (transcripts units.now) core }
+{
+    match units.get(core) {
+        Some(unit) => unit.transcript(),
+        None => &[],
+    }
+}
+
+/// The history of a slice, which is empty where there is no such slice.
+pub(crate) fn history_at(slices: &[ManagerSlice], slice: usize) -> &[HistoryEntry]
+    ensures { result.now ≡ history_of (histories slices.now) slice }
+{
+    match slices.get(slice) {
+        Some(slice) => slice.history(),
+        None => &[],
+    }
+}
+
+/// The entry at a place of a transcript, if there is one.
+pub(crate) fn entry_at(transcript: &[CoreEntry], at: usize) -> Option<&CoreEntry>
+    ensures { option_copied result ≡ slice_get transcript.now at }
+{
+    transcript.get(at)
+}
+
+/// The entry at a place of a history, if there is one.
+pub(crate) fn served_entry(history: &[HistoryEntry], at: usize) -> Option<&HistoryEntry>
+    ensures { option_copied result ≡ slice_get history.now at }
+{
+    history.get(at)
+}
+
+// Whether two messages are the same.
+fn is_message(one: &Message, other: &Message) -> bool
+    ensures { MatchBool result (one.now ≡ other.now) (one.now ≢ other.now) }
+{
+    one == other
+}
+
+// Whether two replies are the same.
+fn is_reply(one: &Reply, other: &Reply) -> bool
+    ensures { MatchBool result (one.now ≡ other.now) (one.now ≢ other.now) }
+{
+    one == other
+}
+
+/// Whether two messages with their replies are the same.
+pub(crate) fn is_same(asked: &Message, answer: &Reply, message: &Message, reply: &Reply) -> bool
+    ensures { MatchBool result
+        (Got asked.now answer.now ≡ Got message.now reply.now)
+        (Got asked.now answer.now ≢ Got message.now reply.now) }
+{
+    if !is_message(asked, message) {
+        return false;
+    }
+    if !is_reply(answer, reply) {
+        return false;
+    }
+    true
+}
