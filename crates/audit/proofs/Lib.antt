@@ -1,1 +1,5 @@
 pub mod Compared
+pub mod Maximal
+pub mod Moving
+pub mod Orders
+pub mod Progress

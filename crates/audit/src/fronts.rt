@@ -1,13 +1,13 @@
 //! Fronts of all lists that move on as far as one order of their entries goes.
 
-ghost use Rattle.std.specs.Prelude.{◌≡◌, ◌≢◌, ◌<◌, ◌≤◌, ◌+◌, ◌*◌, ◌^◌, ℕ, Some, MatchBool, MatchOption, false, length, slice_get, slice_index, slice_set, sum};
+ghost use Rattle.std.specs.Prelude.{◌≡◌, ◌≢◌, ◌<◌, ◌≤◌, ◌+◌, ◌*◌, ◌^◌, ℕ, Some, IfSome, MatchBool, MatchOption, false, length, slice_get, slice_index, slice_set, sum};
 ghost use Rattle.std.specs.Option.{option_copied};
 ghost use Rattle.core_unit.specs.declared.entry.CoreEntry.TheVariants.{Got};
 ghost use Rattle.audit.specs.Lists.{transcripts, histories, transcript_of, history_of};
-ghost use Rattle.audit.specs.inner.Fronts.{FrontsFit, IsOneOn, Reached, SliceStuck, Small, Stuck, StuckButFor, goes_alone, waits_for};
+ghost use Rattle.audit.specs.inner.Fronts.{FrontsFit, IsOneOn, Merging, Reached, SliceStuck, Small, goes_alone, waits_for};
 ghost use Rattle.audit.specs.inner.Steps.{Enabled};
 
-use super::lists::{CORES, SLICES, entry_at, history_at, is_same, served_entry, slice_of, transcript_at};
+use super::lists::{entry_at, history_at, is_same, served_entry, slice_of, transcript_at};
 use core_unit::{CoreEntry, CoreUnit};
 use line_stamps::{Message, Reply};
 use manager_slice::{HistoryEntry, ManagerSlice};
@@ -71,7 +71,8 @@ fn is_got(transcript: &[CoreEntry], at: usize, message: &Message, reply: &Reply)
 // The slice, of so many, whose reply a core takes at a place, if it takes one there.
 fn waited_for(transcript: &[CoreEntry], at: usize, count: usize) -> Option<usize>
     requires { 0 < count }
-    ensures { result ≡ waits_for count (slice_get transcript.now at) }
+    ensures value { result ≡ waits_for count (slice_get transcript.now at) }
+    ensures in_range { IfSome result (λ slice. slice < count) }
 {
     match entry_at(transcript, at) {
         Some(CoreEntry::Got(message, _)) => Some(slice_of(count, message.addr())),
@@ -115,8 +116,8 @@ fn slice_step(
     }
 }
 
-// Moves a core on over its own entries.
-fn core_on(
+/// Moves a core on over its own entries.
+pub(crate) fn core_on(
     units: &[CoreUnit],
     slices: &[ManagerSlice],
     cores: &mut [usize],
@@ -136,5 +137,62 @@ fn core_on(
     let transcript = transcript_at(units, core);
     while is_alone(transcript, cores[core]) {
         bump(cores, core);
+    }
+}
+
+// A slice serves a core, which takes the reply and goes on over its own entries. The slice that it waits for then
+// is due for a look.
+fn pass(
+    units: &[CoreUnit],
+    slices: &[ManagerSlice],
+    cores: &mut [usize],
+    fronts: &mut [usize],
+    due: &mut [usize],
+    slice: usize,
+    core: usize,
+)
+    requires some { 0 < length slices.now }
+    requires most { length slices.now ≤ 16 }
+    requires slice { slice < 16 }
+    requires due { slice_index due.old slice ≢ 0 }
+    requires small { Small (transcripts units.now) (histories slices.now) }
+    requires merging { Merging (transcripts units.now) (histories slices.now) cores.old fronts.old due.old }
+    requires enabled { Enabled (transcripts units.now) (histories slices.now) cores.old fronts.old slice (SliceStep.Passes core) }
+    ensures merging { Merging (transcripts units.now) (histories slices.now) cores.new fronts.new due.new }
+    ensures less { sum due.new + 2 * (sum cores.old + sum fronts.old) < sum due.old + 2 * (sum cores.new + sum fronts.new) }
+{
+    bump(cores, core);
+    bump(fronts, slice);
+    core_on(units, slices, cores, fronts, core);
+    let transcript = transcript_at(units, core);
+    let Some(waited) = waited_for(transcript, cores[core], slices.len()) else {
+        return;
+    };
+    set_due(due, waited, 1);
+}
+
+/// Moves a slice that is due for a look on by one step, if it can go on; else it is no longer due. A slice
+/// that another core waits for then is due.
+pub(crate) fn move_slice(
+    units: &[CoreUnit],
+    slices: &[ManagerSlice],
+    cores: &mut [usize],
+    fronts: &mut [usize],
+    due: &mut [usize],
+    slice: usize,
+)
+    requires some { 0 < length slices.now }
+    requires most { length slices.now ≤ 16 }
+    requires slice { slice < 16 }
+    requires due { slice_index due.old slice ≢ 0 }
+    requires small { Small (transcripts units.now) (histories slices.now) }
+    requires merging { Merging (transcripts units.now) (histories slices.now) cores.old fronts.old due.old }
+    ensures merging { Merging (transcripts units.now) (histories slices.now) cores.new fronts.new due.new }
+    ensures less { sum due.new + 2 * (sum cores.old + sum fronts.old) < sum due.old + 2 * (sum cores.new + sum fronts.new) }
+{
+    match slice_step(units, slices, cores, fronts, slice) {
+        None => set_due(due, slice, 0),
+        Some(SliceStep::Evicts) => bump(fronts, slice),
+        Some(SliceStep::Passes(core)) => pass(units, slices, cores, fronts, due, slice, core),
     }
 }

@@ -2,8 +2,12 @@
 //! order of all their entries.
 #![tactic(auto)]
 
+mod auditing;
 mod fault;
+mod fronts;
 mod lists;
+mod merging;
 mod pairs;
 
+pub use auditing::audit;
 pub use fault::AuditFault;

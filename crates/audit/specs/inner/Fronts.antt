@@ -71,3 +71,12 @@ pub record IsOneOn (c : ℕ) (p q : List ℕ) : Type 0 where
   pub count : length q ≡ length p
   pub more : sum p ≤ sum q
   pub others : (d : ℕ) → d ≢ c → slice_index q d ≡ slice_index p d
+
+-- fronts that there is an order of, where only the slices that are due for a look may go on
+pub record Merging (ts : List (List CoreEntry)) (hs : List (List HistoryEntry)) (p q due_slices : List ℕ) : Type 0 where
+  pub reached : Reached ts hs p q
+  pub fit : FrontsFit ts hs p q
+  pub stuck : StuckButFor ts hs p q due_slices
+  pub cores : length p ≡ 64
+  pub fronts : length q ≡ 16
+  pub due : length due_slices ≡ 16

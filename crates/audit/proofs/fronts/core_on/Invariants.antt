@@ -1,0 +1,14 @@
+use Rattle.std.proofs.Common.{ℕ, ◌-◌, length, map, sum}
+use Rattle.audit.specs.Lists.{transcripts, histories}
+use Rattle.audit.specs.inner.Fronts.{Reached, FrontsFit, IsOneOn}
+use Rattle.audit.proofs.fronts.core_on.Given as goal
+
+abbrev pub invariant-loop-transcript : goal.invariant-loop-transcript
+invariant-loop-transcript l = record {
+  reached : Reached (transcripts l.units) (histories l.slices) l.cores l.fronts;
+  fit : FrontsFit (transcripts l.units) (histories l.slices) l.cores l.fronts;
+  on : IsOneOn l.core l.initial.cores l.cores;
+}
+
+abbrev pub decreases-loop-transcript : goal.decreases-loop-transcript
+decreases-loop-transcript l = sum (map length (transcripts l.units)) - sum l.cores

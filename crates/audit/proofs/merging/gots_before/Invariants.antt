@@ -1,0 +1,6 @@
+use Rattle.std.proofs.Common.{ℕ, ◌≡◌, ◌≤◌, length, take}
+use Rattle.audit.specs.Pairs.{gots}
+use Rattle.audit.proofs.merging.gots_before.Given as goal
+
+abbrev pub invariant-loop-k : goal.invariant-loop-k
+invariant-loop-k l = record { is : l.taken ≡ length (gots l.count l.slice (take l.k l.transcript)); small : l.taken ≤ l.k }

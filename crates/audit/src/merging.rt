@@ -1,0 +1,162 @@
+//! How far one order of the entries of all lists goes.
+
+ghost use Rattle.std.specs.Prelude.{◌≡◌, ◌≢◌, ◌<◌, ◌≤◌, ℕ, MatchOption, false, is_some, length, slice_index, take};
+ghost use Rattle.audit.specs.Lists.{transcripts, histories, transcript_of, history_of};
+ghost use Rattle.audit.specs.Merges.{IsFirstUnmerged};
+ghost use Rattle.audit.specs.Pairs.{gots};
+ghost use Rattle.audit.specs.inner.Fronts.{FrontsFit, Merging, Reached, Small, Stuck, goes_alone};
+
+use super::fault::AuditFault;
+use super::fronts::{core_on, move_slice};
+use super::lists::{CORES, SLICES, entry_at, history_at, slice_of, transcript_at};
+use super::pairs::is_of_slice;
+use core_unit::{CoreEntry, CoreUnit};
+use manager_slice::ManagerSlice;
+
+// Does nothing: it tells that transcripts and histories are short, by the types of units and slices.
+fn lengths(units: &[CoreUnit], slices: &[ManagerSlice])
+    requires units { length units.now ≤ 64 }
+    requires slices { length slices.now ≤ 16 }
+    ensures { Small (transcripts units.now) (histories slices.now) }
+{
+    for core in 0..CORES {
+        let _ = transcript_at(units, core).len();
+    }
+    for slice in 0..SLICES {
+        let _ = history_at(slices, slice).len();
+    }
+}
+
+// The first slice that is due for a look.
+fn next_due(due: &[usize]) -> Option<usize>
+    requires { length due.now ≡ 16 }
+    ensures { MatchOption result
+        ((s : ℕ) → s < 16 → slice_index due.now s ≡ 0)
+        (λ s. (s < 16) × (slice_index due.now s ≢ 0)) }
+{
+    for slice in 0..SLICES {
+        if due[slice] != 0 {
+            return Some(slice);
+        }
+    }
+    None
+}
+
+// Moves each core on over its own entries.
+fn cores_on(units: &[CoreUnit], slices: &[ManagerSlice], cores: &mut [usize], fronts: &[usize])
+    requires units { length units.now ≤ 64 }
+    requires cores { length cores.old ≡ 64 }
+    requires reached { Reached (transcripts units.now) (histories slices.now) cores.old fronts.now }
+    requires fit { FrontsFit (transcripts units.now) (histories slices.now) cores.old fronts.now }
+    requires small { Small (transcripts units.now) (histories slices.now) }
+    ensures cores { length cores.new ≡ 64 }
+    ensures reached { Reached (transcripts units.now) (histories slices.now) cores.new fronts.now }
+    ensures fit { FrontsFit (transcripts units.now) (histories slices.now) cores.new fronts.now }
+    ensures alone { (c : ℕ) → goes_alone (transcript_of (transcripts units.now) c) (slice_index cores.new c) ≡ false }
+{
+    for core in 0..CORES {
+        core_on(units, slices, cores, fronts, core);
+    }
+}
+
+/// Moves all on as far as one order goes. Each entry is looked at a bounded number of times: a core's once as its
+/// own, and a slice's once for each core that comes to wait for it.
+pub(crate) fn advance(
+    units: &[CoreUnit],
+    slices: &[ManagerSlice],
+    cores: &mut [usize],
+    fronts: &mut [usize],
+)
+    requires units { length units.now ≤ 64 }
+    requires some { 0 < length slices.now }
+    requires most { length slices.now ≤ 16 }
+    requires cores { length cores.old ≡ 64 }
+    requires fronts { length fronts.old ≡ 16 }
+    requires reached { Reached (transcripts units.now) (histories slices.now) cores.old fronts.old }
+    requires fit { FrontsFit (transcripts units.now) (histories slices.now) cores.old fronts.old }
+    ensures cores { length cores.new ≡ 64 }
+    ensures fronts { length fronts.new ≡ 16 }
+    ensures reached { Reached (transcripts units.now) (histories slices.now) cores.new fronts.new }
+    ensures fit { FrontsFit (transcripts units.now) (histories slices.now) cores.new fronts.new }
+    ensures stuck { Stuck (transcripts units.now) (histories slices.now) cores.new fronts.new }
+{
+    lengths(units, slices);
+    cores_on(units, slices, cores, fronts);
+    let mut due = [1usize; 16];
+    while let Some(slice) = next_due(&due) {
+        move_slice(units, slices, cores, fronts, &mut due, slice);
+    }
+}
+
+/// The first core whose transcript isn't used up.
+pub(crate) fn core_left(units: &[CoreUnit], cores: &[usize]) -> Option<usize>
+    requires { length cores.now ≡ 64 }
+    ensures { MatchOption result
+        ((c : ℕ) → c < 64 → length (transcript_of (transcripts units.now) c) ≤ slice_index cores.now c)
+        (λ c. (c < 64) × (slice_index cores.now c < length (transcript_of (transcripts units.now) c))
+            × ((d : ℕ) → d < c → length (transcript_of (transcripts units.now) d) ≤ slice_index cores.now d)) }
+{
+    for core in 0..CORES {
+        if cores[core] < transcript_at(units, core).len() {
+            return Some(core);
+        }
+    }
+    None
+}
+
+/// The first slice whose history isn't used up.
+pub(crate) fn slice_left(slices: &[ManagerSlice], fronts: &[usize]) -> Option<usize>
+    requires { length fronts.now ≡ 16 }
+    ensures { MatchOption result
+        ((s : ℕ) → s < 16 → length (history_of (histories slices.now) s) ≤ slice_index fronts.now s)
+        (λ s. (s < 16) × (slice_index fronts.now s < length (history_of (histories slices.now) s))) }
+{
+    for slice in 0..SLICES {
+        if fronts[slice] < history_at(slices, slice).len() {
+            return Some(slice);
+        }
+    }
+    None
+}
+
+// How many replies of a slice a core took before a place.
+fn gots_before(transcript: &[CoreEntry], count: usize, slice: usize, at: usize) -> usize
+    requires some { 0 < count }
+    requires within { at ≤ length transcript.now }
+    ensures { result ≡ length (gots count slice (take at transcript.now)) }
+{
+    let mut taken = 0;
+    for k in 0..at {
+        if !is_of_slice(&transcript[k], count, slice) {
+            continue;
+        }
+        taken += 1;
+    }
+    taken
+}
+
+/// The fault of a core that can't go on, where the cores before it are used up.
+pub(crate) fn unmerged_at(
+    units: &[CoreUnit],
+    slices: &[ManagerSlice],
+    cores: &[usize],
+    fronts: &[usize],
+    core: usize,
+) -> AuditFault
+    requires some { 0 < length slices.now }
+    requires core { core < length cores.now }
+    requires left { slice_index cores.now core < length (transcript_of (transcripts units.now) core) }
+    requires earlier { (d : ℕ) → d < core → length (transcript_of (transcripts units.now) d) ≤ slice_index cores.now d }
+    requires reached { Reached (transcripts units.now) (histories slices.now) cores.now fronts.now }
+    requires stuck { Stuck (transcripts units.now) (histories slices.now) cores.now fronts.now }
+    ensures { IsFirstUnmerged (transcripts units.now) (histories slices.now) result.core result.slice result.place }
+{
+    let transcript = transcript_at(units, core);
+    let at = cores[core];
+    let Some(CoreEntry::Got(message, _)) = entry_at(transcript, at) else {
+        unreachable!()
+    };
+    let slice = slice_of(slices.len(), message.addr());
+    let place = gots_before(transcript, slices.len(), slice, at);
+    AuditFault { core, slice, place }
+}
