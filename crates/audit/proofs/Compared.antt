@@ -101,7 +101,7 @@ next_got n s T i e is lt h =
     let x = some_of (got_at n s e) h in
     record { pair = x.0; has = got_has n s e x.0 x.1; rest = gots_at n s T i e is lt ∙ ap (λ o. put o (gots n s (drop (i + 1) T))) x.1 }
 
-none_of : {A : Type 0} (o : Option A) → is_some o ≡ false → o ≡ None
+pub none_of : {A : Type 0} (o : Option A) → is_some o ≡ false → o ≡ None
 none_of None e = refl
 none_of (Some x) e = absurd cc
 

@@ -16,7 +16,7 @@ use Rattle.manager_slice.specs.declared.managed.HistoryEntry.{HistoryEntry}
 use Rattle.manager_slice.specs.declared.managed.HistoryEntry.TheVariants.{Evicted, Served}
 use Rattle.audit.proofs.Orders.{picks-append, take_grow}
 use Rattle.audit.specs.Lists.{history_of, picks, put, transcript_of}
-use Rattle.audit.specs.Merges.{AreMoves, InFronts, IsMove, Merges, Move, alone, core_entry, evicts, is_own, of_core, of_slice, passes, slice_entry}
+use Rattle.audit.specs.Merges.{HasMerge, AreMoves, InFronts, IsMove, Merges, Move, alone, core_entry, evicts, is_own, of_core, of_slice, passes, slice_entry}
 use Rattle.audit.specs.Pairs.{Agrees, got_at, gots, served_at, serveds, slice_of}
 use Rattle.audit.specs.inner.Fronts.{Reached, Stuck, goes_alone}
 
@@ -260,13 +260,13 @@ picks_step f T k d lt =
     ap (λ l. length (picks f l)) (take_more T k d lt) ∙ (ap length (picks-append f (take k T) (get_or T k d ∷ [])) ∙ length-append (picks f (take k T)) (put (f (get_or T k d)) []))
 
 -- where all pairs agree and no core is left, no slice is left
-pub no_slice_left : (ts : List (List CoreEntry)) (hs : List (List HistoryEntry)) (p q : List ℕ) → Reached ts hs p q → Stuck ts hs p q → ((c : ℕ) → c < 64 → length (transcript_of ts c) ≤ slice_index p c) → Agrees ts hs → ((s k c : ℕ) (m : Message) (r : Reply) → slice_get (history_of hs s) k ≡ Some (Served c m r) → c < 64) → (s : ℕ) (e : HistoryEntry) → s < length hs → slice_get (history_of hs s) (slice_index q s) ≡ Some e → ⊥
-no_slice_left ts hs p q reached stuck full agree from s (Evicted a) in_s at = (stuck.slices s).no_evicted a at
-no_slice_left ts hs p q reached stuck full agree from s (Served c m r) in_s at =
+pub no_slice_left : (ts : List (List CoreEntry)) (hs : List (List HistoryEntry)) (p q : List ℕ) → Reached ts hs p q → Stuck ts hs p q → ((c : ℕ) → c < 64 → length (transcript_of ts c) ≤ slice_index p c) → Agrees ts hs → (s : ℕ) → ((c : ℕ) (m : Message) (r : Reply) → slice_get (history_of hs s) (slice_index q s) ≡ Some (Served c m r) → c < 64) → (e : HistoryEntry) → s < length hs → slice_get (history_of hs s) (slice_index q s) ≡ Some e → ⊥
+no_slice_left ts hs p q reached stuck full agree s from (Evicted a) in_s at = (stuck.slices s).no_evicted a at
+no_slice_left ts hs p q reached stuck full agree s from (Served c m r) in_s at =
     let n = length hs in
     let T = transcript_of ts c in
     let H = history_of hs s in
-    let lt = from s (slice_index q s) c m r at in
+    let lt = from c m r at in
     let whole = counts n c s T H reached.order (slice_index p c) (slice_index q s) reached.merges.moves (reached.merges.cores c) (reached.merges.slices s) in
     let all_T = ap (λ l. length (gots n s l)) (take_all (slice_index p c) T (full c lt)) in
     let same = ap length (agree c s lt in_s) in
@@ -276,3 +276,8 @@ no_slice_left ts hs p q reached stuck full agree from s (Served c m r) in_s at =
     let up = picks_more (served_at c) H (suc (slice_index q s)) (length H) (omega arith) in
     let all_H = ap (λ l. length (serveds c l)) (take_all (length H) H (omega arith)) in
     absurd (omega arith)
+
+-- where the whole lists have a merge, all pairs agree
+pub merged_agrees : (ts : List (List CoreEntry)) (hs : List (List HistoryEntry)) → HasMerge ts hs → Agrees ts hs
+merged_agrees ts hs h c s in_c in_s =
+    ap (serveds c) (sym (h.merges.slices s)) ∙ (agree_in_order (length hs) c s h.order h.merges.moves ∙ ap (gots (length hs) s) (h.merges.cores c))

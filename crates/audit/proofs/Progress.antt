@@ -73,3 +73,14 @@ fit_zero ts hs p q zp zq = record {
   cores = λ c. let z = zeros_at p zp c in omega arith;
   slices = λ s. let z = zeros_at q zq s in omega arith;
 }
+
+pub entry_there : {A : Type 0} (xs : List A) (k : ℕ) → k < length xs → (e : A) × (slice_get xs k ≡ Some e)
+entry_there [] k lt = absurd (omega arith)
+entry_there (x ∷ xs) zero lt = (x, refl)
+entry_there (x ∷ xs) (suc k) lt = entry_there xs k (omega arith)
+
+pub list_there : {A : Type 0} (xs : List (List A)) (s k : ℕ) → k < length (slice_index_or xs s []) → s < length xs
+list_there {A} xs s k lt = elim (cases_lt s (length xs)) [
+    inl in_s ↦ in_s
+  | inr past ↦ (let none : length (slice_index_or xs s []) ≡ 0 = ap length (get_or_past xs s [] past) in absurd (omega arith))
+  ]

@@ -1,16 +1,57 @@
 //! The audit.
 
-ghost use Rattle.std.specs.Prelude.{◌≡◌, ◌<◌, ◌≤◌, length, MatchResult};
-ghost use Rattle.audit.specs.Lists.{transcripts, histories};
+ghost use Rattle.std.specs.Prelude.{◌≡◌, ◌<◌, ◌≤◌, ℕ, Some, length, slice_get, slice_index, MatchResult};
+ghost use Rattle.line_stamps.specs.declared.message.Message.{Message};
+ghost use Rattle.line_stamps.specs.declared.message.Reply.{Reply};
+ghost use Rattle.manager_slice.specs.declared.managed.HistoryEntry.TheVariants.{Served};
+ghost use Rattle.audit.specs.Lists.{transcripts, histories, transcript_of};
 ghost use Rattle.audit.specs.Merges.{HasMerge, IsAuditFault};
 ghost use Rattle.audit.specs.Pairs.{Agrees};
+ghost use Rattle.audit.specs.inner.Fronts.{Reached, Stuck};
 
 use super::fault::AuditFault;
-use super::lists::{CORES, SLICES};
+use super::lists::{history_at, served_entry};
 use super::merging::{advance, core_left, slice_left, unmerged_at};
 use super::pairs::pairs_fault;
 use core_unit::CoreUnit;
-use manager_slice::ManagerSlice;
+use manager_slice::{HistoryEntry, ManagerSlice};
+
+// Does nothing: the core that was served at a place of a history is one of 64, by its type.
+fn server_in_range(history: &[HistoryEntry], at: usize)
+    ensures { (c : ℕ) → (m : Message) → (r : Reply) → slice_get history.now at ≡ Some (Served c m r) → c < 64 }
+{
+    if let Some(HistoryEntry::Served(by, ..)) = served_entry(history, at) {
+        let _ = by.get();
+    }
+}
+
+// The fault of slices that may have served more than the cores took, or none where they didn't.
+fn slices_fault(
+    units: &[CoreUnit],
+    slices: &[ManagerSlice],
+    cores: &[usize],
+    fronts: &[usize],
+) -> Result<(), AuditFault>
+    requires units { length units.now ≤ 64 }
+    requires some { 1 ≤ length slices.now }
+    requires most { length slices.now ≤ 16 }
+    requires fronts { length fronts.now ≡ 16 }
+    requires reached { Reached (transcripts units.now) (histories slices.now) cores.now fronts.now }
+    requires stuck { Stuck (transcripts units.now) (histories slices.now) cores.now fronts.now }
+    requires used { (c : ℕ) → c < 64 → length (transcript_of (transcripts units.now) c) ≤ slice_index cores.now c }
+    ensures { MatchResult result
+        (λ _. Agrees (transcripts units.now) (histories slices.now) × HasMerge (transcripts units.now) (histories slices.now))
+        (λ fault. IsAuditFault (transcripts units.now) (histories slices.now) fault.core fault.slice fault.place) }
+{
+    let Some(slice) = slice_left(slices, fronts) else {
+        return Ok(());
+    };
+    server_in_range(history_at(slices, slice), fronts[slice]);
+    match pairs_fault(units, slices) {
+        Some(fault) => Err(fault),
+        None => unreachable!(),
+    }
+}
 
 /// Whether the transcripts of cores and the histories of slices agree, and have one order of all their entries
 /// in which each reply is given just before it is taken. The unit at index c is core c's, and the slice at index s
@@ -29,13 +70,11 @@ pub fn audit(units: &[CoreUnit], slices: &[ManagerSlice]) -> Result<(), AuditFau
     let mut cores = [0usize; 64];
     let mut fronts = [0usize; 16];
     advance(units, slices, &mut cores, &mut fronts);
-    let left = core_left(units, &cores);
-    if left.is_none() && slice_left(slices, &fronts).is_none() {
-        return Ok(());
+    let Some(core) = core_left(units, &cores) else {
+        return slices_fault(units, slices, &cores, &fronts);
+    };
+    match pairs_fault(units, slices) {
+        Some(fault) => Err(fault),
+        None => Err(unmerged_at(units, slices, &cores, &fronts, core)),
     }
-    if let Some(fault) = pairs_fault(units, slices) {
-        return Err(fault);
-    }
-    let Some(core) = left else { unreachable!() };
-    Err(unmerged_at(units, slices, &cores, &fronts, core))
 }
