@@ -1,6 +1,6 @@
 //! Programs.
 
-ghost use Rattle.std.specs.Prelude.{◌≡◌, ◌<◌, ◌≤◌, length, IfSome, MatchOption};
+ghost use Rattle.std.specs.Prelude.{◌≡◌, ◌≢◌, ◌<◌, ◌≤◌, length, IfSome, MatchBool, MatchOption};
 ghost use Rattle.core_program.specs.Least.{IsLeastWhere};
 ghost use Rattle.core_program.specs.Shape.{IsProgram, is_skip_past_end};
 
@@ -59,6 +59,35 @@ impl Program {
     {
         self.instructions.as_slice()
     }
+
+    /// Whether it is the same as another program. Takes no memory.
+    pub fn is_same(&self, other: &Program) -> bool
+        ensures { MatchBool result (self.now ≡ other.now) (self.now ≢ other.now) }
+    {
+        are_same(self.instructions(), other.instructions())
+    }
+}
+
+// Whether two lists of instructions are the same.
+fn are_same(one: &[Instruction], other: &[Instruction]) -> bool
+    ensures { MatchBool result (one.now ≡ other.now) (one.now ≢ other.now) }
+{
+    if one.len() != other.len() {
+        return false;
+    }
+    for at in 0..one.len() {
+        if !is_instruction(&one[at], &other[at]) {
+            return false;
+        }
+    }
+    true
+}
+
+// Whether two instructions are the same.
+fn is_instruction(one: &Instruction, other: &Instruction) -> bool
+    ensures { MatchBool result (one.now ≡ other.now) (one.now ≢ other.now) }
+{
+    one == other
 }
 
 impl Clone for Program {
