@@ -1,4 +1,5 @@
 pub mod Found
+pub mod Fronts
 pub mod Gone
 pub mod Keeping
 pub mod Looks

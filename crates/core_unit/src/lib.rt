@@ -6,6 +6,7 @@ mod entry;
 mod fault;
 mod give;
 mod increment;
+pub mod laws;
 mod message;
 mod operation;
 mod outcome;
