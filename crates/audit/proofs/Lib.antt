@@ -1,4 +1,5 @@
 pub mod Compared
+pub mod Each
 pub mod Maximal
 pub mod Moving
 pub mod Orders

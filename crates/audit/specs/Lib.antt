@@ -1,4 +1,5 @@
 pub mod Lists
 pub mod Merges
 pub mod Pairs
+pub mod Runs
 pub mod inner

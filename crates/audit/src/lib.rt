@@ -6,8 +6,12 @@ mod auditing;
 mod fault;
 mod fronts;
 mod lists;
+mod machine_fault;
 mod merging;
 mod pairs;
+mod settling;
 
 pub use auditing::audit;
 pub use fault::AuditFault;
+pub use machine_fault::{Cause, MachineFault, RunEnd};
+pub use settling::settle;

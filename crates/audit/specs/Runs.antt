@@ -1,0 +1,67 @@
+-- What a run of threads ends with.
+use Rattle.std.specs.Prelude.{◌≡◌, ℕ, ◌<◌, List, length, None, Some, slice_get}
+use Rattle.lease_rule.specs.ConfigParts.{ConfigParts}
+use Rattle.log_record.specs.declared.record.Record.{Record}
+use Rattle.core_program.specs.declared.instruction.Instruction.{Instruction}
+use Rattle.core_program.specs.Conforming.{Conforms, Reaches, program_fault}
+use Rattle.manager_slice.specs.Parts.{SliceParts}
+use Rattle.manager_slice.specs.Replay as slice
+use Rattle.core_unit.specs.Kept as kept
+use Rattle.core_unit.specs.Laws.{performed_by}
+use Rattle.core_unit.specs.Parts.{UnitParts}
+use Rattle.audit.specs.Lists.{transcripts, histories}
+use Rattle.audit.specs.Merges.{HasMerge}
+use Rattle.audit.specs.Pairs.{Agrees}
+
+-- a unit that has run core c's program to its end
+pub record HasEnded (programs : List (List Instruction)) (g : ConfigParts) (c : ℕ) (u : UnitParts) : Type 0 where
+  pub core : u.core ≡ c
+  pub program : slice_get programs c ≡ Some u.program
+  pub config : u.config ≡ g
+  pub replays : kept.Replays u
+  pub hand : u.hand ≡ None
+  pub ended : u.state.position ≡ length u.program
+  pub conforms : Conforms u.program (performed_by u)
+
+-- slice number n
+pub record IsNumbered (g : ConfigParts) (n : ℕ) (s : SliceParts) : Type 0 where
+  pub number : s.number ≡ n
+  pub config : s.config ≡ g
+  pub replays : slice.Replays s
+
+abbrev pub AllEnded : List (List Instruction) → ConfigParts → List UnitParts → Type 0
+AllEnded programs g us = (c : ℕ) (u : UnitParts) → slice_get us c ≡ Some u → HasEnded programs g c u
+
+abbrev pub AllNumbered : ConfigParts → List SliceParts → Type 0
+AllNumbered g ss = (n : ℕ) (s : SliceParts) → slice_get ss n ≡ Some s → IsNumbered g n s
+
+-- These are the units and slices of a whole run of the programs: each has a state that is the replay of its own list, each
+-- program has ended, and the lists have one order.
+pub record IsRun (programs : List (List Instruction)) (g : ConfigParts) (us : List UnitParts) (ss : List SliceParts) : Type 0 where
+  pub cores : length us ≡ length programs
+  pub count : length ss ≡ g.slices
+  pub units : AllEnded programs g us
+  pub slices : AllNumbered g ss
+  pub agree : Agrees (transcripts us) (histories ss)
+  pub merge : HasMerge (transcripts us) (histories ss)
+
+-- a unit of this core and its program, whose log is a proper front of the program's operations: its PROGRAM fault is its length
+pub record IsShort (programs : List (List Instruction)) (core : ℕ) (u : UnitParts) : Type 0 where
+  pub is_core : u.core ≡ core
+  pub program : slice_get programs core ≡ Some u.program
+  pub replays : kept.Replays u
+  pub reaches : Reaches u.program (performed_by u) u.state
+  pub proper : program_fault u.program (performed_by u) ≡ Some (length u.log)
+
+-- the core's unit is so
+pub record StoppedShort (programs : List (List Instruction)) (us : List UnitParts) (core : ℕ) : Type 0 where
+  pub unit : UnitParts
+  pub stands : slice_get us core ≡ Some unit
+  pub short : IsShort programs core unit
+
+-- the log of a unit of this core, whose transcript replays
+pub record IsUnitLog (core : ℕ) (log : List Record) : Type 0 where
+  pub unit : UnitParts
+  pub is_core : unit.core ≡ core
+  pub replays : kept.Replays unit
+  pub log_is : log ≡ unit.log

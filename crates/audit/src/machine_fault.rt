@@ -1,0 +1,65 @@
+//! Why a run of threads isn't ended, and the units that it left.
+
+ghost use Rattle.std.specs.Prelude.{◌≡◌, ◌⊎◌, []};
+ghost use Rattle.audit.specs.Runs.{IsUnitLog};
+
+use super::fault::AuditFault;
+use core_unit::{CoreUnit, UnitFault};
+use log_record::Record;
+use manager_slice::{ManagerSlice, SliceFault};
+use mem_op::CoreId;
+
+/// Why a core of a run stopped, or the run isn't accepted.
+#[derive(Clone, Copy, Debug, PartialEq, Eq)]
+pub enum Cause {
+    /// 30 GaveUp: as many turns as the configuration says brought no operation.
+    GaveUp,
+    /// 31 Stopped: the pace said so.
+    Stopped,
+    /// 32 Spawn: a thread was refused.
+    Spawn,
+    /// 33 Audit: what the threads gave back isn't a whole run of the programs.
+    Audit(AuditFault),
+    /// A call of the core was refused.
+    Unit(UnitFault),
+    /// A slice that the core asked refused.
+    Slice(SliceFault),
+    /// 10 OutOfMemory: a growth was refused beside the machine.
+    OutOfMemory,
+}
+
+/// What a run of threads ends with.
+#[derive(Drop)]
+pub struct RunEnd {
+    /// The units, core 0's first.
+    pub units: Vec<CoreUnit>,
+    /// The slices, number 0 first.
+    pub slices: Vec<ManagerSlice>,
+}
+
+/// Why a run of threads isn't ended, with the units that its threads gave back.
+#[derive(Drop)]
+pub struct MachineFault {
+    /// The core that the fault is of; of 33 its core.
+    pub core: usize,
+    /// Why.
+    pub cause: Cause,
+    /// The units that threads gave back.
+    pub units: Vec<CoreUnit>,
+}
+
+impl MachineFault {
+    /// The log that a core made so far: that of its unit, or empty where no thread gave one back. Takes no memory.
+    pub fn log(&self, core: CoreId) -> &[Record]
+        ensures { IsUnitLog core result.now ⊎ (result.now ≡ []) }
+    {
+        let Some(unit) = self.units.get(core.get() as usize) else {
+            return &[];
+        };
+        if unit.core().get() != core.get() {
+            return &[];
+        }
+        unit.replays();
+        unit.log()
+    }
+}
