@@ -1,5 +1,5 @@
 -- Where no list can go on, every other order of first entries is shorter.
-use Rattle.std.proofs.Common.{ℕ, zero, suc, ◌≡◌, ◌+◌, ◌-◌, ◌<◌, ◌≤◌, ◌≢◌, ◌++◌, Bool, true, false, List, [], ◌∷◌, Option, Some, None, length, take, drop, get_or, slice_index, if◌then◌else◌, ◌==◌, ◌⊎◌, inl, inr, refl, sym, ap, subst, ◌∙◌, arith, append_assoc, append-nil, add-zero, add-one, length-append, length-take}
+use Rattle.std.proofs.Common.{ℕ, zero, suc, ◌≡◌, ◌+◌, ◌-◌, ◌<◌, ◌≤◌, ◌++◌, Bool, true, false, List, [], ◌∷◌, Option, Some, None, length, take, drop, get_or, slice_index, if◌then◌else◌, ◌==◌, inl, inr, refl, sym, ap, subst, ◌∙◌, arith, append_assoc, append-nil, add-zero, length-append, length-take}
 use Rattle.std.specs.Prelude.{slice_get}
 use Rattle.std.proofs.Math.Seq.{take-add}
 use Rattle.std.proofs.lemmas.Option.{slice_get_within}
@@ -23,15 +23,15 @@ use Rattle.audit.specs.inner.Fronts.{Reached, Stuck, goes_alone}
 -- the same where a message passes
 pass_agrees : (n c s d t : ℕ) (m : Message) (r : Reply) (xs : List HistoryEntry) (ys : List CoreEntry) → slice_of n (addr_of m) ≡ t → serveds c xs ≡ gots n s ys → serveds c (put (if t == s then Some (Served d m r) else None) xs) ≡ gots n s (put (if d == c then Some (Got m r) else None) ys)
 pass_agrees n c s d t m r xs ys right rest = elim (eqb_tells t s) [
-    inl q ↦ elim (eqb_tells d c) [
-        inl w ↦ rw (q.0, w.0) (rw (right, q.0) (ap (λ l. (m, r) ∷ l) rest))
-      | inr w ↦ rw (q.0, w.0) rest
-      ]
-  | inr q ↦ elim (eqb_tells d c) [
-        inl w ↦ rw (q.0, w.0) (rw (right, q.0) rest)
-      | inr w ↦ rw (q.0, w.0) rest
-      ]
+  | inl q ↦ elim (eqb_tells d c) [
+    | inl w ↦ rw (q.0, w.0) (rw (right, q.0) (ap (λ l. (m, r) ∷ l) rest))
+    | inr w ↦ rw (q.0, w.0) rest
   ]
+  | inr q ↦ elim (eqb_tells d c) [
+    | inl w ↦ rw (q.0, w.0) (rw (right, q.0) rest)
+    | inr w ↦ rw (q.0, w.0) rest
+  ]
+]
 
 -- an entry of a core's own is no reply
 own_no_got : (n s : ℕ) (e : CoreEntry) → is_own e ≡ true → got_at n s e ≡ None
@@ -119,10 +119,10 @@ same_evicts s a = rw (eq-eqb s s refl) refl
 stays_alone : (p q : List ℕ) (pre : List Move) (c : ℕ) (e : CoreEntry) → Ahead p q pre → length (of_core c pre) < slice_index p c → Ahead p q (pre ++ alone c e ∷ [])
 stays_alone p q pre c e h lt = record {
   cores = λ d. elim (eqb_tells c d) [
-      inl w ↦ (let P : ℕ → Type 0 = λ x. length (of_core x (pre ++ alone c e ∷ [])) ≤ slice_index p x in
-               let here : P c = let k = one_more (core_entry c) pre (alone c e) e (same_core c e) in omega arith in subst P w.1 here)
+    | inl w ↦ (let P : ℕ → Type 0 = λ x. length (of_core x (pre ++ alone c e ∷ [])) ≤ slice_index p x in
+        let here : P c = let k = one_more (core_entry c) pre (alone c e) e (same_core c e) in omega arith in subst P w.1 here)
     | inr w ↦ (let k = none_more (core_entry d) pre (alone c e) (rw w.0 refl) in let l = h.cores d in omega arith)
-    ];
+  ];
   slices = λ s. let k = none_more (slice_entry s) pre (alone c e) refl in let l = h.slices s in omega arith;
 }
 
@@ -130,24 +130,24 @@ stays_evicts : (p q : List ℕ) (pre : List Move) (s a : ℕ) → Ahead p q pre 
 stays_evicts p q pre s a h lt = record {
   cores = λ c. let k = none_more (core_entry c) pre (evicts s a) refl in let l = h.cores c in omega arith;
   slices = λ d. elim (eqb_tells s d) [
-      inl w ↦ (let P : ℕ → Type 0 = λ x. length (of_slice x (pre ++ evicts s a ∷ [])) ≤ slice_index q x in
-               let here : P s = let k = one_more (slice_entry s) pre (evicts s a) (Evicted a) (same_evicts s a) in omega arith in subst P w.1 here)
+    | inl w ↦ (let P : ℕ → Type 0 = λ x. length (of_slice x (pre ++ evicts s a ∷ [])) ≤ slice_index q x in
+        let here : P s = let k = one_more (slice_entry s) pre (evicts s a) (Evicted a) (same_evicts s a) in omega arith in subst P w.1 here)
     | inr w ↦ (let k = none_more (slice_entry d) pre (evicts s a) (rw w.0 refl) in let l = h.slices d in omega arith)
-    ];
+  ];
 }
 
 stays_passes : (p q : List ℕ) (pre : List Move) (c s : ℕ) (m : Message) (r : Reply) → Ahead p q pre → length (of_core c pre) < slice_index p c → length (of_slice s pre) < slice_index q s → Ahead p q (pre ++ passes c s m r ∷ [])
 stays_passes p q pre c s m r h ltp ltq = record {
   cores = λ d. elim (eqb_tells c d) [
-      inl w ↦ (let P : ℕ → Type 0 = λ x. length (of_core x (pre ++ passes c s m r ∷ [])) ≤ slice_index p x in
-               let here : P c = let k = one_more (core_entry c) pre (passes c s m r) (Got m r) (same_passes c s m r).0 in omega arith in subst P w.1 here)
+    | inl w ↦ (let P : ℕ → Type 0 = λ x. length (of_core x (pre ++ passes c s m r ∷ [])) ≤ slice_index p x in
+        let here : P c = let k = one_more (core_entry c) pre (passes c s m r) (Got m r) (same_passes c s m r).0 in omega arith in subst P w.1 here)
     | inr w ↦ (let k = none_more (core_entry d) pre (passes c s m r) (rw w.0 refl) in let l = h.cores d in omega arith)
-    ];
+  ];
   slices = λ d. elim (eqb_tells s d) [
-      inl w ↦ (let P : ℕ → Type 0 = λ x. length (of_slice x (pre ++ passes c s m r ∷ [])) ≤ slice_index q x in
-               let here : P s = let k = one_more (slice_entry s) pre (passes c s m r) (Served c m r) (same_passes c s m r).1 in omega arith in subst P w.1 here)
+    | inl w ↦ (let P : ℕ → Type 0 = λ x. length (of_slice x (pre ++ passes c s m r ∷ [])) ≤ slice_index q x in
+        let here : P s = let k = one_more (slice_entry s) pre (passes c s m r) (Served c m r) (same_passes c s m r).1 in omega arith in subst P w.1 here)
     | inr w ↦ (let k = none_more (slice_entry d) pre (passes c s m r) (rw w.0 refl) in let l = h.slices d in omega arith)
-    ];
+  ];
 }
 
 moves_at : (n : ℕ) (pre : List Move) (m : Move) (post : List Move) → AreMoves n (pre ++ m ∷ post) → AreMoves n pre × IsMove n m
@@ -160,22 +160,22 @@ alone_there T k e at own = ap (λ o. option_map_or is_own o false) at ∙ own
 -- a core's own entry is behind
 behind_alone : (ts : List (List CoreEntry)) (hs : List (List HistoryEntry)) (p q : List ℕ) → Stuck ts hs p q → (pre : List Move) (c : ℕ) (e : CoreEntry) → Ahead p q pre → is_own e ≡ true → slice_get (transcript_of ts c) (length (of_core c pre)) ≡ Some e → length (of_core c pre) < slice_index p c
 behind_alone ts hs p q stuck pre c e h own at = elim (cases_lt (length (of_core c pre)) (slice_index p c)) [
-    inl lt ↦ lt
+  | inl lt ↦ lt
   | inr le ↦
       (let k = h.cores c in
       let same : length (of_core c pre) ≡ slice_index p c = omega arith in
       let there : goes_alone (transcript_of ts c) (slice_index p c) ≡ true = ap (goes_alone (transcript_of ts c)) (sym same) ∙ alone_there (transcript_of ts c) (length (of_core c pre)) e at own in
       absurd (false≢true (sym (stuck.cores c) ∙ there)))
-  ]
+]
 
 behind_evicts : (ts : List (List CoreEntry)) (hs : List (List HistoryEntry)) (p q : List ℕ) → Stuck ts hs p q → (pre : List Move) (s a : ℕ) → Ahead p q pre → slice_get (history_of hs s) (length (of_slice s pre)) ≡ Some (Evicted a) → length (of_slice s pre) < slice_index q s
 behind_evicts ts hs p q stuck pre s a h at = elim (cases_lt (length (of_slice s pre)) (slice_index q s)) [
-    inl lt ↦ lt
+  | inl lt ↦ lt
   | inr le ↦
       (let k = h.slices s in
       let same : length (of_slice s pre) ≡ slice_index q s = omega arith in
       absurd ((stuck.slices s).no_evicted a (ap (slice_get (history_of hs s)) (sym same) ∙ at)))
-  ]
+]
 
 -- as many messages passed by the first entries of the core as by those of the slice
 counts : (n c s : ℕ) (T : List CoreEntry) (H : List HistoryEntry) (ms : List Move) (i j : ℕ) → AreMoves n ms → of_core c ms ≡ take i T → of_slice s ms ≡ take j H → length (serveds c (take j H)) ≡ length (gots n s (take i T))
@@ -199,25 +199,25 @@ behind_passes ts hs p q reached stuck pre c s m r h moves right core slice atc a
     let g = picks_grow (got_at n s) T a (Got m r) (m, r) atc got_is in
     let v = picks_grow (served_at c) H b (Served c m r) (m, r) ats served_is in
     elim (cases_lt a (slice_index p c)) [
-      inl lt ↦ elim (cases_lt b (slice_index q s)) [
-          inl lt' ↦ (lt, lt')
+      | inl lt ↦ elim (cases_lt b (slice_index q s)) [
+        | inl lt' ↦ (lt, lt')
         | inr ge ↦
             (let same : b ≡ slice_index q s = omega arith in
             let up = picks_more (got_at n s) T (suc a) (slice_index p c) (omega arith) in
             let eqs = ap (λ k. length (serveds c (take k H))) same in
             absurd (omega arith))
-        ]
-    | inr ge ↦
-        (let same : a ≡ slice_index p c = omega arith in
-        elim (cases_lt b (slice_index q s)) [
-          inl lt' ↦
-            (let up = picks_more (served_at c) H (suc b) (slice_index q s) (omega arith) in
-            let eqs = ap (λ k. length (gots n s (take k T))) same in
-            absurd (omega arith))
-        | inr ge' ↦
-            (let same' : b ≡ slice_index q s = omega arith in
-            absurd ((stuck.slices s).no_pass c m r (ap (slice_get H) (sym same') ∙ ats) right (ap (slice_get T) (sym same) ∙ atc)))
-        ])
+      ]
+      | inr ge ↦
+          (let same : a ≡ slice_index p c = omega arith in
+          elim (cases_lt b (slice_index q s)) [
+            | inl lt' ↦
+                (let up = picks_more (served_at c) H (suc b) (slice_index q s) (omega arith) in
+                let eqs = ap (λ k. length (gots n s (take k T))) same in
+                absurd (omega arith))
+            | inr ge' ↦
+                (let same' : b ≡ slice_index q s = omega arith in
+                absurd ((stuck.slices s).no_pass c m r (ap (slice_get H) (sym same') ∙ ats) right (ap (slice_get T) (sym same) ∙ atc)))
+          ])
     ]
 
 -- one more move of another order

@@ -1,5 +1,5 @@
 -- Fronts that move on by one entry, or by a reply that a core takes.
-use Rattle.std.proofs.Common.{ℕ, ◌≡◌, ◌≢◌, ◌+◌, ◌*◌, ◌<◌, ◌≤◌, Bool, true, false, List, Option, Some, None, length, sum, get_or, slice_index, ◌⊎◌, inl, inr, refl, sym, ap, subst, ◌∙◌, arith}
+use Rattle.std.proofs.Common.{ℕ, ◌≡◌, ◌≢◌, ◌+◌, ◌<◌, ◌≤◌, true, false, List, Option, Some, None, length, sum, slice_index, inl, inr, refl, sym, ap, subst, ◌∙◌, arith}
 use Rattle.std.specs.Prelude.{slice_get, slice_set}
 use Rattle.std.specs.Option.{option_map_or}
 use Rattle.std.proofs.lemmas.Bool.{cases_lt}
@@ -10,15 +10,15 @@ use Rattle.line_stamps.specs.Messages.{addr_of}
 use Rattle.line_stamps.specs.declared.message.Message.{Message}
 use Rattle.line_stamps.specs.declared.message.Reply.{Reply}
 use Rattle.manager_slice.specs.declared.managed.HistoryEntry.{HistoryEntry}
-use Rattle.manager_slice.specs.declared.managed.HistoryEntry.TheVariants.{Evicted, Served}
+use Rattle.manager_slice.specs.declared.managed.HistoryEntry.TheVariants.{Evicted}
 use Rattle.core_unit.specs.declared.entry.CoreEntry.{CoreEntry}
 use Rattle.core_unit.specs.declared.entry.CoreEntry.TheVariants.{Got}
 use Rattle.audit.specs.Lists.{transcript_of, history_of}
 use Rattle.audit.specs.Merges.{is_own}
 use Rattle.audit.specs.Pairs.{slice_of}
-use Rattle.audit.specs.inner.Fronts.{Reached, FrontsFit, SliceStuck, StuckButFor, Stuck, Merging, IsOneOn, goes_alone, waits_for}
-use Rattle.audit.proofs.Orders.{core_alone, slice_evicts, message_passes}
-use Rattle.audit.proofs.Progress.{fit_core, fit_slice}
+use Rattle.audit.specs.inner.Fronts.{Reached, FrontsFit, SliceStuck, Stuck, Merging, IsOneOn, goes_alone, waits_for}
+use Rattle.audit.proofs.Orders.{slice_evicts}
+use Rattle.audit.proofs.Progress.{fit_slice}
 
 -- the entry of a core that goes on by itself
 pub own_there : (T : List CoreEntry) (k : ℕ) → goes_alone T k ≡ true → (e : CoreEntry) × (slice_get T k ≡ Some e) × (is_own e ≡ true)
@@ -78,7 +78,7 @@ module _ (ts : List (List CoreEntry)) (hs : List (List HistoryEntry)) where
     stuck = record {
       cores = h.stuck.cores;
       slices = λ t none. elim (eqb_tells s t) [
-        inl e ↦ subst (λ x. SliceStuck ts hs p q x) e.1 stuck
+        | inl e ↦ subst (λ x. SliceStuck ts hs p q x) e.1 stuck
         | inr n ↦ h.stuck.slices t (sym (get_or-set_other due s t 0 0 (λ e. n.1 (sym e))) ∙ none)
       ];
     };
@@ -111,7 +111,7 @@ module _ (ts : List (List CoreEntry)) (hs : List (List HistoryEntry)) where
 
     no_longer_alone : (d : ℕ) → goes_alone (transcript_of ts d) (slice_index p' d) ≡ false
     no_longer_alone d = elim (eqb_tells c d) [
-      inl e ↦ subst (λ x. goes_alone (transcript_of ts x) (slice_index p' x) ≡ false) e.1 alone
+      | inl e ↦ subst (λ x. goes_alone (transcript_of ts x) (slice_index p' x) ≡ false) e.1 alone
       | inr n ↦ ap (goes_alone (transcript_of ts d)) (on.others d (λ e. n.1 (sym e))) ∙ h.stuck.cores d
     ]
 
@@ -131,9 +131,9 @@ module _ (ts : List (List CoreEntry)) (hs : List (List HistoryEntry)) where
             let other : t ≢ s = λ e. some (ap (slice_index due) (sym e) ∙ was.0) in
             stuck_still p q p' after t (h.stuck.slices t was.0) (get_or-set_other q s t (slice_index q s + 1) 0 other)
             (λ d m r right got. elim (eqb_tells c d) [
-              inl e ↦
-                (let there : slice_get (transcript_of ts c) (slice_index p' c) ≡ Some (Got m r) = subst (λ x. slice_get (transcript_of ts x) (slice_index p' x) ≡ Some (Got m r)) (sym e.1) got in
-                absurd (was.1 (ap (waits_for (length hs)) there ∙ ap (λ x. Some x) right)))
+              | inl e ↦
+                  (let there : slice_get (transcript_of ts c) (slice_index p' c) ≡ Some (Got m r) = subst (λ x. slice_get (transcript_of ts x) (slice_index p' x) ≡ Some (Got m r)) (sym e.1) got in
+                  absurd (was.1 (ap (waits_for (length hs)) there ∙ ap (λ x. Some x) right)))
               | inr n ↦ on.others d (λ e. n.1 (sym e))
             ]);
       };
@@ -149,9 +149,9 @@ module _ (ts : List (List CoreEntry)) (hs : List (List HistoryEntry)) where
 -- the slice that is waited for is marked
 pub mark : (due : List ℕ) (w : ℕ) (waits : Option ℕ) → w < length due → waits ≡ Some w → (t : ℕ) → slice_index (slice_set due w 1) t ≡ 0 → (slice_index due t ≡ 0) × (waits ≢ Some t)
 mark due w waits lt is t none = elim (eqb_tells w t) [
-  inl e ↦
-    (let here : slice_index (slice_set due w 1) t ≡ 1 = subst (λ x. slice_index (slice_set due w 1) x ≡ 1) e.1 (get_or-set_same due w 1 0 lt) in
-    absurd (omega (arith, here, none)))
+  | inl e ↦
+      (let here : slice_index (slice_set due w 1) t ≡ 1 = subst (λ x. slice_index (slice_set due w 1) x ≡ 1) e.1 (get_or-set_same due w 1 0 lt) in
+      absurd (omega (arith, here, none)))
   | inr n ↦ (sym (get_or-set_other due w t 1 0 (λ e. n.1 (sym e))) ∙ none, λ k. n.1 (let both : Some w ≡ Some t = sym is ∙ k in cc))
 ]
 

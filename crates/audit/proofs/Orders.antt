@@ -1,5 +1,5 @@
 -- Orders of first entries that grow by a move.
-use Rattle.std.proofs.Common.{ℕ, zero, suc, ◌≡◌, ◌+◌, ◌<◌, ◌≤◌, ◌≢◌, ◌++◌, List, [], ◌∷◌, Option, Some, None, length, take, drop, get_or, slice_index_or, Bool, true, false, if◌then◌else◌, ◌==◌, ◌⊎◌, inl, inr, refl, sym, ap, subst, ◌∙◌, arith, append_assoc, append-nil, add-one}
+use Rattle.std.proofs.Common.{ℕ, zero, suc, ◌≡◌, ◌+◌, ◌<◌, ◌≤◌, ◌≢◌, ◌++◌, List, [], ◌∷◌, Option, Some, None, length, take, slice_index_or, Bool, true, false, if◌then◌else◌, ◌==◌, inl, inr, refl, sym, ap, subst, ◌∙◌, arith, append-nil, add-one}
 use Rattle.std.specs.Prelude.{slice_get, slice_index, slice_set}
 use Rattle.std.proofs.lemmas.List.{get_or-set_same, get_or-set_other, take_all, get_or_past}
 use Rattle.std.proofs.lemmas.Bool.Decides.{eqb_tells}
@@ -8,11 +8,11 @@ use Rattle.line_stamps.specs.Messages.{addr_of}
 use Rattle.line_stamps.specs.declared.message.Message.{Message}
 use Rattle.line_stamps.specs.declared.message.Reply.{Reply}
 use Rattle.core_unit.specs.declared.entry.CoreEntry.{CoreEntry}
-use Rattle.core_unit.specs.declared.entry.CoreEntry.TheVariants.{Performed, Got}
+use Rattle.core_unit.specs.declared.entry.CoreEntry.TheVariants.{Got}
 use Rattle.manager_slice.specs.declared.managed.HistoryEntry.{HistoryEntry}
 use Rattle.manager_slice.specs.declared.managed.HistoryEntry.TheVariants.{Evicted, Served}
 use Rattle.audit.specs.Lists.{history_of, picks, put, transcript_of}
-use Rattle.audit.specs.Merges.{AreMoves, HasMerge, IsMerge, IsMove, Merges, Move, alone, core_entry, evicts, is_own, of_core, of_slice, passes, slice_entry}
+use Rattle.audit.specs.Merges.{AreMoves, HasMerge, IsMove, Move, alone, core_entry, evicts, is_own, of_core, of_slice, passes, slice_entry}
 use Rattle.audit.specs.Pairs.{slice_of}
 use Rattle.audit.specs.inner.Fronts.{Reached}
 
@@ -38,13 +38,13 @@ take_grow (x ∷ xs) (suc k) e h = ap (λ l. x ∷ l) (take_grow xs k e h)
 pub grow : {A : Type 0} (F T : ℕ → List A) (p : List ℕ) (c : ℕ) (e : A) → ((d : ℕ) → F d ≡ take (slice_index p d) (T d)) → c < length p → slice_get (T c) (slice_index p c) ≡ Some e → (d : ℕ) → F d ++ put (if c == d then Some e else None) [] ≡ take (slice_index (slice_set p c (slice_index p c + 1)) d) (T d)
 grow F T p c e now lt at d =
     elim (eqb_tells c d) [
-      inl h ↦
-        (let P : ℕ → Type 0 = λ x. F x ++ e ∷ [] ≡ take (slice_index (slice_set p c (slice_index p c + 1)) x) (T x) in
-        let here : P c = ap (λ l. l ++ e ∷ []) (now c) ∙ (sym (take_grow (T c) (slice_index p c) e at) ∙ ap (λ k. take k (T c)) (sym (get_or-set_same p c (slice_index p c + 1) 0 lt ∙ add-one (slice_index p c)))) in
-        rw h.0 (subst P h.1 here))
-    | inr h ↦
-        (let other : d ≢ c = λ q. h.1 (sym q) in
-        rw (h.0, append-nil, now d) (ap (λ k. take k (T d)) (sym (get_or-set_other p c d (slice_index p c + 1) 0 other))))
+      | inl h ↦
+          (let P : ℕ → Type 0 = λ x. F x ++ e ∷ [] ≡ take (slice_index (slice_set p c (slice_index p c + 1)) x) (T x) in
+          let here : P c = ap (λ l. l ++ e ∷ []) (now c) ∙ (sym (take_grow (T c) (slice_index p c) e at) ∙ ap (λ k. take k (T c)) (sym (get_or-set_same p c (slice_index p c + 1) 0 lt ∙ add-one (slice_index p c)))) in
+          rw h.0 (subst P h.1 here))
+      | inr h ↦
+          (let other : d ≢ c = λ q. h.1 (sym q) in
+          rw (h.0, append-nil, now d) (ap (λ k. take k (T d)) (sym (get_or-set_other p c d (slice_index p c + 1) 0 other))))
     ]
 
 -- the fronts after a move that has no entry of these lists
@@ -97,13 +97,13 @@ all_zero (x ∷ xs) = if x == 0 then all_zero xs else false
 pub zeros_at : (xs : List ℕ) → all_zero xs ≡ true → (k : ℕ) → slice_index xs k ≡ 0
 zeros_at [] e k = refl
 zeros_at (x ∷ xs) e zero = elim (eqb_tells x 0) [
-  inl h ↦ h.1
+  | inl h ↦ h.1
   | inr h ↦ absurd (false≢true (rw h.0 at e))
-  ]
+]
 zeros_at (x ∷ xs) e (suc k) = elim (eqb_tells x 0) [
-  inl h ↦ zeros_at xs (rw h.0 at e) k
+  | inl h ↦ zeros_at xs (rw h.0 at e) k
   | inr h ↦ absurd (false≢true (rw h.0 at e))
-  ]
+]
 
 -- no entry yet
 pub none_yet : (ts : List (List CoreEntry)) (hs : List (List HistoryEntry)) (p q : List ℕ) → all_zero p ≡ true → all_zero q ≡ true → Reached ts hs p q
@@ -130,6 +130,6 @@ all_merged ts hs p q h full_p full_q = record {
 -- what is past the last core or slice
 pub past_all : {A : Type 0} (xs : List (List A)) (n : ℕ) (F : ℕ → ℕ) → length xs ≤ n → ((k : ℕ) → k < n → length (slice_index_or xs k []) ≤ F k) → (k : ℕ) → length (slice_index_or xs k []) ≤ F k
 past_all xs n F within h k = elim (cases_lt k n) [
-  inl lt ↦ h k lt
+  | inl lt ↦ h k lt
   | inr le ↦ rw (get_or_past xs k [] (omega arith)) (omega arith)
-  ]
+]

@@ -1,34 +1,33 @@
 -- Fronts within their lists, and where they end.
-use Rattle.std.proofs.Common.{ℕ, zero, suc, ◌≡◌, ◌+◌, ◌-◌, ◌<◌, ◌≤◌, ◌≢◌, List, [], ◌∷◌, Option, Some, None, true, length, map, sum, take, get_or, slice_index, slice_index_or, ◌⊎◌, inl, inr, refl, sym, ap, subst, ◌∙◌, arith}
+use Rattle.std.proofs.Common.{ℕ, zero, suc, ◌≡◌, ◌+◌, ◌<◌, ◌≤◌, ◌≢◌, List, [], ◌∷◌, Some, true, length, map, sum, take, get_or, slice_index, slice_index_or, inl, inr, refl, sym, ap, subst, arith}
 use Rattle.std.specs.Prelude.{slice_get, slice_set}
 use Rattle.std.proofs.Math.ListN.{get_or-map}
 use Rattle.std.proofs.lemmas.Bool.{cases_lt}
 use Rattle.std.proofs.lemmas.Bool.Decides.{eqb_tells}
-use Rattle.std.proofs.lemmas.List.{get_or-set_same, get_or-set_other, get_or_past, length-map}
+use Rattle.std.proofs.lemmas.List.{get_or-set_same, get_or-set_other, get_or_past}
 use Rattle.std.proofs.lemmas.List.Sums.{sum_by-cons}
-use Rattle.std.proofs.lemmas.Option.{slice_get_within, slice_get_cases}
-use Rattle.audit.proofs.Orders.{past_all, all_merged, all_zero, zeros_at}
+use Rattle.std.proofs.lemmas.Option.{slice_get_within}
+use Rattle.audit.proofs.Orders.{all_zero, zeros_at}
 use Rattle.audit.proofs.Maximal.{maximal}
 use Rattle.line_stamps.specs.Messages.{addr_of}
 use Rattle.line_stamps.specs.declared.message.Message.{Message}
 use Rattle.line_stamps.specs.declared.message.Reply.{Reply}
 use Rattle.core_unit.specs.declared.entry.CoreEntry.{CoreEntry}
-use Rattle.core_unit.specs.declared.entry.CoreEntry.TheVariants.{Performed, Got}
+use Rattle.core_unit.specs.declared.entry.CoreEntry.TheVariants.{Got}
 use Rattle.manager_slice.specs.declared.managed.HistoryEntry.{HistoryEntry}
-use Rattle.manager_slice.specs.declared.managed.HistoryEntry.TheVariants.{Evicted, Served}
 use Rattle.audit.specs.Lists.{history_of, transcript_of}
-use Rattle.audit.specs.Merges.{HasMerge, InFronts, IsFirstUnmerged, Merges}
+use Rattle.audit.specs.Merges.{InFronts, IsFirstUnmerged}
 use Rattle.audit.specs.Pairs.{gots, slice_of}
-use Rattle.audit.specs.inner.Fronts.{FrontsFit, Reached, SliceStuck, Stuck}
+use Rattle.audit.specs.inner.Fronts.{FrontsFit, Reached, Stuck}
 
 fit_more : {A : Type 0} (ts : List (List A)) (p : List ℕ) (c : ℕ) (e : A) → ((d : ℕ) → slice_index p d ≤ length (slice_index_or ts d [])) → c < length p → slice_get (slice_index_or ts c []) (slice_index p c) ≡ Some e → (d : ℕ) → slice_index (slice_set p c (slice_index p c + 1)) d ≤ length (slice_index_or ts d [])
 fit_more ts p c e h lt at d = elim (eqb_tells c d) [
-    inl q ↦
+  | inl q ↦
       (let P : ℕ → Type 0 = λ x. slice_index (slice_set p c (slice_index p c + 1)) x ≤ length (slice_index_or ts x []) in
       let here : P c = let w = slice_get_within (slice_index_or ts c []) (slice_index p c) e at in let s = get_or-set_same p c (slice_index p c + 1) 0 lt in omega arith in
       subst P q.1 here)
   | inr q ↦ (let s = get_or-set_other p c d (slice_index p c + 1) 0 (λ w. q.1 (sym w)) in let k = h d in omega arith)
-  ]
+]
 
 pub fit_core : (ts : List (List CoreEntry)) (hs : List (List HistoryEntry)) (p q : List ℕ) (c : ℕ) (e : CoreEntry) → FrontsFit ts hs p q → c < length p → slice_get (transcript_of ts c) (slice_index p c) ≡ Some e → FrontsFit ts hs (slice_set p c (slice_index p c + 1)) q
 fit_core ts hs p q c e h lt at = record { cores = fit_more ts p c e h.cores lt at; slices = h.slices }
@@ -81,6 +80,6 @@ entry_there (x ∷ xs) (suc k) lt = entry_there xs k (omega arith)
 
 pub list_there : {A : Type 0} (xs : List (List A)) (s k : ℕ) → k < length (slice_index_or xs s []) → s < length xs
 list_there {A} xs s k lt = elim (cases_lt s (length xs)) [
-    inl in_s ↦ in_s
+  | inl in_s ↦ in_s
   | inr past ↦ (let none : length (slice_index_or xs s []) ≡ 0 = ap length (get_or_past xs s [] past) in absurd (omega arith))
-  ]
+]

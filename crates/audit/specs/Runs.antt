@@ -1,5 +1,5 @@
 -- What a run of threads ends with.
-use Rattle.std.specs.Prelude.{◌≡◌, ℕ, ◌<◌, List, length, None, Some, slice_get}
+use Rattle.std.specs.Prelude.{◌≡◌, ℕ, List, length, None, Some, slice_get}
 use Rattle.lease_rule.specs.ConfigParts.{ConfigParts}
 use Rattle.log_record.specs.declared.record.Record.{Record}
 use Rattle.core_program.specs.declared.instruction.Instruction.{Instruction}

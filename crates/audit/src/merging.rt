@@ -94,7 +94,7 @@ pub(crate) fn core_left(units: &[CoreUnit], cores: &[usize]) -> Option<usize>
     ensures { MatchOption result
         ((c : ℕ) → c < 64 → length (transcript_of (transcripts units.now) c) ≤ slice_index cores.now c)
         (λ c. (c < 64) × (slice_index cores.now c < length (transcript_of (transcripts units.now) c))
-            × ((d : ℕ) → d < c → length (transcript_of (transcripts units.now) d) ≤ slice_index cores.now d)) }
+        × ((d : ℕ) → d < c → length (transcript_of (transcripts units.now) d) ≤ slice_index cores.now d)) }
 {
     for core in 0..CORES {
         if cores[core] < transcript_at(units, core).len() {

@@ -105,9 +105,9 @@ fn core_fault(units: &[CoreUnit], slices: &[ManagerSlice], core: usize) -> Optio
     ensures { MatchOption result
         ((s : ℕ) → s < length slices.now → PairAgrees (transcripts units.now) (histories slices.now) core s)
         (λ f. (f.core ≡ core) × (f.slice < length slices.now)
-            × DiffersAt (serveds core (history_of (histories slices.now) f.slice))
-                (gots (length slices.now) f.slice (transcript_of (transcripts units.now) core)) f.place
-            × ((s : ℕ) → s < f.slice → PairAgrees (transcripts units.now) (histories slices.now) core s)) }
+        × DiffersAt (serveds core (history_of (histories slices.now) f.slice))
+        (gots (length slices.now) f.slice (transcript_of (transcripts units.now) core)) f.place
+        × ((s : ℕ) → s < f.slice → PairAgrees (transcripts units.now) (histories slices.now) core s)) }
 {
     let transcript = transcript_at(units, core);
     for slice in 0..slices.len() {

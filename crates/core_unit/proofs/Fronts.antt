@@ -1,15 +1,14 @@
 -- The log of a replay is a front of its program's operations.
-use Rattle.std.proofs.Common.{◌≡◌, ◌≢◌, ◌+◌, ◌<◌, ◌≤◌, ℕ, List, [], ◌∷◌, ◌++◌, length, map, take, refl, sym, ap, subst, ◌∙◌, arith}
-use Rattle.std.specs.Prelude.{Option, Some, None, IsSome, option_map, slice_get}
+use Rattle.std.proofs.Common.{◌≡◌, ◌≢◌, ◌<◌, ℕ, List, [], ◌∷◌, length, map, take, refl, sym, ap, subst, ◌∙◌, arith}
+use Rattle.std.specs.Prelude.{Option, Some, None, IsSome, option_map}
 use Rattle.std.proofs.lemmas.List.{map-append, length-map, take_all}
 use Rattle.std.proofs.lemmas.Option.{slice_get_past}
-use Rattle.mem_op.specs.Consistency.{Operation, word_answered}
+use Rattle.mem_op.specs.Consistency.{word_answered}
 use Rattle.mem_op.specs.declared.id.Op.{Op}
 use Rattle.mem_op.specs.declared.id.Op.TheVariants as op
 use Rattle.lease_rule.specs.ConfigParts.{ConfigParts}
 use Rattle.log_record.specs.Entries.{operation_of}
-use Rattle.core_program.specs.declared.instruction.Instruction.{Instruction}
-use Rattle.core_program.specs.Conforming.{DiffersAt, program_fault}
+use Rattle.core_program.specs.Conforming.{program_fault}
 use Rattle.core_program.specs.Running.{IsAtRest, answered, next_op, op_of, state_after}
 use Rattle.core_program.specs.Shape.{IsProgram}
 use Rattle.core_program.proofs.Faults.{differs-fault}

@@ -1,5 +1,5 @@
 -- What holds of all core units.
-use Rattle.std.specs.Prelude.{◌≡◌, ◌<◌, List, length, map, Some, None}
+use Rattle.std.specs.Prelude.{◌≡◌, ◌<◌, List, length, map, Some}
 use Rattle.mem_op.specs.Consistency.{Operation}
 use Rattle.log_record.specs.Entries.{operation_of}
 use Rattle.core_program.specs.Conforming.{Reaches, Conforms, program_fault}

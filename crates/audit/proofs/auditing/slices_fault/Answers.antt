@@ -14,8 +14,8 @@ returns-in_default c =
     let p = c.args.cores.now in
     let q = c.args.fronts.now in
     let merge = all_merged ts hs p q c.requires.reached
-        (past_all ts 64 (λ k. slice_index p k) (rw length-map c.requires.units) c.requires.used)
-        (past_all hs 16 (λ k. slice_index q k) (rw length-map c.requires.most) c.in_default.ensures) in
+    (past_all ts 64 (λ k. slice_index p k) (rw length-map c.requires.units) c.requires.used)
+    (past_all hs 16 (λ k. slice_index q k) (rw length-map c.requires.most) c.in_default.ensures) in
     (merged_agrees ts hs merge, merge)
 
 pub unreachable-requires : goal.unreachable-requires

@@ -13,7 +13,7 @@ loop-transcript-preserved c =
     let p = c.loop-transcript.cores in
     let within : c.args.core < length p = omega (arith, c.requires.core, c.requires.cores, c.loop-transcript.invariant.on.count) in
     let goes : goes_alone (transcript_of ts c.args.core) (slice_index p c.args.core) ≡ true =
-        ap (λ t. goes_alone t (slice_index p c.args.core)) (sym c.transcript_at-transcript.ensures) ∙ (sym c.is_alone.ensures ∙ c.loop-transcript-test.true) in
+    ap (λ t. goes_alone t (slice_index p c.args.core)) (sym c.transcript_at-transcript.ensures) ∙ (sym c.is_alone.ensures ∙ c.loop-transcript-test.true) in
     let e = own_there (transcript_of ts c.args.core) (slice_index p c.args.core) goes in
     rw c.bump.ensures (record {
       reached = core_alone ts hs p c.args.fronts.now c.args.core e.0 c.loop-transcript.invariant.reached within e.1 e.2;
@@ -28,7 +28,7 @@ loop-transcript-smaller c =
     let p = c.loop-transcript.cores in
     let within : c.args.core < length p = omega (arith, c.requires.core, c.requires.cores, c.loop-transcript.invariant.on.count) in
     let goes : goes_alone (transcript_of ts c.args.core) (slice_index p c.args.core) ≡ true =
-        ap (λ t. goes_alone t (slice_index p c.args.core)) (sym c.transcript_at-transcript.ensures) ∙ (sym c.is_alone.ensures ∙ c.loop-transcript-test.true) in
+    ap (λ t. goes_alone t (slice_index p c.args.core)) (sym c.transcript_at-transcript.ensures) ∙ (sym c.is_alone.ensures ∙ c.loop-transcript-test.true) in
     let e = own_there (transcript_of ts c.args.core) (slice_index p c.args.core) goes in
     let fit = fit_core ts hs p c.args.fronts.now c.args.core e.0 c.loop-transcript.invariant.fit within e.1 in
     let most = sum_fits ts _ fit.cores in

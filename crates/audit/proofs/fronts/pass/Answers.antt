@@ -1,11 +1,11 @@
-use Rattle.std.proofs.Common.{ℕ, ◌≡◌, ◌<◌, List, length, slice_index, refl, ap, sym, ◌∙◌, arith}
+use Rattle.std.proofs.Common.{◌≡◌, ◌<◌, length, slice_index, ap, sym, ◌∙◌, arith}
 use Rattle.std.specs.Prelude.{Some, slice_get, slice_set}
 use Rattle.std.proofs.lemmas.List.{length-map, length-set}
 use Rattle.manager_slice.specs.declared.managed.HistoryEntry.TheVariants.{Served}
 use Rattle.core_unit.specs.declared.entry.CoreEntry.TheVariants.{Got}
 use Rattle.audit.specs.Lists.{transcripts, histories, transcript_of}
 use Rattle.audit.specs.inner.Fronts.{waits_for}
-use Rattle.audit.proofs.Moving.{passed, mark, no_mark, one_on, on_again, sum_on, sum_up}
+use Rattle.audit.proofs.Moving.{passed, mark, one_on, on_again, sum_on, sum_up}
 use Rattle.audit.proofs.Orders.{message_passes}
 use Rattle.audit.proofs.Progress.{fit_core, fit_slice}
 use Rattle.audit.proofs.fronts.pass.Goals as goal
@@ -23,7 +23,7 @@ core_on-requires-clause-fit c =
     let within : c.args.slice < length c.args.fronts.now = omega (arith, c.requires.slice, c.requires.merging.fronts) in
     rw (c.bump.ensures, c.bump-2.ensures)
     (fit_slice _ _ _ c.args.fronts.now c.args.slice (Served c.args.core en.1.0 en.1.1)
-      (fit_core _ _ c.args.cores.now c.args.fronts.now c.args.core (Got en.1.0 en.1.1) c.requires.merging.fit en.0 en.1.2) within en.1.3)
+    (fit_core _ _ c.args.cores.now c.args.fronts.now c.args.core (Got en.1.0 en.1.1) c.requires.merging.fit en.0 en.1.2) within en.1.3)
 
 pub returns-clause-merging : goal.returns-clause-merging
 returns-clause-merging c =
@@ -35,15 +35,15 @@ returns-clause-merging c =
     let count : length c.args.slices.now ≡ length hs = sym (length-map c.args.slices.now (λ s. s.history)) in
     let below : c.in-Some.waited < length c.args.due.now = omega (arith, c.in-Some.ensures.in_range, c.requires.most, c.requires.merging.due) in
     let waits : waits_for (length hs) (slice_get (transcript_of ts c.args.core) (slice_index c.core_on.new.cores c.args.core)) ≡ Some c.in-Some.waited =
-        ap (λ n. waits_for n (slice_get (transcript_of ts c.args.core) (slice_index c.core_on.new.cores c.args.core))) (sym count)
-        ∙ (ap (λ t. waits_for (length c.args.slices.now) (slice_get t (slice_index c.core_on.new.cores c.args.core))) (sym c.transcript_at-transcript.ensures)
-        ∙ sym c.in-Some.ensures.value) in
+    ap (λ n. waits_for n (slice_get (transcript_of ts c.args.core) (slice_index c.core_on.new.cores c.args.core))) (sym count)
+    ∙ (ap (λ t. waits_for (length c.args.slices.now) (slice_get t (slice_index c.core_on.new.cores c.args.core))) (sym c.transcript_at-transcript.ensures)
+    ∙ sym c.in-Some.ensures.value) in
     let on = on_again c.args.core p _ _ (one_on p c.args.core c.requires.enabled.0) (rw c.bump.ensures at c.core_on.ensures.on) in
     let reached = rw c.bump-2.ensures at c.core_on.ensures.reached in
     let fit = rw c.bump-2.ensures at c.core_on.ensures.fit in
     rw (c.bump-2.ensures, c.set_due.ensures)
     (passed ts hs p q c.args.due.now c.core_on.new.cores (slice_set c.args.due.now c.in-Some.waited 1) c.args.core c.args.slice c.requires.merging within c.requires.due on reached fit
-      c.core_on.ensures.alone (length-set c.args.due.now c.in-Some.waited 1) (mark c.args.due.now c.in-Some.waited _ below waits))
+    c.core_on.ensures.alone (length-set c.args.due.now c.in-Some.waited 1) (mark c.args.due.now c.in-Some.waited _ below waits))
 
 pub returns-clause-less : goal.returns-clause-less
 returns-clause-less c =

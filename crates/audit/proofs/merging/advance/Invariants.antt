@@ -1,4 +1,4 @@
-use Rattle.std.proofs.Common.{ℕ, ◌+◌, ◌*◌, ◌-◌, length, map, sum}
+use Rattle.std.proofs.Common.{◌+◌, ◌*◌, ◌-◌, length, map, sum}
 use Rattle.audit.specs.Lists.{transcripts, histories}
 use Rattle.audit.specs.inner.Fronts.{Merging}
 use Rattle.audit.proofs.merging.advance.Given as goal

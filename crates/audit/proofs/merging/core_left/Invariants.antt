@@ -1,5 +1,5 @@
 use Rattle.std.proofs.Common.{ℕ, ◌<◌, ◌≤◌, length, slice_index}
-use Rattle.audit.specs.Lists.{transcripts, histories, transcript_of, history_of}
+use Rattle.audit.specs.Lists.{transcripts, transcript_of}
 use Rattle.audit.proofs.merging.core_left.Given as goal
 
 abbrev pub invariant-loop-core : goal.invariant-loop-core

@@ -1,4 +1,4 @@
-use Rattle.std.proofs.Common.{ℕ, ◌≡◌, ◌≤◌, length, take}
+use Rattle.std.proofs.Common.{◌≡◌, ◌≤◌, length, take}
 use Rattle.audit.specs.Pairs.{gots}
 use Rattle.audit.proofs.merging.gots_before.Given as goal
 

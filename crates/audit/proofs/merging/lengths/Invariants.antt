@@ -8,5 +8,5 @@ invariant-loop-core l = (c : ℕ) → c < l.core → length (transcript_of (tran
 abbrev pub invariant-loop-slice : goal.invariant-loop-slice
 invariant-loop-slice l = record {
   cores : (c : ℕ) → c < 64 → length (transcript_of (transcripts l.units) c) < 2 ^ 64;
-  slices : (s : ℕ) → s < l.slice → length (history_of (histories l.slices) s) < 2 ^ 64
+  slices : (s : ℕ) → s < l.slice → length (history_of (histories l.slices) s) < 2 ^ 64;
 }

@@ -1,5 +1,5 @@
 use Rattle.std.proofs.Common.{ℕ, ◌<◌, ◌≤◌, length, slice_index}
-use Rattle.audit.specs.Lists.{transcripts, histories, transcript_of, history_of}
+use Rattle.audit.specs.Lists.{histories, history_of}
 use Rattle.audit.proofs.merging.slice_left.Given as goal
 
 abbrev pub invariant-loop-slice : goal.invariant-loop-slice

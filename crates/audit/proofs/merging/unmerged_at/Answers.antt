@@ -20,9 +20,9 @@ returns c =
     let got : slice_get T k ≡ Some (Got m r) = sym c.entry_at.ensures ∙ (ap option_copied c.in-Some-Got.is ∙ ap (λ x. Some x) c.in-Some-Got.field-0-is) in
     let n : length c.args.slices.now ≡ length hs = sym (length-map c.args.slices.now (λ s. s.history)) in
     let slice : c.slice_of-slice.result ≡ slice_of (length hs) (addr_of m) =
-        c.slice_of-slice.ensures.value ∙ (ap (λ a. slice_of (length c.args.slices.now) a) c.addr.ensures ∙ ap (λ x. slice_of x (addr_of m)) n) in
+    c.slice_of-slice.ensures.value ∙ (ap (λ a. slice_of (length c.args.slices.now) a) c.addr.ensures ∙ ap (λ x. slice_of x (addr_of m)) n) in
     let count = c.gots_before-place.ensures ∙ (ap (λ x. length (gots x c.slice_of-slice.result (take k T))) n
-        ∙ (ap (λ x. length (gots (length hs) x (take k T))) slice ∙ ap (λ x. length (gots (length hs) (slice_of (length hs) (addr_of m)) (take k x))) c.transcript_at-transcript.ensures)) in
+    ∙ (ap (λ x. length (gots (length hs) x (take k T))) slice ∙ ap (λ x. length (gots (length hs) (slice_of (length hs) (addr_of m)) (take k x))) c.transcript_at-transcript.ensures)) in
     rw slice
     (first_unmerged ts hs c.args.cores.now c.args.fronts.now c.args.core m r c.gots_before-place.result c.requires.reached c.requires.stuck c.requires.earlier
-      (ap (λ t. slice_get t k) (sym c.transcript_at-transcript.ensures) ∙ got) (sym count))
+    (ap (λ t. slice_get t k) (sym c.transcript_at-transcript.ensures) ∙ got) (sym count))

@@ -1,6 +1,6 @@
 use Rattle.std.proofs.Common.{arith, sym}
 use Rattle.core_unit.specs.declared.entry.CoreEntry.TheVariants.{Performed}
-use Rattle.audit.proofs.Compared.{next_got, no_got, gots_end, none_served, another_served, same_served, skipped, served_left, all_served}
+use Rattle.audit.proofs.Compared.{next_got, gots_end, none_served, another_served, same_served, served_left, all_served}
 use Rattle.audit.proofs.pairs.pair_fault.Goals as goal
 
 pub returns-in_default : goal.returns-in_default
