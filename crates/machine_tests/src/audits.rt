@@ -109,7 +109,7 @@ fn a_changed_word_and_an_entry_too_many(rt: HostRuntime) -> Result<(), Fail> {
     let second = serves(&mut slice, 0, 2)?;
     let unit = two_loads(&rt, rt.alloc(), &[first, second])?;
     let changed = match &second {
-        Reply::ShRep(line) => Reply::ShRep(Line { value: 5, ..*line }),
+        Reply::ShRep(line) => Reply::ShRep(Line::new(5, line.source(), line.stamps())),
         _ => second,
     };
     let misled = two_loads(&rt, rt.alloc(), &[first, changed])?;
@@ -123,7 +123,13 @@ fn a_changed_word_and_an_entry_too_many(rt: HostRuntime) -> Result<(), Fail> {
     let _later = serves(&mut exchanged, 0, 2)?;
     let _sooner = serves(&mut exchanged, 0, 0)?;
     let units = [unit];
-    assert_eq!(rt; audit(&units, &[longer, slice_of(rt.alloc(), 1)?]), differs_at(2));
-    assert_eq!(rt; audit(&units, &[exchanged, slice_of(rt.alloc(), 1)?]), differs_at(0));
+    assert_eq!(rt;
+        audit(&units, &[longer, slice_of(rt.alloc(), 1)?]),
+        differs_at(2)
+    );
+    assert_eq!(rt;
+        audit(&units, &[exchanged, slice_of(rt.alloc(), 1)?]),
+        differs_at(0)
+    );
     Ok(())
 }
