@@ -11,7 +11,7 @@ ghost use Rattle.log_file.specs.Standing.{HasRoom, IsPassed, Stands, IsSettledWi
 
 use super::fault::{FormatFault, LogFault};
 use super::one_line::{LINE_LIMIT, RECORD_LIMIT};
-use super::progress::{Stage, Progress};
+use super::progress::{Progress, Stage};
 use arrayvec::ArrayVec;
 use log_record::Record;
 use memchr::memchr;

@@ -11,13 +11,29 @@ use Rattle.manager_slice.specs.Table.{Slice, opening as empty_slice}
 use Rattle.core_unit.specs.Core.{Core, new_core}
 use Rattle.tardis_core.specs.Machine.{opening}
 use Rattle.manager_slice.specs.Opening.{new_slice, new_slices}
-use Rattle.tardis_core.specs.Opening.{new_seat, new_seats, opening_parts}
+use Rattle.tardis_core.specs.Opening.{new_seat, new_seats, new_unit, new_units, opening_parts}
 use Rattle.tardis_core.specs.Parts.{world, IsMachine, IsPlaced}
 use Rattle.tardis_core.specs.SeatParts.{SeatParts}
 use Rattle.tardis_core.specs.Seats.{seen}
 use Rattle.tardis_core.proofs.Leading.{reached_start}
 
 -- ---- the cores
+
+new_units-push : (g : ConfigParts) (c : ℕ) (xs : List (List Instruction)) (x : List Instruction)
+    → new_units g c (xs ++ x ∷ []) ≡ new_units g c xs ++ new_unit g (c + length xs) x ∷ []
+new_units-push g c [] x = ap (λ n. new_unit g n x ∷ []) (let e : c ≡ c + 0 = omega arith in e)
+new_units-push g c (y ∷ ys) x =
+    ap (λ us. new_unit g c y ∷ us) (new_units-push g (suc c) ys x
+    ∙ ap (λ n. new_units g (suc c) ys ++ new_unit g n x ∷ []) (let e : suc c + length ys ≡ c + suc (length ys) = omega arith in e))
+
+pub units_next : (g : ConfigParts) (programs : List (List Instruction)) (n : ℕ) (x : List Instruction) → slice_get programs n ≡ Some x
+    → new_units g 0 (take (n + 1) programs) ≡ new_units g 0 (take n programs) ++ new_unit g n x ∷ []
+units_next g programs n x found =
+    let below = slice_get_within programs n x found in
+    let count : 0 + length (take n programs) ≡ n = omega (arith, length-take-le n programs (let le : n ≤ length programs = omega arith in le)) in
+    ap (new_units g 0) (take_more programs n x below ∙ ap (λ y. take n programs ++ y ∷ []) (get_or_from_slice_get programs n x x found))
+    ∙ new_units-push g 0 (take n programs) x
+    ∙ ap (λ m. new_units g 0 (take n programs) ++ new_unit g m x ∷ []) count
 
 new_seats-push : (g : ConfigParts) (c : ℕ) (xs : List (List Instruction)) (x : List Instruction)
     → new_seats g c (xs ++ x ∷ []) ≡ new_seats g c xs ++ new_seat g (c + length xs) x ∷ []

@@ -5,26 +5,33 @@ use Rattle.core_program.specs.declared.instruction.Instruction.{Instruction}
 use Rattle.core_program.specs.Running.{start_of}
 use Rattle.private_cache.specs.Steps.{empty_cache}
 use Rattle.manager_slice.specs.Opening.{new_slices}
+use Rattle.core_unit.specs.Parts.{UnitParts}
 use Rattle.tardis_core.specs.Parts.{CoreParts}
 use Rattle.tardis_core.specs.SeatParts.{SeatParts}
 
 -- core c at the start of its program
-abbrev pub new_seat : ConfigParts → ℕ → List Instruction → SeatParts
-new_seat g c program = record {
-  unit = record {
-    core = c;
-    program = program;
-    config = g;
-    state = start_of program;
-    pts = 0;
-    r = 0;
-    cache = empty_cache g.cache_lines;
-    hand = None;
-    transcript = [];
-    log = [];
-  };
-  kept = None;
+abbrev pub new_unit : ConfigParts → ℕ → List Instruction → UnitParts
+new_unit g c program = record {
+  core = c;
+  program = program;
+  config = g;
+  state = start_of program;
+  pts = 0;
+  r = 0;
+  cache = empty_cache g.cache_lines;
+  hand = None;
+  transcript = [];
+  log = [];
 }
+
+-- the units of these programs, from core c on
+abbrev pub new_units : ConfigParts → ℕ → List (List Instruction) → List UnitParts
+new_units g c [] = []
+new_units g c (program ∷ programs) = new_unit g c program ∷ new_units g (suc c) programs
+
+-- core c in its seat
+abbrev pub new_seat : ConfigParts → ℕ → List Instruction → SeatParts
+new_seat g c program = record { unit = new_unit g c program; kept = None }
 
 -- the cores of these programs, from core c on
 abbrev pub new_seats : ConfigParts → ℕ → List (List Instruction) → List SeatParts

@@ -14,4 +14,5 @@ pub use core_unit::{CoreEntry, CoreUnit, Outcome, UnitFault};
 pub use event::Event;
 pub use fault::CoreFault;
 pub use machine::Core;
+pub use opening::opening_units;
 pub use running::{RunFault, run};

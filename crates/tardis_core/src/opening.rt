@@ -2,7 +2,7 @@
 
 ghost use Rattle.std.specs.Prelude.{◌≡◌, true, IfOk, IfErr, vec_len};
 ghost use Rattle.tardis_core.specs.Machine.{opening};
-ghost use Rattle.tardis_core.specs.Opening.{new_seats, opening_parts};
+ghost use Rattle.tardis_core.specs.Opening.{new_seats, new_units, opening_parts};
 ghost use Rattle.tardis_core.specs.Parts.{world};
 ghost use Rattle.tardis_core.specs.Steps.{is_memory};
 
@@ -32,6 +32,26 @@ impl Core {
             slices,
         })
     }
+}
+
+/// A unit for each core at the start of its program, core 0 first; 10 OutOfMemory alone is refused.
+pub fn opening_units(
+    alloc: Global,
+    programs: &ProgramSet,
+    config: &Config,
+) -> Result<Vec<CoreUnit>, CoreFault>
+    ensures units { IfOk result (λ units. units.items ≡ new_units config.now 0 programs.now.programs) }
+    ensures refused { IfErr result (λ fault. is_memory fault ≡ true) }
+{
+    let mut units = Vec::new(alloc);
+    for number in 0..programs.len() as u64 {
+        let core = CoreId::new(number).unwrap();
+        let program = programs.get(core).unwrap().clone()?;
+        let opened = CoreUnit::new(alloc, core, program, config)?;
+        units.reserve(1)?;
+        units.push_reserved(opened);
+    }
+    Ok(units)
 }
 
 // A seat for each core at the start of its program.

@@ -1,0 +1,13 @@
+use Rattle.std.proofs.Common.{◌≡◌, Some, slice_get, sym, rules}
+use Rattle.tardis_core.specs.Opening.{new_unit}
+use Rattle.tardis_core.proofs.Opened.{units_next}
+use Rattle.tardis_core.proofs.opening.opening_units.Goals as goal
+
+pub loop-number-preserved : goal.loop-number-preserved
+loop-number-preserved c =
+    let g = c.args.config.now in
+    let n = c.loop-number.number in
+    let program = c.unwrap.result.now in
+    let found : slice_get c.args.programs.now.programs n ≡ Some program = search rules in
+    let made : c.in_ok-opened.opened ≡ new_unit g n program = search rules in
+    rw (c.push_reserved.ensures.items, c.in_ok-reserve.ensures.items, c.loop-number.invariant, made) (sym (units_next g c.args.programs.now.programs n program found))
