@@ -4,3 +4,4 @@ pub mod Maximal
 pub mod Moving
 pub mod Orders
 pub mod Progress
+pub mod Refuted

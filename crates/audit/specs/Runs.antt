@@ -1,5 +1,5 @@
 -- What a run of threads ends with.
-use Rattle.std.specs.Prelude.{◌≡◌, ℕ, List, length, None, Some, slice_get}
+use Rattle.std.specs.Prelude.{◌≡◌, ◌<◌, ◌⊎◌, ⊤, ℕ, List, length, Option, None, Some, slice_get}
 use Rattle.lease_rule.specs.ConfigParts.{ConfigParts}
 use Rattle.log_record.specs.declared.record.Record.{Record}
 use Rattle.core_program.specs.declared.instruction.Instruction.{Instruction}
@@ -9,6 +9,8 @@ use Rattle.manager_slice.specs.Replay as slice
 use Rattle.core_unit.specs.Kept as kept
 use Rattle.core_unit.specs.Laws.{performed_by}
 use Rattle.core_unit.specs.Parts.{UnitParts}
+use Rattle.audit.specs.declared.machine_fault.Cause.{Cause}
+use Rattle.audit.specs.declared.machine_fault.Cause.TheVariants as cause
 use Rattle.audit.specs.Lists.{transcripts, histories}
 use Rattle.audit.specs.Merges.{HasMerge}
 use Rattle.audit.specs.Pairs.{Agrees}
@@ -65,3 +67,33 @@ pub record IsUnitLog (core : ℕ) (log : List Record) : Type 0 where
   pub is_core : unit.core ≡ core
   pub replays : kept.Replays unit
   pub log_is : log ≡ unit.log
+
+-- ---- what a run of threads ends with
+
+-- core c's thread met this fault, and it is one to report: 30 and 31 are only where its unit has stopped before the program's end
+pub record Reports (programs : List (List Instruction)) (us : List UnitParts) (faults : List (Option Cause)) (c : ℕ) (met_cause : Cause) : Type 0 where
+  pub met : slice_get faults c ≡ Some (Some met_cause)
+  pub short : (met_cause ≡ cause.GaveUp) ⊎ (met_cause ≡ cause.Stopped) → StoppedShort programs us c
+
+-- no core below c has a fault to report
+abbrev pub NoneReportsBelow : List (List Instruction) → List UnitParts → List (Option Cause) → ℕ → Type 0
+NoneReportsBelow programs us faults c = (d : ℕ) (found : Cause) → d < c → Reports programs us faults d found → ⊥
+
+-- no core has
+abbrev pub NoneReports : List (List Instruction) → List UnitParts → List (Option Cause) → Type 0
+NoneReports programs us faults = NoneReportsBelow programs us faults (length faults)
+
+-- the least core that has
+pub record IsFirstReport (programs : List (List Instruction)) (us : List UnitParts) (faults : List (Option Cause)) (c : ℕ) (found : Cause) : Type 0 where
+  pub reports : Reports programs us faults c found
+  pub before : NoneReportsBelow programs us faults c
+
+-- the cause is 33
+abbrev pub IsAuditCause : Cause → Type 0
+IsAuditCause (cause.Audit fault) = ⊤
+IsAuditCause cause.GaveUp = ⊥
+IsAuditCause cause.Stopped = ⊥
+IsAuditCause cause.Spawn = ⊥
+IsAuditCause (cause.Unit fault) = ⊥
+IsAuditCause (cause.Slice fault) = ⊥
+IsAuditCause cause.OutOfMemory = ⊥

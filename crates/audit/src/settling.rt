@@ -1,8 +1,8 @@
 //! What the units and slices that threads gave back are found to be.
 
-ghost use Rattle.std.specs.Prelude.{◌≡◌, ◌≢◌, ◌<◌, ◌≤◌, ◌⊎◌, length, slice_get, Some, IfSome, IfOk, IfErr, OnOk, MatchBool, MatchOption};
-ghost use Rattle.std.specs.Bool.{OnTrue};
-ghost use Rattle.audit.specs.Runs.{AllEnded, AllNumbered, HasEnded, IsNumbered, IsRun, IsShort, StoppedShort};
+ghost use Rattle.std.specs.Prelude.{◌≡◌, ◌≢◌, ◌<◌, ◌≤◌, ◌⊎◌, length, slice_get, Some, IfSome, IfOk, IfErr, OnOk, MatchBool, MatchOption, MatchResult};
+ghost use Rattle.audit.specs.Runs.{AllEnded, AllNumbered, HasEnded, IsAuditCause, IsFirstReport, IsNumbered, IsRun, IsShort, NoneReports, Reports, StoppedShort};
+ghost use Rattle.audit.specs.declared.machine_fault.Cause.{Cause};
 ghost use Rattle.audit.specs.declared.machine_fault.Cause.TheVariants.{GaveUp, Stopped};
 
 use super::auditing::audit;
@@ -34,7 +34,9 @@ fn program_at(programs: &ProgramSet, core: usize) -> &Program
 // Whether a unit has run a core's program to its end.
 fn has_ended(unit: &CoreUnit, core: usize, programs: &ProgramSet, config: &Config) -> bool
     requires { core < length programs.now.programs }
-    ensures { OnTrue result (HasEnded programs.now.programs config.now core unit.now) }
+    ensures { MatchBool result
+        (HasEnded programs.now.programs config.now core unit.now)
+        (¬ HasEnded programs.now.programs config.now core unit.now) }
 {
     unit.replays();
     logs_are_fronts();
@@ -61,7 +63,9 @@ fn has_ended(unit: &CoreUnit, core: usize, programs: &ProgramSet, config: &Confi
 // Whether a unit is of this core and its program, and has operations left.
 fn is_short(unit: &CoreUnit, core: usize, programs: &ProgramSet) -> bool
     requires { core < length programs.now.programs }
-    ensures { OnTrue result (IsShort programs.now.programs core unit.now) }
+    ensures { MatchBool result
+        (IsShort programs.now.programs core unit.now)
+        (¬ IsShort programs.now.programs core unit.now) }
 {
     unit.replays();
     logs_are_fronts();
@@ -81,7 +85,9 @@ fn is_short(unit: &CoreUnit, core: usize, programs: &ProgramSet) -> bool
 
 // Whether a slice has this number and configuration.
 fn is_numbered(slice: &ManagerSlice, number: usize, config: &Config) -> bool
-    ensures { OnTrue result (IsNumbered config.now number slice.now) }
+    ensures { MatchBool result
+        (IsNumbered config.now number slice.now)
+        (¬ IsNumbered config.now number slice.now) }
 {
     slice.replays();
     if slice.number() != number {
@@ -96,7 +102,9 @@ fn is_numbered(slice: &ManagerSlice, number: usize, config: &Config) -> bool
 // Whether each unit has run its core's program to its end.
 fn all_ended(units: &[CoreUnit], programs: &ProgramSet, config: &Config) -> bool
     requires { length units.now ≡ length programs.now.programs }
-    ensures { OnTrue result (AllEnded programs.now.programs config.now units.now) }
+    ensures { MatchBool result
+        (AllEnded programs.now.programs config.now units.now)
+        (¬ AllEnded programs.now.programs config.now units.now) }
 {
     for core in 0..units.len() {
         if !has_ended(&units[core], core, programs, config) {
@@ -108,7 +116,9 @@ fn all_ended(units: &[CoreUnit], programs: &ProgramSet, config: &Config) -> bool
 
 // Whether each slice has its number and the configuration.
 fn all_numbered(slices: &[ManagerSlice], config: &Config) -> bool
-    ensures { OnTrue result (AllNumbered config.now slices.now) }
+    ensures { MatchBool result
+        (AllNumbered config.now slices.now)
+        (¬ AllNumbered config.now slices.now) }
 {
     for number in 0..slices.len() {
         if !is_numbered(&slices[number], number, config) {
@@ -136,7 +146,9 @@ fn check_run(
     units: &[CoreUnit],
     slices: &[ManagerSlice],
 ) -> Result<(), AuditFault>
-    ensures { OnOk result (IsRun programs.now.programs config.now units.now slices.now) }
+    ensures { MatchResult result
+        (λ _. IsRun programs.now.programs config.now units.now slices.now)
+        (λ _. ¬ IsRun programs.now.programs config.now units.now slices.now) }
 {
     if units.len() != programs.len() || slices.len() != config.slices() {
         return Err(nowhere());
@@ -149,7 +161,9 @@ fn check_run(
 
 // Whether a core's unit has stopped before the end of the core's program.
 fn stopped_short(programs: &ProgramSet, units: &[CoreUnit], core: usize) -> bool
-    ensures { OnTrue result (StoppedShort programs.now.programs units.now core) }
+    ensures { MatchBool result
+        (StoppedShort programs.now.programs units.now core)
+        (¬ StoppedShort programs.now.programs units.now core) }
 {
     if core >= units.len() || core >= programs.len() {
         return false;
@@ -162,12 +176,33 @@ fn stopped_short(programs: &ProgramSet, units: &[CoreUnit], core: usize) -> bool
 
 // Whether a core's fault is one to report: 30 and 31 are only where its unit has stopped before the program's end.
 fn reports(programs: &ProgramSet, units: &[CoreUnit], core: usize, cause: Cause) -> bool
-    ensures { OnTrue result ((cause ≡ GaveUp ⊎ cause ≡ Stopped) → StoppedShort programs.now.programs units.now core) }
+    ensures { MatchBool result
+        ((cause ≡ GaveUp ⊎ cause ≡ Stopped) → StoppedShort programs.now.programs units.now core)
+        (¬ ((cause ≡ GaveUp ⊎ cause ≡ Stopped) → StoppedShort programs.now.programs units.now core)) }
 {
     match cause {
         Cause::GaveUp | Cause::Stopped => stopped_short(programs, units, core),
         _ => true,
     }
+}
+
+// The fault that a core has to report, if it has one.
+fn report_of(
+    programs: &ProgramSet,
+    units: &[CoreUnit],
+    faults: &[Option<Cause>],
+    core: usize,
+) -> Option<Cause>
+    requires { core < length faults.now }
+    ensures { MatchOption result
+        ((cause : Cause) → ¬ Reports programs.now.programs units.now faults.now core cause)
+        (λ cause. Reports programs.now.programs units.now faults.now core cause) }
+{
+    let cause = faults[core]?;
+    if !reports(programs, units, core, cause) {
+        return None;
+    }
+    Some(cause)
 }
 
 // The least core that has a fault to report.
@@ -176,14 +211,13 @@ fn first_report(
     units: &[CoreUnit],
     faults: &[Option<Cause>],
 ) -> Option<(usize, Cause)>
-    ensures { IfSome result
-        (λ r. (r.1 ≡ GaveUp ⊎ r.1 ≡ Stopped) → StoppedShort programs.now.programs units.now r.0) }
+    ensures { MatchOption result
+        (NoneReports programs.now.programs units.now faults.now)
+        (λ r. IsFirstReport programs.now.programs units.now faults.now r.0 r.1) }
 {
     for core in 0..faults.len() {
-        if let Some(cause) = faults[core] {
-            if reports(programs, units, core, cause) {
-                return Some((core, cause));
-            }
+        if let Some(cause) = report_of(programs, units, faults, core) {
+            return Some((core, cause));
         }
     }
     None
@@ -203,9 +237,15 @@ pub fn settle(
     slices: Vec<ManagerSlice>,
 ) -> Result<RunEnd, MachineFault>
     ensures run { IfOk result (λ end. IsRun programs.now.programs config.now end.units.items end.slices.items) }
+    ensures none { OnOk result (NoneReports programs.now.programs units.items faults.now) }
     ensures kept { IfOk result (λ end. (end.units.items ≡ units.items) × (end.slices.items ≡ slices.items)) }
     ensures short { IfErr result (λ f. (f.cause ≡ GaveUp ⊎ f.cause ≡ Stopped) →
         StoppedShort programs.now.programs f.units.items f.core) }
+    // Each refusal is the first report's, or 33 where there is none and the units and slices aren't those of a whole run.
+    ensures refused { IfErr result (λ f.
+        IsFirstReport programs.now.programs units.items faults.now f.core f.cause
+        ⊎ (NoneReports programs.now.programs units.items faults.now × IsAuditCause f.cause
+        × (¬ IsRun programs.now.programs config.now units.items slices.items))) }
     ensures left { IfErr result (λ f. f.units.items ≡ units.items) }
 {
     if let Some((core, cause)) = first_report(programs, &units, faults) {

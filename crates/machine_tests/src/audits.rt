@@ -3,15 +3,16 @@
 ghost use Rattle.std.specs.Prelude.{◌<◌};
 
 use super::values::*;
-use audit::{AuditFault, audit};
-use core_program::Program;
+use audit::{AuditFault, Cause, MachineFault, RunEnd, audit, settle};
+use core_program::{Program, ProgramSet};
 use core_unit::{CoreUnit, Outcome};
 use lease_rule::Config;
 use line_stamps::{Line, Reply};
-use manager_slice::ManagerSlice;
+use manager_slice::{ManagerSlice, new_slices};
 use std::alloc::Global;
 use std::process::Abort;
 use std::test::Fail;
+use tardis_core::opening_units;
 
 fn unit_of(alloc: Global, number: u8, text: &[u8]) -> Result<CoreUnit, Fail>
     requires { number < 64 }
@@ -132,4 +133,79 @@ fn a_changed_word_and_an_entry_too_many(rt: HostRuntime) -> Result<(), Fail> {
         differs_at(0)
     );
     Ok(())
+}
+
+/// Two cores that load the word at address 0.
+const READERS: &[u8] = b"tardis-programs 1 cores 2\ncore 0\nld r0 0\ncore 1\nld r0 0\nend\n";
+
+// A unit asks a slice for its next line, and performs the operation.
+fn performs(rt: &impl Abort, unit: &mut CoreUnit, slice: &mut ManagerSlice) -> Result<(), Fail> {
+    let _asked = unit.turn()?;
+    let message = *unit.in_hand().ok_or("a message is in hand")?;
+    let reply = slice.handle(unit.core(), &message)?;
+    assert_eq!(rt; unit.take(&reply)?, Outcome::Took);
+    let _loaded = unit.turn()?;
+    Ok(())
+}
+
+// What a run of the two readers is settled as, in which the first `ended` of them performed their loads.
+fn settled(
+    rt: &impl Abort,
+    alloc: Global,
+    ended: usize,
+    faults: &[Option<Cause>],
+) -> Result<Result<RunEnd, MachineFault>, Fail> {
+    let config = Config::new(2, 10, 1_000, 8, 64, 8, 1_000)?;
+    let programs = ProgramSet::parse(alloc, READERS)?;
+    let mut units = opening_units(alloc, &programs, &config)?;
+    let mut slices = new_slices(alloc, &config)?;
+    let slice = slices.first_mut().ok_or("slice 0 is there")?;
+    for unit in units.iter_mut().take(ended) {
+        performs(rt, unit, slice)?;
+    }
+    Ok(settle(&programs, &config, units, faults, slices))
+}
+
+// A core that has ended has no fault to report.
+#[test]
+fn a_whole_run_is_settled(rt: HostRuntime) -> Result<(), Fail> {
+    let faults = [None, Some(Cause::Stopped)];
+    match settled(&rt, rt.alloc(), 2, &faults)? {
+        Ok(end) => {
+            assert_eq!(rt; (end.units.len(), end.slices.len()), (2, 2));
+        }
+        Err(fault) => assert_eq!(rt; fault.cause, Cause::OutOfMemory, "a run is refused"),
+    }
+    Ok(())
+}
+
+// Asserts that a run in which core 1 didn't end is refused for this cause, and keeps the logs.
+fn refused(
+    rt: &impl Abort,
+    alloc: Global,
+    faults: &[Option<Cause>],
+    core_1: usize,
+    cause: Cause,
+) -> Result<(), Fail> {
+    match settled(rt, alloc, 1, faults)? {
+        Ok(end) => assert_eq!(rt; end.units.len(), 0, "a run is accepted"),
+        Err(fault) => {
+            assert_eq!(rt; (fault.core, fault.cause), (core_1, cause));
+            assert_eq!(rt; fault.log(core(0)).len(), 1);
+            assert_eq!(rt; fault.log(core(1)).len(), 0);
+        }
+    }
+    Ok(())
+}
+
+#[test]
+fn a_run_that_stopped_is_refused(rt: HostRuntime) -> Result<(), Fail> {
+    let gave_up = [Some(Cause::Stopped), Some(Cause::GaveUp)];
+    refused(&rt, rt.alloc(), &gave_up, 1, Cause::GaveUp)?;
+    let nowhere = AuditFault {
+        core: 0,
+        slice: 0,
+        place: 0,
+    };
+    refused(&rt, rt.alloc(), &[], 0, Cause::Audit(nowhere))
 }
