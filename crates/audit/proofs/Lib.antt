@@ -1,5 +1,7 @@
+pub mod Account
 pub mod Compared
 pub mod Each
+pub mod Gathered
 pub mod Maximal
 pub mod Moving
 pub mod Orders

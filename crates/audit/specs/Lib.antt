@@ -1,3 +1,4 @@
+pub mod Events
 pub mod Lists
 pub mod Merges
 pub mod Pairs

@@ -5,6 +5,7 @@
 mod auditing;
 mod fault;
 mod fronts;
+pub mod laws;
 mod lists;
 mod machine_fault;
 mod merging;

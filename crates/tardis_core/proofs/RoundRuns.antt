@@ -24,7 +24,7 @@ run_from-append p (e ∷ es) fs = by_first (λ q. run_from-append q es fs) (behi
     by_first later None = refl
     by_first later (Some q) = later q
 
-run-append : (g : ConfigParts) (w : World) (es : List Event) (m : World) → Run g w es m → (fs : List Event) (t : World) → Run g m fs t → Run g w (es ++ fs) t
+pub run-append : (g : ConfigParts) (w : World) (es : List Event) (m : World) → Run g w es m → (fs : List Event) (t : World) → Run g m fs t → Run g w (es ++ fs) t
 run-append g w es m x fs t start = subst (λ (all : List Event). Run g w all m) (sym (append-nil es)) x
 run-append g w es m x fs t (next gs e o between s y leads) =
     subst (λ (all : List Event). Run g w all s) (append_assoc es gs (e ∷ []))
