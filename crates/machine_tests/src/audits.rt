@@ -1,137 +1,254 @@
 //! The audit of units and slices that are driven by hand.
 
-ghost use Rattle.std.specs.Prelude.{◌<◌};
-
 use super::values::*;
 use audit::{AuditFault, Cause, MachineFault, RunEnd, audit, settle};
 use core_program::{Program, ProgramSet};
 use core_unit::{CoreUnit, Outcome};
 use lease_rule::Config;
 use line_stamps::{Line, Reply};
-use manager_slice::{ManagerSlice, new_slices};
+use manager_slice::{HistoryEntry, ManagerSlice, new_slices};
+use mem_op::CoreId;
 use std::alloc::Global;
 use std::process::Abort;
 use std::test::Fail;
 use tardis_core::opening_units;
 
-fn unit_of(alloc: Global, number: u8, text: &[u8]) -> Result<CoreUnit, Fail>
-    requires { number < 64 }
-{
-    let config = Config::new(2, 10, 1_000, 8, 64, 8, 1_000)?;
-    let program = Program::parse(alloc, text)?;
-    Ok(CoreUnit::new(alloc, core(number), program, &config)?)
+/// The reads that two slices serve, in their order: the core and the address of each.
+#[derive(Clone, Copy)]
+struct Reads {
+    zero: &'static [(u64, u16)],
+    one: &'static [(u64, u16)],
 }
 
-fn slice_of(alloc: Global, number: usize) -> Result<ManagerSlice, Fail> {
-    let config = Config::new(2, 10, 1_000, 8, 64, 8, 1_000)?;
-    Ok(ManagerSlice::new(alloc, number, &config)?)
+/// A core that loads two words. It takes replies of slices, each by the slice and the place in its history.
+#[derive(Clone, Copy)]
+struct Reader {
+    program: &'static [u8],
+    taken: &'static [(usize, usize)],
+    // The second word is another than the slice told.
+    misled: bool,
 }
 
-// A slice serves a core's first request to read an address.
-fn serves(slice: &mut ManagerSlice, from: u8, number: u16) -> Result<Reply, Fail>
-    requires { from < 64 }
-{
-    Ok(slice.handle(core(from), &read(number, None, 0))?)
+/// Slices, what readers took from slices that served other reads, and the place of the fault if there is one.
+struct Case {
+    served: Reads,
+    told: Reads,
+    readers: &'static [Reader],
+    fault: Option<usize>,
+}
+
+/// Each slice serves the core first that comes to it last.
+const CROSSED: Reads = Reads {
+    zero: &[(1, 0), (0, 0)],
+    one: &[(0, 1), (1, 1)],
+};
+
+/// Core 0 is served before core 1.
+const IN_ORDER: Reads = Reads {
+    zero: &[(0, 0), (1, 0)],
+    one: &[(0, 1), (1, 1)],
+};
+
+/// Core 0 reads two addresses of slice 0.
+const OF_ONE_SLICE: Reads = Reads {
+    zero: &[(0, 0), (0, 2)],
+    one: &[],
+};
+
+const NOTHING: Reads = Reads {
+    zero: &[],
+    one: &[],
+};
+
+/// Two cores that load addresses 0 and 1, one after the other.
+const ONE_AFTER_THE_OTHER: &[Reader] = &[
+    Reader {
+        program: b"ld r0 0\nld r1 1\n",
+        taken: &[(0, 0), (1, 0)],
+        misled: false,
+    },
+    Reader {
+        program: b"ld r0 0\nld r1 1\n",
+        taken: &[(0, 1), (1, 1)],
+        misled: false,
+    },
+];
+
+/// A core that loads addresses 0 and 2.
+const ALONE: Reader = Reader {
+    program: b"ld r0 0\nld r1 2\n",
+    taken: &[(0, 0), (0, 1)],
+    misled: false,
+};
+
+const CASES: &[Case] = &[
+    // No one order has all entries, though each core and slice agree.
+    Case {
+        served: CROSSED,
+        told: CROSSED,
+        readers: &[
+            Reader {
+                program: b"ld r0 0\nld r1 1\n",
+                taken: &[(0, 1), (1, 0)],
+                misled: false,
+            },
+            Reader {
+                program: b"ld r0 1\nld r1 0\n",
+                taken: &[(1, 1), (0, 0)],
+                misled: false,
+            },
+        ],
+        fault: Some(0),
+    },
+    Case {
+        served: IN_ORDER,
+        told: IN_ORDER,
+        readers: ONE_AFTER_THE_OTHER,
+        fault: None,
+    },
+    // No units at all, and slices that served nothing.
+    Case {
+        served: CROSSED,
+        told: CROSSED,
+        readers: &[],
+        fault: Some(0),
+    },
+    Case {
+        served: NOTHING,
+        told: IN_ORDER,
+        readers: ONE_AFTER_THE_OTHER,
+        fault: Some(0),
+    },
+    // A changed word in the second reply.
+    Case {
+        served: OF_ONE_SLICE,
+        told: OF_ONE_SLICE,
+        readers: &[Reader {
+            misled: true,
+            ..ALONE
+        }],
+        fault: Some(1),
+    },
+    // An entry too many, and two entries exchanged.
+    Case {
+        served: Reads {
+            zero: &[(0, 0), (0, 2), (0, 4)],
+            one: &[],
+        },
+        told: OF_ONE_SLICE,
+        readers: &[ALONE],
+        fault: Some(2),
+    },
+    Case {
+        served: Reads {
+            zero: &[(0, 2), (0, 0)],
+            one: &[],
+        },
+        told: OF_ONE_SLICE,
+        readers: &[ALONE],
+        fault: Some(0),
+    },
+];
+
+// Two slices, with a lease of 10.
+fn two_slices() -> Result<Config, Fail> {
+    Ok(Config::new(2, 10, 1_000, 8, 64, 8, 1_000)?)
+}
+
+// A slice that served first reads of addresses.
+fn served(alloc: Global, number: usize, reads: &[(u64, u16)]) -> Result<ManagerSlice, Fail> {
+    let mut slice = ManagerSlice::new(alloc, number, &two_slices()?)?;
+    for (from, number) in reads {
+        let message = read(*number, None, 0);
+        let _reply = slice.handle(CoreId::new(*from)?, &message)?;
+    }
+    Ok(slice)
+}
+
+// The slices that served these reads.
+fn slices_of(alloc: Global, reads: Reads) -> Result<[ManagerSlice; 2], Fail> {
+    let zero = served(alloc, 0, reads.zero)?;
+    Ok([zero, served(alloc, 1, reads.one)?])
+}
+
+// The reply at a place of a slice's history.
+fn reply_at(slices: &[ManagerSlice], slice: usize, place: usize) -> Result<Reply, Fail> {
+    let slice = slices.get(slice).ok_or("the slice is there")?;
+    match slice.history().get(place) {
+        Some(HistoryEntry::Served(_, _, reply)) => Ok(*reply),
+        _ => Err(Fail::from("the reply is there")),
+    }
+}
+
+// The reply with another word.
+fn changed(reply: Reply) -> Reply {
+    match reply {
+        Reply::ShRep(line) => Reply::ShRep(Line::new(5, line.source(), line.stamps())),
+        _ => reply,
+    }
 }
 
 // A unit asks for its next line, gets this reply and performs the operation.
 fn loads(rt: &impl Abort, unit: &mut CoreUnit, reply: &Reply) -> Result<(), Fail> {
-    let performed = unit.log().len();
     let _asked = unit.turn()?;
     assert_eq!(rt; unit.take(reply)?, Outcome::Took);
     let _loaded = unit.turn()?;
-    assert_eq!(rt; unit.log().len(), performed + 1);
     Ok(())
 }
 
-fn differs_at(place: usize) -> Result<(), AuditFault> {
-    Err(AuditFault {
-        core: 0,
-        slice: 0,
-        place,
-    })
-}
-
-// Each slice serves the core first that comes to it last.
-#[test]
-fn no_one_order(rt: HostRuntime) -> Result<(), Fail> {
-    let mut zero = slice_of(rt.alloc(), 0)?;
-    let mut one = slice_of(rt.alloc(), 1)?;
-    let late = &serves(&mut zero, 1, 0)?;
-    let early = &serves(&mut zero, 0, 0)?;
-    let other_late = &serves(&mut one, 0, 1)?;
-    let other_early = &serves(&mut one, 1, 1)?;
-    let mut first = unit_of(rt.alloc(), 0, b"ld r0 0\nld r1 1\n")?;
-    loads(&rt, &mut first, early)?;
-    loads(&rt, &mut first, other_late)?;
-    let mut second = unit_of(rt.alloc(), 1, b"ld r0 1\nld r1 0\n")?;
-    loads(&rt, &mut second, other_early)?;
-    loads(&rt, &mut second, late)?;
-    let slices = [zero, one];
-    assert_eq!(rt; audit(&[first, second], &slices), differs_at(0));
-    // No units at all.
-    assert_eq!(rt; audit(&[], &slices), differs_at(0));
-    Ok(())
-}
-
-#[test]
-fn one_order(rt: HostRuntime) -> Result<(), Fail> {
-    let mut zero = slice_of(rt.alloc(), 0)?;
-    let mut one = slice_of(rt.alloc(), 1)?;
-    let early = &serves(&mut zero, 0, 0)?;
-    let late = &serves(&mut zero, 1, 0)?;
-    let other_late = &serves(&mut one, 0, 1)?;
-    let other_early = &serves(&mut one, 1, 1)?;
-    let mut first = unit_of(rt.alloc(), 0, b"ld r0 0\nld r1 1\n")?;
-    loads(&rt, &mut first, early)?;
-    loads(&rt, &mut first, other_late)?;
-    let mut second = unit_of(rt.alloc(), 1, b"ld r0 0\nld r1 1\n")?;
-    loads(&rt, &mut second, late)?;
-    loads(&rt, &mut second, other_early)?;
-    let units = [first, second];
-    assert_eq!(rt; audit(&units, &[zero, one]), Ok(()));
-    let fresh = [slice_of(rt.alloc(), 0)?, slice_of(rt.alloc(), 1)?];
-    assert_eq!(rt; audit(&units, &fresh), differs_at(0));
-    Ok(())
-}
-
-// Core 0 after loads of addresses 0 and 2, which are both of slice 0.
-fn two_loads(rt: &impl Abort, alloc: Global, replies: &[Reply; 2]) -> Result<CoreUnit, Fail> {
-    let mut unit = unit_of(alloc, 0, b"ld r0 0\nld r1 2\n")?;
-    loads(rt, &mut unit, &replies[0])?;
-    loads(rt, &mut unit, &replies[1])?;
+// The unit of a reader.
+fn unit_of(
+    rt: &impl Abort,
+    alloc: Global,
+    number: usize,
+    reader: &Reader,
+    slices: &[ManagerSlice],
+) -> Result<CoreUnit, Fail> {
+    let program = Program::parse(alloc, reader.program)?;
+    let mut unit = CoreUnit::new(alloc, CoreId::new(number as u64)?, program, &two_slices()?)?;
+    for (slice, place) in reader.taken {
+        let reply = reply_at(slices, *slice, *place)?;
+        let is_second = unit.log().len() == 1;
+        let told = if reader.misled && is_second {
+            changed(reply)
+        } else {
+            reply
+        };
+        loads(rt, &mut unit, &told)?;
+    }
     Ok(unit)
 }
 
+// The units of readers that took replies of these slices.
+fn units_of(
+    rt: &impl Abort,
+    alloc: Global,
+    readers: &[Reader],
+    told: Reads,
+) -> Result<Vec<CoreUnit>, Fail> {
+    let slices = slices_of(alloc, told)?;
+    let mut units = Vec::new(alloc);
+    for (number, reader) in readers.iter().enumerate() {
+        units.push(unit_of(rt, alloc, number, reader, &slices)?)?;
+    }
+    Ok(units)
+}
+
 #[test]
-fn a_changed_word_and_an_entry_too_many(rt: HostRuntime) -> Result<(), Fail> {
-    let mut slice = slice_of(rt.alloc(), 0)?;
-    let first = serves(&mut slice, 0, 0)?;
-    let second = serves(&mut slice, 0, 2)?;
-    let unit = two_loads(&rt, rt.alloc(), &[first, second])?;
-    let changed = match &second {
-        Reply::ShRep(line) => Reply::ShRep(Line::new(5, line.source(), line.stamps())),
-        _ => second,
-    };
-    let misled = two_loads(&rt, rt.alloc(), &[first, changed])?;
-    let other = slice_of(rt.alloc(), 1)?;
-    assert_eq!(rt; audit(&[misled], &[slice, other]), differs_at(1));
-    let mut longer = slice_of(rt.alloc(), 0)?;
-    let _first = serves(&mut longer, 0, 0)?;
-    let _second = serves(&mut longer, 0, 2)?;
-    let _third = serves(&mut longer, 0, 4)?;
-    let mut exchanged = slice_of(rt.alloc(), 0)?;
-    let _later = serves(&mut exchanged, 0, 2)?;
-    let _sooner = serves(&mut exchanged, 0, 0)?;
-    let units = [unit];
-    assert_eq!(rt;
-        audit(&units, &[longer, slice_of(rt.alloc(), 1)?]),
-        differs_at(2)
-    );
-    assert_eq!(rt;
-        audit(&units, &[exchanged, slice_of(rt.alloc(), 1)?]),
-        differs_at(0)
-    );
+fn lists_are_audited(rt: HostRuntime) -> Result<(), Fail> {
+    for case in CASES {
+        let units = units_of(&rt, rt.alloc(), case.readers, case.told)?;
+        let slices = slices_of(rt.alloc(), case.served)?;
+        assert!(rt; units.len() <= 64);
+        let place = match audit(units.as_slice(), &slices) {
+            Ok(()) => None,
+            Err(fault) => {
+                assert_eq!(rt; (fault.core, fault.slice), (0, 0));
+                Some(fault.place)
+            }
+        };
+        assert_eq!(rt; place, case.fault);
+    }
     Ok(())
 }
 
@@ -148,6 +265,20 @@ fn performs(rt: &impl Abort, unit: &mut CoreUnit, slice: &mut ManagerSlice) -> R
     Ok(())
 }
 
+// The first `ended` units perform their loads.
+fn perform_first(
+    rt: &impl Abort,
+    units: &mut [CoreUnit],
+    slices: &mut [ManagerSlice],
+    ended: usize,
+) -> Result<(), Fail> {
+    let slice = slices.first_mut().ok_or("slice 0 is there")?;
+    for unit in units.iter_mut().take(ended) {
+        performs(rt, unit, slice)?;
+    }
+    Ok(())
+}
+
 // What a run of the two readers is settled as, in which the first `ended` of them performed their loads.
 fn settled(
     rt: &impl Abort,
@@ -155,57 +286,46 @@ fn settled(
     ended: usize,
     faults: &[Option<Cause>],
 ) -> Result<Result<RunEnd, MachineFault>, Fail> {
-    let config = Config::new(2, 10, 1_000, 8, 64, 8, 1_000)?;
+    let config = two_slices()?;
     let programs = ProgramSet::parse(alloc, READERS)?;
     let mut units = opening_units(alloc, &programs, &config)?;
     let mut slices = new_slices(alloc, &config)?;
-    let slice = slices.first_mut().ok_or("slice 0 is there")?;
-    for unit in units.iter_mut().take(ended) {
-        performs(rt, unit, slice)?;
-    }
+    perform_first(rt, units.as_mut_slice(), slices.as_mut_slice(), ended)?;
     Ok(settle(&programs, &config, units, faults, slices))
 }
 
 // A core that has ended has no fault to report.
 #[test]
 fn a_whole_run_is_settled(rt: HostRuntime) -> Result<(), Fail> {
-    let faults = [None, Some(Cause::Stopped)];
-    match settled(&rt, rt.alloc(), 2, &faults)? {
-        Ok(end) => {
-            assert_eq!(rt; (end.units.len(), end.slices.len()), (2, 2));
-        }
-        Err(fault) => assert_eq!(rt; fault.cause, Cause::OutOfMemory, "a run is refused"),
-    }
+    let end = settled(&rt, rt.alloc(), 2, &[None, Some(Cause::Stopped)])?;
+    assert!(rt; end.is_ok());
     Ok(())
 }
 
-// Asserts that a run in which core 1 didn't end is refused for this cause, and keeps the logs.
-fn refused(
+// The core and the cause for which a run is refused in which core 1 didn't end, with how many records of each core are kept.
+fn refusal(
     rt: &impl Abort,
     alloc: Global,
     faults: &[Option<Cause>],
-    core_1: usize,
-    cause: Cause,
-) -> Result<(), Fail> {
-    match settled(rt, alloc, 1, faults)? {
-        Ok(end) => assert_eq!(rt; end.units.len(), 0, "a run is accepted"),
-        Err(fault) => {
-            assert_eq!(rt; (fault.core, fault.cause), (core_1, cause));
-            assert_eq!(rt; fault.log(core(0)).len(), 1);
-            assert_eq!(rt; fault.log(core(1)).len(), 0);
-        }
-    }
-    Ok(())
+) -> Result<Option<(usize, Cause, usize, usize)>, Fail> {
+    let Err(fault) = settled(rt, alloc, 1, faults)? else {
+        return Ok(None);
+    };
+    let (zero, one) = (fault.log(core(0)).len(), fault.log(core(1)).len());
+    Ok(Some((fault.core, fault.cause, zero, one)))
 }
 
 #[test]
 fn a_run_that_stopped_is_refused(rt: HostRuntime) -> Result<(), Fail> {
-    let gave_up = [Some(Cause::Stopped), Some(Cause::GaveUp)];
-    refused(&rt, rt.alloc(), &gave_up, 1, Cause::GaveUp)?;
+    let faults = [Some(Cause::Stopped), Some(Cause::GaveUp)];
+    let gave_up = refusal(&rt, rt.alloc(), &faults)?;
+    assert_eq!(rt; gave_up, Some((1, Cause::GaveUp, 1, 0)));
     let nowhere = AuditFault {
         core: 0,
         slice: 0,
         place: 0,
     };
-    refused(&rt, rt.alloc(), &[], 0, Cause::Audit(nowhere))
+    let refused = refusal(&rt, rt.alloc(), &[])?;
+    assert_eq!(rt; refused, Some((0, Cause::Audit(nowhere), 1, 0)));
+    Ok(())
 }
