@@ -1,5 +1,6 @@
 -- What a run of threads ends with.
-use Rattle.std.specs.Prelude.{◌≡◌, ◌<◌, ◌⊎◌, ⊤, ℕ, List, length, Option, None, Some, slice_get}
+use Rattle.std.specs.Prelude.{◌≡◌, ◌==◌, ◌<◌, ◌⊎◌, ⊤, ℕ, if◌then◌else◌, List, [], length, Option, None, Some, slice_get}
+use Rattle.std.specs.Option.{option_map_or}
 use Rattle.lease_rule.specs.ConfigParts.{ConfigParts}
 use Rattle.log_record.specs.declared.record.Record.{Record}
 use Rattle.core_program.specs.declared.instruction.Instruction.{Instruction}
@@ -67,6 +68,10 @@ pub record IsUnitLog (core : ℕ) (log : List Record) : Type 0 where
   pub is_core : unit.core ≡ core
   pub replays : kept.Replays unit
   pub log_is : log ≡ unit.log
+
+-- the log that is kept of core c: that of the unit at its place, where that unit is core c's
+abbrev pub kept_log : List UnitParts → ℕ → List Record
+kept_log us c = option_map_or (λ u. if u.core == c then u.log else []) (slice_get us c) []
 
 -- ---- what a run of threads ends with
 

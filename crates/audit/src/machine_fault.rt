@@ -1,7 +1,7 @@
 //! Why a run of threads isn't ended, and the units that it left.
 
 ghost use Rattle.std.specs.Prelude.{◌≡◌, ◌⊎◌, []};
-ghost use Rattle.audit.specs.Runs.{IsUnitLog};
+ghost use Rattle.audit.specs.Runs.{IsUnitLog, kept_log};
 
 use super::fault::AuditFault;
 use core_unit::{CoreUnit, UnitFault};
@@ -51,7 +51,8 @@ pub struct MachineFault {
 impl MachineFault {
     /// The log that a core made so far: that of its unit, or empty where no thread gave one back. Takes no memory.
     pub fn log(&self, core: CoreId) -> &[Record]
-        ensures { IsUnitLog core result.now ⊎ (result.now ≡ []) }
+        ensures kept { result.now ≡ kept_log self.now.units.items core }
+        ensures whole { IsUnitLog core result.now ⊎ (result.now ≡ []) }
     {
         let Some(unit) = self.units.get(core.get() as usize) else {
             return &[];

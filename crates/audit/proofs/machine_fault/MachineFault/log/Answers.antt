@@ -1,8 +1,8 @@
 use Rattle.std.proofs.Common.{inl, arith}
 use Rattle.audit.proofs.machine_fault.MachineFault.log.Goals as goal
 
-pub returns : goal.returns
-returns c =
+pub returns-clause-whole : goal.returns-clause-whole
+returns-clause-whole c =
     inl (record {
       unit = c.in-Some.unit.now;
       is_core = omega (arith, c.core.ensures);
