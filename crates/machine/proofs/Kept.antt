@@ -1,0 +1,34 @@
+-- The logs that are kept of units whose states are replays.
+use Rattle.std.proofs.Common.{◌≡◌, ◌⊎◌, ℕ, List, [], Option, None, Some, Result, Ok, Err, inl, inr, refl, ap, sym, subst, cond}
+use Rattle.std.specs.Prelude.{◌==◌, if◌then◌else◌, All, IfErr, slice_get}
+use Rattle.std.specs.Option.{option_map_or}
+use Rattle.std.proofs.lemmas.Bool.{cases_eq, eq-eqb, ne_eqb}
+use Rattle.std.proofs.lemmas.Option.{get_or_from_slice_get, slice_get_within}
+use Rattle.core_unit.specs.Kept.{Replays}
+use Rattle.core_unit.specs.Parts.{UnitParts}
+use Rattle.audit.specs.Runs.{IsUnitLog, kept_log}
+use Rattle.audit.specs.declared.machine_fault.MachineFault.{MachineFault}
+use Rattle.audit.specs.declared.machine_fault.RunEnd.{RunEnd}
+
+pub kept_logs : (us : List UnitParts) → All Replays us → (c : ℕ) → IsUnitLog c (kept_log us c) ⊎ (kept_log us c ≡ [])
+kept_logs us each c = go (slice_get us c) refl
+  where
+    go : (o : Option UnitParts) → slice_get us c ≡ o
+        → IsUnitLog c (option_map_or (λ u. if u.core == c then u.log else []) o []) ⊎ (option_map_or (λ u. if u.core == c then u.log else []) o [] ≡ [])
+    go None is = inr refl
+    go (Some u) is = elim (cases_eq u.core c) [
+      | inl same ↦ inl (record {
+        unit = u;
+        is_core = same;
+        replays = subst Replays (get_or_from_slice_get us c u u is) (each c u (slice_get_within us c u is));
+        log_is = ap (λ b. cond b u.log []) (eq-eqb u.core c same);
+      })
+      | inr other ↦ inr (ap (λ b. cond b u.log []) (ne_eqb u.core c other))
+    ]
+
+-- of what a fault left
+pub kept_after : (r : Result RunEnd MachineFault) (us : List UnitParts) → All Replays us → IfErr r (λ f. f.units.items ≡ us)
+    → IfErr r (λ f. (c : ℕ) → IsUnitLog c (kept_log f.units.items c) ⊎ (kept_log f.units.items c ≡ []))
+kept_after (Ok end) us each left = tt
+kept_after (Err f) us each left =
+    subst (λ (vs : List UnitParts). (c : ℕ) → IsUnitLog c (kept_log vs c) ⊎ (kept_log vs c ≡ [])) (sym left) (kept_logs us each)

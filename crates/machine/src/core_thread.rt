@@ -1,0 +1,188 @@
+//! What the thread of a core does.
+
+ghost use Rattle.std.specs.Prelude.{◌≡◌};
+ghost use Rattle.core_unit.specs.Parts.{SameUnit};
+
+use super::ends::Ended;
+use super::pace::{Go, Pace};
+use audit::Cause;
+use core_unit::{CoreUnit, Outcome};
+use inbox::Inbox;
+use line_stamps::{Message, Recall, Reply};
+use slice_bank::Port;
+use std::sync::Wait;
+
+// What a turn came to.
+#[derive(Clone, Copy, Debug, PartialEq, Eq)]
+enum Turned {
+    // It performed an operation.
+    Performed,
+    // It filled a line, by which the next turn may perform its operation.
+    Filled,
+    // It did neither.
+    Waits,
+}
+
+/// Runs a core's program to its end, as far as no fault is met, and then gives the core's Exclusive lines back.
+pub(crate) fn run_core<T: Port + Drop, P: Pace, R: Wait>(
+    rt: &R,
+    unit: CoreUnit,
+    port: T,
+    inboxes: &[Inbox],
+    pace: &P,
+) -> Ended
+    ensures { SameUnit unit result.unit }
+{
+    let mut unit = unit;
+    let mut port = port;
+    let ran = run_program(rt, &mut unit, &mut port, inboxes, pace);
+    let given = give_lines_back(&mut unit, &mut port);
+    Ended {
+        unit,
+        fault: ran.and(given).err(),
+    }
+}
+
+// Performs the operations of the core's program to its end.
+fn run_program<T: Port, P: Pace, R: Wait>(
+    rt: &R,
+    unit: &mut CoreUnit,
+    port: &mut T,
+    inboxes: &[Inbox],
+    pace: &P,
+) -> Result<(), Cause>
+    ensures { SameUnit unit.old unit.new }
+{
+    // Jumps only skip, so there are at most as many operations as instructions.
+    let most = unit.program().instructions().len();
+    for _ in 0..most {
+        if has_ended(unit) {
+            break;
+        }
+        perform(rt, unit, port, inboxes, pace)?;
+    }
+    Ok(())
+}
+
+// Whether the core's program has ended.
+fn has_ended(unit: &CoreUnit) -> bool {
+    unit.replays();
+    unit.program_state().next_op(unit.program()).is_none()
+}
+
+// Makes turns until one more operation is performed: 31 where the pace says Stop, 30 where as many turns as the configuration
+// says bring none. Before a turn a recall is answered, but where the turn before it filled a line.
+fn perform<T: Port, P: Pace, R: Wait>(
+    rt: &R,
+    unit: &mut CoreUnit,
+    port: &mut T,
+    inboxes: &[Inbox],
+    pace: &P,
+) -> Result<(), Cause>
+    ensures { SameUnit unit.old unit.new }
+{
+    let mut before = Turned::Waits;
+    for turn in 0..unit.config().turns() {
+        if pace.before(unit.core(), unit.log().len(), turn) == Go::Stop {
+            return Err(Cause::Stopped);
+        }
+        if before != Turned::Filled {
+            answer_recall(rt, unit, port, inboxes)?;
+        }
+        before = make_turn(rt, unit, port, inboxes)?;
+        if before == Turned::Performed {
+            return Ok(());
+        }
+    }
+    Err(Cause::GaveUp)
+}
+
+// Takes a recall from the core's inbox, if one waits there, and gives its line back.
+fn answer_recall<T: Port, R: Wait>(
+    rt: &R,
+    unit: &mut CoreUnit,
+    port: &mut T,
+    inboxes: &[Inbox],
+) -> Result<(), Cause>
+    ensures { SameUnit unit.old unit.new }
+{
+    let Some(own) = inboxes.get(unit.core().get() as usize) else {
+        return Ok(());
+    };
+    let Some(recall) = own.poll(rt) else {
+        return Ok(());
+    };
+    match unit.recall(&recall) {
+        Ok(Outcome::Gave(message)) => {
+            exchange(unit, port, &message)?;
+            Ok(())
+        }
+        Ok(_) => Ok(()),
+        Err(fault) => Err(Cause::Unit(fault)),
+    }
+}
+
+// Makes a turn, and has the message that it brings answered.
+fn make_turn<T: Port, R: Wait>(
+    rt: &R,
+    unit: &mut CoreUnit,
+    port: &mut T,
+    inboxes: &[Inbox],
+) -> Result<Turned, Cause>
+    ensures { SameUnit unit.old unit.new }
+{
+    let message = match unit.turn() {
+        Ok(Outcome::Performed(_)) => return Ok(Turned::Performed),
+        Ok(Outcome::Sent(message)) => message,
+        Ok(_) => return Ok(Turned::Waits),
+        Err(fault) => return Err(Cause::Unit(fault)),
+    };
+    match exchange(unit, port, &message)? {
+        Reply::Busy(recall) => {
+            offer(rt, inboxes, recall);
+            Ok(Turned::Waits)
+        }
+        Reply::Taken => Ok(Turned::Waits),
+        _ => Ok(Turned::Filled),
+    }
+}
+
+// Leaves a recall for the owner that it names. Where its inbox is full, the recall is let go: the next Busy brings another.
+fn offer<R: Wait>(rt: &R, inboxes: &[Inbox], recall: Recall) {
+    if let Some(theirs) = inboxes.get(recall.owner.get() as usize) {
+        let _full = theirs.offer(rt, recall);
+    }
+}
+
+// Has the message in hand served, and takes the reply.
+fn exchange<T: Port>(unit: &mut CoreUnit, port: &mut T, message: &Message) -> Result<Reply, Cause>
+    ensures { SameUnit unit.old unit.new }
+{
+    let reply = match port.serve(unit.core(), message) {
+        Ok(reply) => reply,
+        Err(fault) => return Err(Cause::Slice(fault)),
+    };
+    match unit.take(&reply) {
+        Ok(_) => Ok(reply),
+        Err(fault) => Err(Cause::Unit(fault)),
+    }
+}
+
+// Gives the core's Exclusive lines back, in ascending order of their addresses. Does nothing while a message is in hand.
+fn give_lines_back<T: Port>(unit: &mut CoreUnit, port: &mut T) -> Result<(), Cause>
+    ensures { SameUnit unit.old unit.new }
+{
+    for _ in 0..unit.config().cache_lines() {
+        let Some(addr) = unit.next_exclusive() else {
+            break;
+        };
+        match unit.evict(addr) {
+            Ok(Outcome::Gave(message)) => {
+                exchange(unit, port, &message)?;
+            }
+            Ok(_) => break,
+            Err(fault) => return Err(Cause::Unit(fault)),
+        }
+    }
+    Ok(())
+}

@@ -1,0 +1,53 @@
+//! Why a run of threads isn't ended, as it is told.
+
+ghost use Rattle.std.specs.Prelude.{◌≡◌};
+
+use audit::{Cause, MachineFault};
+use std::fmt;
+use std::fmt::Display;
+use thiserror::Error;
+
+/// Why a run of threads isn't ended, without the units that it left.
+#[derive(Clone, Copy, Debug, PartialEq, Eq, Error)]
+pub struct RunFault {
+    /// The core that the fault is of; of 33 its core.
+    pub core: usize,
+    /// Why.
+    pub cause: Cause,
+}
+
+impl RunFault {
+    /// Why the run isn't ended that left this.
+    pub fn of(left: &MachineFault) -> RunFault
+        ensures core { result.core ≡ left.now.core }
+        ensures cause { result.cause ≡ left.now.cause }
+    {
+        RunFault {
+            core: left.core,
+            cause: left.cause,
+        }
+    }
+}
+
+impl Display for RunFault {
+    ghost use Rattle.std.specs.Prelude.{Some};
+    ghost use Rattle.machine.specs.Faults.{fault_text};
+
+    ghost output = { λ fault. Some (fault_text fault.core fault.cause) };
+
+    fn fmt<W: fmt::Write>(&self, f: &mut fmt::Formatter<W>) -> fmt::Result {
+        match &self.cause {
+            Cause::GaveUp => write!(f, "core {}: 30 GaveUp", self.core),
+            Cause::Stopped => write!(f, "core {}: 31 Stopped", self.core),
+            Cause::Spawn => write!(f, "core {}: 32 Spawn", self.core),
+            Cause::Audit(fault) => write!(
+                f,
+                "core {} slice {} place {}: 33 Audit",
+                fault.core, fault.slice, fault.place
+            ),
+            Cause::Unit(fault) => write!(f, "core {}: {fault}", self.core),
+            Cause::Slice(fault) => write!(f, "core {}: {fault}", self.core),
+            Cause::OutOfMemory => f.write_str("10 OutOfMemory"),
+        }
+    }
+}

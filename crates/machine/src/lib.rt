@@ -1,0 +1,13 @@
+//! The machine: each core a thread that owns its unit, each slice under a lock of its own.
+#![tactic(auto)]
+
+mod core_thread;
+mod ends;
+mod fault;
+mod gate;
+mod pace;
+mod running;
+
+pub use fault::RunFault;
+pub use pace::{Go, Pace};
+pub use running::run_threads;

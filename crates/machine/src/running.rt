@@ -1,0 +1,145 @@
+//! A run of the machine, a thread a core.
+
+ghost use Rattle.std.specs.Prelude.{◌≡◌, ◌⊎◌, ℕ, [], All, IfOk, IfErr};
+ghost use Rattle.core_unit.specs.Kept.{Replays};
+ghost use Rattle.audit.specs.Runs.{IsRun, IsUnitLog, StoppedShort, kept_log};
+ghost use Rattle.audit.specs.declared.machine_fault.Cause.TheVariants.{GaveUp, Stopped};
+ghost use Rattle.machine.specs.Runs.{IsMachineRun};
+
+use super::core_thread::run_core;
+use super::ends::{Ended, Ends};
+use super::gate::StartGate;
+use super::pace::Pace;
+use audit::laws::merges_are_runs;
+use audit::{Cause, MachineFault, RunEnd, settle};
+use core_program::ProgramSet;
+use core_unit::CoreUnit;
+use inbox::Inbox;
+use lease_rule::Config;
+use slice_bank::{BankPort, SliceBank};
+use std::alloc::{AllocError, Global};
+use std::sync::Wait;
+use std::thread;
+use std::thread::Threads;
+use tardis_core::opening_units;
+
+/// Runs each program to its end in a thread of its own, which owns its core's unit and asks the pace before each turn.
+///
+/// Ok has the units and slices of one whole run of the core machine, whatever the order in which its steps came. The fault is the least
+/// core's: 30 where as many turns as the configuration says brought no operation, 31 where the pace said so, 32 where its
+/// thread was refused, and then no core did anything, or what a call of its unit or a slice refused. 33 is where what
+/// the threads gave back isn't such a run, and 10 where a growth was refused beside the cores. May wait for its threads.
+pub fn run_threads<P: Pace + Sync, R: Threads + Wait + Sync>(
+    rt: &R,
+    alloc: Global,
+    programs: &ProgramSet,
+    config: &Config,
+    pace: &P,
+) -> Result<RunEnd, MachineFault>
+    ensures run { IfOk result (λ end. IsRun programs.now.programs config.now end.units.items end.slices.items) }
+    ensures events { IfOk result (λ end. IsMachineRun programs.now.programs config.now end.units.items end.slices.items) }
+    ensures short { IfErr result (λ f. (f.cause ≡ GaveUp ⊎ f.cause ≡ Stopped) →
+        StoppedShort programs.now.programs f.units.items f.core) }
+    // Each log that is left is that of a unit of its core whose transcript replays, or empty.
+    ensures logs { IfErr result (λ f. (c : ℕ) → IsUnitLog c (kept_log f.units.items c) ⊎ (kept_log f.units.items c ≡ [])) }
+{
+    merges_are_runs();
+    let Ok(units) = opening_units(alloc, programs, config) else {
+        return Err(no_memory(alloc));
+    };
+    let Ok(inboxes) = inboxes_of(alloc, programs.len(), config) else {
+        return Err(no_memory(alloc));
+    };
+    let Ok(bank) = SliceBank::new(alloc, config) else {
+        return Err(no_memory(alloc));
+    };
+    let Ok(ends) = run_units(rt, alloc, &bank, &inboxes, pace, units) else {
+        return Err(no_memory(alloc));
+    };
+    let Ends { units, faults } = ends;
+    each_replays(&units);
+    settle(programs, config, units, &faults, bank.into_slices())
+}
+
+// An empty inbox for each of so many cores.
+fn inboxes_of(alloc: Global, cores: usize, config: &Config) -> Result<Vec<Inbox>, AllocError> {
+    let mut inboxes = Vec::new(alloc);
+    for _ in 0..cores {
+        let inbox = Inbox::new(alloc, config.inbox())?;
+        inboxes.reserve(1)?;
+        inboxes.push_reserved(inbox);
+    }
+    Ok(inboxes)
+}
+
+// Does nothing: each unit has a state that is the replay of its transcript, by its type.
+fn each_replays(units: &[CoreUnit])
+    ensures { All Replays units.now }
+{
+    for unit in units {
+        unit.replays();
+    }
+}
+
+// A growth was refused beside the cores, and no unit is left.
+fn no_memory(alloc: Global) -> MachineFault
+    ensures cause { result.cause ≡ Cause.OutOfMemory }
+    ensures units { result.units.items ≡ [] }
+{
+    MachineFault {
+        core: 0,
+        cause: Cause::OutOfMemory,
+        units: Vec::new(alloc),
+    }
+}
+
+// Starts a thread for each unit, lets them go once all are started, and waits for them.
+fn run_units<P: Pace + Sync, R: Threads + Wait + Sync>(
+    rt: &R,
+    alloc: Global,
+    bank: &SliceBank,
+    inboxes: &[Inbox],
+    pace: &P,
+    units: Vec<CoreUnit>,
+) -> Result<Ends, AllocError> {
+    let mut ends = Ends::with_room(alloc, inboxes.len())?;
+    let mut handles = Vec::with_capacity(alloc, inboxes.len())?;
+    let gate = StartGate::new();
+    let gate = &gate;
+    thread::scope(
+        thread::scope_env(),
+        rt,
+        |scope| -> Result<Ends, AllocError> {
+            let mut refused = None;
+            for unit in units {
+                if handles.reserve(1).is_err() {
+                    refused = Some(Cause::OutOfMemory);
+                    break;
+                }
+                let port = BankPort { rt, bank };
+                let run = move || -> Ended {
+                    if gate.pass(rt) {
+                        run_core(rt, unit, port, inboxes, pace)
+                    } else {
+                        Ended { unit, fault: None }
+                    }
+                };
+                match scope.spawn(run) {
+                    Ok(handle) => handles.push_reserved(handle),
+                    Err(_) => {
+                        refused = Some(Cause::Spawn);
+                        break;
+                    }
+                }
+            }
+            gate.open(rt, refused.is_none());
+            for handle in handles {
+                ends.keep(handle.join(rt))?;
+            }
+            if let Some(cause) = refused {
+                ends.refuse(cause)?;
+            }
+            Ok(ends)
+        },
+    )
+}
