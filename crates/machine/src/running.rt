@@ -16,6 +16,7 @@ use core_program::ProgramSet;
 use core_unit::CoreUnit;
 use inbox::Inbox;
 use lease_rule::Config;
+use manager_slice::ManagerSlice;
 use slice_bank::{BankPort, SliceBank};
 use std::alloc::{AllocError, Global};
 use std::sync::Wait;
@@ -43,7 +44,6 @@ pub fn run_threads<P: Pace + Sync, R: Threads + Wait + Sync>(
     // Each log that is left is that of a unit of its core whose transcript replays, or empty.
     ensures logs { IfErr result (λ f. (c : ℕ) → IsUnitLog c (kept_log f.units.items c) ⊎ (kept_log f.units.items c ≡ [])) }
 {
-    merges_are_runs();
     let Ok(units) = opening_units(alloc, programs, config) else {
         return Err(no_memory(alloc));
     };
@@ -56,9 +56,26 @@ pub fn run_threads<P: Pace + Sync, R: Threads + Wait + Sync>(
     let Ok(ends) = run_units(rt, alloc, &bank, &inboxes, pace, units) else {
         return Err(no_memory(alloc));
     };
+    settled(programs, config, ends, bank.into_slices())
+}
+
+// What the threads gave back, settled: Ok names the events of a run, and of a fault each log that is left is a unit's own.
+fn settled(
+    programs: &ProgramSet,
+    config: &Config,
+    ends: Ends,
+    slices: Vec<ManagerSlice>,
+) -> Result<RunEnd, MachineFault>
+    ensures run { IfOk result (λ end. IsRun programs.now.programs config.now end.units.items end.slices.items) }
+    ensures events { IfOk result (λ end. IsMachineRun programs.now.programs config.now end.units.items end.slices.items) }
+    ensures short { IfErr result (λ f. (f.cause ≡ GaveUp ⊎ f.cause ≡ Stopped) →
+        StoppedShort programs.now.programs f.units.items f.core) }
+    ensures logs { IfErr result (λ f. (c : ℕ) → IsUnitLog c (kept_log f.units.items c) ⊎ (kept_log f.units.items c ≡ [])) }
+{
     let Ends { units, faults } = ends;
+    merges_are_runs();
     each_replays(&units);
-    settle(programs, config, units, &faults, bank.into_slices())
+    settle(programs, config, units, &faults, slices)
 }
 
 // An empty inbox for each of so many cores.

@@ -1,0 +1,107 @@
+//! Paces of runs.
+
+use machine::{Go, Pace};
+use mem_op::CoreId;
+use std::sync::atomic::{AtomicU64, Ordering};
+
+/// As often as a pace looks for what it waits for.
+const LOOKS: u64 = 100_000_000;
+
+/// Looks until something has come to this number, or says Stop.
+fn wait_for(seen: &AtomicU64, number: u64) -> Go {
+    for _ in 0..LOOKS {
+        if seen.load(Ordering::SeqCst) >= number {
+            return Go::Go;
+        }
+    }
+    Go::Stop
+}
+
+/// A pace that always goes.
+#[derive(Clone, Copy)]
+pub(super) struct Always;
+
+impl Pace for Always {
+    fn before(&self, _core: CoreId, _done: usize, _turn: u64) -> Go {
+        Go::Go
+    }
+}
+
+/// A pace that keeps each of two cores after its first operation until the other has performed its own.
+#[derive(Drop)]
+pub(super) struct Meeting {
+    zero: AtomicU64,
+    one: AtomicU64,
+}
+
+impl Meeting {
+    /// No core has come.
+    pub(super) fn new() -> Meeting {
+        Meeting {
+            zero: AtomicU64::new(0),
+            one: AtomicU64::new(0),
+        }
+    }
+}
+
+impl Pace for Meeting {
+    fn before(&self, core: CoreId, done: usize, _turn: u64) -> Go {
+        if done != 1 {
+            return Go::Go;
+        }
+        let (own, other) = if core.get() == 0 {
+            (&self.zero, &self.one)
+        } else {
+            (&self.one, &self.zero)
+        };
+        own.store(1, Ordering::SeqCst);
+        wait_for(other, 1)
+    }
+}
+
+/// A pace that stops core 0 after its first operation.
+#[derive(Clone, Copy)]
+pub(super) struct StopsCore0;
+
+impl Pace for StopsCore0 {
+    fn before(&self, core: CoreId, done: usize, _turn: u64) -> Go {
+        if core.get() == 0 && done == 1 {
+            return Go::Stop;
+        }
+        Go::Go
+    }
+}
+
+/// A pace by which core 0 keeps the line of its first store from core 1, until core 1 is at its last of 1,000 turns for its
+/// second operation.
+#[derive(Drop)]
+pub(super) struct Kept {
+    // 1 once core 0 has stored.
+    stored: AtomicU64,
+    // The turns that core 1 has begun for its second operation.
+    turns: AtomicU64,
+}
+
+impl Kept {
+    /// Nothing is stored.
+    pub(super) fn new() -> Kept {
+        Kept {
+            stored: AtomicU64::new(0),
+            turns: AtomicU64::new(0),
+        }
+    }
+}
+
+impl Pace for Kept {
+    fn before(&self, core: CoreId, done: usize, turn: u64) -> Go {
+        if done != 1 {
+            return Go::Go;
+        }
+        if core.get() == 0 {
+            self.stored.store(1, Ordering::SeqCst);
+            return wait_for(&self.turns, 1_000);
+        }
+        self.turns.store(turn.saturating_add(1), Ordering::SeqCst);
+        wait_for(&self.stored, 1)
+    }
+}
