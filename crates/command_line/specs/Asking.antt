@@ -11,6 +11,7 @@ use Rattle.command_line.specs.declared.request.Check.{Check}
 use Rattle.command_line.specs.declared.request.Limits.{Limits}
 use Rattle.command_line.specs.declared.request.Request.{Request}
 use Rattle.command_line.specs.declared.request.Request.TheVariants as request
+use Rattle.command_line.specs.declared.request.Run.{Run}
 use Rattle.command_line.specs.declared.request.Sim.{Sim}
 
 -- the texts of words
@@ -57,10 +58,17 @@ pub record IsSim (rows : List Row) (sim : Sim) : Type 0 where
   pub programs : sim.programs.now ≡ unwrap_or (first_of (codes "PROGRAMS") rows) []
   pub out : sim.out.now ≡ unwrap_or (first_of (codes "OUT") rows) []
 
+-- a run in threads of the programs of the file that was given, by the numbers that were given
+pub record IsThreaded (rows : List Row) (run : Run) : Type 0 where
+  pub limits : AreLimits rows run.limits
+  pub programs : run.programs.now ≡ unwrap_or (first_of (codes "PROGRAMS") rows) []
+  pub out : run.out.now ≡ unwrap_or (first_of (codes "OUT") rows) []
+
 -- the request is that of the subcommand of this name, by these arguments
 abbrev pub IsAskedBy : Text × List Row → Request → Type 0
 IsAskedBy named (request.Check check) = (named.0 ≡ codes "check") × IsCheck named.1 check
 IsAskedBy named (request.Sim sim) = (named.0 ≡ codes "sim") × IsSim named.1 sim
+IsAskedBy named (request.Run run) = (named.0 ≡ codes "run") × IsThreaded named.1 run
 
 -- the request is that of the subcommand that the words name, by its arguments there
 abbrev pub Asks : List Text → Request → Type 0

@@ -60,6 +60,18 @@ with_names app = with_rule (with_rule app (name (codes "PROGRAMS"))) (name (code
 abbrev pub sim : App
 sim = with_names (with_sim_options (with_limits (new_app (codes "sim"))))
 
--- the program, which is never called without a subcommand
+-- tardis run [--slices N] [--lease N] [--period N] [--cache N] [--slice-lines N] [--inbox N] PROGRAMS OUT
+abbrev pub run : App
+run = with_names (with_limits (new_app (codes "run")))
+
+-- the program with the subcommand that judges, and never called without one
+abbrev pub judging : App
+judging = with_subcommand (on_top (λ top. record top { subcommand_required = true }) (new_app (codes "tardis"))) check.top
+
+-- sim and run
+abbrev pub with_machine : App → App
+with_machine app = with_subcommand (with_subcommand app sim.top) run.top
+
+-- the program
 abbrev pub tardis : App
-tardis = with_subcommand (with_subcommand (on_top (λ top. record top { subcommand_required = true }) (new_app (codes "tardis"))) check.top) sim.top
+tardis = with_machine judging

@@ -13,12 +13,29 @@ pub(crate) fn tardis<'a>(alloc: Global) -> Result<Command<'a>, AllocError>
     ensures app { IfOk result (λ command. app_of command ≡ grammar.tardis) }
     ensures local { IfOk result (λ command. (fields_of command).has_globals ≡ false) }
 {
+    with_machine(alloc, judging(alloc)?)
+}
+
+/// The command line with the subcommand that judges.
+fn judging<'a>(alloc: Global) -> Result<Command<'a>, AllocError>
+    ensures app { IfOk result (λ command. app_of command ≡ grammar.judging) }
+    ensures local { IfOk result (λ command. (fields_of command).has_globals ≡ false) }
+{
     Command::new(alloc, "tardis")
         .about("Judges the logs of a multiprocessor for sequential consistency, and runs one")
         .after_help("Example: tardis check log.0 log.1")
         .subcommand_required(true)
-        .subcommand(check(alloc)?)?
-        .subcommand(sim(alloc)?)
+        .subcommand(check(alloc)?)
+}
+
+/// A command line with the subcommands that run the machine.
+fn with_machine<'a>(alloc: Global, command: Command<'a>) -> Result<Command<'a>, AllocError>
+    ensures app { IfOk result (λ made. app_of made
+        ≡ grammar.with_machine (app_of command.entry)) }
+    ensures local { (fields_of command.entry).has_globals ≡ false
+        → IfOk result (λ made. (fields_of made).has_globals ≡ false) }
+{
+    command.subcommand(sim(alloc)?)?.subcommand(run(alloc)?)
 }
 
 /// The subcommand that judges a set of logs.
@@ -54,6 +71,17 @@ fn sim<'a>(alloc: Global) -> Result<Command<'a>, AllocError>
         .after_help("Example: tardis sim --seed 7 examples/read_across.programs log");
     let command = with_limits(alloc, command)?;
     with_names(alloc, with_sim_options(alloc, command)?)
+}
+
+/// The subcommand that runs the machine, each core in a thread of its own.
+fn run<'a>(alloc: Global) -> Result<Command<'a>, AllocError>
+    ensures app { IfOk result (λ command. app_of command ≡ grammar.run) }
+    ensures local { IfOk result (λ command. (fields_of command).has_globals ≡ false) }
+{
+    let command = Command::new(alloc, "run")
+        .about("Runs programs at once, each core in a thread, and writes a log of each core")
+        .after_help("Example: tardis run examples/read_across.programs log");
+    with_names(alloc, with_limits(alloc, command)?)
 }
 
 /// A command with the options that give the numbers of the machine.
@@ -97,7 +125,7 @@ fn with_limits<'a>(alloc: Global, command: Command<'a>) -> Result<Command<'a>, A
         alloc,
         command,
         "inbox",
-        "How many recalls an inbox holds; no effect yet [default: 8]",
+        "How many recalls an inbox holds; no effect on sim [default: 8]",
     )
 }
 

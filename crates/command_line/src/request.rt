@@ -7,6 +7,8 @@ pub enum Request<'a> {
     Check(Check<'a>),
     /// A run of the machine, one event after the other.
     Sim(Sim<'a>),
+    /// A run of the machine, each core in a thread of its own.
+    Run(Run<'a>),
 }
 
 /// Asks for the verdict on a set of logs.
@@ -29,6 +31,17 @@ pub struct Sim<'a> {
     pub schedule: Option<&'a str>,
     /// What the rounds after the schedule are drawn from, where it is given.
     pub seed: Option<u64>,
+    /// The name of the file of the programs.
+    pub programs: &'a str,
+    /// What the names of the logs begin with.
+    pub out: &'a str,
+}
+
+/// Asks for a run of the machine, each core in a thread of its own, and its logs.
+#[derive(Debug, Drop)]
+pub struct Run<'a> {
+    /// The numbers of the machine.
+    pub limits: Limits,
     /// The name of the file of the programs.
     pub programs: &'a str,
     /// What the names of the logs begin with.

@@ -7,7 +7,7 @@ ghost use Rattle.command_line.specs.Asking as asking;
 
 use super::grammar::tardis;
 use super::refusal::Refusal;
-use super::request::{Check, Limits, Request, Sim};
+use super::request::{Check, Limits, Request, Run, Sim};
 use clap::error::ErrorKind;
 use clap::{ArgMatches, Error};
 use std::alloc::{AllocError, Global};
@@ -29,6 +29,9 @@ pub fn read<'a>(alloc: Global, words: &'a [&'a str]) -> Result<Request<'a>, Refu
     };
     if name == "sim" {
         return Ok(Request::Sim(sim_of(asked)));
+    }
+    if name == "run" {
+        return Ok(Request::Run(run_of(asked)));
     }
     Ok(Request::Check(check_of(alloc, asked)?))
 }
@@ -52,6 +55,17 @@ fn sim_of<'a>(matches: &ArgMatches<'a>) -> Sim<'a>
         limits: limits_of(matches),
         schedule: name_of(matches, "schedule"),
         seed: number_of(matches, "seed"),
+        programs: word_of(matches, "PROGRAMS"),
+        out: word_of(matches, "OUT"),
+    }
+}
+
+/// What the words after `run` ask for.
+fn run_of<'a>(matches: &ArgMatches<'a>) -> Run<'a>
+    ensures { asking.IsThreaded (rows_of (found_of matches.now)) result }
+{
+    Run {
+        limits: limits_of(matches),
         programs: word_of(matches, "PROGRAMS"),
         out: word_of(matches, "OUT"),
     }

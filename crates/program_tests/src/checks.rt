@@ -1,8 +1,9 @@
 use log_file::{MemSink, MemSource, ReadFailed, Step, WriteFailed};
 use std::alloc::Global;
+use std::sync::Wait;
 use std::test::Fail;
 use std::thread::Threads;
-use tardis_command::{Folder, command};
+use tardis_command::{Folder, Unwatched, command};
 
 /// Sets of logs by their records, and the verdict on each.
 const VERDICTS: &[(&[&[&str]], u8, &str)] = &[
@@ -585,7 +586,7 @@ fn words_of(alloc: Global, arguments: &[&str], files: usize) -> Result<Vec<Strin
 }
 
 /// Checks files of these texts.
-fn check_texts<R: Threads + Sync>(
+fn check_texts<R: Threads + Wait + Sync>(
     rt: &R,
     alloc: Global,
     arguments: &[&str],
@@ -596,7 +597,7 @@ fn check_texts<R: Threads + Sync>(
 }
 
 /// Calls the program with these words, over files of these texts.
-fn call<R: Threads + Sync>(
+fn call<R: Threads + Wait + Sync>(
     rt: &R,
     alloc: Global,
     words: &Vec<String>,
@@ -614,7 +615,15 @@ fn call<R: Threads + Sync>(
     };
     let mut out = MemSink::new(alloc, devices.writes);
     let mut err = MemSink::new(alloc, devices.complaints);
-    let status = command(rt, alloc, line.as_slice(), &mut folder, &mut out, &mut err);
+    let status = command(
+        rt,
+        alloc,
+        line.as_slice(),
+        &Unwatched,
+        &mut folder,
+        &mut out,
+        &mut err,
+    );
     Ok(Done {
         status,
         printed: String::from_utf8(Vec::from_slice(alloc, out.bytes())?)?,

@@ -6,4 +6,6 @@ mod checks;
 #[cfg(test)]
 mod runs;
 #[cfg(test)]
+mod thread_runs;
+#[cfg(test)]
 mod words;

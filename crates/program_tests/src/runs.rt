@@ -3,9 +3,10 @@ ghost use Rattle.std.specs.Prelude.{◌≡◌};
 use super::checks::logs_of;
 use log_file::{MemSink, MemSource, ReadFailed, WriteFailed};
 use std::alloc::Global;
+use std::sync::Wait;
 use std::test::Fail;
 use std::thread::Threads;
-use tardis_command::{Folder, command};
+use tardis_command::{Folder, Unwatched, Watch, command};
 
 /// Programs, the options of their run and its schedule, and what comes of it.
 struct Run {
@@ -227,7 +228,7 @@ const GIVEN_UP: &[&str] = &[
 ];
 
 /// Four cores that read and write three words.
-const FOUR_CORES: &str = "tardis-programs 1 cores 4\n\
+pub(super) const FOUR_CORES: &str = "tardis-programs 1 cores 4\n\
 core 0\nst 0 1\nld r0 1\nai r0 r0 1\nsr 2 r0\nld r1 0\nst 1 4\n\
 core 1\nld r0 0\njz r0 2\nst 1 2\nld r2 2\nst 0 7\nld r3 1\n\
 core 2\nst 2 3\nld r0 2\nld r1 0\nld r2 1\nst 0 5\nld r3 0\n\
@@ -292,12 +293,12 @@ impl<'a> Folder for Shelf<'a> {
 
 /// What a call did.
 #[derive(Drop)]
-struct Done {
-    status: u8,
-    printed: String,
-    told: String,
-    names: Vec<String>,
-    logs: Vec<Vec<u8>>,
+pub(super) struct Done {
+    pub(super) status: u8,
+    pub(super) printed: String,
+    pub(super) told: String,
+    pub(super) names: Vec<String>,
+    pub(super) logs: Vec<Vec<u8>>,
 }
 
 #[test]
@@ -400,7 +401,7 @@ fn a_hundred_seeds(rt: HostRuntime) -> Result<(), Fail> {
 }
 
 /// The text of a set of programs.
-fn programs_of(alloc: Global, programs: &[&str]) -> Result<String, Fail> {
+pub(super) fn programs_of(alloc: Global, programs: &[&str]) -> Result<String, Fail> {
     let mut text = format!(in alloc; "tardis-programs 1 cores {}\n", programs.len())?;
     for (core, program) in programs.iter().enumerate() {
         text.push_str(format!(in alloc; "core {core}\n{program}")?.as_str())?;
@@ -409,17 +410,42 @@ fn programs_of(alloc: Global, programs: &[&str]) -> Result<String, Fail> {
     Ok(text)
 }
 
-/// Runs the programs of text 0 with these options, in a folder that takes `room` files.
-fn sim<R: Threads + Sync>(
+/// Simulates the programs of text 0 with these options, in a folder that takes `room` files.
+fn sim<R: Threads + Wait + Sync>(
     rt: &R,
     alloc: Global,
     options: &[&str],
     texts: &[&str],
     room: usize,
 ) -> Result<Done, Fail> {
+    performed(rt, alloc, "sim", &Unwatched, options, texts, room)
+}
+
+/// Runs the programs of text 0 in threads that are watched, in a folder that takes `room` files.
+pub(super) fn run_in_threads<R: Threads + Wait + Sync, W: Watch + Sync>(
+    rt: &R,
+    alloc: Global,
+    watch: &W,
+    options: &[&str],
+    programs: &str,
+    room: usize,
+) -> Result<Done, Fail> {
+    performed(rt, alloc, "run", watch, options, &[programs], room)
+}
+
+/// Has the programs of text 0 performed with these options, in a folder that takes `room` files.
+fn performed<R: Threads + Wait + Sync, W: Watch + Sync>(
+    rt: &R,
+    alloc: Global,
+    name: &str,
+    watch: &W,
+    options: &[&str],
+    texts: &[&str],
+    room: usize,
+) -> Result<Done, Fail> {
     let mut words = Vec::new(alloc);
     words.push("tardis")?;
-    words.push("sim")?;
+    words.push(name)?;
     for option in options {
         words.push(*option)?;
     }
@@ -429,11 +455,11 @@ fn sim<R: Threads + Sync>(
     for text in texts {
         files.push(Vec::from_slice(alloc, text.as_bytes())?)?;
     }
-    call(rt, alloc, words.as_slice(), files.as_slice(), room)
+    call(rt, alloc, words.as_slice(), watch, files.as_slice(), room)
 }
 
 /// The verdict's line on these logs against these programs.
-fn judged<R: Threads + Sync>(
+pub(super) fn judged<R: Threads + Wait + Sync>(
     rt: &R,
     alloc: Global,
     logs: &Vec<Vec<u8>>,
@@ -454,14 +480,16 @@ fn judged<R: Threads + Sync>(
     for name in &names {
         words.push(name.as_str())?;
     }
-    Ok(call(rt, alloc, words.as_slice(), files.as_slice(), 0)?.printed)
+    let done = call(rt, alloc, words.as_slice(), &Unwatched, files.as_slice(), 0)?;
+    Ok(done.printed)
 }
 
 /// Calls the program with these words, over files of these texts.
-fn call<R: Threads + Sync>(
+fn call<R: Threads + Wait + Sync, W: Watch + Sync>(
     rt: &R,
     alloc: Global,
     words: &[&str],
+    watch: &W,
     texts: &[Vec<u8>],
     room: usize,
 ) -> Result<Done, Fail> {
@@ -475,7 +503,7 @@ fn call<R: Threads + Sync>(
     };
     let mut out = MemSink::new(alloc, &[]);
     let mut err = MemSink::new(alloc, &[]);
-    let status = command(rt, alloc, words, &mut folder, &mut out, &mut err);
+    let status = command(rt, alloc, words, watch, &mut folder, &mut out, &mut err);
     let Shelf { names, logs, .. } = folder;
     Ok(Done {
         status,

@@ -30,7 +30,7 @@ fn words_of_a_check(rt: HostRuntime) -> Result<(), Fail> {
                 assert_eq!(rt; check.program, program);
                 assert_eq!(rt; check.files.as_slice(), files);
             }
-            Ok(Request::Sim(_sim)) => assert!(rt; false, "a sim"),
+            Ok(_other) => assert!(rt; false, "no check"),
             Err(refusal) => assert!(rt; false, "refused: {refusal}"),
         }
     }
@@ -60,7 +60,7 @@ fn words_of_a_sim(rt: HostRuntime) -> Result<(), Fail> {
                 assert_eq!(rt; sim.programs, programs);
                 assert_eq!(rt; sim.out, out);
             }
-            Ok(Request::Check(_check)) => assert!(rt; false, "a check"),
+            Ok(_other) => assert!(rt; false, "no sim"),
             Err(refusal) => assert!(rt; false, "refused: {refusal}"),
         }
     }
@@ -94,9 +94,32 @@ fn each_number_of_a_sim(rt: HostRuntime) {
             assert_eq!(rt; numbers(&sim.limits), [2, 3, 4, 5, 6, 7]);
             assert_eq!(rt; sim.seed, Some(u64::MAX));
         }
-        Ok(Request::Check(_check)) => assert!(rt; false, "a check"),
+        Ok(_other) => assert!(rt; false, "no sim"),
         Err(refusal) => assert!(rt; false, "refused: {refusal}"),
     }
+}
+
+#[test]
+fn words_of_a_run(rt: HostRuntime) -> Result<(), Fail> {
+    for (words, limits) in [
+        (["p", "o"].as_slice(), [1, 10, 100, 64, 64, 8]),
+        (
+            &["--inbox", "7", "p", "--slices=16", "o"],
+            [16, 10, 100, 64, 64, 7],
+        ),
+    ] {
+        let mut line = Vec::from_slice(rt.alloc(), &["tardis", "run"])?;
+        line.extend_from_slice(words)?;
+        match read(rt.alloc(), line.as_slice()) {
+            Ok(Request::Run(run)) => {
+                assert_eq!(rt; numbers(&run.limits), limits);
+                assert_eq!(rt; (run.programs, run.out), ("p", "o"));
+            }
+            Ok(_other) => assert!(rt; false, "no run"),
+            Err(refusal) => assert!(rt; false, "refused: {refusal}"),
+        }
+    }
+    Ok(())
 }
 
 #[test]
@@ -118,6 +141,9 @@ fn words_that_ask_for_nothing(rt: HostRuntime) -> Result<(), Fail> {
         &["sim", "--slices", "-1", "p", "o"],
         &["sim", "--workers", "1", "p", "o"],
         &["sim", "--lease", "1", "--lease", "1", "p", "o"],
+        &["run", "p"],
+        &["run", "--seed", "1", "p", "o"],
+        &["run", "--schedule", "f", "p", "o"],
     ] {
         let mut line = Vec::from_slice(rt.alloc(), &["tardis"])?;
         line.extend_from_slice(words)?;

@@ -2,10 +2,12 @@
 #![tactic(auto)]
 
 mod host;
+mod progress;
 mod words;
 
 use host::HostFolder;
 use log_file::{FromWrite, write_all};
+use progress::Progress;
 use std::process::ExitCode;
 use tardis_command::command;
 use words::{WordsFault, texts, words};
@@ -31,6 +33,7 @@ fn main(rt: HostRuntime) -> ExitCode {
         &rt,
         rt.alloc(),
         words.as_slice(),
+        &Progress::new(&rt),
         &mut HostFolder::new(&rt),
         &mut FromWrite::new(rt.stdout()),
         &mut FromWrite::new(rt.stderr()),

@@ -12,7 +12,7 @@ use Rattle.tardis_command.specs.Endings.{Answered, Ending, EndsBy, HasFailed, Is
 use Rattle.tardis_command.specs.Files.{Files}
 use Rattle.tardis_command.specs.Faults.{command_fault_text, fault_status}
 use Rattle.tardis_command.specs.declared.fault.CommandFault.{CommandFault}
-use Rattle.tardis_command.specs.declared.fault.CommandFault.TheVariants.{Judge, Config, Programs, ProgramsUnread, Schedule, ScheduleUnread, Simulation, LogUnwritten, Output, OutOfMemory}
+use Rattle.tardis_command.specs.declared.fault.CommandFault.TheVariants.{Judge, Config, Programs, ProgramsUnread, Schedule, ScheduleUnread, Simulation, Run, LogUnwritten, Output, OutOfMemory}
 
 pub kept : (contents : Option (List ℕ)) → Keeps contents contents
 kept None = tt
@@ -30,6 +30,7 @@ unless_failed old new fault (Misused text) answered output = absurd answered
 memory_ends : (before after : Files) (asked : Request) → IsAnswerTo before after asked (Err OutOfMemory)
 memory_ends before after (request.Check check) = tt
 memory_ends before after (request.Sim sim) = tt
+memory_ends before after (request.Run run) = tt
 
 -- an answer whose line wasn't printed
 pub unprinted : (before after : Files) (asked : Request) (answer : Answer) (out out' : Sink) (fault : CommandFault)
@@ -45,6 +46,7 @@ unprinted before after asked answer out out' ProgramsUnread answered never = abs
 unprinted before after asked answer out out' (Schedule reason) answered never = absurd never
 unprinted before after asked answer out out' ScheduleUnread answered never = absurd never
 unprinted before after asked answer out out' (Simulation reason) answered never = absurd never
+unprinted before after asked answer out out' (Run reason) answered never = absurd never
 unprinted before after asked answer out out' (LogUnwritten file) answered never = absurd never
 
 module _ (before after : Files) (words : List (List ℕ)) (out err : Sink) where

@@ -2,3 +2,4 @@ mod Checks
 mod Ends
 mod Logs
 mod Runs
+mod ThreadRuns

@@ -8,14 +8,11 @@ use borrow.Author.Count.{below_more}
 use Rattle.log_file.specs.Devices.{Failed, Tells}
 use Rattle.log_file.specs.Log.{spelling, first_format}
 use Rattle.log_record.specs.declared.record.Record.{Record}
-use Rattle.tardis_core.specs.Machine.{World}
-use Rattle.tardis_core.specs.Works.{log_at}
 use Rattle.tardis_command.specs.Files.{Files}
 use Rattle.tardis_command.specs.inner.Putting.{IsUnput}
-use Rattle.tardis_command.specs.Logs.{ArePutAsFar, ArePutBefore, ArePutFirst, ArePutUpTo, KeepsOthers, log_name, TellsLog, TellsFirst}
-use Rattle.tardis_command.specs.Simulating.{IsUnwritten}
+use Rattle.tardis_command.specs.Logs.{ArePutAsFar, ArePutBefore, ArePutFirst, ArePutUpTo, IsUnwritten, KeepsOthers, log_name, TellsLog, TellsFirst}
 use Rattle.tardis_command.specs.declared.fault.CommandFault.{CommandFault}
-use Rattle.tardis_command.specs.declared.fault.CommandFault.TheVariants.{Judge, Config, Programs, ProgramsUnread, Schedule, ScheduleUnread, Simulation, LogUnwritten, Output, OutOfMemory}
+use Rattle.tardis_command.specs.declared.fault.CommandFault.TheVariants.{Judge, Config, Programs, ProgramsUnread, Schedule, ScheduleUnread, Simulation, Run, LogUnwritten, Output, OutOfMemory}
 
 -- no two cores' logs are of one name
 names_differ : (out : List ℕ) (c d : ℕ) → c < d → d < 64 → log_name out c ≢ log_name out d
@@ -25,45 +22,45 @@ names_differ out c d below few same =
     let is : c ≡ d = decimal_injective c d (omega arith) (omega arith) numbers in
     absurd (omega arith)
 
-module _ (told told' told'' : List ℕ → Option (List ℕ)) (out : List ℕ) (cores : ℕ) (w : World) (n core : ℕ) (is : core ≡ n) (few : n < 64)
-    (so_far : ArePutFirst told told' out cores w n) (stays : (name : List ℕ) → name ≢ log_name out core → told'' name ≡ told' name) where
+module _ (told told' told'' : List ℕ → Option (List ℕ)) (out : List ℕ) (cores : ℕ) (made : ℕ → List Record) (n core : ℕ) (is : core ≡ n) (few : n < 64)
+    (so_far : ArePutFirst told told' out cores made n) (stays : (name : List ℕ) → name ≢ log_name out core → told'' name ≡ told' name) where
   -- what was told of the earlier logs stays
-  tells_first : TellsFirst told'' out cores w n
+  tells_first : TellsFirst told'' out cores made n
   tells_first c below =
       let same : told'' (log_name out c) ≡ told' (log_name out c) = stays (log_name out c) (names_differ out c core (omega arith) (omega arith)) in
-      subst (λ (x : Option (List ℕ)). Tells x (spelling first_format c cores (log_at w c))) (sym same) (so_far.logs c below)
+      subst (λ (x : Option (List ℕ)). Tells x (spelling first_format c cores (made c))) (sym same) (so_far.logs c below)
 
   keeps_others : KeepsOthers told told'' out (n + 1)
   keeps_others name none = stays name (none core (omega arith)) ∙ so_far.others name (λ c below. none c (omega arith))
 
   -- the next log was put too
-  pub put_next : (records : List Record) → records ≡ log_at w core → Tells (told'' (log_name out core)) (spelling first_format core cores records) → ArePutFirst told told'' out cores w (n + 1)
+  pub put_next : (records : List Record) → records ≡ made core → Tells (told'' (log_name out core)) (spelling first_format core cores records) → ArePutFirst told told'' out cores made (n + 1)
   put_next records logged next =
-      let here : TellsLog told'' out cores w core = subst (λ (x : List Record). Tells (told'' (log_name out core)) (spelling first_format core cores x)) logged next in record {
-        logs = below_more (TellsLog told'' out cores w) n tells_first (subst (λ (c : ℕ). TellsLog told'' out cores w c) is here);
+      let here : TellsLog told'' out cores made core = subst (λ (x : List Record). Tells (told'' (log_name out core)) (spelling first_format core cores x)) logged next in record {
+        logs = below_more (TellsLog told'' out cores made) n tells_first (subst (λ (c : ℕ). TellsLog told'' out cores made c) is here);
         others = keeps_others;
       }
 
 -- a core's log isn't put
-module _ (old now new : Files) (out : List ℕ) (cores : ℕ) (w : World) (n core : ℕ) (is : core ≡ n) (few : n < 64)
-    (so_far : ArePutFirst old.told now.told out cores w n) (quiet : now.failed ≡ old.failed) (stays : (name : List ℕ) → name ≢ log_name out core → new.told name ≡ now.told name)
+module _ (old now new : Files) (out : List ℕ) (cores : ℕ) (made : ℕ → List Record) (n core : ℕ) (is : core ≡ n) (few : n < 64)
+    (so_far : ArePutFirst old.told now.told out cores made n) (quiet : now.failed ≡ old.failed) (stays : (name : List ℕ) → name ≢ log_name out core → new.told name ≡ now.told name)
     (below : n < cores) where
-  put_up_to : Failed now.failed new.failed → ArePutUpTo old new out cores w n
+  put_up_to : Failed now.failed new.failed → ArePutUpTo old new out cores made n
   put_up_to failed = record {
     core = below;
-    logs = tells_first old.told now.told new.told out cores w n core is few so_far stays;
-    others = keeps_others old.told now.told new.told out cores w n core is few so_far stays;
+    logs = tells_first old.told now.told new.told out cores made n core is few so_far stays;
+    others = keeps_others old.told now.told new.told out cores made n core is few so_far stays;
     failed = subst (λ (count : ℕ). Failed count new.failed) quiet failed;
   }
 
-  put_before : new ≡ now → ArePutBefore old new out cores w n
+  put_before : new ≡ now → ArePutBefore old new out cores made n
   put_before same = record {
     core = below;
-    put = subst (λ (files : Files). ArePutFirst old.told files.told out cores w n) (sym same) so_far;
+    put = subst (λ (files : Files). ArePutFirst old.told files.told out cores made n) (sym same) so_far;
     quiet = ap (λ (files : Files). files.failed) same ∙ quiet;
   }
 
-  pub put_as_far : (fault : CommandFault) → IsUnput now new core fault → ArePutAsFar old new out cores w
+  pub put_as_far : (fault : CommandFault) → IsUnput now new core fault → ArePutAsFar old new out cores made
   put_as_far (LogUnwritten file) unput = inr (inl (n, put_up_to unput.1))
   put_as_far OutOfMemory same = inr (inr (n, put_before same))
   put_as_far (Judge fault) never = absurd never
@@ -73,10 +70,11 @@ module _ (old now new : Files) (out : List ℕ) (cores : ℕ) (w : World) (n cor
   put_as_far (Schedule fault) never = absurd never
   put_as_far ScheduleUnread never = absurd never
   put_as_far (Simulation fault) never = absurd never
+  put_as_far (Run fault) never = absurd never
   put_as_far Output never = absurd never
 
-  pub unwritten : (fault : CommandFault) → IsUnput now new core fault → IsUnwritten (ArePutUpTo old new out cores w) fault
-  unwritten (LogUnwritten file) unput = subst (ArePutUpTo old new out cores w) (sym (unput.0 ∙ is)) (put_up_to unput.1)
+  pub unwritten : (fault : CommandFault) → IsUnput now new core fault → IsUnwritten (ArePutUpTo old new out cores made) fault
+  unwritten (LogUnwritten file) unput = subst (ArePutUpTo old new out cores made) (sym (unput.0 ∙ is)) (put_up_to unput.1)
   unwritten OutOfMemory same = tt
   unwritten (Judge fault) never = absurd never
   unwritten (Config fault) never = absurd never
@@ -85,10 +83,11 @@ module _ (old now new : Files) (out : List ℕ) (cores : ℕ) (w : World) (n cor
   unwritten (Schedule fault) never = absurd never
   unwritten ScheduleUnread never = absurd never
   unwritten (Simulation fault) never = absurd never
+  unwritten (Run fault) never = absurd never
   unwritten Output never = absurd never
 
 -- the logs are 64 at most
-pub keeps_files : (old new : Files) (out : List ℕ) (cores : ℕ) (w : World) → cores ≤ 64 → ArePutAsFar old new out cores w → KeepsOthers old.told new.told out 64
-keeps_files old new out cores w few (inl put) name none = put.0.others name (λ c below. none c (omega arith))
-keeps_files old new out cores w few (inr (inl (n, put))) name none = let core : n < cores = put.core in put.others name (λ c below. none c (omega arith))
-keeps_files old new out cores w few (inr (inr (n, put))) name none = let core : n < cores = put.core in put.put.others name (λ c below. none c (omega arith))
+pub keeps_files : (old new : Files) (out : List ℕ) (cores : ℕ) (made : ℕ → List Record) → cores ≤ 64 → ArePutAsFar old new out cores made → KeepsOthers old.told new.told out 64
+keeps_files old new out cores made few (inl put) name none = put.0.others name (λ c below. none c (omega arith))
+keeps_files old new out cores made few (inr (inl (n, put))) name none = let core : n < cores = put.core in put.others name (λ c below. none c (omega arith))
+keeps_files old new out cores made few (inr (inr (n, put))) name none = let core : n < cores = put.core in put.put.others name (λ c below. none c (omega arith))

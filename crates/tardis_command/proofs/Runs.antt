@@ -9,22 +9,24 @@ use Rattle.simulation.specs.Simulating.{IsSimulated, IsSimulationFault}
 use Rattle.simulation.specs.declared.fault.SimulationFault.{SimulationFault}
 use Rattle.tardis_core.specs.Opening.{opening_parts}
 use Rattle.tardis_core.specs.Parts.{CoreParts, world}
+use Rattle.tardis_core.specs.Works.{log_at}
 use Rattle.tardis_command.specs.Files.{Files}
-use Rattle.tardis_command.specs.Logs.{ArePut, ArePutAsFar, ArePutUpTo}
-use Rattle.tardis_command.specs.Simulating.{AreCommandsOf, AreProgramsIn, IsRun, IsUnwritten, config_of, performed_below}
+use Rattle.tardis_command.specs.Logs.{ArePut, ArePutAsFar, ArePutUpTo, IsUnwritten, performed_below}
+use Rattle.tardis_command.specs.Programmed.{AreProgramsIn, config_of}
+use Rattle.tardis_command.specs.Simulating.{AreCommandsOf, IsRun}
 use Rattle.tardis_command.specs.declared.fault.CommandFault.{CommandFault}
-use Rattle.tardis_command.specs.declared.fault.CommandFault.TheVariants.{Judge, Config, Programs, ProgramsUnread, Schedule, ScheduleUnread, Simulation, LogUnwritten, Output, OutOfMemory}
+use Rattle.tardis_command.specs.declared.fault.CommandFault.TheVariants.{Judge, Config, Programs, ProgramsUnread, Schedule, ScheduleUnread, Simulation, Run, LogUnwritten, Output, OutOfMemory}
 
 module _ (old new : Files) (asked : Sim) (programs : List (List Instruction)) (commands : List Command) (q : CoreParts)
-    (sound : first_bad (config_of asked) ≡ None) (read : AreProgramsIn old.told asked.programs.now programs)
+    (sound : first_bad (config_of asked.limits) ≡ None) (read : AreProgramsIn old.told asked.programs.now programs)
     (parsed : AreCommandsOf old.told asked.schedule (length programs) commands) where
-  pub faulted : (fault : SimulationFault) → IsSimulationFault commands asked.seed (opening_parts programs (config_of asked)) q fault
-      → ArePutAsFar old new asked.out.now (length programs) (world q) → IsRun old new asked (Err (Simulation fault))
+  pub faulted : (fault : SimulationFault) → IsSimulationFault commands asked.seed (opening_parts programs (config_of asked.limits)) q fault
+      → ArePutAsFar old new asked.out.now (length programs) (log_at (world q)) → IsRun old new asked (Err (Simulation fault))
   faulted fault is far = (sound, programs, read, (commands, parsed, (q, is, far)))
 
-  pub ended : IsSimulated commands asked.seed (opening_parts programs (config_of asked)) q → (written : Result ℕ CommandFault)
-      → IfOk written (λ count. count ≡ performed_below (world q) (length programs)) → OnOk written (ArePut old new asked.out.now (length programs) (world q))
-      → IfErr written (IsUnwritten (ArePutUpTo old new asked.out.now (length programs) (world q))) → IsRun old new asked written
+  pub ended : IsSimulated commands asked.seed (opening_parts programs (config_of asked.limits)) q → (written : Result ℕ CommandFault)
+      → IfOk written (λ count. count ≡ performed_below (log_at (world q)) (length programs)) → OnOk written (ArePut old new asked.out.now (length programs) (log_at (world q)))
+      → IfErr written (IsUnwritten (ArePutUpTo old new asked.out.now (length programs) (log_at (world q)))) → IsRun old new asked written
   ended simulated (Ok count) counted put unwritten = (sound, programs, read, (commands, parsed, (q, simulated, (counted, put))))
   ended simulated (Err (LogUnwritten file)) counted put unwritten = (sound, programs, read, (commands, parsed, (q, simulated, unwritten)))
   ended simulated (Err OutOfMemory) counted put unwritten = tt
@@ -35,4 +37,5 @@ module _ (old new : Files) (asked : Sim) (programs : List (List Instruction)) (c
   ended simulated (Err (Schedule fault)) counted put unwritten = absurd unwritten
   ended simulated (Err ScheduleUnread) counted put unwritten = absurd unwritten
   ended simulated (Err (Simulation fault)) counted put unwritten = absurd unwritten
+  ended simulated (Err (Run fault)) counted put unwritten = absurd unwritten
   ended simulated (Err Output) counted put unwritten = absurd unwritten

@@ -14,7 +14,7 @@ use Rattle.verdict.specs.declared.judge_fault.Count.TheVariants.{Files, Workers,
 use Rattle.verdict.specs.declared.judge_fault.JudgeFault.{JudgeFault}
 use Rattle.verdict.specs.declared.judge_fault.JudgeFault.TheVariants.{BadConfig, Log, Read, OutOfMemory}
 use Rattle.tardis_command.specs.declared.fault.CommandFault.{CommandFault}
-use Rattle.tardis_command.specs.declared.fault.CommandFault.TheVariants.{Judge, Config, Programs, ProgramsUnread, Schedule, ScheduleUnread, Simulation, LogUnwritten, Output, OutOfMemory as NoMemory}
+use Rattle.tardis_command.specs.declared.fault.CommandFault.TheVariants.{Judge, Config, Programs, ProgramsUnread, Schedule, ScheduleUnread, Simulation, Run, LogUnwritten, Output, OutOfMemory as NoMemory}
 
 -- these are sources of the files of these names: each tells the bytes that the folder tells
 abbrev pub AreSourcesOf : {S : Type 0} → (List ℕ → Option (List ℕ)) → (S → Option (List ℕ)) → List S → List (Bor (List ℕ)) → Type 0
@@ -64,6 +64,7 @@ IsUnprogrammed told name (Config fault) = ⊥
 IsUnprogrammed told name (Schedule fault) = ⊥
 IsUnprogrammed told name ScheduleUnread = ⊥
 IsUnprogrammed told name (Simulation fault) = ⊥
+IsUnprogrammed told name (Run fault) = ⊥
 IsUnprogrammed told name (LogUnwritten file) = ⊥
 IsUnprogrammed told name Output = ⊥
 
@@ -105,6 +106,7 @@ IsChecked told asked (Err (Config fault)) = ⊥
 IsChecked told asked (Err (Schedule fault)) = ⊥
 IsChecked told asked (Err ScheduleUnread) = ⊥
 IsChecked told asked (Err (Simulation fault)) = ⊥
+IsChecked told asked (Err (Run fault)) = ⊥
 IsChecked told asked (Err (LogUnwritten file)) = ⊥
 IsChecked told asked (Err Output) = ⊥
 

@@ -3,13 +3,14 @@ use Rattle.std.specs.Prelude.{◌≡◌, ◌<◌, ◌≤◌, ◌⊎◌, ⊤, ℕ
 use Rattle.std.specs.Io.KnownBytes.{Appends, Keeps}
 use Rattle.command_line.specs.Asking.{Asks, IsCommandLine}
 use Rattle.command_line.specs.declared.request.Request.{Request}
-use Rattle.command_line.specs.declared.request.Request.TheVariants.{Check, Sim}
+use Rattle.command_line.specs.declared.request.Request.TheVariants.{Check, Sim, Run}
 use Rattle.log_file.specs.Devices.{Failed}
 use Rattle.tardis_command.specs.Answers.{answer_status, answer_text}
 use Rattle.tardis_command.specs.Checking.{FilesAreConsistent, FilesRunFlat, IsChecked}
 use Rattle.tardis_command.specs.Files.{Files}
 use Rattle.tardis_command.specs.Faults.{command_fault_text, fault_status}
 use Rattle.tardis_command.specs.Logs.{log_name}
+use Rattle.tardis_command.specs.Running.{IsThreadRun}
 use Rattle.tardis_command.specs.Simulating.{IsRun}
 use Rattle.tardis_command.specs.declared.answer.Answer.{Answer}
 use Rattle.tardis_command.specs.declared.answer.Answer.TheVariants.{Judged, Done}
@@ -52,6 +53,9 @@ IsAnswerTo old new (Check asked) (Err fault) = IsChecked old.told asked (Err fau
 IsAnswerTo old new (Sim asked) (Ok (Judged verdict)) = ⊥
 IsAnswerTo old new (Sim asked) (Ok (Done count)) = IsRun old new asked (Ok count)
 IsAnswerTo old new (Sim asked) (Err fault) = IsRun old new asked (Err fault)
+IsAnswerTo old new (Run asked) (Ok (Judged verdict)) = ⊥
+IsAnswerTo old new (Run asked) (Ok (Done count)) = IsThreadRun old new asked (Ok count)
+IsAnswerTo old new (Run asked) (Err fault) = IsThreadRun old new asked (Err fault)
 
 -- what was asked may end so
 abbrev pub IsEndOf : Files → Files → Request → Ending → Type 0
@@ -75,16 +79,19 @@ IsEnd old new words (Unprinted answer) = AskFor words (λ asked. IsEndOf old new
 abbrev pub AreConsistent : (List ℕ → Option (List ℕ)) → Request → Type 0
 AreConsistent told (Check asked) = FilesAreConsistent told asked
 AreConsistent told (Sim asked) = ⊤
+AreConsistent told (Run asked) = ⊤
 
 -- and, where they were checked against programs, some whole run of these on the flat machine performs just its operations
 abbrev pub RunFlat : (List ℕ → Option (List ℕ)) → Request → Type 0
 RunFlat told (Check asked) = FilesRunFlat told asked
 RunFlat told (Sim asked) = ⊤
+RunFlat told (Run asked) = ⊤
 
 -- the name of a log that was asked for
 abbrev pub IsLogName : Request → List ℕ → Type 0
 IsLogName (Check asked) name = ⊥
 IsLogName (Sim asked) name = (c : ℕ) × (c < 64) × (name ≡ log_name asked.out.now c)
+IsLogName (Run asked) name = (c : ℕ) × (c < 64) × (name ≡ log_name asked.out.now c)
 
 -- what the folder tells of other names is what it told
 abbrev pub KeepsFiles : (List ℕ → Option (List ℕ)) → (List ℕ → Option (List ℕ)) → (List ℕ → Type 0) → Type 0

@@ -5,6 +5,7 @@ use Rattle.core_program.specs.FaultTexts.{fault_text as program_fault_text}
 use Rattle.core_program.specs.declared.fault.ProgramFault.{ProgramFault}
 use Rattle.core_program.specs.declared.fault.ProgramFault.TheVariants.{BadLine, TooLong, SkipPastEnd, OutOfMemory as NoMemory}
 use Rattle.lease_rule.specs.Faults.{fault_text as config_fault_text}
+use Rattle.machine.specs.Faults.{fault_text as run_fault_text}
 use Rattle.schedule.specs.FaultTexts.{fault_text as schedule_line_text}
 use Rattle.schedule.specs.declared.fault.ScheduleFault.{ScheduleFault}
 use Rattle.schedule.specs.declared.fault.ScheduleFault.TheVariants.{BadScheduleLine, OutOfMemory as NoScheduleMemory}
@@ -13,7 +14,7 @@ use Rattle.verdict.specs.Texts.{judge_fault_text}
 use Rattle.verdict.specs.declared.judge_fault.JudgeFault.{JudgeFault}
 use Rattle.verdict.specs.declared.judge_fault.JudgeFault.TheVariants.{BadConfig, Log, Read, OutOfMemory}
 use Rattle.tardis_command.specs.declared.fault.CommandFault.{CommandFault}
-use Rattle.tardis_command.specs.declared.fault.CommandFault.TheVariants.{Judge, Config, Programs, ProgramsUnread, Schedule, ScheduleUnread, Simulation, LogUnwritten, Output, OutOfMemory as NoMemoryAtAll}
+use Rattle.tardis_command.specs.declared.fault.CommandFault.TheVariants.{Judge, Config, Programs, ProgramsUnread, Schedule, ScheduleUnread, Simulation, Run, LogUnwritten, Output, OutOfMemory as NoMemoryAtAll}
 
 -- why there is no verdict, as a refusal of the command
 abbrev pub from_judge : JudgeFault → CommandFault
@@ -41,6 +42,7 @@ command_fault_text (Config fault) = codes "refused: " ++ config_fault_text fault
 command_fault_text (Schedule fault) = schedule_fault_text fault
 command_fault_text ScheduleUnread = codes "refused: schedule: 28 Read"
 command_fault_text (Simulation fault) = codes "refused: " ++ simulation_fault_text fault
+command_fault_text (Run fault) = codes "refused: " ++ run_fault_text fault.core fault.cause
 command_fault_text (LogUnwritten file) = codes "refused: file " ++ (decimal file ++ codes ": 29 Write")
 command_fault_text Output = codes "refused: output: 29 Write"
 command_fault_text NoMemoryAtAll = codes "refused: 10 OutOfMemory"
@@ -69,6 +71,7 @@ fault_status ProgramsUnread = 4
 fault_status (Schedule fault) = schedule_fault_status fault
 fault_status ScheduleUnread = 4
 fault_status (Simulation fault) = 4
+fault_status (Run fault) = 4
 fault_status (LogUnwritten file) = 4
 fault_status Output = 4
 fault_status NoMemoryAtAll = 4

@@ -4,5 +4,7 @@ pub mod Endings
 pub mod Faults
 pub mod Files
 pub mod Logs
+pub mod Programmed
+pub mod Running
 pub mod Simulating
 pub mod inner

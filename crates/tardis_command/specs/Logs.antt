@@ -1,52 +1,72 @@
--- The logs that the folder tells.
-use Rattle.std.specs.Prelude.{◌≡◌, ◌≢◌, ◌⊎◌, ℕ, ◌+◌, ◌<◌, List, ◌++◌, Option, codes}
+-- The logs that the folder tells. `made` gives the log that each core made.
+use Rattle.std.specs.Prelude.{◌≡◌, ◌≢◌, ◌⊎◌, ⊤, ℕ, zero, suc, ◌+◌, ◌<◌, List, ◌++◌, length, Option, codes}
 use Rattle.std.specs.Fmt.{decimal}
 use Rattle.log_file.specs.Devices.{Failed, Tells}
 use Rattle.log_file.specs.Log.{spelling, first_format}
-use Rattle.tardis_core.specs.Machine.{World}
-use Rattle.tardis_core.specs.Works.{log_at}
+use Rattle.log_record.specs.declared.record.Record.{Record}
 use Rattle.tardis_command.specs.Files.{Files}
+use Rattle.tardis_command.specs.declared.fault.CommandFault.{CommandFault}
+use Rattle.tardis_command.specs.declared.fault.CommandFault.TheVariants.{Judge, Config, Programs, ProgramsUnread, Schedule, ScheduleUnread, Simulation, Run, LogUnwritten, Output, OutOfMemory}
 
 -- the name of core c's log: that of the logs, a dot and the core's number
 abbrev pub log_name : List ℕ → ℕ → List ℕ
 log_name out c = out ++ (codes "." ++ decimal c)
 
 -- core c's log, of `cores`, is told under its name, in its one spelling
-abbrev pub TellsLog : (List ℕ → Option (List ℕ)) → List ℕ → ℕ → World → ℕ → Type 0
-TellsLog told out cores w c = Tells (told (log_name out c)) (spelling first_format c cores (log_at w c))
+abbrev pub TellsLog : (List ℕ → Option (List ℕ)) → List ℕ → ℕ → (ℕ → List Record) → ℕ → Type 0
+TellsLog told out cores made c = Tells (told (log_name out c)) (spelling first_format c cores (made c))
 
 -- so are the logs of the first n cores
-abbrev pub TellsFirst : (List ℕ → Option (List ℕ)) → List ℕ → ℕ → World → ℕ → Type 0
-TellsFirst told out cores w n = (c : ℕ) → c < n → TellsLog told out cores w c
+abbrev pub TellsFirst : (List ℕ → Option (List ℕ)) → List ℕ → ℕ → (ℕ → List Record) → ℕ → Type 0
+TellsFirst told out cores made n = (c : ℕ) → c < n → TellsLog told out cores made c
 
 -- what is told of a name that none of the first n logs has is what was told of it before
 abbrev pub KeepsOthers : (List ℕ → Option (List ℕ)) → (List ℕ → Option (List ℕ)) → List ℕ → ℕ → Type 0
 KeepsOthers told told' out n = (name : List ℕ) → ((c : ℕ) → c < n → name ≢ log_name out c) → told' name ≡ told name
 
 -- the logs of the first n cores were put, and nothing else
-pub record ArePutFirst (told told' : List ℕ → Option (List ℕ)) (out : List ℕ) (cores : ℕ) (w : World) (n : ℕ) : Type 0 where
-  pub logs : TellsFirst told' out cores w n
+pub record ArePutFirst (told told' : List ℕ → Option (List ℕ)) (out : List ℕ) (cores : ℕ) (made : ℕ → List Record) (n : ℕ) : Type 0 where
+  pub logs : TellsFirst told' out cores made n
   pub others : KeepsOthers told told' out n
 
 -- those of all cores were, and no put failed
-abbrev pub ArePut : Files → Files → List ℕ → ℕ → World → Type 0
-ArePut old new out cores w = ArePutFirst old.told new.told out cores w cores × (new.failed ≡ old.failed)
+abbrev pub ArePut : Files → Files → List ℕ → ℕ → (ℕ → List Record) → Type 0
+ArePut old new out cores made = ArePutFirst old.told new.told out cores made cores × (new.failed ≡ old.failed)
 
 -- the put of core c's log failed: the logs before it were put, and nothing else but what may stand in its place
-pub record ArePutUpTo (old new : Files) (out : List ℕ) (cores : ℕ) (w : World) (c : ℕ) : Type 0 where
+pub record ArePutUpTo (old new : Files) (out : List ℕ) (cores : ℕ) (made : ℕ → List Record) (c : ℕ) : Type 0 where
   pub core : c < cores
-  pub logs : TellsFirst new.told out cores w c
+  pub logs : TellsFirst new.told out cores made c
   pub others : KeepsOthers old.told new.told out (c + 1)
   pub failed : Failed old.failed new.failed
 
 -- memory ran out before the put of core c's log: the logs before it were put, nothing else, and no put failed
-pub record ArePutBefore (old new : Files) (out : List ℕ) (cores : ℕ) (w : World) (c : ℕ) : Type 0 where
+pub record ArePutBefore (old new : Files) (out : List ℕ) (cores : ℕ) (made : ℕ → List Record) (c : ℕ) : Type 0 where
   pub core : c < cores
-  pub put : ArePutFirst old.told new.told out cores w c
+  pub put : ArePutFirst old.told new.told out cores made c
   pub quiet : new.failed ≡ old.failed
 
 -- the logs of all cores were put, or those before one whose put failed or for which memory ran out
-abbrev pub ArePutAsFar : Files → Files → List ℕ → ℕ → World → Type 0
-ArePutAsFar old new out cores w =
-    ArePut old new out cores w
-    ⊎ (((c : ℕ) × ArePutUpTo old new out cores w c) ⊎ ((c : ℕ) × ArePutBefore old new out cores w c))
+abbrev pub ArePutAsFar : Files → Files → List ℕ → ℕ → (ℕ → List Record) → Type 0
+ArePutAsFar old new out cores made =
+    ArePut old new out cores made
+    ⊎ (((c : ℕ) × ArePutUpTo old new out cores made c) ⊎ ((c : ℕ) × ArePutBefore old new out cores made c))
+
+-- how many operations the first cores have performed
+abbrev pub performed_below : (ℕ → List Record) → ℕ → ℕ
+performed_below made zero = 0
+performed_below made (suc c) = performed_below made c + length (made c)
+
+-- a core's log can't be written, of whose number this holds, or memory ran out
+abbrev pub IsUnwritten : (ℕ → Type 0) → CommandFault → Type 0
+IsUnwritten Holds (LogUnwritten file) = Holds file
+IsUnwritten Holds OutOfMemory = ⊤
+IsUnwritten Holds (Judge fault) = ⊥
+IsUnwritten Holds (Config fault) = ⊥
+IsUnwritten Holds (Programs fault) = ⊥
+IsUnwritten Holds ProgramsUnread = ⊥
+IsUnwritten Holds (Schedule fault) = ⊥
+IsUnwritten Holds ScheduleUnread = ⊥
+IsUnwritten Holds (Simulation fault) = ⊥
+IsUnwritten Holds (Run fault) = ⊥
+IsUnwritten Holds Output = ⊥

@@ -12,9 +12,12 @@ use super::fault::CommandFault;
 use super::folder::Folder;
 use super::output::{print_answer, refuse, tell};
 use super::run::run;
+use super::sim::sim;
+use super::watch::Watch;
 use command_line::{Refusal, Request, read};
 use log_file::ByteSink;
 use std::alloc::Global;
+use std::sync::Wait;
 use std::thread::Threads;
 
 /// The exit status of a call whose words aren't a command line of the program.
@@ -24,10 +27,11 @@ const USAGE: u8 = 3;
 /// answers the exit status: 0 for Yes or done, 1 for No, 2 where a log, the programs or the schedule
 /// are refused, 3 where the words are or a number is out of range, else 4. An answer goes to standard
 /// output, all else to standard error; in the folder nothing but the logs of a run is put.
-pub fn command<R: Threads + Sync, F: Folder, O: ByteSink, E: ByteSink>(
+pub fn command<R: Threads + Wait + Sync, W: Watch + Sync, F: Folder, O: ByteSink, E: ByteSink>(
     rt: &R,
     alloc: Global,
     words: &[&str],
+    watch: &W,
     folder: &mut F,
     out: &mut O,
     err: &mut E,
@@ -56,17 +60,18 @@ pub fn command<R: Threads + Sync, F: Folder, O: ByteSink, E: ByteSink>(
             return refuse(alloc, err, CommandFault::OutOfMemory);
         }
     };
-    match perform(rt, alloc, &request, folder, out) {
+    match perform(rt, alloc, &request, watch, folder, out) {
         Ok(status) => status,
         Err(fault) => refuse(alloc, err, fault),
     }
 }
 
 /// Does what was asked, prints the answer and answers the exit status.
-fn perform<R: Threads + Sync, F: Folder, O: ByteSink>(
+fn perform<R: Threads + Wait + Sync, W: Watch + Sync, F: Folder, O: ByteSink>(
     rt: &R,
     alloc: Global,
     request: &Request<'_>,
+    watch: &W,
     folder: &mut F,
     out: &mut O,
 ) -> Result<u8, CommandFault>
@@ -82,16 +87,17 @@ fn perform<R: Threads + Sync, F: Folder, O: ByteSink>(
     ensures flat { IfOk result (λ status. status ≡ 0
         → endings.RunFlat (F.told folder.old) request.now) }
 {
-    let answer = answer(rt, alloc, request, folder)?;
+    let answer = answer(rt, alloc, request, watch, folder)?;
     print_answer(alloc, out, &answer)?;
     Ok(answer.status())
 }
 
 /// The answer to what was asked.
-fn answer<R: Threads + Sync, F: Folder>(
+fn answer<R: Threads + Wait + Sync, W: Watch + Sync, F: Folder>(
     rt: &R,
     alloc: Global,
     request: &Request<'_>,
+    watch: &W,
     folder: &mut F,
 ) -> Result<Answer, CommandFault>
     ensures exact { endings.IsAnswerTo (files_of F.told F.failed folder.old)
@@ -105,6 +111,7 @@ fn answer<R: Threads + Sync, F: Folder>(
 {
     match request {
         Request::Check(asked) => Ok(Answer::Judged(check(rt, alloc, folder, asked)?)),
-        Request::Sim(asked) => Ok(Answer::Done(run(alloc, folder, asked)?)),
+        Request::Sim(asked) => Ok(Answer::Done(sim(alloc, folder, asked)?)),
+        Request::Run(asked) => Ok(Answer::Done(run(rt, alloc, watch, folder, asked)?)),
     }
 }

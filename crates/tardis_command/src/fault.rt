@@ -2,11 +2,12 @@
 
 ghost use Rattle.std.specs.Prelude.{◌≡◌};
 ghost use Rattle.tardis_command.specs.Faults.{fault_status, from_judge};
-ghost use Rattle.tardis_command.specs.declared.fault.CommandFault.TheVariants.{Config, OutOfMemory, Output, Programs, Schedule, Simulation};
+ghost use Rattle.tardis_command.specs.declared.fault.CommandFault.TheVariants.{Config, OutOfMemory, Output, Programs, Run, Schedule, Simulation};
 
 use core_program::ProgramFault;
 use lease_rule::BadConfig;
 use log_file::WriteFailed;
+use machine::RunFault;
 use schedule::ScheduleFault;
 use simulation::SimulationFault;
 use std::alloc::AllocError;
@@ -32,6 +33,8 @@ pub enum CommandFault {
     ScheduleUnread,
     /// The simulation isn't ended.
     Simulation(SimulationFault),
+    /// The run in threads isn't ended.
+    Run(RunFault),
     /// The log of this file can't be written.
     LogUnwritten { file: usize },
     /// Standard output failed.
@@ -56,7 +59,8 @@ impl CommandFault {
             CommandFault::Schedule(ScheduleFault::OutOfMemory) => 4,
             CommandFault::Schedule(_) => 2,
             CommandFault::ProgramsUnread | CommandFault::ScheduleUnread => 4,
-            CommandFault::Simulation(_) | CommandFault::LogUnwritten { .. } => 4,
+            CommandFault::Simulation(_) | CommandFault::Run(_) => 4,
+            CommandFault::LogUnwritten { .. } => 4,
             CommandFault::Output | CommandFault::OutOfMemory => 4,
         }
     }
@@ -83,6 +87,7 @@ impl Display for CommandFault {
             CommandFault::Schedule(fault) => write!(f, "refused: schedule {fault}"),
             CommandFault::ScheduleUnread => f.write_str("refused: schedule: 28 Read"),
             CommandFault::Simulation(fault) => write!(f, "refused: {fault}"),
+            CommandFault::Run(fault) => write!(f, "refused: {fault}"),
             CommandFault::LogUnwritten { file } => write!(f, "refused: file {file}: 29 Write"),
             CommandFault::Output => f.write_str("refused: output: 29 Write"),
             CommandFault::OutOfMemory => f.write_str("refused: 10 OutOfMemory"),

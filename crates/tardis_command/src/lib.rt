@@ -4,14 +4,19 @@
 mod answer;
 mod call;
 mod check;
+mod config;
 mod fault;
 mod folder;
 mod gate;
 mod output;
 mod run;
+mod sim;
 mod text;
+mod watch;
+mod writing;
 
 pub use answer::Answer;
 pub use call::command;
 pub use fault::CommandFault;
 pub use folder::Folder;
+pub use watch::{Unwatched, Watch};

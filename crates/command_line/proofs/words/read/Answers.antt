@@ -27,6 +27,19 @@ returns-then-eq-clause-usage c =
     sym (ap (λ (app : App). fault_of app (texts c.args.words.now)) c.in_ok-tardis.ensures.app)
     ∙ c.in-Ok.ensures.kinds (ap is_simple_and_free c.in_ok-tardis.ensures.app)
 
+pub returns-then-eq-2-clause-request : goal.returns-then-eq-2-clause-request
+returns-then-eq-2-clause-request c =
+    let words = texts c.args.words.now in
+    let found = both_found _ _ _ c.in-Some.name.now _ c.in-Some.ensures.name c.in-Some.ensures.rows in
+    let named = found_named _ words c.in-Ok.matches _ c.in_ok-tardis.ensures.app c.in-Ok.ensures.matches found in
+    let is_run = (bytes_eq-Decides c.in-Some.name.now (codes "run")).0 (sym c.eq-2.ensures ∙ c.if-eq-2.true) in
+    (_, named, (is_run, c.run_of.ensures))
+
+pub returns-then-eq-2-clause-usage : goal.returns-then-eq-2-clause-usage
+returns-then-eq-2-clause-usage c =
+    sym (ap (λ (app : App). fault_of app (texts c.args.words.now)) c.in_ok-tardis.ensures.app)
+    ∙ c.in-Ok.ensures.kinds (ap is_simple_and_free c.in_ok-tardis.ensures.app)
+
 pub returns-clause-request : goal.returns-clause-request
 returns-clause-request c =
     let words = texts c.args.words.now in
@@ -36,7 +49,8 @@ returns-clause-request c =
     sym (ap (λ (app : App). fault_of app words) c.in_ok-tardis.ensures.app) ∙ c.in-Ok.ensures.kinds (ap is_simple_and_free c.in_ok-tardis.ensures.app) in
     let is_check : c.in-Some.name.now ≡ codes "check" = elim (names_own words _ quiet named) [
       | inl is ↦ is
-      | inr is ↦ absurd (let wrong : true ≡ false = sym ((bytes_eq-Decides c.in-Some.name.now (codes "sim")).1 is) ∙ sym c.eq.ensures ∙ c.if-eq.false in cc)
+      | inr (inl is) ↦ absurd (let wrong : true ≡ false = sym ((bytes_eq-Decides c.in-Some.name.now (codes "sim")).1 is) ∙ sym c.eq.ensures ∙ c.if-eq.false in cc)
+      | inr (inr is) ↦ absurd (let wrong : true ≡ false = sym ((bytes_eq-Decides c.in-Some.name.now (codes "run")).1 is) ∙ sym c.eq-2.ensures ∙ c.if-eq-2.false in cc)
     ] in
     (_, named, (is_check, c.in_ok-check_of.ensures))
 

@@ -34,3 +34,11 @@ returns-clause-ends g c =
     let (told, which, takes, status) = c.refuse-in-Err.ensures in
     let (ending, answered, done) = c.in-Err.ensures.exact in
     ends_refused _ _ _ _ _ c.in-Ok.request ending c.in-Err.fault told _ _ _ c.in-Ok.ensures.request answered done which takes status
+
+pub returns-in-Ok-perform-clause-files : goal.returns-in-Ok-perform-clause-files
+returns-in-Ok-perform-clause-files g c name none =
+    c.in-Ok-perform.ensures.files name (λ is. none (c.in-Ok.request, c.in-Ok.ensures.request, is))
+
+pub returns-clause-files : goal.returns-clause-files
+returns-clause-files g c name none =
+    c.in-Err.ensures.files name (λ is. none (c.in-Ok.request, c.in-Ok.ensures.request, is))

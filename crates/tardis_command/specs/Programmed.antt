@@ -1,0 +1,29 @@
+-- The configuration and the programs that a run was asked for with.
+use Rattle.std.specs.Prelude.{◌≡◌, ℕ, List, Option, None}
+use Rattle.command_line.specs.declared.request.Limits.{Limits}
+use Rattle.lease_rule.specs.ConfigParts.{ConfigParts}
+use Rattle.lease_rule.specs.Ranges.{first_bad}
+use Rattle.core_program.specs.Answers.{SpellsSet}
+use Rattle.core_program.specs.declared.instruction.Instruction.{Instruction}
+use Rattle.log_file.specs.Devices.{Tells}
+
+-- the numbers of the machine; the turns are those that are left to it
+abbrev pub config_of : Limits → ConfigParts
+config_of limits = record {
+  slices = limits.slices;
+  lease = limits.lease;
+  period = limits.period;
+  cache_lines = limits.cache_lines;
+  slice_lines = limits.slice_lines;
+  inbox = limits.inbox;
+  turns = 10000000;
+}
+
+-- these are the programs in the file of this name
+abbrev pub AreProgramsIn : (List ℕ → Option (List ℕ)) → List ℕ → List (List Instruction) → Type 0
+AreProgramsIn told name programs = (text : List ℕ) × Tells (told name) text × SpellsSet text programs
+
+-- the configuration is in range, and something holds of the programs
+abbrev pub Programmed : (List ℕ → Option (List ℕ)) → Limits → List ℕ → (List (List Instruction) → Type 0) → Type 0
+Programmed told limits name Holds =
+    (first_bad (config_of limits) ≡ None) × (programs : List (List Instruction)) × AreProgramsIn told name programs × Holds programs

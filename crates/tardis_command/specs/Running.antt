@@ -1,0 +1,54 @@
+-- What the running of programs in threads answers.
+use Rattle.std.specs.Prelude.{◌≡◌, ◌⊎◌, ⊤, ℕ, List, [], length, None, Some, Result, Ok, Err}
+use Rattle.command_line.specs.declared.request.Run.{Run}
+use Rattle.lease_rule.specs.Ranges.{first_bad}
+use Rattle.core_program.specs.declared.instruction.Instruction.{Instruction}
+use Rattle.manager_slice.specs.Parts.{SliceParts}
+use Rattle.core_unit.specs.Parts.{UnitParts}
+use Rattle.audit.specs.Runs.{IsRun, IsUnitLog, StoppedShort, kept_log}
+use Rattle.audit.specs.declared.machine_fault.Cause.TheVariants.{GaveUp, Stopped}
+use Rattle.machine.specs.Runs.{IsMachineRun}
+use Rattle.machine.specs.declared.fault.RunFault.{RunFault}
+use Rattle.tardis_command.specs.Checking.{IsTextFault}
+use Rattle.tardis_command.specs.Files.{Files}
+use Rattle.tardis_command.specs.Logs.{ArePut, ArePutAsFar, ArePutUpTo, performed_below}
+use Rattle.tardis_command.specs.Programmed.{Programmed, config_of}
+use Rattle.tardis_command.specs.declared.fault.CommandFault.{CommandFault}
+use Rattle.tardis_command.specs.declared.fault.CommandFault.TheVariants.{Judge, Config, Programs, ProgramsUnread, Schedule, ScheduleUnread, Simulation, Run as RunRefused, LogUnwritten, Output, OutOfMemory}
+
+-- this holds of the units of a whole run of the programs, which is one of the core machine
+abbrev pub Ended : Run → List (List Instruction) → (List UnitParts → Type 0) → Type 0
+Ended asked programs Holds =
+    (us : List UnitParts) × (ss : List SliceParts) × IsRun programs (config_of asked.limits) us ss
+    × IsMachineRun programs (config_of asked.limits) us ss × Holds us
+
+-- what a run left that isn't ended for this reason: each log is that of a unit of its core whose transcript replays, or empty, and
+-- the core of 30 or 31 has stopped before the end of its program
+pub record AreLeft (programs : List (List Instruction)) (fault : RunFault) (us : List UnitParts) : Type 0 where
+  pub logs : (c : ℕ) → IsUnitLog c (kept_log us c) ⊎ (kept_log us c ≡ [])
+  pub short : ((fault.cause ≡ GaveUp) ⊎ (fault.cause ≡ Stopped)) → StoppedShort programs us fault.core
+
+-- The number of operations that the programs performed, or why there is none. The configuration is looked at first, then the
+-- programs; what a run is refused for is told before a log that can't be written. The folder was `old` before and is `new`
+-- after: the logs of the cores' units. After a log that can't be written they are those before it, and after a fault of the
+-- run all, or those of the first cores.
+abbrev pub IsThreadRun : Files → Files → Run → Result ℕ CommandFault → Type 0
+IsThreadRun old new asked (Ok count) =
+    Programmed old.told asked.limits asked.programs.now (λ programs. Ended asked programs (λ us.
+    (count ≡ performed_below (kept_log us) (length programs)) × ArePut old new asked.out.now (length programs) (kept_log us)))
+IsThreadRun old new asked (Err (Config fault)) = first_bad (config_of asked.limits) ≡ Some fault
+IsThreadRun old new asked (Err (Programs fault)) =
+    (first_bad (config_of asked.limits) ≡ None) × IsTextFault old.told asked.programs.now fault
+IsThreadRun old new asked (Err ProgramsUnread) = first_bad (config_of asked.limits) ≡ None
+IsThreadRun old new asked (Err (RunRefused fault)) =
+    Programmed old.told asked.limits asked.programs.now (λ programs. (us : List UnitParts)
+    × AreLeft programs fault us × ArePutAsFar old new asked.out.now (length programs) (kept_log us))
+IsThreadRun old new asked (Err (LogUnwritten file)) =
+    Programmed old.told asked.limits asked.programs.now (λ programs. Ended asked programs (λ us.
+    ArePutUpTo old new asked.out.now (length programs) (kept_log us) file))
+IsThreadRun old new asked (Err OutOfMemory) = ⊤
+IsThreadRun old new asked (Err (Judge fault)) = ⊥
+IsThreadRun old new asked (Err (Schedule fault)) = ⊥
+IsThreadRun old new asked (Err ScheduleUnread) = ⊥
+IsThreadRun old new asked (Err (Simulation fault)) = ⊥
+IsThreadRun old new asked (Err Output) = ⊥
