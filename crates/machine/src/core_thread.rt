@@ -4,6 +4,7 @@ ghost use Rattle.std.specs.Prelude.{◌≡◌};
 ghost use Rattle.core_unit.specs.Parts.{SameUnit};
 
 use super::ends::Ended;
+use super::gate::StartGate;
 use super::pace::{Go, Pace};
 use audit::Cause;
 use core_unit::{CoreUnit, Outcome};
@@ -11,6 +12,11 @@ use inbox::Inbox;
 use line_stamps::{Message, Recall, Reply};
 use slice_bank::Port;
 use std::sync::Wait;
+use std::thread;
+
+/// After as many turns for an operation a core that is answered Busy lets other threads have its processor, since the owner of the
+/// line may wait for one.
+const PATIENCE: u64 = 16;
 
 // What a turn came to.
 #[derive(Clone, Copy, Debug, PartialEq, Eq)]
@@ -19,12 +25,31 @@ enum Turned {
     Performed,
     // It filled a line, by which the next turn may perform its operation.
     Filled,
-    // It did neither.
+    // Its request was answered with Busy.
+    Refused,
+    // None of these.
     Waits,
 }
 
-/// Runs a core's program to its end, as far as no fault is met, and then gives the core's Exclusive lines back.
-pub(crate) fn run_core<T: Port + Drop, P: Pace, R: Wait>(
+/// Waits at the gate, and runs a core; where a thread was refused the unit comes back as it is.
+pub(crate) fn run_behind<T: Port + Drop, P: Pace, R: Wait>(
+    rt: &R,
+    gate: &StartGate,
+    unit: CoreUnit,
+    port: T,
+    inboxes: &[Inbox],
+    pace: &P,
+) -> Ended
+    ensures { SameUnit unit result.unit }
+{
+    if !gate.pass(rt) {
+        return Ended { unit, fault: None };
+    }
+    run_core(rt, unit, port, inboxes, pace)
+}
+
+// Runs a core's program to its end, as far as no fault is met, and then gives the core's Exclusive lines back.
+fn run_core<T: Port + Drop, P: Pace, R: Wait>(
     rt: &R,
     unit: CoreUnit,
     port: T,
@@ -93,6 +118,9 @@ fn perform<T: Port, P: Pace, R: Wait>(
         if before == Turned::Performed {
             return Ok(());
         }
+        if before == Turned::Refused && turn % PATIENCE == PATIENCE - 1 {
+            thread::yield_now();
+        }
     }
     Err(Cause::GaveUp)
 }
@@ -140,7 +168,7 @@ fn make_turn<T: Port, R: Wait>(
     match exchange(unit, port, &message)? {
         Reply::Busy(recall) => {
             offer(rt, inboxes, recall);
-            Ok(Turned::Waits)
+            Ok(Turned::Refused)
         }
         Reply::Taken => Ok(Turned::Waits),
         _ => Ok(Turned::Filled),

@@ -6,8 +6,8 @@ ghost use Rattle.audit.specs.Runs.{IsRun, IsUnitLog, StoppedShort, kept_log};
 ghost use Rattle.audit.specs.declared.machine_fault.Cause.TheVariants.{GaveUp, Stopped};
 ghost use Rattle.machine.specs.Runs.{IsMachineRun};
 
-use super::core_thread::run_core;
-use super::ends::{Ended, Ends};
+use super::core_thread::run_behind;
+use super::ends::Ends;
 use super::gate::StartGate;
 use super::pace::Pace;
 use audit::laws::merges_are_runs;
@@ -134,13 +134,7 @@ fn run_units<P: Pace + Sync, R: Threads + Wait + Sync>(
                     break;
                 }
                 let port = BankPort { rt, bank };
-                let run = move || -> Ended {
-                    if gate.pass(rt) {
-                        run_core(rt, unit, port, inboxes, pace)
-                    } else {
-                        Ended { unit, fault: None }
-                    }
-                };
+                let run = move || run_behind(rt, gate, unit, port, inboxes, pace);
                 match scope.spawn(run) {
                     Ok(handle) => handles.push_reserved(handle),
                     Err(_) => {
