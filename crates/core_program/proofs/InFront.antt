@@ -4,7 +4,7 @@ use Rattle.core_program.specs.declared.instruction.Instruction.{Instruction}
 use Rattle.core_program.specs.Grammar.{instruction_text}
 use Rattle.core_program.specs.Lines.{IsOneLine}
 use Rattle.core_program.specs.inner.Reading.{instruction_of}
-use Rattle.core_program.specs.inner.Sections.{InstructionInFront, NoInstructionInFront}
+use Rattle.core_program.specs.Sections.{InstructionInFront, NoInstructionInFront}
 use Rattle.core_program.proofs.Instructions.{instruction_takes, instruction_again, instruction_no_lf}
 use Rattle.core_program.proofs.TextLines.{no_lf_from, no_feed, line_once}
 

@@ -10,7 +10,7 @@ use Rattle.core_program.specs.declared.instruction.Instruction.{Instruction}
 use Rattle.core_program.specs.Answers.{SkipsInSetAt, IsLeast}
 use Rattle.core_program.specs.Grammar.{instruction_text, program_lines, sections, IsSection}
 use Rattle.core_program.specs.Least.{IsLeastWhere}
-use Rattle.core_program.specs.inner.Sections.{section_lists}
+use Rattle.core_program.specs.Sections.{section_lists}
 use Rattle.core_program.specs.Shape.{IsProgram, is_skip_past_end}
 
 -- the lines of the sections before one, and that section with them

@@ -13,3 +13,5 @@ pub mod HeadLines
 pub mod SetTexts
 pub mod Jumps
 pub mod TextLaws
+pub mod SectionsOf
+pub mod ManySections

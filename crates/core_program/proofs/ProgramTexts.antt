@@ -8,7 +8,8 @@ use Rattle.core_program.specs.declared.fault.ProgramFault.TheVariants.{BadLine, 
 use Rattle.core_program.specs.Answers.{ProgramLines, IsBadLine, IsTooLong, IsProgramFault}
 use Rattle.core_program.specs.Grammar.{instruction_text, program_lines, Fits, EachFits, IsSection}
 use Rattle.core_program.specs.Lines.{text_of}
-use Rattle.core_program.specs.inner.Sections.{NoInstructionInFront, IsSectionFault}
+use Rattle.core_program.specs.inner.Sections.{IsSectionFault}
+use Rattle.core_program.specs.Sections.{NoInstructionInFront}
 use Rattle.core_program.proofs.Instructions.{instruction_no_lf}
 use Rattle.core_program.proofs.TextLines.{EachNoLf, text_of-append, text_of-cons}
 use Rattle.core_program.proofs.Wrong.{HasLines, NoneFollows, wrong_behind}

@@ -4,7 +4,7 @@ use Rattle.std.proofs.lemmas.List.{map_push}
 use Rattle.core_program.specs.declared.instruction.Instruction.{Instruction}
 use Rattle.core_program.specs.Grammar.{instruction_text, program_lines, Fits, EachFits, IsSection}
 use Rattle.core_program.specs.Lines.{text_of}
-use Rattle.core_program.specs.inner.Sections.{InstructionInFront, IsTooMany}
+use Rattle.core_program.specs.Sections.{InstructionInFront, IsTooMany}
 use Rattle.core_program.proofs.TextLines.{text_of-append, text_of-cons}
 
 -- the instructions so far, and the bytes after their lines

@@ -29,11 +29,11 @@ header_no_lf format cores =
     (NoLf-append (numeral format) (codes " cores " ++ numeral cores) (numeral_no_lf format)
     (NoLf-append (codes " cores ") (numeral cores) (const_no_lf (codes " cores ") refl) (numeral_no_lf cores)))
 
-EachNoLf-append : (front back : List (List ℕ)) → EachNoLf front → EachNoLf back → EachNoLf (front ++ back)
+pub EachNoLf-append : (front back : List (List ℕ)) → EachNoLf front → EachNoLf back → EachNoLf (front ++ back)
 EachNoLf-append [] back p q = q
 EachNoLf-append (line ∷ front) back p q = (p.0, EachNoLf-append front back p.1 q)
 
-sections_no_lf : (core : ℕ) (programs : List (List Instruction)) → EachNoLf (sections core programs)
+pub sections_no_lf : (core : ℕ) (programs : List (List Instruction)) → EachNoLf (sections core programs)
 sections_no_lf core [] = tt
 sections_no_lf core (program ∷ programs) =
     (core_no_lf core, EachNoLf-append (program_lines program) (sections (suc core) programs) (program_lines_no_lf program) (sections_no_lf (suc core) programs))
@@ -76,7 +76,7 @@ instruction_no_end i e = (instruction_first i).1 (ap first_of e)
 pub core_no_end : (core : ℕ) → core_text core ≡ end_text → ⊥
 core_no_end core e = omega (arith, ap first_of e, core_first core)
 
-numeral_once : (m n : ℕ) → numeral m ≡ numeral n → m ≡ n
+pub numeral_once : (m n : ℕ) → numeral m ≡ numeral n → m ≡ n
 numeral_once m n e = some_is m n (sym (last_again m) ∙ ap last_number e ∙ last_again n)
 
 pub header_once : (m n : ℕ) → header_text 1 m ≡ header_text 1 n → m ≡ n
@@ -89,7 +89,7 @@ header_once m n e =
 
 -- ---- what may come after sections
 
-sections-append : (core : ℕ) (front back : List (List Instruction)) → sections core (front ++ back) ≡ sections core front ++ sections (core + length front) back
+pub sections-append : (core : ℕ) (front back : List (List Instruction)) → sections core (front ++ back) ≡ sections core front ++ sections (core + length front) back
 sections-append core [] back = ap (λ (c : ℕ). sections c back) (omega arith)
 sections-append core (program ∷ front) back =
     ap (λ (ls : List (List ℕ)). core_text core ∷ (program_lines program ++ ls))
@@ -113,141 +113,134 @@ compared (i ∷ p) (j ∷ q) xs ys f g e = elim (compared p q xs ys f.1 g.1 cc) 
   | second_longer k more longer is ↦ second_longer k more (omega arith) is
 ]
 
--- What may come after the sections of these programs in the lines of a set of `count`: one more instruction of the last
--- of them, the line of the next core, or the last line.
-pub data Next (Section : List Instruction → Type 0) (count core : ℕ) (programs : List (List Instruction)) (next : List ℕ) (more : List (List ℕ)) : Type 0 where
+-- What may come after the sections of these programs, where `count` sections come before a last part of a text: one more
+-- instruction of the last of them, the line of the next core, or the first line of the last part and what is behind it.
+pub data Next (Section : List Instruction → Type 0) (Last : List ℕ → List (List ℕ) → Type 0) (count core : ℕ) (programs : List (List Instruction)) (next : List ℕ) (more : List (List ℕ)) : Type 0 where
   goes_on : (i : Instruction) (before : List (List Instruction)) (last longer : List Instruction) → Fits i → next ≡ instruction_text i
-      → programs ≡ before ++ last ∷ [] → Section longer → length last < length longer → Next Section count core programs next more
-  next_core : next ≡ core_text (core + length programs) → length programs < count → Next Section count core programs next more
-  last_line : next ≡ end_text → length programs ≡ count → more ≡ [] → Next Section count core programs next more
+      → programs ≡ before ++ last ∷ [] → Section longer → length last < length longer → Next Section Last count core programs next more
+  next_core : next ≡ core_text (core + length programs) → length programs < count → Next Section Last count core programs next more
+  last_line : Last next more → length programs ≡ count → Next Section Last count core programs next more
 
 -- after one more program
-next_behind : (Section : List Instruction → Type 0) (count core : ℕ) (program : List Instruction) (programs : List (List Instruction)) (next : List ℕ) (more : List (List ℕ))
-    → Next Section count (suc core) programs next more → Next Section (suc count) core (program ∷ programs) next more
-next_behind Section count core program programs next more (goes_on i before last longer fits is at section less) =
+next_behind : (Section : List Instruction → Type 0) (Last : List ℕ → List (List ℕ) → Type 0) (count core : ℕ) (program : List Instruction) (programs : List (List Instruction)) (next : List ℕ) (more : List (List ℕ))
+    → Next Section Last count (suc core) programs next more → Next Section Last (suc count) core (program ∷ programs) next more
+next_behind Section Last count core program programs next more (goes_on i before last longer fits is at section less) =
     goes_on i (program ∷ before) last longer fits is (ap (λ (ps : List (List Instruction)). program ∷ ps) at) section less
-next_behind Section count core program programs next more (next_core is less) =
+next_behind Section Last count core program programs next more (next_core is less) =
     next_core (is ∙ ap core_text (omega arith)) (omega arith)
-next_behind Section count core program programs next more (last_line is count-is none) = last_line is (omega arith) none
+next_behind Section Last count core program programs next more (last_line is count-is) = last_line is (omega arith)
 
-pub next_of : (Section : List Instruction → Type 0) → ((p : List Instruction) → Section p → EachFits p) → (core : ℕ)
-    (set programs : List (List Instruction)) (next : List ℕ) (more : List (List ℕ)) → AllByRecursion Section set
-    → AllByRecursion EachFits programs → sections core set ++ end_text ∷ [] ≡ sections core programs ++ next ∷ more
-    → Next Section (length set) core programs next more
-next_of Section fits core [] [] next more all each e = last_line (cc) refl (cc)
-next_of Section fits core (p ∷ set) [] next more all each e =
-    let is : core_text core ≡ next = cc in
-    next_core (sym is ∙ ap core_text (omega arith)) (omega arith)
-next_of Section fits core [] (q ∷ programs) next more all each e = absurd (core_no_end core cc)
-next_of Section fits core (p ∷ set) (q ∷ programs) next more all each e =
-    by_compared (compared p q (sections (suc core) set ++ end_text ∷ []) (sections (suc core) programs ++ next ∷ more) (fits p all.0) each.0 tails)
-    (λ rest-is. next_behind Section (length set) core q programs next more (next_of Section fits (suc core) set programs next more all.1 each.1 rest-is))
+-- a line that is neither an instruction's nor a core's
+pub record IsOther (line : List ℕ) : Type 0 where
+  pub no_instruction : (i : Instruction) → instruction_text i ≡ line → ⊥
+  pub no_core : (core : ℕ) → core_text core ≡ line → ⊥
+
+pub end_is_other : IsOther end_text
+end_is_other = record { no_instruction = instruction_no_end; no_core = core_no_end }
+
+pub next_of : (Section : List Instruction → Type 0) → ((p : List Instruction) → Section p → EachFits p) → (Last : List ℕ → List (List ℕ) → Type 0)
+    → (line : List ℕ) (others : List (List ℕ)) → IsOther line → Last line others → (core : ℕ)
+    → (set programs : List (List Instruction)) (next : List ℕ) (more : List (List ℕ)) → AllByRecursion Section set
+    → AllByRecursion EachFits programs → sections core set ++ line ∷ others ≡ sections core programs ++ next ∷ more
+    → Next Section Last (length set) core programs next more
+next_of Section fits Last line others other is core [] [] next more all each e =
+    let line-is : line ≡ next = cc in
+    let others-is : others ≡ more = cc in
+    last_line (subst (λ (l : List ℕ). Last l more) line-is (subst (λ (ls : List (List ℕ)). Last line ls) others-is is)) refl
+next_of Section fits Last line others other is core (p ∷ set) [] next more all each e =
+    let here : core_text core ≡ next = cc in
+    next_core (sym here ∙ ap core_text (omega arith)) (omega arith)
+next_of Section fits Last line others other is core [] (q ∷ programs) next more all each e = absurd (other.no_core core cc)
+next_of Section fits Last line others other is core (p ∷ set) (q ∷ programs) next more all each e =
+    by_compared (compared p q (sections (suc core) set ++ line ∷ others) (sections (suc core) programs ++ next ∷ more) (fits p all.0) each.0 tails)
+    (λ rest-is. next_behind Section Last (length set) core q programs next more (next_of Section fits Last line others other is (suc core) set programs next more all.1 each.1 rest-is))
   where
-    tails : program_lines p ++ (sections (suc core) set ++ end_text ∷ []) ≡ program_lines q ++ (sections (suc core) programs ++ next ∷ more)
+    tails : program_lines p ++ (sections (suc core) set ++ line ∷ others) ≡ program_lines q ++ (sections (suc core) programs ++ next ∷ more)
     tails =
-        sym (append_assoc (program_lines p) (sections (suc core) set) (end_text ∷ []))
-        ∙ append_cancel_left (core_text core ∷ []) ((program_lines p ++ sections (suc core) set) ++ end_text ∷ []) ((program_lines q ++ sections (suc core) programs) ++ next ∷ more) e
+        sym (append_assoc (program_lines p) (sections (suc core) set) (line ∷ others))
+        ∙ append_cancel_left (core_text core ∷ []) ((program_lines p ++ sections (suc core) set) ++ line ∷ others) ((program_lines q ++ sections (suc core) programs) ++ next ∷ more) e
         ∙ append_assoc (program_lines q) (sections (suc core) programs) (next ∷ more)
 
     -- the first line after the section of q
     first_behind : (rest : List (List Instruction)) (i : Instruction) (lines : List (List ℕ)) → programs ≡ rest → Fits i → length q < length p
-        → sections (suc core) rest ++ next ∷ more ≡ instruction_text i ∷ lines → Next Section (suc (length set)) core (q ∷ programs) next more
-    first_behind [] i lines none fit less is = goes_on i [] q p fit (cc) (ap (λ (ps : List (List Instruction)). q ∷ ps) none) all.0 less
-    first_behind (r ∷ rest) i lines at fit less is = absurd (instruction_no_core i (suc core) cc)
+        → sections (suc core) rest ++ next ∷ more ≡ instruction_text i ∷ lines → Next Section Last (suc (length set)) core (q ∷ programs) next more
+    first_behind [] i lines none fit less is-i = goes_on i [] q p fit (cc) (ap (λ (ps : List (List Instruction)). q ∷ ps) none) all.0 less
+    first_behind (r ∷ rest) i lines at fit less is-i = absurd (instruction_no_core i (suc core) cc)
 
     -- the first line after the section of p
-    no_instruction : (rest : List (List Instruction)) (i : Instruction) (lines : List (List ℕ)) → sections (suc core) rest ++ end_text ∷ [] ≡ instruction_text i ∷ lines → ⊥
-    no_instruction [] i lines is = instruction_no_end i cc
-    no_instruction (r ∷ rest) i lines is = instruction_no_core i (suc core) cc
+    no_instruction : (rest : List (List Instruction)) (i : Instruction) (lines : List (List ℕ)) → sections (suc core) rest ++ line ∷ others ≡ instruction_text i ∷ lines → ⊥
+    no_instruction [] i lines is-i = other.no_instruction i cc
+    no_instruction (r ∷ rest) i lines is-i = instruction_no_core i (suc core) cc
 
-    by_compared : Compared p q (sections (suc core) set ++ end_text ∷ []) (sections (suc core) programs ++ next ∷ more)
-        → (sections (suc core) set ++ end_text ∷ [] ≡ sections (suc core) programs ++ next ∷ more → Next Section (suc (length set)) core (q ∷ programs) next more)
-        → Next Section (suc (length set)) core (q ∷ programs) next more
+    by_compared : Compared p q (sections (suc core) set ++ line ∷ others) (sections (suc core) programs ++ next ∷ more)
+        → (sections (suc core) set ++ line ∷ others ≡ sections (suc core) programs ++ next ∷ more → Next Section Last (suc (length set)) core (q ∷ programs) next more)
+        → Next Section Last (suc (length set)) core (q ∷ programs) next more
     by_compared (equal p-is rest-is) again = again rest-is
-    by_compared (first_longer i lines fit less is) again = first_behind programs i lines refl fit less is
-    by_compared (second_longer i lines less is) again = absurd (no_instruction set i lines is)
+    by_compared (first_longer i lines fit less is-i) again = first_behind programs i lines refl fit less is-i
+    by_compared (second_longer i lines less is-i) again = absurd (no_instruction set i lines is-i)
 
 -- ---- sets that go on
 
-abbrev empties : ℕ → List (List Instruction)
+abbrev pub empties : ℕ → List (List Instruction)
 empties n = replicate n []
 
-each_empty : (Section : List Instruction → Type 0) → Section [] → (n : ℕ) → AllByRecursion Section (empties n)
+pub each_empty : (Section : List Instruction → Type 0) → Section [] → (n : ℕ) → AllByRecursion Section (empties n)
 each_empty Section none zero = tt
 each_empty Section none (suc n) = (none, each_empty Section none n)
 
-each-append : (Section : List Instruction → Type 0) (front back : List (List Instruction)) → AllByRecursion Section front → AllByRecursion Section back → AllByRecursion Section (front ++ back)
+pub each-append : (Section : List Instruction → Type 0) (front back : List (List Instruction)) → AllByRecursion Section front → AllByRecursion Section back → AllByRecursion Section (front ++ back)
 each-append Section [] back p q = q
 each-append Section (program ∷ front) back p q = (p.0, each-append Section front back p.1 q)
 
--- lines that begin a set: its header, and the sections of some programs
-abbrev pub begun : ℕ → List (List Instruction) → List (List ℕ)
-begun cores programs = header_text 1 cores ∷ sections 0 programs
+-- the header and the sections of some programs
+abbrev pub begun : List ℕ → List (List Instruction) → List (List ℕ)
+begun header programs = header ∷ sections 0 programs
 
-pub begun_goes_on : (Section : List Instruction → Type 0) → Section [] → (cores : ℕ) (programs : List (List Instruction)) → 1 ≤ cores → cores ≤ 64
-    → length programs ≤ cores → AllByRecursion Section programs → CanGoOn (SetLines Section) (begun cores programs)
-begun_goes_on Section none cores programs some few fits each =
-    let empty = empties (cores - length programs) in
-    let set = programs ++ empty in
-    let count : length set ≡ cores = omega (arith, length-append programs empty, length-replicate {A = List Instruction} (cores - length programs) []) in
-    let more = sections (0 + length programs) empty ++ end_text ∷ [] in (
-      more,
-      (
-        set,
-        (
-          record {
-            some = omega (arith, count);
-            few = omega (arith, count);
-            each = each-append Section programs empty each (each_empty Section none (cores - length programs));
-          },
-          ap (λ (ls : List (List ℕ)). header_text 1 cores ∷ ls)
-              (sym (append_assoc (sections 0 programs) (sections (0 + length programs) empty) (end_text ∷ []))
-              ∙ ap (λ (ls : List (List ℕ)). ls ++ end_text ∷ []) (sym (sections-append 0 programs empty)))
-              ∙ ap (λ (n : ℕ). header_text 1 n ∷ (sections 0 set ++ end_text ∷ [])) (sym count),
-        ),
-      ),
+-- sections of no instruction may come after some, up to a number of cores
+pub filled_up : (Section : List Instruction → Type 0) → Section [] → (cores : ℕ) (programs : List (List Instruction)) → length programs ≤ cores
+    → AllByRecursion Section programs
+    → (more : List (List Instruction)) × (length (programs ++ more) ≡ cores) × AllByRecursion Section (programs ++ more)
+filled_up Section none cores programs within each =
+    let empty = empties (cores - length programs) in (
+      empty,
+      omega (arith, within, length-append programs empty, length-replicate {A = List Instruction} (cores - length programs) []),
+      each-append Section programs empty each (each_empty Section none (cores - length programs)),
     )
 
--- none of these lines is the last of a set
-abbrev NoEnd : List (List ℕ) → Type 0
-NoEnd lines = AllByRecursion (λ l. l ≡ end_text → ⊥) lines
+-- none of these lines is this one
+abbrev NoneIs : List ℕ → List (List ℕ) → Type 0
+NoneIs line lines = AllByRecursion (λ l. l ≡ line → ⊥) lines
 
-program_no_end : (program : List Instruction) (lines : List (List ℕ)) → NoEnd lines → NoEnd (program_lines program ++ lines)
-program_no_end [] lines none = none
-program_no_end (i ∷ program) lines none = (instruction_no_end i, program_no_end program lines none)
+program_has_none : (line : List ℕ) → IsOther line → (program : List Instruction) (lines : List (List ℕ)) → NoneIs line lines → NoneIs line (program_lines program ++ lines)
+program_has_none line other [] lines none = none
+program_has_none line other (i ∷ program) lines none = (other.no_instruction i, program_has_none line other program lines none)
 
-sections_no_end : (core : ℕ) (programs : List (List Instruction)) → NoEnd (sections core programs)
-sections_no_end core [] = tt
-sections_no_end core (program ∷ programs) =
-    (core_no_end core, program_no_end program (sections (suc core) programs) (sections_no_end (suc core) programs))
+sections_have_none : (line : List ℕ) → IsOther line → (core : ℕ) (programs : List (List Instruction)) → NoneIs line (sections core programs)
+sections_have_none line other core [] = tt
+sections_have_none line other core (program ∷ programs) =
+    (other.no_core core, program_has_none line other program (sections (suc core) programs) (sections_have_none line other (suc core) programs))
 
-end_is_last : (lines : List (List ℕ)) → NoEnd (lines ++ end_text ∷ []) → ⊥
-end_is_last [] none = none.0 refl
-end_is_last (l ∷ lines) none = end_is_last lines none.1
+is_among : (line : List ℕ) (front more : List (List ℕ)) → NoneIs line (front ++ line ∷ more) → ⊥
+is_among line [] more none = none.0 refl
+is_among line (l ∷ front) more none = is_among line front more none.1
+
+-- no line of sections is another than an instruction's and a core's
+pub sections_no_other : (line : List ℕ) → IsOther line → (programs : List (List Instruction)) (front more : List (List ℕ)) → sections 0 programs ≡ front ++ line ∷ more → ⊥
+sections_no_other line other programs front more e = is_among line front more (subst (NoneIs line) e (sections_have_none line other 0 programs))
 
 -- the lines after the header
 pub behind_header : (cores : ℕ) (set : List (List Instruction)) (lines : List (List ℕ)) → header_text 1 cores ∷ lines ≡ set_lines set
     → (cores ≡ length set) × (lines ≡ sections 0 set ++ end_text ∷ [])
 behind_header cores set lines e = (header_once cores (length set) cc, cc)
 
--- lines that begin a set aren't the lines of a whole one
-pub begun_no_set : (Section : List Instruction → Type 0) (cores : ℕ) (programs : List (List Instruction)) → SetLines Section (begun cores programs) → ⊥
-begun_no_set Section cores programs (set, p) =
-    end_is_last (sections 0 set) (subst NoEnd (behind_header cores set (sections 0 programs) p.1).1 (sections_no_end 0 programs))
-
--- what may come after lines that begin a set
-pub next_of_begun : (Section : List Instruction → Type 0) → ((p : List Instruction) → Section p → EachFits p) → (cores : ℕ)
-    (programs : List (List Instruction)) (next : List ℕ) (more : List (List ℕ)) → AllByRecursion EachFits programs
-    → SetLines Section (begun cores programs ++ next ∷ more) → Next Section cores 0 programs next more
-next_of_begun Section fits cores programs next more each (set, p) =
-    let b = behind_header cores set (sections 0 programs ++ next ∷ more) p.1 in
-    subst (λ (n : ℕ). Next Section n 0 programs next more) (sym b.0) (next_of Section fits 0 set programs next more p.0.each each (sym b.1))
-
 -- the lines of one more section
-pub begun_push : (cores : ℕ) (programs : List (List Instruction)) (program : List Instruction)
-    → begun cores (programs ++ program ∷ []) ≡ begun cores programs ++ core_text (length programs) ∷ program_lines program
-begun_push cores programs program =
-    ap (λ (ls : List (List ℕ)). header_text 1 cores ∷ ls)
-    (sections-append 0 programs (program ∷ [])
+pub sections_push : (programs : List (List Instruction)) (program : List Instruction)
+    → sections 0 (programs ++ program ∷ []) ≡ sections 0 programs ++ core_text (length programs) ∷ program_lines program
+sections_push programs program =
+    sections-append 0 programs (program ∷ [])
     ∙ ap (λ (n : ℕ). sections 0 programs ++ sections n (program ∷ [])) (zero-add (length programs))
-    ∙ ap (λ (ls : List (List ℕ)). sections 0 programs ++ core_text (length programs) ∷ ls) (append-nil (program_lines program)))
+    ∙ ap (λ (ls : List (List ℕ)). sections 0 programs ++ core_text (length programs) ∷ ls) (append-nil (program_lines program))
+
+pub begun_push : (header : List ℕ) (programs : List (List Instruction)) (program : List Instruction)
+    → begun header (programs ++ program ∷ []) ≡ begun header programs ++ core_text (length programs) ∷ program_lines program
+begun_push header programs program = ap (λ (ls : List (List ℕ)). header ∷ ls) (sections_push programs program)

@@ -48,6 +48,13 @@ pub record SkipsInSetAt (set : List (List Instruction)) (k : ℕ) : Type 0 where
 abbrev pub IsLeast : (ℕ → Type 0) → ℕ → Type 0
 IsLeast Holds k = Holds k × ((j : ℕ) → Holds j → k ≤ j)
 
+-- why the sections of a set aren't all programs: the first jump past the end of its program
+abbrev pub IsJumpFault : List (List Instruction) → ProgramFault → Type 0
+IsJumpFault set (SkipPastEnd k) = IsLeast (SkipsInSetAt set) k
+IsJumpFault set OutOfMemory = Unit {0}
+IsJumpFault set (BadLine k) = ⊥
+IsJumpFault set (TooLong k) = ⊥
+
 -- ---- answers
 
 -- the bytes are the text of this program

@@ -7,6 +7,7 @@ pub mod Least
 pub mod Lines
 pub mod Meaning
 pub mod Running
+pub mod Sections
 pub mod SetParts
 pub mod Shape
 pub mod State

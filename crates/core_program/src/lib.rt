@@ -11,6 +11,7 @@ mod program_set;
 mod program_text;
 mod register;
 mod section;
+mod sections;
 mod set_text;
 mod skip;
 mod state;
@@ -24,6 +25,8 @@ pub use laws::{
 pub use program::Program;
 pub use program_set::ProgramSet;
 pub use register::Register;
+pub use section::next_line;
+pub use sections::{Sections, read_sections};
 pub use skip::Skip;
 pub use state::ProgramState;
 pub use text_laws::{one_fault, printed_is_read, spelled_set_is_read};

@@ -2,7 +2,8 @@
 
 ghost use Rattle.std.specs.Prelude.{◌≡◌, ◌<◌, ◌^◌, ◌∷◌, ◌++◌, IfSome, IsNone, IfOk, IfErr};
 ghost use Rattle.core_program.specs.Lines.{IsOneLine};
-ghost use Rattle.core_program.specs.inner.Sections.{InstructionInFront, NoInstructionInFront, IsSectionOf, IsSectionFault};
+ghost use Rattle.core_program.specs.inner.Sections.{IsSectionOf, IsSectionFault};
+ghost use Rattle.core_program.specs.Sections.{InstructionInFront, NoInstructionInFront};
 
 use super::fault::ProgramFault;
 use super::format::Format;
@@ -24,7 +25,7 @@ pub(crate) struct Section {
 }
 
 /// The first line, without its line feed, and the bytes after it; None where no line feed is there.
-pub(crate) fn next_line(text: &[u8]) -> Option<(&[u8], &[u8])>
+pub fn next_line(text: &[u8]) -> Option<(&[u8], &[u8])>
     ensures found { IfSome result (λ split.
         IsOneLine split.0.now × (text.now ≡ split.0.now ++ 10 ∷ split.1.now)) }
     ensures none { IsNone result → IsOneLine text.now }

@@ -1,11 +1,13 @@
 //! The text of a set of programs, read.
 
-ghost use Rattle.std.specs.Prelude.{◌≡◌, ◌≢◌, ℕ, List, ◌∷◌, ◌++◌, codes, IfSome, IsNone, MatchResult};
+ghost use Rattle.std.specs.Prelude.{◌≡◌, ℕ, List, codes, IfSome, IsNone, MatchResult};
 ghost use Rattle.std.specs.List.{AllByRecursion};
 ghost use Rattle.core_program.specs.Answers.{IsSetFault, SpellsSet};
-ghost use Rattle.core_program.specs.Grammar.{core_text, IsSection, IsSetOf};
-ghost use Rattle.core_program.specs.inner.Reading.{core_of, cores_of};
-ghost use Rattle.core_program.specs.inner.Sections.{HeaderInFront, IsJumpFault, IsLineFault, section_lists};
+ghost use Rattle.core_program.specs.Grammar.{IsSection, IsSetOf};
+ghost use Rattle.core_program.specs.inner.Reading.{cores_of};
+ghost use Rattle.core_program.specs.inner.Sections.{HeaderInFront, IsLineFault};
+ghost use Rattle.core_program.specs.Sections.{section_lists};
+ghost use Rattle.core_program.specs.Answers.{IsJumpFault};
 ghost use Rattle.core_program.specs.Shape.{IsProgram};
 
 use super::fault::ProgramFault;
@@ -13,7 +15,8 @@ use super::format::Format;
 use super::instruction::Instruction;
 use super::program::{Program, skip_past_end};
 use super::program_set::ProgramSet;
-use super::section::{next_line, read_section};
+use super::section::next_line;
+use super::sections::read_sections;
 use decimal_text::{after_text, read_last};
 use std::alloc::Global;
 
@@ -41,14 +44,6 @@ fn cores_of(format: Format, line: &[u8]) -> Option<u64>
     Some(cores)
 }
 
-/// The core whose section a line begins.
-#[tactic(auto, unfolding(crate::specs::inner::Reading::core_of))]
-fn core_of(line: &[u8]) -> Option<u64>
-    ensures { result ≡ core_of line.now }
-{
-    read_last(after_text(b"core ", line)?)?
-}
-
 /// The number of cores that the first line tells, and the bytes after that line; None where it isn't
 /// a header with such a number.
 fn after_header(format: Format, text: &[u8]) -> Option<(u64, &[u8])>
@@ -60,21 +55,8 @@ fn after_header(format: Format, text: &[u8]) -> Option<(u64, &[u8])>
     Some((cores_of(format, line)?, rest))
 }
 
-/// The bytes after the line with which a core's section begins; None where that isn't the first.
-fn after_core_line(core: u64, text: &[u8]) -> Option<&[u8]>
-    ensures found { IfSome result (λ rest. text.now ≡ core_text core ++ 10 ∷ rest.now) }
-    ensures none { IsNone result → (rest : List ℕ) → text.now ≢ core_text core ++ 10 ∷ rest }
-{
-    let (line, rest) = next_line(text)?;
-    if core_of(line) == Some(core) {
-        Some(rest)
-    } else {
-        None
-    }
-}
-
 /// The sections of a set's text. A fault is that of the first line that isn't as it should be.
-fn read_sections(
+fn read_set(
     alloc: Global,
     format: Format,
     text: &[u8],
@@ -83,24 +65,17 @@ fn read_sections(
         (λ sections. SpellsSet text.now (section_lists sections.items))
         (λ fault. IsLineFault text.now fault) }
 {
-    let Some((cores, mut rest)) = after_header(format, text) else {
+    let Some((cores, body)) = after_header(format, text) else {
         return Err(ProgramFault::BadLine(1));
     };
-    let mut sections = Vec::new(alloc);
-    let mut line = 2;
-    for core in 0..cores {
-        let Some(behind) = after_core_line(core, rest) else {
-            return Err(ProgramFault::BadLine(line));
-        };
-        let section = read_section(alloc, format, behind, line + 1)?;
-        rest = &behind[section.taken..];
-        line += 1 + section.instructions.len() as u64;
-        sections.push(section.instructions)?;
+    let sections = read_sections(alloc, cores, body)?;
+    if (sections.programs.len() as u64) < cores {
+        return Err(ProgramFault::BadLine(sections.line));
     }
-    match after_text(b"end\n", rest) {
-        None => Err(ProgramFault::BadLine(line)),
-        Some([]) => Ok(sections),
-        Some(_) => Err(ProgramFault::BadLine(line + 1)),
+    match after_text(b"end\n", &body[sections.taken..]) {
+        None => Err(ProgramFault::BadLine(sections.line)),
+        Some([]) => Ok(sections.programs),
+        Some(_) => Err(ProgramFault::BadLine(sections.line + 1)),
     }
 }
 
@@ -135,7 +110,21 @@ impl ProgramSet {
             (λ set. SpellsSet text.now set.programs × AllByRecursion IsProgram set.programs)
             (λ fault. IsSetFault text.now fault) }
     {
-        let sections = read_sections(alloc, Format::First, text)?;
+        let sections = read_set(alloc, Format::First, text)?;
+        ProgramSet::of_sections(alloc, sections)
+    }
+
+    /// The set of these sections, of 1..64 cores, each of at most 4,096 instructions in range.
+    /// SkipPastEnd at the first jump past the end of its program, where core 0's line is line 2.
+    pub fn of_sections(
+        alloc: Global,
+        sections: Vec<Vec<Instruction>>,
+    ) -> Result<ProgramSet, ProgramFault>
+        requires { IsSetOf IsSection (section_lists sections.items) }
+        ensures { MatchResult result
+            (λ set. (set.programs ≡ section_lists sections.items) × AllByRecursion IsProgram set.programs)
+            (λ fault. IsJumpFault (section_lists sections.items) fault) }
+    {
         let programs = programs_of(alloc, sections)?;
         match ProgramSet::new(programs) {
             Some(set) => Ok(set),

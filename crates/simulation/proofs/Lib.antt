@@ -2,3 +2,4 @@ mod Drawn
 mod Draws
 mod Left
 mod Progress
+mod SimulatedRuns

@@ -1,5 +1,6 @@
 pub mod Commands
 pub mod Drawing
+pub mod Events
 pub mod Faults
 pub mod Finishing
 pub mod Simulating

@@ -1,7 +1,9 @@
 //! A whole simulation.
 
-ghost use Rattle.std.specs.Prelude.{MatchResult};
+ghost use Rattle.std.specs.Prelude.{MatchResult, OnOk};
+ghost use Rattle.simulation.specs.Events.{IsSimulatedByRun};
 ghost use Rattle.simulation.specs.Simulating.{IsEnded, IsSimulated, IsSimulationFault, IsUnended};
+ghost use Rattle.tardis_core.specs.Rounds.{IsRunTo};
 
 use super::commands::follow;
 use super::drawing::draw_out;
@@ -20,9 +22,13 @@ pub fn simulate(
     commands: &[Command],
     seed: Option<u64>,
 ) -> Result<(), SimulationFault>
-    ensures { MatchResult result
+    ensures simulated { MatchResult result
         (λ _. IsSimulated commands.now seed machine.old machine.new)
         (λ fault. IsSimulationFault commands.now seed machine.old machine.new fault) }
+    // What was done is one run of the core machine: by just the events of the commands and the rounds.
+    ensures events { OnOk result (IsSimulatedByRun commands.now seed machine.old machine.new) }
+    // What was done before a refusal is one too.
+    ensures run { IsRunTo machine.old machine.new }
 {
     follow(machine, commands)?;
     end_all(alloc, machine, seed)

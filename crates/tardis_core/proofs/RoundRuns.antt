@@ -30,33 +30,34 @@ run-append g w es m x fs t (next gs e o between s y leads) =
     subst (λ (all : List Event). Run g w all s) (append_assoc es gs (e ∷ []))
     (next (es ++ gs) e o between s (run-append g w es m x gs between y) leads)
 
-no_run : (p : CoreParts) → IsRun p [] p
+pub no_run : (p : CoreParts) → IsRun p [] p
 no_run p = record { reached = refl; run = start; config = refl }
 
-run_more : (p q t : CoreParts) (es : List Event) (e : Event) (o : _) → IsRun p es q → Makes q e o t → IsRun p (es ++ e ∷ []) t
+pub run_more : (p q t : CoreParts) (es : List Event) (e : Event) (o : _) → IsRun p es q → Makes q e o t → IsRun p (es ++ e ∷ []) t
 run_more p q t es e o x made = record {
   reached = run_from-push p es e ∙ ap (option_and_then (λ y. behind (step_outcome y e))) x.reached ∙ behind_met (step_outcome q e) o q t made.met;
   run = next es e o (world q) (world t) x.run (subst (λ (g : ConfigParts). Leads g (world q) e o (world t)) x.config made.leads);
   config = made.config ∙ x.config;
 }
 
-pub then_run : (p q t : CoreParts) → IsRunTo p q → IsRunTo q t → IsRunTo p t
-then_run p q t x y = record {
-  events = x.events ++ y.events;
-  run = record {
-    reached = run_from-append p x.events y.events ∙ ap (option_and_then (λ z. run_from z y.events)) x.run.reached ∙ y.run.reached;
-    run = run-append p.config (world p) x.events (world q) x.run.run y.events (world t)
-        (subst (λ (g : ConfigParts). Run g (world q) y.events (world t)) x.run.config y.run.run);
-    config = y.run.config ∙ x.run.config;
-  };
+-- one run after another
+pub run_then : (p q t : CoreParts) (es fs : List Event) → IsRun p es q → IsRun q fs t → IsRun p (es ++ fs) t
+run_then p q t es fs x y = record {
+  reached = run_from-append p es fs ∙ ap (option_and_then (λ z. run_from z fs)) x.reached ∙ y.reached;
+  run = run-append p.config (world p) es (world q) x.run fs (world t)
+      (subst (λ (g : ConfigParts). Run g (world q) fs (world t)) x.config y.run);
+  config = y.config ∙ x.config;
 }
+
+pub then_run : (p q t : CoreParts) → IsRunTo p q → IsRunTo q t → IsRunTo p t
+then_run p q t x y = record { events = x.events ++ y.events; run = run_then p q t x.events y.events x.run y.run }
 
 pub stays : (p : CoreParts) → IsRunTo p p
 stays p = record { events = []; run = no_run p }
 
 -- ---- rounds
 
-part_runs : (c : ℕ) (from : Stage) (p : CoreParts) (es : List Event) (q : CoreParts) (to : Stage) → Part c from p es q to → IsRun p es q
+pub part_runs : (c : ℕ) (from : Stage) (p : CoreParts) (es : List Event) (q : CoreParts) (to : Stage) → Part c from p es q to → IsRun p es q
 part_runs c from p es q to begins = no_run p
 part_runs c from p es q to (makes fs r stage e o t x is made) = run_more p r t fs e o (part_runs c from p fs r stage x) made
 part_runs c from p es q to (passes fs r stage x nothing) = part_runs c from p fs r stage x

@@ -1,21 +1,13 @@
 -- What a reader of sections has found. Clauses of private functions cite these.
-use Rattle.std.specs.Prelude.{◌≡◌, ℕ, ◌+◌, ◌≤◌, List, ◌∷◌, ◌++◌, length, map, take, drop}
-use Rattle.std.specs.Global.{Vec}
+use Rattle.std.specs.Prelude.{◌≡◌, ℕ, ◌+◌, ◌≤◌, List, ◌∷◌, ◌++◌, length, take, drop}
 use Rattle.core_program.specs.declared.instruction.Instruction.{Instruction}
 use Rattle.core_program.specs.declared.fault.ProgramFault.{ProgramFault}
 use Rattle.core_program.specs.declared.fault.ProgramFault.TheVariants.{BadLine, TooLong, SkipPastEnd, OutOfMemory}
 use Rattle.core_program.specs.declared.section.Section.{Section}
-use Rattle.core_program.specs.Answers.{IsBadLine, IsTooLong, IsLeast, SetLines, SkipsInSetAt}
-use Rattle.core_program.specs.Grammar.{header_text, instruction_text, program_lines, Fits, EachFits, IsSection}
+use Rattle.core_program.specs.Answers.{IsBadLine, IsTooLong, SetLines}
+use Rattle.core_program.specs.Grammar.{header_text, program_lines, IsSection}
 use Rattle.core_program.specs.Lines.{text_of}
-
--- the bytes begin with an instruction's line, and these come after it
-abbrev pub InstructionInFront : Instruction → List ℕ → List ℕ → Type 0
-InstructionInFront instruction bytes rest = Fits instruction × (bytes ≡ instruction_text instruction ++ 10 ∷ rest)
-
--- the bytes don't begin with an instruction's line
-abbrev pub NoInstructionInFront : List ℕ → Type 0
-NoInstructionInFront bytes = (instruction : Instruction) (rest : List ℕ) → InstructionInFront instruction bytes rest → ⊥
+use Rattle.core_program.specs.Sections.{IsTooMany, NoInstructionInFront}
 
 -- the instructions' lines that the bytes begin with, as many as there are
 pub record IsSectionOf (bytes : List ℕ) (section : Section) : Type 0 where
@@ -23,14 +15,6 @@ pub record IsSectionOf (bytes : List ℕ) (section : Section) : Type 0 where
   pub within : section.taken ≤ length bytes
   pub text : take section.taken bytes ≡ text_of (program_lines section.instructions.items)
   pub all : NoInstructionInFront (drop section.taken bytes)
-
--- the bytes begin with one instruction's line more than a section may have
-pub record IsTooMany (bytes : List ℕ) : Type 0 where
-  pub program : List Instruction
-  pub each_fits : EachFits program
-  pub long : length program ≡ 4097
-  pub rest : List ℕ
-  pub text : bytes ≡ text_of (program_lines program) ++ rest
 
 -- why no section was read; the first line of the bytes is line `first`
 abbrev pub IsSectionFault : ℕ → List ℕ → ProgramFault → Type 0
@@ -43,20 +27,9 @@ IsSectionFault first bytes (SkipPastEnd k) = ⊥
 abbrev pub HeaderInFront : ℕ → List ℕ → List ℕ → Type 0
 HeaderInFront cores bytes rest = (1 ≤ cores) × (cores ≤ 64) × (bytes ≡ header_text 1 cores ++ 10 ∷ rest)
 
--- the sections that vectors hold
-abbrev pub section_lists : List (Vec Instruction) → List (List Instruction)
-section_lists sections = map (λ section. section.items) sections
-
 -- the first line of the bytes that isn't as that of a set, or is missing or too much
 abbrev pub IsLineFault : List ℕ → ProgramFault → Type 0
 IsLineFault bytes (BadLine k) = IsBadLine SetLines bytes k
 IsLineFault bytes (TooLong k) = IsTooLong SetLines bytes k
 IsLineFault bytes OutOfMemory = Unit {0}
 IsLineFault bytes (SkipPastEnd k) = ⊥
-
--- the first jump of a set past the end of its program
-abbrev pub IsJumpFault : List (List Instruction) → ProgramFault → Type 0
-IsJumpFault set (SkipPastEnd k) = IsLeast (SkipsInSetAt set) k
-IsJumpFault set OutOfMemory = Unit {0}
-IsJumpFault set (BadLine k) = ⊥
-IsJumpFault set (TooLong k) = ⊥

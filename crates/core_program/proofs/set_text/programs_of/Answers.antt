@@ -3,7 +3,7 @@ use Rattle.std.proofs.Common.{◌+◌, ◌++◌, ◌∷◌, [], ap, ◌∙◌, a
 use Rattle.std.proofs.lemmas.Iterator.Adapters.{YieldsList-from_vec}
 use Rattle.std.proofs.lemmas.Iterator.Consumers.{YieldsList-turn}
 use Rattle.std.proofs.lemmas.List.{length_push}
-use Rattle.core_program.specs.inner.Sections.{section_lists}
+use Rattle.core_program.specs.Sections.{section_lists}
 use Rattle.core_program.specs.Shape.{IsProgram}
 use Rattle.core_program.proofs.Jumps.{first_jump, next_section, one_more_program}
 use Rattle.core_program.proofs.set_text.programs_of.Goals as goal

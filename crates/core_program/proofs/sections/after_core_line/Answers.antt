@@ -1,6 +1,6 @@
 use Rattle.std.proofs.Common.{refl, sym, ◌∙◌}
 use Rattle.core_program.proofs.HeadLines.{no_core_without_feed, no_core_of_other, core_in_front, number_found, number_not_found}
-use Rattle.core_program.proofs.set_text.after_core_line.Goals as goal
+use Rattle.core_program.proofs.sections.after_core_line.Goals as goal
 
 pub returns-in_err-line-clause-none : goal.returns-in_err-line-clause-none
 returns-in_err-line-clause-none c = λ _. no_core_without_feed c.args.text.now c.args.core (c.in_err-line.ensures.none refl)

@@ -1,0 +1,76 @@
+//! Reads the sections of a text.
+
+ghost use Rattle.std.specs.Prelude.{◌≡◌, ◌≢◌, ◌≤◌, ◌+◌, ◌^◌, ◌<◌, ℕ, List, ◌∷◌, ◌++◌, length, IfErr, IfOk, IfSome, IsNone};
+ghost use Rattle.core_program.specs.Grammar.{core_text};
+ghost use Rattle.core_program.specs.Sections.{AreSectionsOf, IsSectionsFault};
+ghost use Rattle.core_program.specs.inner.Reading.{core_of};
+
+use super::fault::ProgramFault;
+use super::format::Format;
+use super::instruction::Instruction;
+use super::section::{next_line, read_section};
+use decimal_text::{after_text, read_last};
+use std::alloc::Global;
+
+/// The sections at the front of a text.
+#[derive(Drop)]
+pub struct Sections {
+    /// The instructions of core 0, of core 1, and so on.
+    pub programs: Vec<Vec<Instruction>>,
+    /// How many bytes their lines have.
+    pub taken: usize,
+    /// The number of the line after them.
+    pub line: u64,
+}
+
+/// The core whose section a line begins.
+#[tactic(auto, unfolding(crate::specs::inner::Reading::core_of))]
+fn core_of(line: &[u8]) -> Option<u64>
+    ensures { result ≡ core_of line.now }
+{
+    read_last(after_text(b"core ", line)?)?
+}
+
+/// The bytes after the line with which a core's section begins; None where that isn't the first.
+fn after_core_line(core: u64, text: &[u8]) -> Option<&[u8]>
+    ensures found { IfSome result (λ rest. text.now ≡ core_text core ++ 10 ∷ rest.now) }
+    ensures none { IsNone result → (rest : List ℕ) → text.now ≢ core_text core ++ 10 ∷ rest }
+{
+    let (line, rest) = next_line(text)?;
+    if core_of(line) == Some(core) {
+        Some(rest)
+    } else {
+        None
+    }
+}
+
+/// The sections of core 0, core 1, and so on that a text begins with, of `cores` at most: all that are
+/// there, each with all its instructions. Lines are counted as if the text's first line were line 2.
+/// TooLong at the line of a section's 4,097th instruction.
+pub fn read_sections(alloc: Global, cores: u64, text: &[u8]) -> Result<Sections, ProgramFault>
+    requires { cores ≤ 64 }
+    ensures found { IfOk result (AreSectionsOf cores text.now) }
+    ensures refused { IfErr result (IsSectionsFault cores text.now) }
+{
+    let mut programs = Vec::new(alloc);
+    let mut rest = text;
+    let mut line = 2;
+    for core in 0..cores {
+        let Some(behind) = after_core_line(core, rest) else {
+            return Ok(Sections {
+                programs,
+                taken: text.len() - rest.len(),
+                line,
+            });
+        };
+        let section = read_section(alloc, Format::First, behind, line + 1)?;
+        rest = &behind[section.taken..];
+        line += 1 + section.instructions.len() as u64;
+        programs.push(section.instructions)?;
+    }
+    Ok(Sections {
+        programs,
+        taken: text.len() - rest.len(),
+        line,
+    })
+}
