@@ -61,7 +61,7 @@ one_more_section cores text rest behind line next core programs section far is l
     }
 
 -- the bytes after the first ones
-behind_front : (text front rest : List ℕ) → text ≡ front ++ rest → drop (length text - length rest) text ≡ rest
+pub behind_front : (text front rest : List ℕ) → text ≡ front ++ rest → drop (length text - length rest) text ≡ rest
 behind_front text front rest is =
     let n : length text - length rest ≡ length front = omega (arith, ap length is, length-append front rest) in
     rw (n, is) (drop-append front rest)

@@ -1,0 +1,5 @@
+pub mod Answers
+pub mod FaultTexts
+pub mod Grammar
+pub mod Parts
+pub mod inner

@@ -1,0 +1,85 @@
+//! The first line of a litmus test.
+
+ghost use Rattle.std.specs.Prelude.{◌≡◌, ◌≤◌, ℕ, List, IfSome, IsNone, length, option_map};
+ghost use Rattle.litmus.specs.Grammar.{is_name_byte};
+ghost use Rattle.litmus.specs.inner.Ending.{HeaderInFront};
+ghost use Rattle.litmus.specs.inner.Reading.{cores_at, header_of, name_at, name_len};
+
+use core_program::next_line;
+use decimal_text::{after_text, read_last};
+
+/// The most bytes of a name.
+const NAME_LIMIT: usize = 32;
+
+/// The most cores of a test.
+const CORE_LIMIT: u64 = 64;
+
+/// Whether a byte is one of a name.
+fn is_name_byte(byte: u8) -> bool
+    ensures { result ≡ is_name_byte byte }
+{
+    matches!(byte, b'0'..=b'9' | b'A'..=b'Z' | b'a'..=b'z' | b'+' | b'-')
+}
+
+/// How many bytes of a name come first.
+fn name_len(bytes: &[u8]) -> usize
+    ensures value { result ≡ name_len bytes.now }
+    ensures within { result ≤ length bytes.now }
+{
+    let mut count = 0;
+    let mut rest = bytes;
+    while let [first, tail @ ..] = rest {
+        if !is_name_byte(*first) {
+            return count;
+        }
+        count += 1;
+        rest = tail;
+    }
+    count
+}
+
+/// A name of 1..32 bytes, and the bytes after it.
+fn name_at(bytes: &[u8]) -> Option<(&[u8], &[u8])>
+    ensures { option_map (λ read. (read.0.now, read.1.now)) result ≡ name_at bytes.now }
+{
+    let count = name_len(bytes);
+    if count == 0 || count > NAME_LIMIT {
+        return None;
+    }
+    Some((&bytes[..count], &bytes[count..]))
+}
+
+/// The number of cores that the bytes after a name tell, 1..64.
+#[tactic(auto, unfolding(crate::specs::inner::Reading::cores_at))]
+fn cores_at(bytes: &[u8]) -> Option<u64>
+    ensures { result ≡ cores_at bytes.now }
+{
+    let cores = read_last(after_text(b" cores ", bytes)?)??;
+    if cores == 0 || cores > CORE_LIMIT {
+        return None;
+    }
+    Some(cores)
+}
+
+/// What a first line tells; None where it isn't one.
+#[tactic(auto, unfolding(crate::specs::inner::Reading::header_of))]
+fn header_of(line: &[u8]) -> Option<(&[u8], u64)>
+    ensures { option_map (λ read. (read.0.now, read.1)) result ≡ header_of line.now }
+{
+    let (name, rest) = name_at(after_text(b"tardis-litmus 1 ", line)?)?;
+    let cores = cores_at(rest)?;
+    Some((name, cores))
+}
+
+/// The test's name, its number of cores, 1..64, and the bytes after the first line; None where that
+/// isn't as it should be.
+pub(crate) fn after_header(text: &[u8]) -> Option<(&[u8], u64, &[u8])>
+    ensures found { IfSome result
+        (λ read. HeaderInFront read.0.now read.1 text.now read.2.now) }
+    ensures none { IsNone result →
+        (name : List ℕ) (cores : ℕ) (rest : List ℕ) → ¬ HeaderInFront name cores text.now rest }
+{
+    let (line, rest) = next_line(text)?;
+    let (name, cores) = header_of(line)?;
+    Some((name, cores, rest))
+}

@@ -1,0 +1,88 @@
+//! Litmus tests.
+
+ghost use Rattle.std.specs.Prelude.{◌≡◌, map};
+
+use core_program::{ProgramSet, Register};
+use mem_op::CoreId;
+use std::marker::Model;
+
+/// A register whose value at the end of a run is part of its outcome.
+#[derive(Clone, Copy, Debug, PartialEq, Eq)]
+pub struct Shown {
+    /// Whose register it is.
+    pub core: CoreId,
+    /// Which one.
+    pub register: Register,
+}
+
+impl Model for Shown {
+    ghost use Rattle.litmus.specs.Parts.{ShownParts};
+
+    ghost Value = { ShownParts };
+
+    ghost view = { λ shown. record { core = shown.core; register = shown.register } };
+
+    ghost inverse = { λ shown. record { core = shown.core; register = shown.register } };
+}
+
+/// A litmus test: programs of 1..64 cores, 1..8 registers that are shown, and at most 16 outcomes that
+/// are forbidden.
+#[derive(Drop)]
+pub struct Litmus {
+    name: Vec<u8>,
+    programs: ProgramSet,
+    shown: Vec<Shown>,
+    forbidden: Vec<Vec<u64>>,
+}
+
+impl Model for Litmus {
+    ghost use Rattle.std.specs.Prelude.{map};
+    ghost use Rattle.std.specs.Coded.{codes};
+    ghost use Rattle.core_program.specs.Grammar.{IsSection};
+    ghost use Rattle.litmus.specs.Grammar.{IsTestOf};
+    ghost use Rattle.litmus.specs.Parts.{LitmusParts};
+
+    ghost Value = { LitmusParts };
+
+    ghost view = { λ test. record { name = test.name.items; programs = test.programs.programs; shown = test.shown.items; forbidden = map (λ values. values.items) test.forbidden.items } };
+}
+
+impl Litmus {
+    /// Its name: 1..32 letters, digits, `+` and `-`.
+    pub fn name(&self) -> &[u8]
+        ensures { result.now ≡ self.now.name }
+    {
+        &self.name
+    }
+
+    /// The programs of its cores.
+    pub fn programs(&self) -> &ProgramSet
+        ensures { result.now.programs ≡ self.now.programs }
+    {
+        &self.programs
+    }
+
+    /// The registers that it shows.
+    pub fn shown(&self) -> &[Shown]
+        ensures { result.now ≡ self.now.shown }
+    {
+        &self.shown
+    }
+
+    /// The test of these parts.
+    pub(crate) fn of_parts(
+        name: Vec<u8>,
+        programs: ProgramSet,
+        shown: Vec<Shown>,
+        forbidden: Vec<Vec<u64>>,
+    ) -> Litmus
+        ensures { result ≡ record { name = name.items; programs = programs.programs; shown = shown.items; forbidden = map (λ values. values.items) forbidden.items } }
+    {
+        Litmus {
+            name,
+            programs,
+            shown,
+            forbidden,
+        }
+    }
+}
