@@ -1,7 +1,12 @@
+pub mod CollectedRuns
 pub mod EndingsRead
+pub mod Forbids
 pub mod ForbidsRead
 pub mod Headers
+pub mod Judged
 pub mod LastLines
 pub mod LineFaults
+pub mod Plain
+pub mod Tallied
 pub mod WordLines
 pub mod WordsRead

@@ -1,6 +1,7 @@
 //! Litmus tests.
 
 ghost use Rattle.std.specs.Prelude.{◌≡◌, map};
+ghost use Rattle.litmus.specs.Collecting.{is_forbidden};
 
 use core_program::{ProgramSet, Register};
 use mem_op::CoreId;
@@ -67,6 +68,18 @@ impl Litmus {
         ensures { result.now ≡ self.now.shown }
     {
         &self.shown
+    }
+
+    /// Whether it forbids an outcome.
+    pub fn forbids(&self, outcome: &[u64]) -> bool
+        ensures { result ≡ is_forbidden self.now outcome.now }
+    {
+        for values in &self.forbidden {
+            if outcome == values.as_slice() {
+                return true;
+            }
+        }
+        false
     }
 
     /// The test of these parts.

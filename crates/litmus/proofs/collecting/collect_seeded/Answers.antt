@@ -1,0 +1,14 @@
+-- One more run, and its outcome counted.
+use Rattle.std.proofs.Common.{rules, ◌≡◌, []}
+use Rattle.litmus.proofs.CollectedRuns.{none_so_far, one_more_run}
+use Rattle.litmus.proofs.collecting.collect_seeded.Goals as goal
+
+pub loop-run-preserved : goal.loop-run-preserved
+loop-run-preserved g c =
+    one_more_run c.args.test.now c.args.config.now c.args.seed c.loop-run.run c.loop-run.tally.entries c.count_outcome.new.tally.entries c.in-Ok.outcome.items
+    c.loop-run.invariant c.in-Ok.ensures c.in_ok-count_outcome-in-Ok.ensures
+
+pub loop-run-init : goal.loop-run-init
+loop-run-init g c =
+    let none : c.new-tally.result.entries ≡ [] = search rules in
+    rw none (none_so_far c.args.test.now c.args.config.now c.args.seed)

@@ -1,0 +1,7 @@
+-- The texts so far are those of the cores so far.
+use Rattle.tardis_core.specs.Parts.{world}
+use Rattle.litmus.proofs.Judged.{TextsSoFar}
+use Rattle.litmus.proofs.judging.log_texts.Given as goal
+
+abbrev pub invariant-loop-number : goal.invariant-loop-number
+invariant-loop-number l = TextsSoFar (world l.machine) l.cores l.texts.items l.number

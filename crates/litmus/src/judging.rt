@@ -1,0 +1,164 @@
+//! The verdict on the logs of a run that has ended.
+
+ghost use Rattle.std.specs.Prelude.{◌≡◌, ◌<◌, ◌≤◌, length, map, take, IfErr, IfOk, MatchResult};
+ghost use Rattle.log_file.specs.Log.{Spells, first_format};
+ghost use Rattle.log_file.specs.Sets.{SpellSet};
+ghost use Rattle.mem_op.specs.Limits.{operation_limit};
+ghost use Rattle.tardis_core.specs.Parts.{world};
+ghost use Rattle.tardis_core.specs.Works.{log_at};
+ghost use Rattle.litmus.specs.Runs.{GetsYes, IsJudgeCause, logs_below};
+ghost use Rattle.litmus.specs.declared.run_fault.RunCause.TheVariants as cause;
+ghost use Rattle.litmus.specs.inner.Ending.{word_lists};
+ghost use Rattle.verdict.specs.Judgement.{IsRunAnswerTo};
+
+use super::run_fault::RunCause;
+use super::test::Litmus;
+use core_program::ProgramSet;
+use log_file::{ByteSource, MemSink, ReadFailed, write_log};
+use log_record::Record;
+use mem_op::CoreId;
+use std::alloc::Global;
+use std::thread::Threads;
+use tardis_core::Core;
+use verdict::{Gate, JudgeFault, Phase, Verdict, judge_run};
+
+/// A source of a text in memory. It never fails.
+#[derive(Drop)]
+pub(crate) struct TextSource<'a> {
+    bytes: &'a [u8],
+}
+
+/// Copies as much as fits, and answers how many bytes.
+fn give(bytes: &[u8], buf: &mut [u8]) -> usize
+    ensures within { result ≤ length bytes.now }
+    ensures fits { result ≤ length buf.new }
+    ensures copied { take result buf.new ≡ take result bytes.now }
+    ensures some { result ≡ 0 → 0 < length buf.new → length bytes.now ≡ 0 }
+{
+    let count = buf.len().min(bytes.len());
+    buf[..count].copy_from_slice(&bytes[..count]);
+    count
+}
+
+impl ByteSource for TextSource<'_> {
+    ghost use Rattle.std.specs.Prelude.{Some};
+
+    ghost remaining = { λ source. Some source.bytes.now };
+
+    ghost failed = { λ _. 0 };
+
+    fn read(&mut self, buf: &mut [u8]) -> Result<usize, ReadFailed> {
+        let count = give(self.bytes, buf);
+        self.bytes = &self.bytes[count..];
+        Ok(count)
+    }
+
+    fn failures(&self) -> u64 {
+        0
+    }
+}
+
+/// A gate that every worker passes at once.
+struct OpenGate;
+
+impl Gate for OpenGate {
+    fn enter(&self, _phase: Phase, _piece: usize) {}
+}
+
+/// The records of a core; none where it isn't there.
+fn log_of(machine: &Core, core: CoreId) -> &[Record]
+    ensures records { result.now ≡ log_at (world machine.now) core }
+    ensures few { length result.now ≤ operation_limit }
+{
+    let Some(unit) = machine.unit(core) else {
+        return &[];
+    };
+    unit.log()
+}
+
+/// The text of the log of a core, of `cores`.
+fn log_text(
+    alloc: Global,
+    core: CoreId,
+    cores: usize,
+    records: &[Record],
+) -> Result<Vec<u8>, RunCause>
+    requires core { core < cores }
+    requires cores { cores ≤ 64 }
+    requires few { length records.now ≤ operation_limit }
+    ensures text { IfOk result (λ text. Spells first_format core cores text.items records.now) }
+    ensures refused { IfErr result (λ cause. cause ≡ RunCause.OutOfMemory) }
+{
+    let mut sink = MemSink::new(alloc, &[]);
+    if write_log(alloc, &mut sink, core, cores as u64, records).is_err() {
+        return Err(RunCause::OutOfMemory);
+    }
+    Ok(sink.bytes().to_vec(alloc)?)
+}
+
+/// The texts of the logs of so many cores.
+fn log_texts(alloc: Global, machine: &Core, cores: usize) -> Result<Vec<Vec<u8>>, RunCause>
+    requires { cores ≤ 64 }
+    ensures texts { IfOk result (λ texts.
+        SpellSet (word_lists texts.items) (logs_below (world machine.now) cores)) }
+    ensures refused { IfErr result (λ cause. cause ≡ RunCause.OutOfMemory) }
+{
+    let mut texts = Vec::new(alloc);
+    for number in 0..cores {
+        let core = CoreId::at(number);
+        let text = log_text(alloc, core, cores, log_of(machine, core))?;
+        texts.push(text)?;
+    }
+    Ok(texts)
+}
+
+/// A source for each text.
+fn sources_of<'a>(alloc: Global, texts: &'a [Vec<u8>]) -> Result<Vec<TextSource<'a>>, JudgeFault>
+    ensures texts { IfOk result (λ sources.
+        map (λ source. source.bytes.now) sources.items ≡ word_lists texts.entry.now) }
+    ensures refused { IfErr result (λ fault. fault ≡ JudgeFault.OutOfMemory) }
+{
+    let mut sources = Vec::new(alloc);
+    for text in texts {
+        let source = TextSource {
+            bytes: text.as_slice(),
+        };
+        if sources.push(source).is_err() {
+            return Err(JudgeFault::OutOfMemory);
+        }
+    }
+    Ok(sources)
+}
+
+/// The verdict on the set of logs of these texts, by one worker, the calling thread.
+fn judge_texts<R: Threads + Sync>(
+    rt: &R,
+    alloc: Global,
+    programs: &ProgramSet,
+    texts: &[Vec<u8>],
+) -> Result<Verdict, JudgeFault>
+    ensures { IsRunAnswerTo programs.now.programs (word_lists texts.now) result }
+{
+    let mut sources = sources_of(alloc, texts)?;
+    judge_run(rt, alloc, programs, sources.as_mut_slice(), 1, &OpenGate)
+}
+
+/// Judges the logs of a run that has ended: Ok where they get Yes.
+pub(crate) fn judge_end<R: Threads + Sync>(
+    rt: &R,
+    alloc: Global,
+    test: &Litmus,
+    machine: &Core,
+) -> Result<(), RunCause>
+    ensures { MatchResult result
+        (λ _. GetsYes test.now (world machine.now))
+        (λ cause. IsJudgeCause test.now (world machine.now) cause) }
+{
+    let programs = test.programs();
+    let texts = log_texts(alloc, machine, programs.len())?;
+    match &judge_texts(rt, alloc, programs, texts.as_slice()) {
+        Ok(Verdict::Yes(_)) => Ok(()),
+        Ok(Verdict::No(fault)) => Err(RunCause::No(fault.id, fault.rule)),
+        Err(fault) => Err(RunCause::Judge(*fault)),
+    }
+}
