@@ -6,9 +6,9 @@ use Rattle.log_record.specs.Line.{record_text, header_text, end_text, Fits}
 use Rattle.log_record.proofs.Lines.{record_short, header_short, end_short}
 use Rattle.log_file.specs.declared.progress.Stage.{Stage}
 use Rattle.log_file.specs.declared.progress.Stage.TheVariants as stage
-use Rattle.log_file.specs.declared.line_reader.LineReader.{LineReader}
 use Rattle.log_file.specs.Log.{with_lf, begun, text_of, spelling, IsLog, first_format}
-use Rattle.log_file.specs.Standing.{IsSound, Stands, read_text, whole_text}
+use Rattle.log_file.specs.Answering.{Answering, HasAnswered}
+use Rattle.log_file.specs.Standing.{IsSound, whole_text}
 use Rattle.log_file.proofs.Lines.{spelling_text}
 
 records_long : (records : List Record) → AllByRecursion Fits records
@@ -62,7 +62,7 @@ whole_long stage.Records core cores records line sound = omega (arith, begun_lon
 whole_long stage.Ended core cores records line sound = omega
     (arith, spelling_long core cores records sound.0, sound.0.few)
 
-pub read_long : (s : LineReader) (records : List Record) → Stands s records → length (read_text s records) < 2 ^ 27
-read_long s records stands =
-    let whole = whole_text s.progress.stage s.progress.core s.progress.cores records in
-    omega (arith, length-append whole s.begun.items, stands.short, whole_long s.progress.stage s.progress.core s.progress.cores records s.begun.items stands.sound)
+pub read_long : (s : Answering) (bytes : List ℕ) (records : List Record) → HasAnswered s bytes records → length bytes < 2 ^ 27
+read_long s bytes records h =
+    let whole = whole_text s.stage s.core s.cores records in
+    omega (arith, ap length h.text, length-append whole s.begun, h.short, whole_long s.stage s.core s.cores records s.begun h.sound)

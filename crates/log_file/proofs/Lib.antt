@@ -2,11 +2,13 @@ pub mod Behind
 pub mod Bounded
 pub mod Devices
 pub mod Fed
+pub mod FedAll
 pub mod FirstLine
 pub mod Front
 pub mod LineFeeds
 pub mod Lines
 pub mod Once
+pub mod NextRecord
 pub mod OneLine
 pub mod OnlyCut
 pub mod Outcomes

@@ -1,5 +1,5 @@
 -- While no fault came, none but Truncated holds of the bytes that were fed.
-use Rattle.std.proofs.Common.{append-nil, ◌≡◌, ℕ, zero, suc, ◌+◌, ◌<◌, ◌≤◌, ◌⊎◌, List, [], ◌∷◌, ◌++◌, length, refl, sym, ap, subst, ◌∙◌, arith, inl, inr}
+use Rattle.std.proofs.Common.{append-nil, ◌≡◌, ℕ, zero, suc, ◌+◌, ◌<◌, ◌≤◌, ◌⊎◌, List, [], ◌∷◌, ◌++◌, length, Ok, refl, sym, ap, subst, ◌∙◌, arith, inl, inr}
 use Rattle.std.proofs.lemmas.Bool.{cases_order}
 use Rattle.log_record.specs.declared.record.Record.{Record}
 use Rattle.log_file.specs.declared.fault.FormatFault.{FormatFault}
@@ -7,9 +7,10 @@ use Rattle.log_file.specs.declared.fault.FormatFault.TheVariants.{BadHeader, Bad
 use Rattle.log_file.specs.declared.progress.Stage.{Stage}
 use Rattle.log_file.specs.declared.progress.Stage.TheVariants as stage
 use Rattle.log_file.specs.Log.{begun, spelling, text_of, lines_of, FaultAt, number, first_format}
-use Rattle.log_file.specs.declared.line_reader.LineReader.{LineReader}
 use Rattle.log_file.specs.OneLine.{IsOneLine}
-use Rattle.log_file.specs.Standing.{IsSound, Stands, read_text, whole_text}
+use Rattle.log_file.specs.Answering.{Answering, HasAnswered}
+use Rattle.log_file.specs.Feeding.{IsOpen}
+use Rattle.log_file.specs.Standing.{IsSound, whole_text}
 use Rattle.log_record.specs.Line.{line_limit}
 use Rattle.log_file.proofs.Front.{Front, front_from, front_length, quiet, no_end}
 use Rattle.log_file.proofs.Behind.{cut_first}
@@ -99,7 +100,7 @@ bytes_only stage.Ended core cores records line sound one short k g f =
           ∙ append-nil (spelling first_format core cores records),
     ) k g f)
 
-pub only_cut : (s : LineReader) (records : List Record) → Stands s records → (k : ℕ) (g : FormatFault)
-    → FaultAt first_format s.progress.core s.progress.cores (lines_of (read_text s records)) k g → g ≡ Truncated
-only_cut s records stands k g f =
-    bytes_only s.progress.stage s.progress.core s.progress.cores records s.begun.items stands.sound stands.one stands.short k g f
+pub only_cut : (s : Answering) (bytes : List ℕ) (records : List Record) → HasAnswered s bytes records → IsOpen s.core s.cores (Ok bytes)
+only_cut s bytes records h k g f =
+    bytes_only s.stage s.core s.cores records s.begun h.sound h.one h.short k g
+    (subst (λ (xs : List ℕ). FaultAt first_format s.core s.cores (lines_of xs) k g) h.text f)

@@ -179,16 +179,14 @@ regroup whole line part =
 
 pub takes_line : (old new : LineReader) (records : List Record) (piece part : List ℕ) (l : TakenLine) → Stands old records
     → IsBehind old.progress (old.begun.items ++ part) l.logged new.progress → new.begun.items ≡ []
-    → 0 < l.taken → l.taken ≤ length piece → take l.taken piece ≡ with_lf part
+    → take l.taken piece ≡ with_lf part
     → TakesNext old records piece (Some l) new
-takes_line old new records piece part l stands behind none some within taken-is =
+takes_line old new records piece part l stands behind none taken-is =
     let p = old.progress in
     let after = with_read records l.logged in
     let taken = line_taken p.stage p new.progress
     (old.begun.items ++ part) old.begun.items l.logged records refl stands.sound stands.count behind in
     let whole = whole_text new.progress.stage new.progress.core new.progress.cores after in (
-      some,
-      within,
       record {
         stands = record {
           sound =
@@ -203,6 +201,7 @@ takes_line old new records piece part l stands behind none some within taken-is 
             ∙ sym (regroup (whole_text p.stage p.core p.cores records) old.begun.items part)
             ∙ ap (λ (xs : List ℕ). read_text old records ++ xs) (sym taken-is);
       },
+      none,
     )
 
 -- ---- a piece that is refused

@@ -1,8 +1,10 @@
 -- Laws of the definitions.
-use Rattle.std.specs.Prelude.{◌≡◌, ◌≢◌, ◌<◌, ◌≤◌, ℕ, List, ◌++◌}
+use Rattle.std.specs.Prelude.{◌≡◌, ◌≢◌, ◌<◌, ◌≤◌, ◌^◌, ℕ, List, ◌++◌, length, Ok}
 use Rattle.log_record.specs.declared.record.Record.{Record}
 use Rattle.log_file.specs.declared.fault.FormatFault.{FormatFault}
 use Rattle.log_file.specs.declared.fault.FormatFault.TheVariants.{Truncated}
+use Rattle.log_file.specs.Answering.{Answering, HasAnswered}
+use Rattle.log_file.specs.Feeding.{IsOpen}
 use Rattle.log_file.specs.Log.{Spells, HasNoFault, IsFirstFault, spelling, first_format}
 
 -- bytes that spell a log have no fault
@@ -28,3 +30,9 @@ abbrev pub FaultStays : Type 0
 FaultStays =
     (core cores : ℕ) (bytes more : List ℕ) (k : ℕ) (f : FormatFault) → core < cores → cores ≤ 64
     → IsFirstFault first_format core cores bytes k f → f ≢ Truncated → IsFirstFault first_format core cores (bytes ++ more) k f
+
+-- no fault but Truncated holds of bytes that a reader of records took without a fault, and no log has more of them
+abbrev pub NoFaultPassedOver : Type 0
+NoFaultPassedOver =
+    (s : Answering) (bytes : List ℕ) (records : List Record) → HasAnswered s bytes records
+    → IsOpen s.core s.cores (Ok bytes) × (length bytes < 2 ^ 27)

@@ -1,3 +1,4 @@
+pub mod Answering
 pub mod Answers
 pub mod Devices
 pub mod Faults
@@ -9,6 +10,7 @@ pub mod Log
 pub mod OneLine
 pub mod SetFaults
 pub mod ReadFaults
+pub mod RecordKeeping
 pub mod Sets
 pub mod Standing
 pub mod Wrapped

@@ -1,6 +1,6 @@
 //! Laws of logs. Each function does nothing: its contract is the law.
 
-ghost use Rattle.log_file.specs.Laws.{SpelledHasNoFault, FaultlessSpellsOne, NoSpellingBeginsAnother, FaultStays};
+ghost use Rattle.log_file.specs.Laws.{SpelledHasNoFault, FaultlessSpellsOne, NoSpellingBeginsAnother, FaultStays, NoFaultPassedOver};
 
 /// Bytes that spell a log have no fault.
 pub fn spelled_has_no_fault()
@@ -20,4 +20,10 @@ pub fn no_spelling_begins_another()
 /// A first fault other than Truncated stays, however the bytes go on.
 pub fn fault_stays()
     ensures { FaultStays }
+{}
+
+/// Of bytes that a reader of records took without a fault, no fault but Truncated holds: every other is
+/// answered by the call whose bytes settle it. And no log has more bytes.
+pub fn no_fault_passed_over()
+    ensures { NoFaultPassedOver }
 {}

@@ -16,6 +16,7 @@ mod one_log;
 mod pieces;
 mod progress;
 mod read;
+mod record_reader;
 mod set;
 mod step;
 mod taking;
@@ -26,7 +27,8 @@ pub use byte_source::{ByteSource, FromRead};
 pub use device_fault::{ReadFailed, ReadFault, WriteFailed, WriteFault};
 pub use fault::{FormatFault, LogFault, SetFault};
 pub use laws::{
-    fault_stays, faultless_spells_one, no_spelling_begins_another, spelled_has_no_fault,
+    fault_stays, faultless_spells_one, no_fault_passed_over, no_spelling_begins_another,
+    spelled_has_no_fault,
 };
 pub use log_reader::LogReader;
 pub use mem_sink::MemSink;
@@ -34,6 +36,7 @@ pub use mem_source::MemSource;
 pub use one_log::read_log;
 pub use pieces::read_pieces;
 pub use read::read_all;
+pub use record_reader::RecordReader;
 pub use set::read_set;
 pub use step::Step;
 pub use write::write_log;

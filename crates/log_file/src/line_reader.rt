@@ -142,6 +142,8 @@ impl LineReader {
         requires { IsInRange self.old.progress }
         ensures same { SameLog self.old.progress self.new.progress }
         ensures in_range { IsInRange self.new.progress }
+        ensures within { IfOk result (λ line. IfSome line (λ l.
+            (0 < l.taken) × (l.taken ≤ length piece.now))) }
         ensures taken { (records : List Record) → Stands self.old records → MatchResult result
             (λ line. TakesNext self.old records piece.now line self.new)
             (IsSettledWith self.old records piece.now) }

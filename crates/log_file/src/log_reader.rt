@@ -4,8 +4,7 @@ ghost use Rattle.std.specs.Prelude.{◌≡◌, ◌<◌, ◌≤◌, ◌^◌, [], 
 ghost use Rattle.log_file.specs.Feeding.{Feeds, Finishes, IsOpen, fed_len};
 
 use super::fault::LogFault;
-use super::line_reader::LineReader;
-use super::taking::{take_piece, take_piece_by};
+use super::record_reader::RecordReader;
 use log_record::Record;
 use mem_op::CoreId;
 use std::alloc::Global;
@@ -15,9 +14,8 @@ use std::thread::Threads;
 /// Reads the log of one core, fed in pieces of any cutting.
 #[derive(Drop)]
 pub struct LogReader {
-    lines: LineReader,
+    reader: RecordReader,
     records: Vec<Record>,
-    fault: Option<LogFault>,
 }
 
 impl Model for LogReader {
@@ -40,9 +38,8 @@ impl LogReader {
         ensures { result ≡ record { core = core; cores = cores; fed = Ok [] } }
     {
         LogReader {
-            lines: LineReader::new(core.get(), cores),
+            reader: RecordReader::new(core, cores),
             records: Vec::new(alloc),
-            fault: None,
         }
     }
 
@@ -57,14 +54,7 @@ impl LogReader {
         // No log has more bytes.
         ensures bounded { OnOk result (fed_len self.new.fed < 2 ^ 27) }
     {
-        if let Some(fault) = self.fault {
-            return Err(fault);
-        }
-        let outcome = take_piece(&mut self.lines, &mut self.records, piece);
-        if let Err(fault) = outcome {
-            self.fault = Some(fault);
-        }
-        outcome
+        self.reader.feed_all(&mut self.records, piece)
     }
 
     /// Takes the next bytes as `feed` does; `workers` workers read their lines at once. 0 counts as 1.
@@ -82,34 +72,15 @@ impl LogReader {
         ensures at_once { OnOk result (IsOpen self.new.core self.new.cores self.new.fed) }
         ensures bounded { OnOk result (fed_len self.new.fed < 2 ^ 27) }
     {
-        if workers <= 1 {
-            return self.feed(piece);
-        }
-        if let Some(fault) = self.fault {
-            return Err(fault);
-        }
-        let shared = take_piece_by(
-            rt,
-            alloc,
-            &mut self.lines,
-            &mut self.records,
-            piece,
-            workers,
-        );
-        if let Err(fault) = shared {
-            self.fault = Some(fault);
-        }
-        shared
+        self.reader
+            .feed_all_by(rt, alloc, &mut self.records, piece, workers)
     }
 
     /// The log of the bytes that were fed, or their first fault.
     pub fn finish(self) -> Result<Vec<Record>, LogFault>
         ensures { Finishes self.core self.cores self.fed result }
     {
-        if let Some(fault) = self.fault {
-            return Err(fault);
-        }
-        self.lines.finish()?;
+        self.reader.finish()?;
         Ok(self.records)
     }
 }

@@ -1,5 +1,5 @@
 -- Where the reader stands after a line, or after a part of one.
-use Rattle.std.proofs.Common.{◌++◌, arith, sym, ap, ◌∙◌, take, drop, ◌+◌, List, ℕ}
+use Rattle.std.proofs.Common.{◌++◌, sym, ap, ◌∙◌, take, drop, ◌+◌, List, ℕ}
 use Rattle.std.proofs.lemmas.List.{take-append-drop}
 use Rattle.std.proofs.lemmas.Result.{err_from_is_err_and}
 use Rattle.log_file.proofs.LineFeeds.{none_is_one_line, front_is_one_line, taken_with_feed}
@@ -38,4 +38,4 @@ returns-clause-taken c = λ records stands.
     let e = c.in_ok-logged.ensures in
     takes_line c.args.self.now c.end.new.self records piece (take at piece)
     (record { logged = c.in_ok-logged.logged; taken = at + 1 }) stands e.behind e.none_begun
-    (omega arith) (omega (arith, first.0.high)) (taken_with_feed piece at first.0 first.1)
+    (taken_with_feed piece at first.0 first.1)

@@ -1,16 +1,13 @@
 -- While no fault came, no fault but Truncated holds, and the bytes are no more than a log's.
-use Rattle.log_file.proofs.Bounded.{read_long}
-use Rattle.log_file.proofs.OnlyCut.{only_cut}
+use Rattle.log_file.proofs.FedAll.{open_after, few_after}
 use Rattle.log_file.proofs.log_reader.LogReader.feed.Goals as goal
 
-pub returns-in_default-outcome-clause-at_once : goal.returns-in_default-outcome-clause-at_once
-returns-in_default-outcome-clause-at_once c =
-    let new = c.take_piece-outcome.new in
-    rw (c.in_default-outcome.is, c.in_default.is)
-    (only_cut new.lines new.records.items c.in_default-outcome.ensures.taken.stands)
+pub returns-clause-at_once : goal.returns-clause-at_once
+returns-clause-at_once c =
+    let fed = c.feed_all.ensures in
+    open_after c.self.inside.reader c.feed_all.new.self c.feed_all.new.records.items _ c.feed_all.result fed.fed fed.again
 
-pub returns-in_default-outcome-clause-bounded : goal.returns-in_default-outcome-clause-bounded
-returns-in_default-outcome-clause-bounded c =
-    let new = c.take_piece-outcome.new in
-    rw (c.in_default-outcome.is, c.in_default.is)
-    (read_long new.lines new.records.items c.in_default-outcome.ensures.taken.stands)
+pub returns-clause-bounded : goal.returns-clause-bounded
+returns-clause-bounded c =
+    let fed = c.feed_all.ensures in
+    few_after c.self.inside.reader c.feed_all.new.self c.feed_all.new.records.items _ c.feed_all.result fed.fed fed.again

@@ -1,0 +1,174 @@
+//! The records of a log, one at a time.
+
+ghost use Rattle.std.specs.Prelude.{◌≡◌, ◌<◌, ◌≤◌, ◌++◌, ℕ, List, [], None, Some, IfOk, IfSome, MatchResult, length};
+ghost use Rattle.log_record.specs.declared.record.Record.{Record};
+ghost use Rattle.log_file.specs.Answering.{AnswersOne, HasAnswered, fed_text};
+ghost use Rattle.log_file.specs.Answers.{IsFaultOf};
+ghost use Rattle.log_file.specs.Feeding.{IsSettled};
+ghost use Rattle.log_file.specs.Keeping.{KeepsRecords};
+ghost use Rattle.log_file.specs.Log.{Spells, first_format};
+ghost use Rattle.log_file.specs.Standing.{IsInRange, IsSettledWith, SameLog, Stands, TakesRecord};
+
+use super::fault::LogFault;
+use super::line_reader::LineReader;
+use super::taking::{take_piece, take_piece_by};
+use log_record::Record;
+use mem_op::CoreId;
+use std::alloc::Global;
+use std::marker::Model;
+use std::thread::Threads;
+
+/// Takes the lines of a piece up to the first record's, and answers how many bytes those are and the
+/// record; where no record's line ends in the piece, it takes all of it.
+fn next_record(lines: &mut LineReader, piece: &[u8]) -> Result<(usize, Option<Record>), LogFault>
+    requires { IsInRange lines.old.progress }
+    ensures same { SameLog lines.old.progress lines.new.progress }
+    ensures in_range { IsInRange lines.new.progress }
+    ensures within { IfOk result (λ one. one.0 ≤ length piece.now) }
+    ensures taken { (records : List Record) → Stands lines.old records → MatchResult result
+        (λ one. TakesRecord lines.old records piece.now one lines.new)
+        (IsSettledWith lines.old records piece.now) }
+{
+    let mut taken = 0;
+    while let Some(line) = lines.next_line(&piece[taken..])? {
+        taken += line.taken;
+        if line.logged.is_some() {
+            return Ok((taken, line.logged));
+        }
+    }
+    Ok((piece.len(), None))
+}
+
+/// Reads the log of one core, fed in pieces of any cutting, and answers its records one at a time. It
+/// keeps none of them.
+#[derive(Drop)]
+pub struct RecordReader {
+    lines: LineReader,
+    fault: Option<LogFault>,
+}
+
+impl Model for RecordReader {
+    ghost use Rattle.log_file.specs.Answering.{Answering};
+
+    ghost Value = { Answering };
+
+    ghost use Rattle.log_file.specs.RecordKeeping.{answering_of, IsReading};
+
+    ghost view = { answering_of };
+
+    ghost invariant = { IsReading };
+}
+
+impl RecordReader {
+    /// A reader of the log of this core of `cores`, which was fed nothing.
+    pub fn new(core: CoreId, cores: u64) -> RecordReader
+        requires core { core < cores }
+        requires cores { cores ≤ 64 }
+        ensures core { result.core ≡ core }
+        ensures cores { result.cores ≡ cores }
+        ensures none { HasAnswered result [] [] }
+    {
+        RecordReader {
+            lines: LineReader::new(core.get(), cores),
+            fault: None,
+        }
+    }
+
+    /// Takes the next bytes up to the end of the next record's line, and answers how many bytes those
+    /// are, and the record. Where no record's line ends in the piece, it takes all of it, and answers no
+    /// record. After a fault it answers that fault from then on. Takes no memory.
+    pub fn feed_one(&mut self, piece: &[u8]) -> Result<(usize, Option<Record>), LogFault>
+        ensures core { self.new.core ≡ self.old.core }
+        ensures cores { self.new.cores ≡ self.old.cores }
+        ensures within { IfOk result (λ one. one.0 ≤ length piece.now) }
+        // The records of all pieces, in order, are those of their text; a fault is that of the text,
+        // however it goes on.
+        ensures fed { (bytes : List ℕ) (records : List Record) → HasAnswered self.old bytes records
+            → MatchResult result
+            (λ one. AnswersOne bytes records piece.now one self.new)
+            (λ fault. (self.new.fault ≡ Some fault)
+            × IsSettled self.old.core self.old.cores (bytes ++ piece.now) fault) }
+        ensures again { IfSome self.old.fault (λ fault.
+            MatchResult result (λ _. ⊥) (λ f. f ≡ fault) × (self.new.fault ≡ Some fault)) }
+    {
+        if let Some(fault) = self.fault {
+            return Err(fault);
+        }
+        let outcome = next_record(&mut self.lines, piece);
+        if let Err(fault) = outcome {
+            self.fault = Some(fault);
+        }
+        outcome
+    }
+
+    /// Takes all of a piece, and keeps its records after these, which were answered before. Lack of
+    /// memory for them is a fault too.
+    pub(crate) fn feed_all(
+        &mut self,
+        records: &mut Vec<Record>,
+        piece: &[u8],
+    ) -> Result<(), LogFault>
+        requires { KeepsRecords self.old records.old.items }
+        ensures core { self.new.core ≡ self.old.core }
+        ensures cores { self.new.cores ≡ self.old.cores }
+        ensures fed { self.old.fault ≡ None → MatchResult result
+            (λ _. HasAnswered self.new (fed_text self.old records.old.items ++ piece.now) records.new.items)
+            (λ fault. (self.new.fault ≡ Some fault) × IsSettled self.old.core self.old.cores
+            (fed_text self.old records.old.items ++ piece.now) fault) }
+        ensures again { IfSome self.old.fault (λ fault.
+            MatchResult result (λ _. ⊥) (λ f. f ≡ fault) × (self.new.fault ≡ Some fault)) }
+    {
+        if let Some(fault) = self.fault {
+            return Err(fault);
+        }
+        let outcome = take_piece(&mut self.lines, records, piece);
+        if let Err(fault) = outcome {
+            self.fault = Some(fault);
+        }
+        outcome
+    }
+
+    /// Takes all of a piece as `feed_all` does; `workers` workers read its lines at once. 0 counts as 1.
+    pub(crate) fn feed_all_by<R: Threads + Sync>(
+        &mut self,
+        rt: &R,
+        alloc: Global,
+        records: &mut Vec<Record>,
+        piece: &[u8],
+        workers: usize,
+    ) -> Result<(), LogFault>
+        requires { KeepsRecords self.old records.old.items }
+        ensures core { self.new.core ≡ self.old.core }
+        ensures cores { self.new.cores ≡ self.old.cores }
+        ensures fed { self.old.fault ≡ None → MatchResult result
+            (λ _. HasAnswered self.new (fed_text self.old records.old.items ++ piece.now) records.new.items)
+            (λ fault. (self.new.fault ≡ Some fault) × IsSettled self.old.core self.old.cores
+            (fed_text self.old records.old.items ++ piece.now) fault) }
+        ensures again { IfSome self.old.fault (λ fault.
+            MatchResult result (λ _. ⊥) (λ f. f ≡ fault) × (self.new.fault ≡ Some fault)) }
+    {
+        if let Some(fault) = self.fault {
+            return Err(fault);
+        }
+        let shared = take_piece_by(rt, alloc, &mut self.lines, records, piece, workers);
+        if let Err(fault) = shared {
+            self.fault = Some(fault);
+        }
+        shared
+    }
+
+    /// Whether the log is whole, where its bytes end here: the fault that came before, or Truncated at
+    /// the line that they end in.
+    pub fn finish(self) -> Result<(), LogFault>
+        ensures ends { (bytes : List ℕ) (records : List Record) → HasAnswered self bytes records
+            → MatchResult result
+            (λ _. Spells first_format self.core self.cores bytes records)
+            (IsFaultOf self.core self.cores bytes) }
+        ensures again { IfSome self.fault (λ fault. MatchResult result (λ _. ⊥) (λ f. f ≡ fault)) }
+    {
+        if let Some(fault) = self.fault {
+            return Err(fault);
+        }
+        self.lines.finish()
+    }
+}
