@@ -22,7 +22,7 @@ use Rattle.core_unit.specs.Replay.{CoreLeads, CoreStep, performs, drops, gives, 
 use Rattle.core_unit.specs.declared.entry.CoreEntry.{CoreEntry}
 
 -- the operations of the log lead to where the core is in its program
-abbrev Ran : Core → Type 0
+abbrev pub Ran : Core → Type 0
 Ran u = state_after u.program (map operation_of u.log) ≡ Some u.state
 
 record_op : (x : Op) (hit : Hit) → op_of (operation_of (record_of x hit)) ≡ x
@@ -34,7 +34,7 @@ record_word (op.Load a) hit = refl
 record_word (op.Store a value) hit = refl
 
 -- after one more operation
-ran_on : (g : ConfigParts) (u : Core) (x : Op) (hit : Hit) → next_of u ≡ Some x → Ran u → Ran (after_hit g u x hit)
+pub ran_on : (g : ConfigParts) (u : Core) (x : Op) (hit : Hit) → next_of u ≡ Some x → Ran u → Ran (after_hit g u x hit)
 ran_on g u x hit next ran =
     ap (state_after u.program) (map-append operation_of u.log (record_of x hit ∷ []))
     ∙ (state_after-snoc u.program (map operation_of u.log) (operation_of (record_of x hit)) u.state ran (next ∙ ap (λ y. Some y) (sym (record_op x hit)))

@@ -1,0 +1,12 @@
+pub mod Stamps
+pub mod Versions
+pub mod Moves
+pub mod Quiet
+pub mod Operations
+pub mod Maps
+pub mod Refining
+pub mod Hits
+pub mod Keeping
+pub mod Opening
+pub mod Rules
+pub mod Judged

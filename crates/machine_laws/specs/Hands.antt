@@ -1,0 +1,31 @@
+-- Owners, and messages in hand: what no run of the core machine breaks.
+use Rattle.std.specs.Prelude.{◌≡◌, ℕ, Bool, Option, Some, None, slice_get}
+use Rattle.std.specs.FinMap as map
+use Rattle.line_stamps.specs.declared.line.Line.{Line}
+use Rattle.line_stamps.specs.declared.message.Message.{Message}
+use Rattle.line_stamps.specs.declared.message.Message.TheVariants.{ShReq, ExReq, WbRep, FlushRep}
+use Rattle.line_stamps.specs.declared.message.RecallKind.TheVariants.{WriteBack, Flush}
+use Rattle.private_cache.specs.CacheParts.{Lines}
+use Rattle.private_cache.specs.Table.{copy_of, left}
+use Rattle.private_cache.specs.declared.held.Held.TheVariants.{Exclusive}
+use Rattle.manager_slice.specs.declared.managed.ManagedLine.TheVariants as managed
+use Rattle.core_unit.specs.Core.{Core}
+use Rattle.tardis_core.specs.Machine.{World}
+use Rattle.machine_laws.specs.Settled.{Settled}
+
+-- a core has a line as Exclusive exactly where the line is managed as its own
+pub record AgreeOnOwners (x : Settled) : Type 0 where
+  pub owner : (c a : ℕ) (modified : Bool) (l : Line) → x.entry c a ≡ Some (Exclusive modified l) → x.managed a ≡ managed.Exclusive c
+  pub owned : (c a : ℕ) → x.managed a ≡ managed.Exclusive c → (modified : Bool) × (l : Line) × (x.entry c a ≡ Some (Exclusive modified l))
+
+-- a message in hand speaks of the line as it is: a request tells of the copy that is there, and of a line that is given back is there
+-- what such a message leaves
+abbrev pub HandFits : Option Message → Lines → Type 0
+HandFits None lines = Unit {0}
+HandFits (Some (ShReq a copy pts)) lines = copy ≡ copy_of (map.get lines a)
+HandFits (Some (ExReq a copy)) lines = copy ≡ copy_of (map.get lines a)
+HandFits (Some (WbRep a l)) lines = map.get lines a ≡ left WriteBack l
+HandFits (Some (FlushRep a l)) lines = map.get lines a ≡ left Flush l
+
+abbrev pub HandsFit : World → Type 0
+HandsFit w = (c : ℕ) (u : Core) → slice_get w.cores c ≡ Some u → HandFits u.hand u.lines

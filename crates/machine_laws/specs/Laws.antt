@@ -1,0 +1,56 @@
+-- The laws of the core machine: what holds after every list of events, with any recalls, evictions, spills and self-increments, and
+-- by every configuration.
+use Rattle.std.specs.Prelude.{◌≡◌, ℕ, false, List, length, map}
+use Rattle.lease_rule.specs.ConfigParts.{ConfigParts}
+use Rattle.log_record.specs.declared.record.Record.{Record}
+use Rattle.log_record.specs.Entries.{entries}
+use Rattle.core_program.specs.declared.instruction.Instruction.{Instruction}
+use Rattle.verdict.specs.declared.answer.Verdict.TheVariants.{Yes}
+use Rattle.verdict.specs.VerdictOf.{verdict_of, run_verdict_of}
+use Rattle.tardis_core.specs.Machine.{World, Run, opening}
+use Rattle.tardis_core.specs.Works.{has_next}
+use Rattle.tardis_core.specs.declared.event.Event.{Event}
+use Rattle.machine_laws.specs.Stamps.{HasStamps}
+use Rattle.machine_laws.specs.Versions.{HasVersions}
+use Rattle.machine_laws.specs.Settled.{settled, view_of}
+use Rattle.machine_laws.specs.Hands.{AgreeOnOwners, HandsFit}
+
+-- some events lead from the start of these programs to w
+abbrev pub IsReachedFrom : List (List Instruction) → ConfigParts → World → Type 0
+IsReachedFrom programs g w = (events : List Event) × Run g (opening programs g.slices) events w
+
+-- ---- the invariants
+
+abbrev pub OwnersAgree : Type 0
+OwnersAgree = (programs : List (List Instruction)) (g : ConfigParts) (w : World) → IsReachedFrom programs g w → AgreeOnOwners (settled g w)
+
+abbrev pub HandsAlwaysFit : Type 0
+HandsAlwaysFit = (programs : List (List Instruction)) (g : ConfigParts) (w : World) → IsReachedFrom programs g w → HandsFit w
+
+abbrev pub StampsHold : Type 0
+StampsHold = (programs : List (List Instruction)) (g : ConfigParts) (w : World) → IsReachedFrom programs g w → HasStamps (view_of g w)
+
+abbrev pub VersionsHold : Type 0
+VersionsHold = (programs : List (List Instruction)) (g : ConfigParts) (w : World) → IsReachedFrom programs g w → HasVersions (view_of g w)
+
+-- ---- the verdict
+
+-- the operations that each core has performed so far
+abbrev pub logs_of : World → List (List Record)
+logs_of w = map (λ u. u.log) w.cores
+
+-- no core has an operation left
+abbrev pub HaveEnded : World → Type 0
+HaveEnded w = (c : ℕ) → has_next w c ≡ false
+
+-- the logs made so far get Yes
+abbrev pub RunsGetYes : Type 0
+RunsGetYes =
+    (programs : List (List Instruction)) (g : ConfigParts) (w : World) → IsReachedFrom programs g w →
+    verdict_of (logs_of w) ≡ Yes (length (entries (logs_of w)))
+
+-- where every program has ended, they get Yes against the programs too
+abbrev pub EndedRunsGetYes : Type 0
+EndedRunsGetYes =
+    (programs : List (List Instruction)) (g : ConfigParts) (w : World) → IsReachedFrom programs g w → HaveEnded w →
+    run_verdict_of programs (logs_of w) ≡ Yes (length (entries (logs_of w)))

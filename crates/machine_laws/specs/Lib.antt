@@ -1,0 +1,6 @@
+pub mod Hands
+pub mod Laws
+pub mod Settled
+pub mod Stamps
+pub mod Versions
+pub mod Views

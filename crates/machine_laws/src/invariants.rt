@@ -1,0 +1,22 @@
+//! What no event of the core machine breaks. Each function does nothing: its contract is the law.
+
+ghost use Rattle.machine_laws.specs.Laws.{HandsAlwaysFit, OwnersAgree, StampsHold, VersionsHold};
+
+/// After any events a core owns a line exactly where the line's slice names it as the owner, and a message in hand speaks of the line
+/// as it is.
+pub fn owners_agree()
+    ensures owners { OwnersAgree }
+    ensures hands { HandsAlwaysFit }
+{}
+
+/// After any events the stamps and leases of lines and copies hold: no operation is later than the lease of its line, no store lies
+/// inside the lease of a copy, and a modified line has no other copy of its version.
+pub fn stamps_hold()
+    ensures { StampsHold }
+{}
+
+/// After any events each line has the value of its source, which has the line's stamp and rank or lesser ones, and each operation has
+/// read the last store of lesser key to its address.
+pub fn versions_hold()
+    ensures { VersionsHold }
+{}

@@ -1,0 +1,5 @@
+//! The laws of the core machine: over every list of events, its stamps and versions hold, and so the logs that it has made get Yes.
+#![tactic(auto)]
+
+pub mod invariants;
+pub mod verdicts;
