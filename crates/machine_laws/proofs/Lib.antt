@@ -10,3 +10,6 @@ pub mod Keeping
 pub mod Opening
 pub mod Rules
 pub mod Judged
+pub mod Replies
+pub mod Refusing
+pub mod Merged

@@ -94,7 +94,7 @@ pub give_addr : (kind : RecallKind) (a : ℕ) (l : Line) → addr_of (give_back 
 give_addr WriteBack a l = refl
 give_addr Flush a l = refl
 
-give_unserved : (kind : RecallKind) (a : ℕ) (l : Line) (e : Option Held) → unserved (give_back kind a l) e ≡ Some (Exclusive false l)
+pub give_unserved : (kind : RecallKind) (a : ℕ) (l : Line) (e : Option Held) → unserved (give_back kind a l) e ≡ Some (Exclusive false l)
 give_unserved WriteBack a l e = refl
 give_unserved Flush a l e = refl
 

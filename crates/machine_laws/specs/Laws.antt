@@ -7,13 +7,19 @@ use Rattle.log_record.specs.Entries.{entries}
 use Rattle.core_program.specs.declared.instruction.Instruction.{Instruction}
 use Rattle.verdict.specs.declared.answer.Verdict.TheVariants.{Yes}
 use Rattle.verdict.specs.VerdictOf.{verdict_of, run_verdict_of}
+use Rattle.manager_slice.specs.Parts.{SliceParts}
+use Rattle.core_unit.specs.Parts.{UnitParts}
 use Rattle.tardis_core.specs.Machine.{World, Run, opening}
 use Rattle.tardis_core.specs.Works.{has_next}
 use Rattle.tardis_core.specs.declared.event.Event.{Event}
+use Rattle.audit.specs.Events.{AreOneMachine}
+use Rattle.audit.specs.Lists.{transcripts, histories}
+use Rattle.audit.specs.Merges.{HasMerge}
+use Rattle.audit.specs.Runs.{IsRun}
 use Rattle.machine_laws.specs.Stamps.{HasStamps}
 use Rattle.machine_laws.specs.Versions.{HasVersions}
 use Rattle.machine_laws.specs.Settled.{settled, view_of}
-use Rattle.machine_laws.specs.Hands.{AgreeOnOwners, HandsFit}
+use Rattle.machine_laws.specs.Hands.{AgreeOnOwners, HandsFit, RepliesFit}
 
 -- some events lead from the start of these programs to w
 abbrev pub IsReachedFrom : List (List Instruction) → ConfigParts → World → Type 0
@@ -26,6 +32,9 @@ OwnersAgree = (programs : List (List Instruction)) (g : ConfigParts) (w : World)
 
 abbrev pub HandsAlwaysFit : Type 0
 HandsAlwaysFit = (programs : List (List Instruction)) (g : ConfigParts) (w : World) → IsReachedFrom programs g w → HandsFit w
+
+abbrev pub RepliesAlwaysFit : Type 0
+RepliesAlwaysFit = (programs : List (List Instruction)) (g : ConfigParts) (w : World) → IsReachedFrom programs g w → RepliesFit g w
 
 abbrev pub StampsHold : Type 0
 StampsHold = (programs : List (List Instruction)) (g : ConfigParts) (w : World) → IsReachedFrom programs g w → HasStamps (view_of g w)
@@ -54,3 +63,20 @@ abbrev pub EndedRunsGetYes : Type 0
 EndedRunsGetYes =
     (programs : List (List Instruction)) (g : ConfigParts) (w : World) → IsReachedFrom programs g w → HaveEnded w →
     run_verdict_of programs (logs_of w) ≡ Yes (length (entries (logs_of w)))
+
+-- ---- of units and slices
+
+abbrev pub unit_logs : List UnitParts → List (List Record)
+unit_logs us = map (λ u. u.log) us
+
+-- where the whole lists of the units and slices of one machine have a merge, the units' logs get Yes
+abbrev pub MergedLogsGetYes : Type 0
+MergedLogsGetYes =
+    (g : ConfigParts) (us : List UnitParts) (ss : List SliceParts) → AreOneMachine g us ss → HasMerge (transcripts us) (histories ss) →
+    verdict_of (unit_logs us) ≡ Yes (length (entries (unit_logs us)))
+
+-- those of a whole run of programs get Yes against the programs too
+abbrev pub WholeRunsGetYes : Type 0
+WholeRunsGetYes =
+    (programs : List (List Instruction)) (g : ConfigParts) (us : List UnitParts) (ss : List SliceParts) → IsRun programs g us ss →
+    run_verdict_of programs (unit_logs us) ≡ Yes (length (entries (unit_logs us)))

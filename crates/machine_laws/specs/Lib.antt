@@ -4,3 +4,4 @@ pub mod Settled
 pub mod Stamps
 pub mod Versions
 pub mod Views
+pub mod Refusals

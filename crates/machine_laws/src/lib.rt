@@ -2,4 +2,5 @@
 #![tactic(auto)]
 
 pub mod invariants;
+pub mod refusals;
 pub mod verdicts;

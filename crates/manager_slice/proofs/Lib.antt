@@ -5,3 +5,4 @@ pub mod Histories
 pub mod Kept
 pub mod Leads
 pub mod RowTable
+pub mod Refused

@@ -2,6 +2,7 @@ pub mod Changes
 pub mod Faults
 pub mod Leads
 pub mod Limits
+pub mod Laws
 pub mod Lines
 pub mod Messages
 pub mod Opening
