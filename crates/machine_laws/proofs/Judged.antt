@@ -1,19 +1,24 @@
 -- The verdict on the logs of a run.
 use Rattle.std.proofs.Common.{◌≡◌, ◌∷◌, [], zero, suc, length, map, sym, subst, ◌∙◌, ℕ, inl, inr, false, List, refl}
-use Rattle.std.specs.Prelude.{Option, Some, None, is_some, slice_get, slice_set}
+use Rattle.std.specs.Prelude.{All, Option, Some, None, is_some, slice_get, slice_set}
 use Rattle.std.specs.Option.{option_map}
+use Rattle.std.proofs.lemmas.List.{length-map, length-set}
 use Rattle.std.proofs.lemmas.Option.{slice_get-map}
+use Rattle.mem_op.specs.Consistency.{IsConsistent}
 use Rattle.mem_op.specs.declared.id.Op.{Op}
 use Rattle.mem_op.specs.declared.id.OpId.{OpId}
 use Rattle.lease_rule.specs.ConfigParts.{ConfigParts}
 use Rattle.log_record.specs.declared.record.Record.{Record}
-use Rattle.log_record.specs.Entries.{entries, operation_of, record_at}
+use Rattle.log_record.specs.Entries.{entries, operation_of, operations_of, record_at}
 use Rattle.core_program.specs.declared.instruction.Instruction.{Instruction}
 use Rattle.core_program.specs.Conforming.{program_fault}
+use Rattle.core_program.specs.Shape.{IsProgram}
 use Rattle.core_program.proofs.Faults.{no-fault}
 use Rattle.core_check.specs.CoreFaults.{program_faults_from, program_faults}
 use Rattle.verdict.specs.declared.answer.Verdict.TheVariants.{Yes}
 use Rattle.verdict.specs.VerdictOf.{verdict_of, run_verdict_of}
+use Rattle.verdict.specs.FlatMachine.{RunsFlat}
+use Rattle.verdict.proofs.Bridge.{yes_is_consistent, run_yes_runs_flat}
 use Rattle.verdict.proofs.Lists.{set_elsewhere}
 use Rattle.core_unit.specs.Core.{Core, new_core, next_of}
 use Rattle.core_unit.specs.declared.outcome.Outcome.{Outcome}
@@ -129,3 +134,25 @@ ended_runs_get_yes programs g w r ended =
     let k : Keeps g w = every_run g programs r.0 w r.1 in
     let runs : RunPrograms programs w = run_runs programs g (opening programs g.slices) r.0 w r.1 (opening_runs programs) in
     rw (no_order_faults (view (settled g w)) (logs_of w) (are_logs g w) k.versions, ended_faults programs w runs ended, no_address_faults (view (settled g w)) (logs_of w) (are_logs g w) k.versions) refl
+
+-- ---- what Yes says
+
+pub runs_are_consistent : (programs : List (List Instruction)) (g : ConfigParts) (w : World) → IsReachedFrom programs g w → IsConsistent (operations_of (logs_of w))
+runs_are_consistent programs g w r = yes_is_consistent (logs_of w) (length (entries (logs_of w))) (runs_get_yes programs g w r)
+
+-- there is a log for each program
+leads_length : (g : ConfigParts) (w : World) (e : Event) (o : Outcome) (t : World) → Leads g w e o t → length t.cores ≡ length w.cores
+leads_length g w e o t (by_core c e' o' u v at step) = length-set w.cores c v
+leads_length g w e o t (serves c u m x entries s s' at hand kept es step) = length-set w.cores c (record u { kept = Some x })
+leads_length g w e o t (spills a s s' es gone) = refl
+leads_length g w e o t (no_effect e' barred) = refl
+
+run_length : (g : ConfigParts) (w : World) (events : List Event) (t : World) → Run g w events t → length t.cores ≡ length w.cores
+run_length g w events t start = refl
+run_length g w events t (next es e o between t' run step) = leads_length g between e o t' step ∙ run_length g w es between run
+
+pub ended_runs_are_flat : (programs : List (List Instruction)) (g : ConfigParts) (w : World) → All IsProgram programs → IsReachedFrom programs g w → HaveEnded w → RunsFlat programs (operations_of (logs_of w))
+ended_runs_are_flat programs g w are r ended =
+    run_yes_runs_flat programs (logs_of w) (length (entries (logs_of w))) are
+    (sym (length-map w.cores (λ u. u.log) ∙ run_length g (opening programs g.slices) r.0 w r.1 ∙ length-map programs new_core))
+    (ended_runs_get_yes programs g w r ended)

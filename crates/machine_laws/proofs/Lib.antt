@@ -13,3 +13,4 @@ pub mod Judged
 pub mod Replies
 pub mod Refusing
 pub mod Merged
+pub mod OneStore

@@ -1,10 +1,15 @@
 -- The laws of the core machine: what holds after every list of events, with any recalls, evictions, spills and self-increments, and
 -- by every configuration.
-use Rattle.std.specs.Prelude.{◌≡◌, ℕ, false, List, length, map}
+use Rattle.std.specs.Prelude.{◌≡◌, ℕ, false, List, [], ◌∷◌, length, map, All}
+use Rattle.mem_op.specs.Consistency.{IsConsistent}
 use Rattle.lease_rule.specs.ConfigParts.{ConfigParts}
+use Rattle.log_record.specs.declared.record.Act.TheVariants as act
 use Rattle.log_record.specs.declared.record.Record.{Record}
-use Rattle.log_record.specs.Entries.{entries}
+use Rattle.log_record.specs.Entries.{entries, operations_of}
 use Rattle.core_program.specs.declared.instruction.Instruction.{Instruction}
+use Rattle.core_program.specs.declared.instruction.Instruction.TheVariants as instruction
+use Rattle.core_program.specs.Shape.{IsProgram}
+use Rattle.verdict.specs.FlatMachine.{RunsFlat}
 use Rattle.verdict.specs.declared.answer.Verdict.TheVariants.{Yes}
 use Rattle.verdict.specs.VerdictOf.{verdict_of, run_verdict_of}
 use Rattle.manager_slice.specs.Parts.{SliceParts}
@@ -12,6 +17,7 @@ use Rattle.core_unit.specs.Parts.{UnitParts}
 use Rattle.tardis_core.specs.Machine.{World, Run, opening}
 use Rattle.tardis_core.specs.Works.{has_next}
 use Rattle.tardis_core.specs.declared.event.Event.{Event}
+use Rattle.tardis_core.specs.declared.event.Event.TheVariants as event
 use Rattle.audit.specs.Events.{AreOneMachine}
 use Rattle.audit.specs.Lists.{transcripts, histories}
 use Rattle.audit.specs.Merges.{HasMerge}
@@ -58,11 +64,22 @@ RunsGetYes =
     (programs : List (List Instruction)) (g : ConfigParts) (w : World) → IsReachedFrom programs g w →
     verdict_of (logs_of w) ≡ Yes (length (entries (logs_of w)))
 
+-- so their operations are sequentially consistent, as textbooks have it
+abbrev pub RunsAreConsistent : Type 0
+RunsAreConsistent =
+    (programs : List (List Instruction)) (g : ConfigParts) (w : World) → IsReachedFrom programs g w → IsConsistent (operations_of (logs_of w))
+
 -- where every program has ended, they get Yes against the programs too
 abbrev pub EndedRunsGetYes : Type 0
 EndedRunsGetYes =
     (programs : List (List Instruction)) (g : ConfigParts) (w : World) → IsReachedFrom programs g w → HaveEnded w →
     run_verdict_of programs (logs_of w) ≡ Yes (length (entries (logs_of w)))
+
+-- so some whole run of the flat machine, one memory and a core at a time, performs just these operations
+abbrev pub EndedRunsAreFlat : Type 0
+EndedRunsAreFlat =
+    (programs : List (List Instruction)) (g : ConfigParts) (w : World) → All IsProgram programs → IsReachedFrom programs g w → HaveEnded w →
+    RunsFlat programs (operations_of (logs_of w))
 
 -- ---- of units and slices
 
@@ -80,3 +97,19 @@ abbrev pub WholeRunsGetYes : Type 0
 WholeRunsGetYes =
     (programs : List (List Instruction)) (g : ConfigParts) (us : List UnitParts) (ss : List SliceParts) → IsRun programs g us ss →
     run_verdict_of programs (unit_logs us) ≡ Yes (length (entries (unit_logs us)))
+
+-- ---- a run
+
+-- one core with one line of program, a store of 7 to address 5
+abbrev pub one_store : List (List Instruction)
+one_store = (instruction.Store 5 7 ∷ []) ∷ []
+
+-- a configuration, of one slice
+abbrev pub one_slice : ConfigParts
+one_slice = record { slices = 1; lease = 10; period = 100; cache_lines = 64; slice_lines = 64; inbox = 64; turns = 1000 }
+
+-- these events lead from its start to a state with this log: the store is at stamp 1
+abbrev pub OneStoreRuns : Type 0
+OneStoreRuns =
+    (w : World) × Run one_slice (opening one_store 1) (event.Turn 0 ∷ event.Serve 0 ∷ event.Take 0 ∷ event.Turn 0 ∷ []) w ×
+    (logs_of w ≡ ((record { value = 7; ts = 1; rank = 0; addr = 5; act = act.Store }) ∷ []) ∷ [])
