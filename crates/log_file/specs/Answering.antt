@@ -30,6 +30,10 @@ pub record HasAnswered (s : Answering) (bytes : List ℕ) (records : List Record
   pub one : IsOneLine s.begun
   pub short : length s.begun ≤ line_limit
 
+-- no fault came yet
+abbrev pub IsFaultless : Answering → Type 0
+IsFaultless s = (bytes : List ℕ) × ((records : List Record) × HasAnswered s bytes records)
+
 -- What is answered to a piece after these bytes and records: the next record, whose line ends with the bytes that were used,
 -- or none, where the piece was used whole.
 abbrev pub AnswersOne : List ℕ → List Record → List ℕ → (ℕ × Option Record) → Answering → Type 0

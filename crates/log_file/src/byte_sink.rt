@@ -34,6 +34,8 @@ pub fn write_all<W: ByteSink>(sink: &mut W, bytes: &[u8]) -> Result<(), WriteFai
     ensures ok { OnOk result (Appends (W.contents sink.old) (W.contents sink.new) bytes.now) }
     ensures begun { (n : ℕ) × (n ≤ length bytes.now)
         × Appends (W.contents sink.old) (W.contents sink.new) (take n bytes.now) }
+    ensures cut { OnErr result ((n : ℕ) × (n < length bytes.now)
+        × Appends (W.contents sink.old) (W.contents sink.new) (take n bytes.now)) }
     ensures failed { OnErr result (Failed (W.failed sink.old) (W.failed sink.new)) }
     ensures quiet { OnOk result (W.failed sink.new ≡ W.failed sink.old) }
 {

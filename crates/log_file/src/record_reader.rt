@@ -159,6 +159,20 @@ impl RecordReader {
 
     /// Whether the log is whole, where its bytes end here: the fault that came before, or Truncated at
     /// the line that they end in.
+    pub fn check_end(&self) -> Result<(), LogFault>
+        ensures ends { (bytes : List ℕ) (records : List Record) → HasAnswered self.now bytes records
+            → MatchResult result
+            (λ _. Spells first_format self.now.core self.now.cores bytes records)
+            (IsFaultOf self.now.core self.now.cores bytes) }
+        ensures again { IfSome self.now.fault (λ fault. MatchResult result (λ _. ⊥) (λ f. f ≡ fault)) }
+    {
+        if let Some(fault) = self.fault {
+            return Err(fault);
+        }
+        self.lines.finish()
+    }
+
+    /// Ends the reading, and answers what `check_end` does.
     pub fn finish(self) -> Result<(), LogFault>
         ensures ends { (bytes : List ℕ) (records : List Record) → HasAnswered self bytes records
             → MatchResult result
@@ -166,9 +180,6 @@ impl RecordReader {
             (IsFaultOf self.core self.cores bytes) }
         ensures again { IfSome self.fault (λ fault. MatchResult result (λ _. ⊥) (λ f. f ≡ fault)) }
     {
-        if let Some(fault) = self.fault {
-            return Err(fault);
-        }
-        self.lines.finish()
+        self.check_end()
     }
 }
