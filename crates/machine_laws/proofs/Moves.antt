@@ -55,7 +55,7 @@ dirty_is None e = absurd cc
 dirty_is (Some (Shared l)) e = absurd cc
 dirty_is (Some (Exclusive m l)) e = (l, cc)
 
-bool_cases : (b : Bool) → (b ≡ true) ⊎ (b ≡ false)
+pub bool_cases : (b : Bool) → (b ≡ true) ⊎ (b ≡ false)
 bool_cases true = inl refl
 bool_cases false = inr refl
 

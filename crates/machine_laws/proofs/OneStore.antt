@@ -1,6 +1,6 @@
 -- A run that the machine has: one core performs one store.
-use Rattle.std.proofs.Common.{◌≡◌, ◌∷◌, [], ℕ, ◌<◌, List, refl, arith, inl, inr, true, false}
-use Rattle.std.specs.Prelude.{Option, Some, None, ◌||◌, nat_lt, is_some}
+use Rattle.std.proofs.Common.{◌≡◌, ◌∷◌, [], ℕ, ◌<◌, refl, arith, inr, false}
+use Rattle.std.specs.Prelude.{Option, Some, None}
 use Rattle.std.specs.Ordering.{nat_cmp}
 use Rattle.std.specs.FinMap as map
 use Rattle.std.specs.FinMap.{get-empty, len-empty}
@@ -10,9 +10,7 @@ use Rattle.mem_op.specs.declared.id.Source.TheVariants as source
 use Rattle.line_stamps.specs.declared.line.Line.{Line}
 use Rattle.line_stamps.specs.declared.message.Message.{Message}
 use Rattle.line_stamps.specs.declared.message.Reply.{Reply}
-use Rattle.memory_stamp.specs.StoredParts.{StoredParts}
 use Rattle.memory_stamp.specs.Memory.{filled_line}
-use Rattle.core_program.specs.declared.instruction.Instruction.{Instruction}
 use Rattle.core_program.specs.declared.instruction.Instruction.TheVariants as instruction
 use Rattle.private_cache.specs.Table.{Hit, stored, copy_of}
 use Rattle.private_cache.specs.declared.held.Held.{Held}
@@ -22,7 +20,7 @@ use Rattle.manager_slice.specs.declared.managed.HistoryEntry.TheVariants.{Served
 use Rattle.manager_slice.specs.declared.managed.ManagedLine.{ManagedLine}
 use Rattle.manager_slice.specs.declared.managed.ManagedLine.TheVariants as managed
 use Rattle.core_unit.specs.Core.{Core, new_core, next_request, has_asked, has_taken, after_hit}
-use Rattle.tardis_core.specs.Machine.{World, with_core, with_slice, turn_asks, turn_hits, takes, by_core, serves, Leads, Run, start, next, opening}
+use Rattle.tardis_core.specs.Machine.{World, with_core, with_slice, turn_asks, turn_hits, takes, by_core, serves, Leads, start, next, opening}
 use Rattle.tardis_core.specs.declared.event.Event.TheVariants as event
 use Rattle.machine_laws.specs.Laws.{one_store, one_slice, OneStoreRuns}
 use Rattle.machine_laws.proofs.Maps.{get-insert_same}

@@ -1,9 +1,11 @@
 -- Refusals that no event meets.
-use Rattle.std.specs.Prelude.{◌≡◌, ℕ, Bool, true, false, Some, slice_get}
+use Rattle.std.specs.Prelude.{◌≡◌, ℕ, Bool, true, false, List, Some, slice_get}
+use Rattle.lease_rule.specs.ConfigParts.{ConfigParts}
+use Rattle.core_program.specs.declared.instruction.Instruction.{Instruction}
 use Rattle.manager_slice.specs.declared.fault.SliceFault.TheVariants as slice_fault
 use Rattle.core_unit.specs.declared.fault.UnitFault.TheVariants as unit_fault
 use Rattle.tardis_core.specs.Parts.{CoreParts, IsMachine}
-use Rattle.tardis_core.specs.Runs.{MayRefuse}
+use Rattle.tardis_core.specs.Runs.{IsRefusedAt, MayRefuse}
 use Rattle.tardis_core.specs.SeatParts.{SeatParts}
 use Rattle.tardis_core.specs.Steps.{step_outcome}
 use Rattle.tardis_core.specs.declared.event.Event.{Event}
@@ -24,3 +26,9 @@ HaveRoom p = (c : ℕ) (seat : SeatParts) → slice_get p.seats c ≡ Some seat 
 abbrev pub NoProtocolFault : Type 0
 NoProtocolFault =
     (p : CoreParts) (e : Event) (fault : CoreFault) → IsMachine p → HaveRoom p → MayRefuse (step_outcome p e) fault → is_protocol_fault fault ≡ false
+
+-- no event of any list is refused so
+abbrev pub NoRunMeetsOne : Type 0
+NoRunMeetsOne =
+    (programs : List (List Instruction)) (g : ConfigParts) (events : List Event) (at : ℕ) (fault : CoreFault) →
+    IsRefusedAt programs g events at fault → is_protocol_fault fault ≡ false

@@ -1,11 +1,12 @@
 //! Refusals that no event of the core machine meets. Each function does nothing: its contract is the law.
 
 ghost use Rattle.machine_laws.specs.Laws.{RepliesAlwaysFit};
-ghost use Rattle.machine_laws.specs.Refusals.{NoProtocolFault};
+ghost use Rattle.machine_laws.specs.Refusals.{NoProtocolFault, NoRunMeetsOne};
 
 /// No event is refused with 14 BadReply or 11 NotOwner: after any events a reply that is kept fits the message in hand, and a line
 /// is given back by its owner alone.
 pub fn never_refused()
     ensures fits { RepliesAlwaysFit }
     ensures passes { NoProtocolFault }
+    ensures runs { NoRunMeetsOne }
 {}

@@ -1,7 +1,12 @@
 //! The verdict on the logs of the core machine. Each function does nothing: its contract is the law.
 
 ghost use Rattle.machine_laws.specs.Laws.{
-    EndedRunsAreFlat, EndedRunsGetYes, MergedLogsGetYes, RunsAreConsistent, RunsGetYes, WholeRunsGetYes,
+  EndedRunsAreFlat,
+  EndedRunsGetYes,
+  MergedLogsGetYes,
+  RunsAreConsistent,
+  RunsGetYes,
+  WholeRunsGetYes,
 };
 
 /// **The Tardis core is sequentially consistent.** After any events the logs made so far get Yes, with the number of their records; so
