@@ -33,7 +33,7 @@ use Rattle.verdict.proofs.Lists.{set_elsewhere}
 use Rattle.machine_laws.specs.Stamps.{HasStamps}
 use Rattle.machine_laws.specs.Versions.{HasVersions}
 use Rattle.machine_laws.specs.Settled.{Settled, settled, view}
-use Rattle.machine_laws.specs.Hands.{AgreeOnOwners, HandFits, HandsFit}
+use Rattle.machine_laws.specs.Hands.{AgreeOnOwners, HandTells, HandsTell}
 use Rattle.machine_laws.proofs.Stamps.{which, quiet_stamps}
 use Rattle.machine_laws.proofs.Versions.{quiet_versions}
 use Rattle.machine_laws.proofs.Moves.{Move, move_owns}
@@ -44,12 +44,12 @@ use Rattle.machine_laws.proofs.Refining.{drop_move, give_move, ask_move, busy_mo
 use Rattle.machine_laws.proofs.Hits.{hit_operation, hit_is_hit, spill_move}
 
 pub record Keeps (g : ConfigParts) (w : World) : Type 0 where
-  pub hands : HandsFit w
+  pub hands : HandsTell w
   pub owners : AgreeOnOwners (settled g w)
   pub stamps : HasStamps (view (settled g w))
   pub versions : HasVersions (view (settled g w))
 
-moves : (g : ConfigParts) (w t : World) → Move (settled g w) (settled g t) → HandsFit t → Keeps g w → Keeps g t
+moves : (g : ConfigParts) (w t : World) → Move (settled g w) (settled g t) → HandsTell t → Keeps g w → Keeps g t
 moves g w t m fits k =
     let x : Settled = settled g w in
     let y : Settled = settled g t in
@@ -64,21 +64,21 @@ moves g w t m fits k =
 pub same_core : (u v : Core) → Some u ≡ Some v → u ≡ v
 same_core u v e = cc
 
-core_fits : (g : ConfigParts) (w : World) (c : ℕ) (u v : Core) → slice_get w.cores c ≡ Some u → Keeps g w → HandFits v.hand v.lines → HandsFit (with_core w c v)
+core_fits : (g : ConfigParts) (w : World) (c : ℕ) (u v : Core) → slice_get w.cores c ≡ Some u → Keeps g w → HandTells v.hand v.lines → HandsTell (with_core w c v)
 core_fits g w c u v e k f d x ex = elim (which d c) [
-  | inl i ↦ subst (λ (z : Core). HandFits z.hand z.lines) (same_core v x (sym (set_here w.cores c u v e) ∙ subst (λ (n : ℕ). slice_get (slice_set w.cores c v) n ≡ Some x) i ex)) f
+  | inl i ↦ subst (λ (z : Core). HandTells z.hand z.lines) (same_core v x (sym (set_here w.cores c u v e) ∙ subst (λ (n : ℕ). slice_get (slice_set w.cores c v) n ≡ Some x) i ex)) f
   | inr n ↦ k.hands d x (sym (set_elsewhere w.cores c d v n) ∙ ex)
 ]
 
-request_fits : (x : Op) (pts : ℕ) (m : Lines) → HandFits (Some (request x pts (map.get m (op_addr x)))) m
+request_fits : (x : Op) (pts : ℕ) (m : Lines) → HandTells (Some (request x pts (map.get m (op_addr x)))) m
 request_fits (op.Load a) pts m = refl
 request_fits (op.Store a v) pts m = refl
 
-given_fits : (kind : RecallKind) (a : ℕ) (l : Line) (m : Lines) → map.get m a ≡ left kind l → HandFits (Some (give_back kind a l)) m
+given_fits : (kind : RecallKind) (a : ℕ) (l : Line) (m : Lines) → map.get m a ≡ left kind l → HandTells (Some (give_back kind a l)) m
 given_fits WriteBack a l m e = e
 given_fits Flush a l m e = e
 
-free_fits : (u : Core) → u.hand ≡ None → (m : Lines) → HandFits u.hand m
+free_fits : (u : Core) → u.hand ≡ None → (m : Lines) → HandTells u.hand m
 free_fits u e m = rw e tt
 
 -- ---- a core's events
@@ -124,17 +124,17 @@ core_keeps g w c u e o v at (increments free) k =
 serve_keeps : (g : ConfigParts) (w : World) (c : ℕ) (u : Core) (m : Message) (x : Reply) (s t : Slice) → slice_get w.cores c ≡ Some u → u.hand ≡ Some m → u.kept ≡ None → slice_get w.slices (slice_number g (addr_of m)) ≡ Some s → Serves g s c m x t → Keeps g w
     → Keeps g (with_slice g (with_core w c (record u { kept = Some x })) (addr_of m) t)
 serve_keeps g w c u m x s t at hand kept es (takes_written_back a l there) k =
-    let fits : HandFits u.hand u.lines = k.hands c u at in
+    let fits : HandTells u.hand u.lines = k.hands c u at in
     moves g w _ (give_back_move g w c u WriteBack a l s at hand kept (rw hand at fits) es) (core_fits g w c u (record u { kept = Some Taken }) at k fits) k
 serve_keeps g w c u m x s t at hand kept es (takes_flushed a l there) k =
-    let fits : HandFits u.hand u.lines = k.hands c u at in
+    let fits : HandTells u.hand u.lines = k.hands c u at in
     moves g w _ (give_back_move g w c u Flush a l s at hand kept (rw hand at fits) es) (core_fits g w c u (record u { kept = Some Taken }) at k fits) k
 serve_keeps g w c u m x s t at hand kept es (shares a copy pts l met room) k =
-    let fits : HandFits u.hand u.lines = k.hands c u at in
+    let fits : HandTells u.hand u.lines = k.hands c u at in
     let q : IsRequest g w c u (ShReq a copy pts) a s l = record { core = at; hand = hand; kept = kept; addr = refl; ask = refl; slice = es; common = met } in
     moves g w _ (share_move g w c u (ShReq a copy pts) a copy s l (renewed_rts l.stamps pts g.lease) q (rw hand at fits) (omega arith) k.owners k.stamps) (core_fits g w c u _ at k fits) k
 serve_keeps g w c u m x s t at hand kept es (gives a copy l met room) k =
-    let fits : HandFits u.hand u.lines = k.hands c u at in
+    let fits : HandTells u.hand u.lines = k.hands c u at in
     let q : IsRequest g w c u (ExReq a copy) a s l = record { core = at; hand = hand; kept = kept; addr = refl; ask = refl; slice = es; common = met } in
     moves g w _ (own_move g w c u (ExReq a copy) a copy s l q (rw hand at fits) k.owners k.stamps) (core_fits g w c u _ at k fits) k
 

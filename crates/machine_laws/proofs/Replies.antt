@@ -32,7 +32,7 @@ use Rattle.tardis_core.specs.declared.event.Event.{Event}
 use Rattle.tardis_core.proofs.Works.{set_here}
 use Rattle.verdict.proofs.Lists.{set_elsewhere}
 use Rattle.machine_laws.specs.Settled.{settled}
-use Rattle.machine_laws.specs.Hands.{HandFits, ReplyFits, no_message, unserved, busy, taken, fills, RepliesFit}
+use Rattle.machine_laws.specs.Hands.{HandTells, ReplyFits, no_message, unserved, busy, taken, fills, RepliesFit}
 use Rattle.machine_laws.specs.Laws.{IsReachedFrom}
 use Rattle.machine_laws.proofs.Stamps.{which}
 use Rattle.machine_laws.proofs.Refining.{IsRequest, request_not_own, request_lease, share_arrives, own_arrives, own_entry, give_addr, give_unserved}
@@ -88,14 +88,14 @@ serve_ready : (g : ConfigParts) (w : World) (c : ℕ) (u : Core) (m : Message) (
 serve_ready g w c u m x s t at hand kept es (takes_written_back a l there) k r = taken (WbRep a l) hand refl refl
 serve_ready g w c u m x s t at hand kept es (takes_flushed a l there) k r = taken (FlushRep a l) hand refl refl
 serve_ready g w c u m x s t at hand kept es (shares a copy pts l met room) k r =
-    let same : HandFits u.hand u.lines = k.hands c u at in
+    let same : HandTells u.hand u.lines = k.hands c u at in
     let q : IsRequest g w c u (ShReq a copy pts) a s l = record { core = at; hand = hand; kept = kept; addr = refl; ask = refl; slice = es; common = met } in
     let lease : l.stamps.wts ≤ l.stamps.rts = request_lease g w c u (ShReq a copy pts) a s l q k.stamps in
     let t : ℕ = renewed_rts l.stamps pts g.lease in
     let z = share_arrives (map.get u.lines a) copy l t (request_not_own g w c u (ShReq a copy pts) a s l q k.owners) (rw hand at same) (omega arith) in
     fills (ShReq a copy pts) _ (Shared z.0) hand refl (share_fits a copy pts (with_rts l t)) (asking_place g u (ShReq a copy pts) hand kept r refl) z.1
 serve_ready g w c u m x s t at hand kept es (gives a copy l met room) k r =
-    let same : HandFits u.hand u.lines = k.hands c u at in
+    let same : HandTells u.hand u.lines = k.hands c u at in
     let q : IsRequest g w c u (ExReq a copy) a s l = record { core = at; hand = hand; kept = kept; addr = refl; ask = refl; slice = es; common = met } in
     let lease : l.stamps.wts ≤ l.stamps.rts = request_lease g w c u (ExReq a copy) a s l q k.stamps in
     let z = own_arrives (map.get u.lines a) copy l (request_not_own g w c u (ExReq a copy) a s l q k.owners) (rw hand at same) lease in

@@ -27,15 +27,15 @@ pub record AgreeOnOwners (x : Settled) : Type 0 where
 
 -- a message in hand speaks of the line as it is: a request tells of the copy that is there, and of a line that is given back is there
 -- what such a message leaves
-abbrev pub HandFits : Option Message → Lines → Type 0
-HandFits None lines = Unit {0}
-HandFits (Some (ShReq a copy pts)) lines = copy ≡ copy_of (map.get lines a)
-HandFits (Some (ExReq a copy)) lines = copy ≡ copy_of (map.get lines a)
-HandFits (Some (WbRep a l)) lines = map.get lines a ≡ left WriteBack l
-HandFits (Some (FlushRep a l)) lines = map.get lines a ≡ left Flush l
+abbrev pub HandTells : Option Message → Lines → Type 0
+HandTells None lines = Unit {0}
+HandTells (Some (ShReq a copy pts)) lines = copy ≡ copy_of (map.get lines a)
+HandTells (Some (ExReq a copy)) lines = copy ≡ copy_of (map.get lines a)
+HandTells (Some (WbRep a l)) lines = map.get lines a ≡ left WriteBack l
+HandTells (Some (FlushRep a l)) lines = map.get lines a ≡ left Flush l
 
-abbrev pub HandsFit : World → Type 0
-HandsFit w = (c : ℕ) (u : Core) → slice_get w.cores c ≡ Some u → HandFits u.hand u.lines
+abbrev pub HandsTell : World → Type 0
+HandsTell w = (c : ℕ) (u : Core) → slice_get w.cores c ≡ Some u → HandTells u.hand u.lines
 
 -- the reply that is kept, if there is one, answers the message in hand
 pub data ReplyFits (g : ConfigParts) (u : Core) : Type 0 where

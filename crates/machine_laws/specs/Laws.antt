@@ -25,7 +25,7 @@ use Rattle.audit.specs.Runs.{IsRun}
 use Rattle.machine_laws.specs.Stamps.{HasStamps}
 use Rattle.machine_laws.specs.Versions.{HasVersions}
 use Rattle.machine_laws.specs.Settled.{settled, view_of}
-use Rattle.machine_laws.specs.Hands.{AgreeOnOwners, HandsFit, RepliesFit}
+use Rattle.machine_laws.specs.Hands.{AgreeOnOwners, HandsTell, RepliesFit}
 
 -- some events lead from the start of these programs to w
 abbrev pub IsReachedFrom : List (List Instruction) → ConfigParts → World → Type 0
@@ -36,8 +36,8 @@ IsReachedFrom programs g w = (events : List Event) × Run g (opening programs g.
 abbrev pub OwnersAgree : Type 0
 OwnersAgree = (programs : List (List Instruction)) (g : ConfigParts) (w : World) → IsReachedFrom programs g w → AgreeOnOwners (settled g w)
 
-abbrev pub HandsAlwaysFit : Type 0
-HandsAlwaysFit = (programs : List (List Instruction)) (g : ConfigParts) (w : World) → IsReachedFrom programs g w → HandsFit w
+abbrev pub HandsAlwaysTell : Type 0
+HandsAlwaysTell = (programs : List (List Instruction)) (g : ConfigParts) (w : World) → IsReachedFrom programs g w → HandsTell w
 
 abbrev pub RepliesAlwaysFit : Type 0
 RepliesAlwaysFit = (programs : List (List Instruction)) (g : ConfigParts) (w : World) → IsReachedFrom programs g w → RepliesFit g w

@@ -1,12 +1,12 @@
 //! What no event of the core machine breaks. Each function does nothing: its contract is the law.
 
-ghost use Rattle.machine_laws.specs.Laws.{HandsAlwaysFit, OwnersAgree, StampsHold, VersionsHold};
+ghost use Rattle.machine_laws.specs.Laws.{HandsAlwaysTell, OwnersAgree, StampsHold, VersionsHold};
 
-/// After any events a core owns a line exactly where the line's slice names it as the owner, and a message in hand speaks of the line
-/// as it is.
+/// After any events, where what is in flight counts as arrived, a core owns a line exactly where the line's slice names it as the owner;
+/// and a message in hand speaks of its core's line as it is.
 pub fn owners_agree()
     ensures owners { OwnersAgree }
-    ensures hands { HandsAlwaysFit }
+    ensures hands { HandsAlwaysTell }
 {}
 
 /// After any events the stamps and leases of lines and copies hold: no operation is later than the lease of its line, no store lies
