@@ -4,6 +4,7 @@ ghost use Rattle.std.specs.Prelude.{◌<◌};
 
 mod copies;
 mod effects;
+mod events;
 mod rooms;
 
 use super::values::*;
