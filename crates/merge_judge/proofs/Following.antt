@@ -1,0 +1,157 @@
+-- A log followed record by record.
+use Rattle.std.proofs.Common.{◌≡◌, ℕ, ◌+◌, ◌-◌, ◌<◌, ◌≤◌, ◌^◌, List, [], ◌∷◌, ◌++◌, length, take, drop, Option, None, Some, Result, Ok, Err, refl, sym, ap, subst, ◌∙◌, arith, append_assoc, append-nil, length-append}
+use Rattle.std.specs.Prelude.{is_some, true, false}
+use Rattle.std.specs.Io.KnownBytes.{Consumes, IsAtEnd}
+use Rattle.std.proofs.lemmas.List.{take-append-drop, drop-drop, drop_all, drop-take}
+use Rattle.log_record.specs.declared.record.Record.{Record}
+use Rattle.log_file.specs.declared.fault.LogFault.{LogFault}
+use Rattle.log_file.specs.declared.fault.LogFault.TheVariants.{At, OutOfMemory, Read}
+use Rattle.log_file.specs.Answering.{Answering, AnswersOne, HasAnswered, IsFaultless}
+use Rattle.log_file.specs.Answers.{IsFaultOf, IsFaultOrDevice}
+use Rattle.log_file.specs.Devices.{Tells}
+use Rattle.log_file.specs.Feeding.{IsSettled}
+use Rattle.log_file.specs.Log.{Spells, first_format}
+use Rattle.log_file.proofs.Bounded.{read_long}
+use Rattle.log_file.proofs.Devices.{told, tells_told, consumes_more, consumes_told, consumes_end}
+use Rattle.merge_judge.specs.OpenedLog.{OpenedLog}
+use Rattle.merge_judge.specs.inner.Following.{EndsAt, EndsWhole, Follows, IsNext, TakesOne}
+
+-- ---- one record of the bytes that were read
+
+-- what is left where some were used
+left_over : (piece : List ℕ) (used filled count : ℕ) → used ≤ filled → count ≤ filled - used
+    → drop count (take (filled - used) (drop used piece)) ≡ take (filled - (used + count)) (drop (used + count) piece)
+left_over piece used filled count within few =
+    let split : filled - used ≡ count + (filled - (used + count)) = omega arith in
+    ap (λ n. drop count (take n (drop used piece))) split
+    ∙ drop-take count (filled - (used + count)) (drop used piece)
+    ∙ ap (take (filled - (used + count))) (drop-drop count used piece)
+
+module _ (bytes : List ℕ) (records : List Record) (old new : Answering) (piece : List ℕ) (used filled : ℕ) (within : used ≤ filled) where
+  abbrev unused : List ℕ
+  unused = take (filled - used) (drop used piece)
+
+  pub one_taken : (count : ℕ) (logged : Option Record) → count ≤ filled - used → AnswersOne bytes records unused (count, logged) new
+      → TakesOne bytes records (record { reader = old; unused = unused }) (Ok logged)
+      (record { reader = new; unused = take (filled - (used + count)) (drop (used + count) piece) })
+  one_taken count None few (all, answered) = (sym (left_over piece used filled count within few) ∙ drop_all count unused (omega (arith, all)), answered)
+  one_taken count (Some r) few (some, answered, none) = (
+    take count unused,
+    ap (λ xs. take count unused ++ xs) (sym (left_over piece used filled count within few)) ∙ take-append-drop count unused,
+    answered,
+  )
+
+-- ---- the log
+
+settled_holds : (core cores : ℕ) (front rest : List ℕ) (f : LogFault) → IsSettled core cores front f → IsFaultOrDevice core cores (front ++ rest) f
+settled_holds core cores front rest (At k f) h = h rest
+settled_holds core cores front rest OutOfMemory h = tt
+settled_holds core cores front rest Read h = absurd h
+
+fault_holds : (core cores : ℕ) (bytes : List ℕ) (f : LogFault) → IsFaultOf core cores bytes f → IsFaultOrDevice core cores bytes f
+fault_holds core cores bytes (At k f) h = h
+fault_holds core cores bytes OutOfMemory h = absurd h
+fault_holds core cores bytes Read h = absurd h
+
+pub read_failed : (core cores : ℕ) (first : Option (List ℕ)) → EndsAt core cores first Read
+read_failed core cores first = record { text = told first; tells = tells_told first; holds = tt }
+
+module _ (core cores : ℕ) (first still : Option (List ℕ)) (log new : OpenedLog) (records : List Record) (h : Follows core cores first still log records) where
+  -- a fault of the bytes that were read
+  pub refused_at : (f : LogFault) → ((bytes : List ℕ) (rs : List Record) → HasAnswered log.reader bytes rs → TakesOne bytes rs log (Err f) new) → EndsAt core cores first f
+  refused_at f takes =
+      let settled : IsSettled core cores (h.bytes ++ log.unused) f =
+      subst (λ k. IsSettled core k (h.bytes ++ log.unused) f) h.cores_is
+      (subst (λ k. IsSettled k log.reader.cores (h.bytes ++ log.unused) f) h.core_is (takes h.bytes records h.answered)) in
+      record {
+        text = (h.bytes ++ log.unused) ++ told still;
+        tells = consumes_told first still (h.bytes ++ log.unused) h.given;
+        holds = settled_holds core cores (h.bytes ++ log.unused) (told still) f settled;
+      }
+
+  pub next_taken : (r : Record) → new.reader.core ≡ log.reader.core → new.reader.cores ≡ log.reader.cores
+      → ((bytes : List ℕ) (rs : List Record) → HasAnswered log.reader bytes rs → TakesOne bytes rs log (Ok (Some r)) new) → Follows core cores first still new (records ++ r ∷ [])
+  next_taken r same_core same_cores takes =
+      let t = takes h.bytes records h.answered in
+      record {
+        core_is = same_core ∙ h.core_is;
+        cores_is = same_cores ∙ h.cores_is;
+        bytes = h.bytes ++ t.0;
+        answered = t.2;
+        given = subst (λ xs. Consumes first still xs) (ap (λ xs. h.bytes ++ xs) (sym t.1) ∙ sym (append_assoc h.bytes t.0 new.unused)) h.given;
+      }
+
+  -- after all bytes that were read, one more piece
+  pub filled_more : (mid : OpenedLog) (further : Option (List ℕ)) → mid.reader.core ≡ log.reader.core → mid.reader.cores ≡ log.reader.cores
+      → ((bytes : List ℕ) (rs : List Record) → HasAnswered log.reader bytes rs → TakesOne bytes rs log (Ok None) mid)
+      → new.reader ≡ mid.reader → Consumes still further new.unused → Follows core cores first further new records
+  filled_more mid further same_core same_cores takes same given =
+      let t = takes h.bytes records h.answered in
+      record {
+        core_is = ap (λ (s : Answering). s.core) same ∙ same_core ∙ h.core_is;
+        cores_is = ap (λ (s : Answering). s.cores) same ∙ same_cores ∙ h.cores_is;
+        bytes = h.bytes ++ log.unused;
+        answered = subst (λ (s : Answering). HasAnswered s (h.bytes ++ log.unused) records) (sym same) t.1;
+        given = consumes_more first still further (h.bytes ++ log.unused) new.unused h.given given;
+      }
+
+  -- a record, where one was taken
+  pub next_is : (o : Option Record) → is_some o ≡ true → new.reader.core ≡ log.reader.core → new.reader.cores ≡ log.reader.cores
+      → ((bytes : List ℕ) (rs : List Record) → HasAnswered log.reader bytes rs → TakesOne bytes rs log (Ok o) new) → IsNext core cores first records (Ok o) still new
+  next_is None some same_core same_cores takes = absurd cc
+  next_is (Some r) some same_core same_cores takes = next_taken r same_core same_cores takes
+
+pub no_record : (o : Option Record) → is_some o ≡ false → o ≡ None
+no_record None none = refl
+no_record (Some r) none = absurd cc
+
+pub one_fault : {T : Type 0} (r : Result T LogFault) (x f : LogFault) → r ≡ Err x → x ≡ f → r ≡ Err Read → f ≡ Read
+one_fault r x f p q e = cc
+
+pub not_read : (core cores : ℕ) (bytes : List ℕ) (f : LogFault) → IsFaultOf core cores bytes f → f ≡ Read → ⊥
+not_read core cores bytes f h e = subst (λ g. IsFaultOf core cores bytes g) e h
+
+-- the end of the source
+module _ (core cores : ℕ) (first still : Option (List ℕ)) (log : OpenedLog) (records : List Record) (h : Follows core cores first still log records) (at_end : IsAtEnd still) (none : log.unused ≡ []) where
+  tells_bytes : Tells first h.bytes
+  tells_bytes = consumes_end first still h.bytes (subst (λ xs. Consumes first still xs) (ap (λ xs. h.bytes ++ xs) none ∙ append-nil h.bytes) h.given) at_end
+
+  pub ends_whole : ((bytes : List ℕ) (rs : List Record) → HasAnswered log.reader bytes rs → Spells first_format log.reader.core log.reader.cores bytes rs) → EndsWhole core cores first records
+  ends_whole spells = record {
+    text = h.bytes;
+    tells = tells_bytes;
+    spells = subst (λ k. Spells first_format core k h.bytes records) h.cores_is
+        (subst (λ k. Spells first_format k log.reader.cores h.bytes records) h.core_is (spells h.bytes records h.answered));
+  }
+
+  pub ends_at : (f : LogFault) → ((bytes : List ℕ) (rs : List Record) → HasAnswered log.reader bytes rs → IsFaultOf log.reader.core log.reader.cores bytes f) → EndsAt core cores first f
+  ends_at f holds = record {
+    text = h.bytes;
+    tells = tells_bytes;
+    holds = fault_holds core cores h.bytes f (subst (λ k. IsFaultOf core k h.bytes f) h.cores_is
+        (subst (λ k. IsFaultOf k log.reader.cores h.bytes f) h.core_is (holds h.bytes records h.answered)));
+  }
+
+-- ---- that the search for a record ends
+
+-- so many times was the source read in the search, and no fault came
+pub record HasRead (log : OpenedLog) (reads : ℕ) : Type 0 where
+  pub bytes : List ℕ
+  pub records : List Record
+  pub answered : HasAnswered log.reader bytes records
+  pub few : reads ≤ length bytes + length log.unused
+
+pub read_none : (log : OpenedLog) → IsFaultless log.reader → HasRead log 0
+read_none log h = record { bytes = h.0; records = h.1.0; answered = h.1.1; few = omega arith }
+
+module _ (log mid new : OpenedLog) (reads : ℕ) (h : HasRead log reads) (takes : (bytes : List ℕ) (rs : List Record) → HasAnswered log.reader bytes rs → TakesOne bytes rs log (Ok None) mid) where
+  pub read_more : new.reader ≡ mid.reader → 1 ≤ length new.unused → HasRead new (reads + 1)
+  read_more same some = record {
+    bytes = h.bytes ++ log.unused;
+    records = h.records;
+    answered = subst (λ (s : Answering). HasAnswered s (h.bytes ++ log.unused) h.records) (sym same) (takes h.bytes h.records h.answered).1;
+    few = omega (arith, h.few, some, length-append h.bytes log.unused);
+  }
+
+  pub read_few : reads < 2 ^ 27
+  read_few = let few = read_long mid.reader (h.bytes ++ log.unused) h.records (takes h.bytes h.records h.answered).1 in omega (arith, few, h.few, length-append h.bytes log.unused)

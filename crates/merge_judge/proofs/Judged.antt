@@ -1,0 +1,157 @@
+-- What a merge answers that ends before its verdict.
+use Rattle.std.specs.Prelude.{◌≡◌, ℕ, List, [], ◌++◌, refl, Option, Result, Ok, Err, map}
+use Rattle.std.proofs.Common.{sym, ◌∙◌, ap}
+use Rattle.log_file.specs.declared.device_fault.WriteFault.{WriteFault}
+use Rattle.log_file.specs.declared.device_fault.WriteFault.TheVariants.{OutOfMemory as NoMemory, Write as WriteFailed}
+use Rattle.verdict.specs.declared.judge_fault.JudgeFault.{JudgeFault}
+use Rattle.verdict.specs.declared.judge_fault.JudgeFault.TheVariants.{OutOfMemory, Read}
+use Rattle.verdict.proofs.Told.{each_tells, told}
+use Rattle.std.specs.Io.KnownBytes.{Appends}
+use Rattle.merge_judge.specs.declared.merge_fault.MergeFault.TheVariants.{Judge, Write}
+use Rattle.merge_judge.specs.OrderText.{LacksEnd}
+use Rattle.merge_judge.specs.WriteFaults.{from_write}
+use Rattle.std.specs.Prelude.{IfErr}
+use Rattle.verdict.specs.Counts.{IsBadCount}
+use Rattle.verdict.specs.declared.judge_fault.Count.TheVariants.{Files}
+use Rattle.verdict.specs.declared.judge_fault.JudgeFault.TheVariants.{BadConfig}
+use Rattle.merge_judge.specs.declared.merge_fault.MergeFault.{MergeFault}
+use Rattle.merge_judge.specs.inner.Judging.{IsMergedBy, IsNoCount}
+use Rattle.std.specs.Prelude.{Bool, true, false, length}
+use Rattle.std.proofs.Common.{append-nil, inl, inr, subst}
+use Rattle.std.proofs.lemmas.List.{length-map}
+use Rattle.mem_op.specs.declared.id.OpId.{OpId}
+use Rattle.mem_op.specs.Consistency.{IsSequentialOrder}
+use Rattle.log_record.specs.declared.record.Record.{Record}
+use Rattle.log_record.specs.declared.record.Entry.{Entry}
+use Rattle.log_record.specs.Entries.{operations_of}
+use Rattle.log_file.proofs.Devices.{appends_more}
+use Rattle.verdict.specs.declared.answer.Verdict.TheVariants.{Yes, No}
+use Rattle.verdict.specs.ByKey.{ids_by_key}
+use Rattle.verdict.specs.FaultParts.{FaultParts}
+use Rattle.verdict.proofs.Bridge.{yes_is_sequential}
+use Rattle.merge_judge.specs.declared.lane.Lane.{Lane}
+use Rattle.merge_judge.specs.declared.merge.Merge.{Merge}
+use Rattle.merge_judge.specs.OrderText.{end_line, id_lines}
+use Rattle.merge_judge.specs.inner.Judging.{line_where}
+use Rattle.merge_judge.specs.inner.Merging.{HasMerged}
+use Rattle.merge_judge.specs.inner.Settling.{Settles}
+use Rattle.merge_judge.specs.inner.Writing.{IsWritten}
+use Rattle.merge_judge.proofs.MergeSoFar.{ids, joined, lacks_end, lacks_more, lines_where, order_where}
+use Rattle.merge_judge.proofs.WritingFacts.{appends_none}
+
+module _ {S : Type 0} (remaining : S → Option (List ℕ)) (failed : S → ℕ) (old new : Option (List ℕ)) (before after : List S) (written : List ℕ) (appends : Appends old new written) (lacks : LacksEnd written) where
+  pub ends_early : (f : WriteFault) → IsMergedBy remaining failed old new before after (Err (from_write f))
+  ends_early NoMemory = record {
+    texts = map (λ reader. told (remaining reader)) before;
+    tells = each_tells remaining before;
+    answers = tt;
+    written = written;
+    appends = appends;
+    writes = lacks;
+    read = λ file h. absurd cc;
+  }
+  ends_early WriteFailed = record {
+    texts = map (λ reader. told (remaining reader)) before;
+    tells = each_tells remaining before;
+    answers = tt;
+    written = written;
+    appends = appends;
+    writes = lacks;
+    read = λ file h. absurd cc;
+  }
+
+-- a failed write is told as such
+pub wrote : (f : WriteFault) → ◌≡◌ {A = Result (Unit {0}) WriteFault} (Err f) (Err WriteFailed) → from_write f ≡ Write
+wrote NoMemory h = absurd cc
+wrote WriteFailed h = refl
+
+pub no_memory : {S : Type 0} (remaining : S → Option (List ℕ)) (failed : S → ℕ) (old : Option (List ℕ)) (before after : List S) → IsMergedBy remaining failed old old before after (Err (Judge OutOfMemory))
+no_memory remaining failed old before after = ends_early remaining failed old old before after [] (appends_none old) (lacks_end [] [] [] refl) NoMemory
+
+-- a write that fails at a record
+pub look_fails : {S : Type 0} (remaining : S → Option (List ℕ)) (failed : S → ℕ) (old mid new : Option (List ℕ)) (before after : List S) (written kept kept_new : List ℕ) (order : List OpId) (on : Bool) (id : OpId) (f : WriteFault)
+    → Appends old mid written → written ++ kept ≡ id_lines order → IsWritten mid new (kept ++ line_where on id) (Err f) kept_new → IsMergedBy remaining failed old new before after (Err (from_write f))
+look_fails remaining failed old mid new before after written kept kept_new order on id f appends lines w =
+    ends_early remaining failed old new before after (written ++ w.0) (appends_more old mid new written w.0 appends w.1.1)
+    (lacks_end (written ++ w.0) w.1.0 (order_where on order id) (joined written kept w.0 w.1.0 (line_where on id) (id_lines order) lines w.1.2 ∙ sym (lines_where on order id))) f
+
+-- a set without a verdict, and one with a No
+pub settled_fault : {S : Type 0} (remaining : S → Option (List ℕ)) (failed : S → ℕ) (old new : Option (List ℕ)) (before after : List S) (lanes : List Lane) (merged : List (List Record)) (written kept : List ℕ) (order : List OpId) (fault : JudgeFault)
+    → Appends old new written → written ++ kept ≡ id_lines order → Settles remaining failed before after lanes merged (Err fault) → IsMergedBy remaining failed old new before after (Err (Judge fault))
+settled_fault remaining failed old new before after lanes merged written kept order fault appends lines s = record {
+  texts = s.texts;
+  tells = s.tells;
+  answers = s.answers;
+  written = written;
+  appends = appends;
+  writes = lacks_end written kept order lines;
+  read = λ file h. s.failed_at file (let e : fault ≡ Read file = cc in e);
+}
+
+pub settled_no : {S : Type 0} (remaining : S → Option (List ℕ)) (failed : S → ℕ) (old new : Option (List ℕ)) (before after : List S) (lanes : List Lane) (merged : List (List Record)) (written kept : List ℕ) (order : List OpId) (fault : FaultParts)
+    → Appends old new written → written ++ kept ≡ id_lines order → Settles remaining failed before after lanes merged (Ok (No fault)) → IsMergedBy remaining failed old new before after (Ok (No fault))
+settled_no remaining failed old new before after lanes merged written kept order fault appends lines s = record {
+  texts = s.texts;
+  tells = s.tells;
+  answers = s.answers;
+  written = written;
+  appends = appends;
+  writes = lacks_end written kept order lines;
+  read = tt;
+}
+
+-- a Yes: all records were merged without a fault, and their order is written
+module _ {S : Type 0} (remaining : S → Option (List ℕ)) (failed : S → ℕ) (old mid new : Option (List ℕ)) (before after : List S) (merge : Merge) (merged : List (List Record)) (done : List Entry) (written kept kept_new : List ℕ) (order : List OpId) (count : ℕ)
+    (m : HasMerged remaining failed before after merge merged done) (appends : Appends old mid written) (lines : written ++ kept ≡ id_lines order)
+    (s : Settles remaining failed before after merge.lanes.items merged (Ok (Yes count))) (counted : count ≡ length done) (all : merge.clean ≡ true → order ≡ ids done) where
+  steady : merge.clean ≡ true
+  steady = go merge.clean refl
+    where
+      go : (b : Bool) → merge.clean ≡ b → merge.clean ≡ true
+      go true e = e
+      go false e = absurd (let t = m.faulty e in let u = s.clean.2 t.0 t.1.0 t.1.1 in
+          elim t.1.2 [ inl f ↦ f u.0 | inr f ↦ f u.1 ])
+
+  by_key_is : order ≡ ids_by_key merged
+  by_key_is = all steady ∙ ap ids (m.by_key_so_far (λ k l h. (s.clean.2 k l h).0))
+
+  long : count ≡ length order
+  long = counted ∙ sym (ap length (all steady) ∙ length-map done (λ (e : Entry). e.id))
+
+  pub settled_yes : IsWritten {E = WriteFault} mid new (kept ++ end_line count) (Ok tt) kept_new → kept_new ≡ [] → IsMergedBy remaining failed old new before after (Ok (Yes count))
+  settled_yes w none = record {
+    texts = s.texts;
+    tells = s.tells;
+    answers = s.answers;
+    written = written ++ w.0;
+    appends = appends_more old mid new written w.0 appends w.1.1;
+    writes = (
+      merged,
+      (
+        s.clean.0,
+        (
+          order,
+          subst (λ xs. IsSequentialOrder (operations_of merged) xs) (sym by_key_is) (yes_is_sequential merged count (sym s.clean.1)),
+          sym (append-nil (written ++ w.0)) ∙ ap (λ xs. (written ++ w.0) ++ xs) (sym (w.1.3 ∙ none)) ∙ joined written kept w.0 w.1.0 (end_line count) (id_lines order) lines w.1.2 ∙ ap (λ n. id_lines order ++ end_line n) long,
+        ),
+      ),
+    );
+    read = tt;
+  }
+
+  pub end_fails : (f : WriteFault) → IsWritten mid new (kept ++ end_line count) (Err f) kept_new → IsMergedBy remaining failed old new before after (Err (from_write f))
+  end_fails f w =
+      ends_early remaining failed old new before after (written ++ w.0) (appends_more old mid new written w.0 appends w.1.1)
+      (lacks_more (written ++ w.0) w.1.0 order (joined written kept w.0 w.1.0 (end_line count) (id_lines order) lines w.1.2 ∙ ap (λ n. id_lines order ++ end_line n) long) w.1.4) f
+
+-- a bad count is no failed read
+pub bad_no_read : (f : JudgeFault) (file : ℕ) → IsBadCount f → Judge f ≡ Judge (Read file) → ⊥
+bad_no_read f file bad h = let e : f ≡ Read file = cc in subst IsBadCount e bad
+
+pub tail_range : (fault : JudgeFault) → (IsBadCount fault → ⊥) → fault ≡ BadConfig Files → ⊥
+tail_range fault none e = none (subst IsBadCount (sym e) tt)
+
+pub no_bad_count : {T : Type 0} (r : Result T MergeFault) → IfErr r IsNoCount → r ≡ Err (Judge (BadConfig Files)) → ⊥
+no_bad_count (Ok x) h e = absurd cc
+no_bad_count (Err (Judge f)) h e = tail_range f h (let q : f ≡ BadConfig Files = cc in q)
+no_bad_count (Err Write) h e = absurd cc

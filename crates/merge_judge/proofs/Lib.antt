@@ -1,0 +1,13 @@
+pub mod Added
+pub mod Along
+pub mod Falls
+pub mod Following
+pub mod LaneFacts
+pub mod Matches
+pub mod Merged
+pub mod WordFacts
+pub mod WritingFacts
+pub mod Opening
+pub mod Settled
+pub mod MergeSoFar
+pub mod Judged

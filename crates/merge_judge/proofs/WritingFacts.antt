@@ -1,0 +1,33 @@
+-- What a sink took of a text.
+use Rattle.std.specs.Prelude.{ℕ, ◌<◌, List, [], ◌∷◌, ◌++◌, refl, Option, Some, None, Err, length, take, drop}
+use Rattle.std.proofs.Common.{sym, ap, arith, append-nil, length-append, length-drop}
+use Rattle.std.proofs.lemmas.List.{take-append-drop}
+use Rattle.std.specs.Io.KnownBytes.{Appends}
+use Rattle.std.specs.Fmt.{decimal}
+use Rattle.mem_op.specs.declared.id.OpId.{OpId}
+use Rattle.merge_judge.specs.OrderText.{id_line, end_line}
+use Rattle.merge_judge.specs.inner.Writing.{IsWritten}
+
+pub appends_none : (o : Option (List ℕ)) → Appends o o []
+appends_none None = tt
+appends_none (Some xs) = sym (append-nil xs)
+
+-- it failed before the end
+pub cut_off : {E : Type 0} (old new : Option (List ℕ)) (text kept : List ℕ) (f : E) → (n : ℕ) × (n < length text) × Appends old new (take n text) → IsWritten old new text (Err f) kept
+cut_off old new text kept f t = (
+  take t.0 text,
+  (drop t.0 text, t.2, take-append-drop t.0 text, tt, λ none. omega (arith, t.1, ap length none, length-drop t.0 text)),
+)
+
+-- nothing was written of a text that has a last line
+pub none_written : {E : Type 0} (o : Option (List ℕ)) (front line kept : List ℕ) (f : E) → 0 < length line → IsWritten o o (front ++ line) (Err f) kept
+none_written o front line kept f some = ([], (front ++ line, appends_none o, refl, tt, λ none. omega (arith, some, ap length none, length-append front line)))
+
+some_behind : (xs ys : List ℕ) (y : ℕ) → 0 < length (xs ++ y ∷ ys)
+some_behind xs ys y = omega (arith, length-append xs (y ∷ ys))
+
+pub id_line_some : (id : OpId) → 0 < length (id_line id)
+id_line_some id = some_behind (decimal id.core) (decimal id.index ++ 10 ∷ []) 46
+
+pub end_line_some : (count : ℕ) → 0 < length (end_line count)
+end_line_some count = omega arith

@@ -1,0 +1,29 @@
+-- What is merged is answered; and where the number of files is out of range, nothing is read or written.
+use Rattle.std.proofs.Common.{[], map, refl}
+use Rattle.std.proofs.lemmas.Result.{err_from_is_err_and}
+use Rattle.verdict.specs.VerdictOf.{verdict_of}
+use Rattle.verdict.proofs.Soundness.{bad_count_answers}
+use Rattle.verdict.proofs.Told.{each_tells, told}
+use Rattle.merge_judge.proofs.Judged.{bad_no_read}
+use Rattle.merge_judge.proofs.MergeSoFar.{lacks_end}
+use Rattle.merge_judge.proofs.WritingFacts.{appends_none}
+use Rattle.merge_judge.proofs.judging.merge_judge.Goals as goal
+
+pub returns-clause-exact : goal.returns-clause-exact
+returns-clause-exact g c =
+    let b = c.merged.ensures.exact in
+    (b.texts, (b.tells, b.answers, (b.written, b.appends, b.writes)))
+
+pub returns-clause-read : goal.returns-clause-read
+returns-clause-read g c = c.merged.ensures.exact.read
+
+pub returns-in_err-check_counts-clause-exact : goal.returns-in_err-check_counts-clause-exact
+returns-in_err-check_counts-clause-exact g c =
+    let p = err_from_is_err_and c.from_residual.result c.from_residual.ensures.1 in
+    let texts = map (λ reader. told (g.S.ByteSource.remaining reader)) c.args.readers.now in
+    rw (p.1, p.2) (texts, (each_tells g.S.ByteSource.remaining c.args.readers.now, bad_count_answers verdict_of texts c.in_err-check_counts.field-0.0 c.in_err-check_counts.ensures.err, ([], appends_none (g.W.ByteSink.contents c.args.order_out.now), lacks_end [] [] [] refl)))
+
+pub returns-in_err-check_counts-clause-read : goal.returns-in_err-check_counts-clause-read
+returns-in_err-check_counts-clause-read g c =
+    let p = err_from_is_err_and c.from_residual.result c.from_residual.ensures.1 in
+    rw (p.1, p.2) (λ file h. absurd (bad_no_read c.in_err-check_counts.field-0.0 file c.in_err-check_counts.ensures.err h))

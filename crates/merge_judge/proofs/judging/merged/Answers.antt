@@ -1,0 +1,141 @@
+-- What is answered and written.
+use Rattle.std.proofs.Common.{◌++◌, ◌∷◌, [], Ok, Err, arith, sym, ap, subst, ◌∙◌, refl}
+use Rattle.std.specs.Prelude.{is_none, ◌&&◌}
+use Rattle.std.specs.Option.{option_or}
+use Rattle.std.proofs.lemmas.Result.{err_from_is_err_and}
+use Rattle.std.proofs.lemmas.List.{length_push}
+use Rattle.log_file.proofs.Devices.{appends_more}
+use Rattle.merge_judge.specs.inner.Lanes.{add}
+use Rattle.merge_judge.specs.inner.Judging.{line_where}
+use Rattle.merge_judge.specs.inner.Settling.{Settles}
+use Rattle.merge_judge.specs.inner.Words.{fault_after}
+use Rattle.merge_judge.specs.OrderText.{id_lines}
+use Rattle.merge_judge.proofs.Along.{first_along-push}
+use Rattle.merge_judge.proofs.Judged.{end_fails, look_fails, no_memory, settled_fault, settled_no, settled_yes, wrote}
+use Rattle.merge_judge.proofs.MergeSoFar.{all_where, few_done, joined, lines_where, order_where}
+use Rattle.merge_judge.proofs.WritingFacts.{appends_none}
+use Rattle.merge_judge.proofs.judging.merged.Goals as goal
+
+pub returns-in_err-merge-clause-exact : goal.returns-in_err-merge-clause-exact
+returns-in_err-merge-clause-exact g c =
+    let p = err_from_is_err_and c.from_residual.result c.from_residual.ensures.1 in
+    rw (p.1, p.2) (no_memory g.S.ByteSource.remaining g.S.ByteSource.failed (g.W.ByteSink.contents c.args.order_out.now) c.args.readers.now _)
+
+pub returns-in_err-words-clause-exact : goal.returns-in_err-words-clause-exact
+returns-in_err-words-clause-exact g c =
+    let p = err_from_is_err_and c.from_residual-in_err-words.result c.from_residual-in_err-words.ensures.1 in
+    rw (p.1, p.2) (no_memory g.S.ByteSource.remaining g.S.ByteSource.failed (g.W.ByteSink.contents c.args.order_out.now) c.args.readers.now _)
+
+pub returns-in_err-order-clause-exact : goal.returns-in_err-order-clause-exact
+returns-in_err-order-clause-exact g c =
+    let p = err_from_is_err_and c.from_residual-in_err-order.result c.from_residual-in_err-order.ensures.1 in
+    rw (p.1, p.2) (no_memory g.S.ByteSource.remaining g.S.ByteSource.failed (g.W.ByteSink.contents c.args.order_out.now) c.args.readers.now _)
+
+pub loop-entry-init : goal.loop-entry-init
+loop-entry-init g c = record {
+  merged = _;
+  done = [];
+  is_merged = c.in_ok-merge.ensures;
+  counted = refl;
+  words = c.in_ok-words.ensures.words;
+  origins = c.in_ok-words.ensures.origins;
+  holds = λ none. c.in_ok-words.ensures;
+  first = refl;
+  written = [];
+  appends = appends_none (g.W.ByteSink.contents c.args.order_out.now);
+  order = [];
+  lines = c.in_ok-order.ensures;
+  all = λ none clean. refl;
+  quiet = refl;
+}
+
+pub overflow_add-count : goal.overflow_add-count
+overflow_add-count g c =
+    let s = c.loop-entry.invariant in
+    let few = few_done g.S.ByteSource.remaining g.S.ByteSource.failed c.args.readers.now c.loop-entry.readers c.loop-entry.merge s.merged s.done s.is_merged in
+    omega (arith, few, s.counted)
+
+pub loop-entry-smaller : goal.loop-entry-smaller
+loop-entry-smaller g c =
+    let s = c.loop-entry.invariant in
+    let few = few_done g.S.ByteSource.remaining g.S.ByteSource.failed c.args.readers.now c.loop-entry.readers c.loop-entry.merge s.merged s.done s.is_merged in
+    omega (arith, few, s.counted)
+
+pub loop-entry-preserved : goal.loop-entry-preserved
+loop-entry-preserved g c =
+    let s = c.loop-entry.invariant in
+    let e = c.in-Some.entry in
+    let l = c.in_ok-look.ensures in
+    let yes = is_none c.look.new.fault && c.take_first.new.self.clean in
+    let w = l.written in
+    record {
+      merged = add s.merged e.id.core e.logged;
+      done = s.done ++ e ∷ [];
+      is_merged = c.in-Some.ensures.merged c.args.readers.now s.merged s.done s.is_merged;
+      counted = omega (arith, s.counted, length_push s.done e);
+      words = l.words;
+      origins = l.origins;
+      holds = λ none. l.holds s.done s.holds none;
+      first = l.fault s.done s.holds ∙ ap (λ o. option_or o (fault_after s.done e)) s.first ∙ sym (first_along-push [] s.done e);
+      written = s.written ++ w.0;
+      appends = appends_more (g.W.ByteSink.contents c.args.order_out.now) (g.W.ByteSink.contents c.loop-entry.order_out) (g.W.ByteSink.contents c.look.new.order_out) s.written w.0 s.appends w.1.1;
+      order = order_where yes s.order e.id;
+      lines = ap (λ xs. (s.written ++ w.0) ++ xs) (sym w.1.3) ∙ joined s.written c.loop-entry.order w.0 w.1.0 (line_where yes e.id) (id_lines s.order) s.lines w.1.2 ∙ sym (lines_where yes s.order e.id);
+      all = all_where c.loop-entry.fault c.look.new.fault (fault_after s.done e) c.take_first.new.self.clean c.loop-entry.merge.clean s.order s.done e (l.fault s.done s.holds) c.in-Some.ensures.clean s.all;
+      quiet = l.quiet (λ x. cc) ∙ s.quiet;
+    }
+
+pub returns-in_err-look-clause-exact : goal.returns-in_err-look-clause-exact
+returns-in_err-look-clause-exact g c =
+    let s = c.loop-entry.invariant in
+    let p = err_from_is_err_and c.from_residual-in_err-look.result c.from_residual-in_err-look.ensures.1 in
+    rw (p.1, p.2) (look_fails g.S.ByteSource.remaining g.S.ByteSource.failed (g.W.ByteSink.contents c.args.order_out.now) (g.W.ByteSink.contents c.loop-entry.order_out) (g.W.ByteSink.contents c.look.new.order_out) c.args.readers.now c.take_first.new.readers
+    s.written c.loop-entry.order c.look.new.order s.order _ c.in-Some.entry.id c.in_err-look.field-0.0 s.appends s.lines c.in_err-look.ensures.written)
+
+pub returns-in_err-fault-clause-exact : goal.returns-in_err-fault-clause-exact
+returns-in_err-fault-clause-exact g c =
+    let p = err_from_is_err_and c.from_residual-in_err-fault.result c.from_residual-in_err-fault.ensures.1 in
+    let s = c.loop-entry.invariant in
+    let t = c.in_default.ensures.merged c.args.readers.now s.merged s.done s.is_merged in
+    let st = c.settle.ensures.answer c.args.readers.now s.merged s.done t.1 (λ steady. s.first) s.counted in
+    rw (p.1, p.2) (settled_fault g.S.ByteSource.remaining g.S.ByteSource.failed (g.W.ByteSink.contents c.args.order_out.now) (g.W.ByteSink.contents c.loop-entry.order_out) c.args.readers.now c.take_first.new.readers c.take_first.new.self.lanes.items s.merged
+    s.written c.loop-entry.order s.order c.in_err-fault.field-0.0 s.appends s.lines (subst (λ r. Settles g.S.ByteSource.remaining g.S.ByteSource.failed c.args.readers.now c.take_first.new.readers c.take_first.new.self.lanes.items s.merged r) c.in_err-fault.was st))
+
+pub returns-in-No-clause-exact : goal.returns-in-No-clause-exact
+returns-in-No-clause-exact g c =
+    let s = c.loop-entry.invariant in
+    let t = c.in_default.ensures.merged c.args.readers.now s.merged s.done s.is_merged in
+    let st = c.settle.ensures.answer c.args.readers.now s.merged s.done t.1 (λ steady. s.first) s.counted in
+    settled_no g.S.ByteSource.remaining g.S.ByteSource.failed (g.W.ByteSink.contents c.args.order_out.now) (g.W.ByteSink.contents c.loop-entry.order_out) c.args.readers.now c.take_first.new.readers c.take_first.new.self.lanes.items s.merged
+    s.written c.loop-entry.order s.order c.in-No.fault s.appends s.lines (subst (λ r. Settles g.S.ByteSource.remaining g.S.ByteSource.failed c.args.readers.now c.take_first.new.readers c.take_first.new.self.lanes.items s.merged r) (c.in_ok-fault.was ∙ ap (λ v. Ok v) c.in-No.is) st)
+
+pub returns-in_err-end-in-Yes-clause-exact : goal.returns-in_err-end-in-Yes-clause-exact
+returns-in_err-end-in-Yes-clause-exact g c =
+    let p = err_from_is_err_and c.from_residual-in_err-end-in-Yes.result c.from_residual-in_err-end-in-Yes.ensures.1 in
+    let s = c.loop-entry.invariant in
+    let t = c.in_default.ensures.merged c.args.readers.now s.merged s.done s.is_merged in
+    let st = c.settle.ensures.answer c.args.readers.now s.merged s.done t.1 (λ steady. s.first) s.counted in
+    let is = c.in_ok-fault.was ∙ ap (λ v. Ok v) c.in-Yes.is in
+    let yes = c.settle.ensures.yes c.in-Yes.count is in
+    rw (p.1, p.2) (end_fails g.S.ByteSource.remaining g.S.ByteSource.failed (g.W.ByteSink.contents c.args.order_out.now) (g.W.ByteSink.contents c.loop-entry.order_out) (g.W.ByteSink.contents c.end.new.out) c.args.readers.now c.take_first.new.readers c.take_first.new.self s.merged s.done
+    s.written c.loop-entry.order [] s.order c.in-Yes.count t.1 s.appends s.lines (subst (λ r. Settles g.S.ByteSource.remaining g.S.ByteSource.failed c.args.readers.now c.take_first.new.readers c.take_first.new.self.lanes.items s.merged r) is st) (yes.1 ∙ s.counted) (λ clean. s.all yes.0 (c.in_default.ensures.clean clean)) c.in_err-end-in-Yes.field-0.0 c.in_err-end-in-Yes.ensures.written)
+
+pub returns-clause-exact : goal.returns-clause-exact
+returns-clause-exact g c =
+    let s = c.loop-entry.invariant in
+    let t = c.in_default.ensures.merged c.args.readers.now s.merged s.done s.is_merged in
+    let st = c.settle.ensures.answer c.args.readers.now s.merged s.done t.1 (λ steady. s.first) s.counted in
+    let is = c.in_ok-fault.was ∙ ap (λ v. Ok v) c.in-Yes.is in
+    let yes = c.settle.ensures.yes c.in-Yes.count is in
+    settled_yes g.S.ByteSource.remaining g.S.ByteSource.failed (g.W.ByteSink.contents c.args.order_out.now) (g.W.ByteSink.contents c.loop-entry.order_out) (g.W.ByteSink.contents c.end.new.out) c.args.readers.now c.take_first.new.readers c.take_first.new.self s.merged s.done
+    s.written c.loop-entry.order [] s.order c.in-Yes.count t.1 s.appends s.lines (subst (λ r. Settles g.S.ByteSource.remaining g.S.ByteSource.failed c.args.readers.now c.take_first.new.readers c.take_first.new.self.lanes.items s.merged r) is st) (yes.1 ∙ s.counted) (λ clean. s.all yes.0 (c.in_default.ensures.clean clean)) c.in_ok-end-in-Yes.ensures.written refl
+
+pub returns-in_err-look-clause-quiet : goal.returns-in_err-look-clause-quiet
+returns-in_err-look-clause-quiet g c = λ other.
+    let p = err_from_is_err_and c.from_residual-in_err-look.result c.from_residual-in_err-look.ensures.1 in
+    c.in_err-look.ensures.quiet (λ e. other (p.1 ∙ ap (λ x. Err x) (p.2 ∙ wrote c.in_err-look.field-0.0 e))) ∙ c.loop-entry.invariant.quiet
+
+pub returns-in_err-end-in-Yes-clause-quiet : goal.returns-in_err-end-in-Yes-clause-quiet
+returns-in_err-end-in-Yes-clause-quiet g c = λ other.
+    let p = err_from_is_err_and c.from_residual-in_err-end-in-Yes.result c.from_residual-in_err-end-in-Yes.ensures.1 in
+    c.in_err-end-in-Yes.ensures.quiet (λ e. other (p.1 ∙ ap (λ x. Err x) (p.2 ∙ wrote c.in_err-end-in-Yes.field-0.0 e))) ∙ c.loop-entry.invariant.quiet

@@ -1,0 +1,50 @@
+-- One log after another.
+use Rattle.std.proofs.Common.{◌≡◌, ◌+◌, ◌++◌, ◌∷◌, [], Some, ℕ, List, length, arith, ap, subst, sym, refl, ◌∙◌, ◌⊎◌, inl, inr}
+use Rattle.std.specs.Prelude.{get_or, slice_get, slice_set, false}
+use Rattle.std.proofs.lemmas.Option.{slice_get_read}
+use Rattle.merge_judge.specs.declared.lane.Lane.{Lane}
+use Rattle.merge_judge.specs.inner.Lanes.{IsFaulty, IsLaneAt, IsMerged}
+use Rattle.merge_judge.specs.inner.Merging.{none_of}
+use Rattle.merge_judge.proofs.Opening.{Opened, all_opened, is_faulty, opened_more, opened_none}
+use Rattle.merge_judge.proofs.merge.Merge.new.Goals as goal
+use Rattle.merge_judge.proofs.merge.Merge.new.Goals.{then-clean, else-clean}
+
+pub loop-core-init : goal.loop-core-init
+loop-core-init g c = record {
+  opened = rw (c.new-lanes.ensures.items, c.new-numbers.ensures.items) (opened_none g.S.ByteSource.remaining g.S.ByteSource.failed c.args.readers.now);
+  cores = refl;
+}
+
+pub loop-core-preserved : goal.loop-core-preserved
+loop-core-preserved g c =
+    let loop = c.loop-core in
+    let core = loop.core in
+    let readers = loop.readers in
+    let lane = c.in_ok-log.field-0 in
+    let source = get_or readers core c.index-readers-core.result in
+    let inv = loop.invariant in
+    let source_is : slice_get readers core ≡ Some source = slice_get_read readers (length readers) core c.index-readers-core.result refl (omega (arith, loop.auto.readers, c.loop-core-test.true)) c.index-readers-core.is ∙ ap (λ s. Some s) c.index-readers-core.is in
+    let at : IsLaneAt g.S.ByteSource.remaining g.S.ByteSource.failed core (length c.args.readers.now) source c.new.new.source lane [] =
+    subst (λ n. IsLaneAt g.S.ByteSource.remaining g.S.ByteSource.failed n (length c.args.readers.now) source c.new.new.source lane []) c.at.ensures c.in_ok-log.ensures.at in
+    let found : c.if-clean.clean ≡ false → (loop.clean ≡ false) ⊎ IsFaulty lane =
+    (λ h. elim c.if-clean.branch [ then-clean w ↦ inr (is_faulty lane w.is_none-clean.result w.is_none-clean.ensures (sym w.clean-is ∙ h)) | else-clean w ↦ inl w.if-clean.false ]) in
+    let more = opened_more g.S.ByteSource.remaining g.S.ByteSource.failed c.args.readers.now readers core loop.lanes.items loop.numbers.items loop.clean inv.opened source c.new.new.source source_is lane c.front_number.result c.if-clean.clean at c.front_number.ensures found in
+    let h = c.in_ok-push-2.ensures.items in
+    let h2 = c.in_ok-push.ensures.items in
+    record {
+      opened = subst (λ (ls : List Lane). Opened g.S.ByteSource.remaining g.S.ByteSource.failed c.args.readers.now (slice_set readers core c.new.new.source) (core + 1) ls c.push.new.self.items c.if-clean.clean) (sym h)
+          (subst (λ (ns : List ℕ). Opened g.S.ByteSource.remaining g.S.ByteSource.failed c.args.readers.now (slice_set readers core c.new.new.source) (core + 1) (loop.lanes.items ++ lane ∷ []) ns c.if-clean.clean) (sym h2) more);
+      cores = refl;
+    }
+
+pub new-requires-2-clause-some : goal.new-requires-2-clause-some
+new-requires-2-clause-some g c = omega (arith, c.loop-core.numbers.ok.0, c.loop-core.invariant.opened.fronts, c.loop-core-test.false, c.requires.some)
+
+pub new-requires-2-clause-few : goal.new-requires-2-clause-few
+new-requires-2-clause-few g c = omega (arith, c.loop-core.numbers.ok.0, c.loop-core.invariant.opened.fronts, c.loop-core.auto.core-end, c.requires.few)
+
+pub returns : goal.returns
+returns g c =
+    let loop = c.loop-core in
+    subst (λ (ns : List ℕ). IsMerged g.S.ByteSource.remaining g.S.ByteSource.failed c.args.readers.now loop.readers loop.lanes.items ns loop.clean (none_of c.args.readers.now) []) (sym c.in_ok-fronts.ensures)
+    (all_opened g.S.ByteSource.remaining g.S.ByteSource.failed c.args.readers.now loop.readers loop.core loop.lanes.items loop.numbers.items loop.clean loop.invariant.opened (omega (arith, c.loop-core-test.false, loop.auto.core-end)) c.requires.some c.requires.few)

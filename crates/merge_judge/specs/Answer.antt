@@ -1,0 +1,32 @@
+-- What a merge answers to the texts of a set of logs, and what it writes.
+use Rattle.std.specs.Prelude.{◌≡◌, ℕ, List, Option, None, Some, Result, Ok, Err}
+use Rattle.mem_op.specs.declared.id.OpId.{OpId}
+use Rattle.mem_op.specs.Consistency.{IsSequentialOrder}
+use Rattle.log_record.specs.declared.record.Record.{Record}
+use Rattle.log_record.specs.Entries.{operations_of}
+use Rattle.log_file.specs.Sets.{SpellSet}
+use Rattle.verdict.specs.declared.answer.Verdict.{Verdict}
+use Rattle.verdict.specs.declared.answer.Verdict.TheVariants.{Yes, No}
+use Rattle.verdict.specs.declared.judge_fault.JudgeFault.{JudgeFault}
+use Rattle.merge_judge.specs.declared.merge_fault.MergeFault.{MergeFault}
+use Rattle.merge_judge.specs.declared.merge_fault.MergeFault.TheVariants.{Judge, Write}
+use Rattle.merge_judge.specs.OrderText.{LacksEnd, order_text}
+
+-- the answer of the judge, where no write failed
+abbrev pub judged : Result Verdict MergeFault → Option (Result Verdict JudgeFault)
+judged (Ok verdict) = Some (Ok verdict)
+judged (Err (Judge fault)) = Some (Err fault)
+judged (Err Write) = None
+
+-- the order text of a serial order of the set that the texts spell, which keeps program order and in which each load has its
+-- flat answer
+abbrev pub SpellsOrder : List (List ℕ) → List ℕ → Type 0
+SpellsOrder texts written =
+    (logs : List (List Record)) × (SpellSet texts logs
+    × ((order : List OpId) × IsSequentialOrder (operations_of logs) order × (written ≡ order_text order)))
+
+-- with a Yes the whole order is written, and else no `end` line
+abbrev pub WritesOrder : List (List ℕ) → Result Verdict MergeFault → List ℕ → Type 0
+WritesOrder texts (Ok (Yes count)) written = SpellsOrder texts written
+WritesOrder texts (Ok (No fault)) written = LacksEnd written
+WritesOrder texts (Err fault) written = LacksEnd written

@@ -1,0 +1,8 @@
+-- A log that is read record by record, without its source.
+use Rattle.std.specs.Prelude.{ℕ, List}
+use Rattle.log_file.specs.Answering.{Answering}
+
+-- the reader of its records, and the bytes that were read of its file and not fed yet
+pub record OpenedLog : Type 0 where
+  pub reader : Answering
+  pub unused : List ℕ

@@ -1,0 +1,9 @@
+-- Definitions that serve private contracts alone.
+pub mod Following
+pub mod Judging
+pub mod Lanes
+pub mod Matches
+pub mod Merging
+pub mod Settling
+pub mod Words
+pub mod Writing

@@ -1,0 +1,43 @@
+-- The records of a source's log, one after another.
+use Rattle.std.specs.Prelude.{◌≡◌, ℕ, List, [], ◌∷◌, ◌++◌, Option, None, Some, Result, Ok, Err}
+use Rattle.std.specs.Io.KnownBytes.{Consumes}
+use Rattle.log_record.specs.declared.record.Record.{Record}
+use Rattle.log_file.specs.declared.fault.LogFault.{LogFault}
+use Rattle.log_file.specs.Answering.{HasAnswered}
+use Rattle.log_file.specs.Answers.{IsFaultOrDevice}
+use Rattle.log_file.specs.Devices.{Tells}
+use Rattle.log_file.specs.Feeding.{IsSettled}
+use Rattle.log_file.specs.Log.{Spells, first_format}
+use Rattle.merge_judge.specs.OpenedLog.{OpenedLog}
+
+-- what taking a record from the bytes that were read answers
+abbrev pub TakesOne : List ℕ → List Record → OpenedLog → Result (Option Record) LogFault → OpenedLog → Type 0
+TakesOne bytes records old (Ok None) new = (new.unused ≡ []) × HasAnswered new.reader (bytes ++ old.unused) records
+TakesOne bytes records old (Ok (Some r)) new =
+    (front : List ℕ) × (front ++ new.unused ≡ old.unused) × HasAnswered new.reader (bytes ++ front) (records ++ r ∷ [])
+TakesOne bytes records old (Err fault) new = IsSettled old.reader.core old.reader.cores (bytes ++ old.unused) fault
+
+-- the log of this core has answered these records of what the source told: what it told first, and what it tells still
+pub record Follows (core cores : ℕ) (first still : Option (List ℕ)) (log : OpenedLog) (records : List Record) : Type 0 where
+  pub core_is : log.reader.core ≡ core
+  pub cores_is : log.reader.cores ≡ cores
+  pub bytes : List ℕ
+  pub answered : HasAnswered log.reader bytes records
+  pub given : Consumes first still (bytes ++ log.unused)
+
+-- the text that was told spells the log of these records, or has this fault
+pub record EndsWhole (core cores : ℕ) (first : Option (List ℕ)) (records : List Record) : Type 0 where
+  pub text : List ℕ
+  pub tells : Tells first text
+  pub spells : Spells first_format core cores text records
+
+pub record EndsAt (core cores : ℕ) (first : Option (List ℕ)) (fault : LogFault) : Type 0 where
+  pub text : List ℕ
+  pub tells : Tells first text
+  pub holds : IsFaultOrDevice core cores text fault
+
+-- what is answered after these records: the next one, or none where the log has ended whole
+abbrev pub IsNext : ℕ → ℕ → Option (List ℕ) → List Record → Result (Option Record) LogFault → Option (List ℕ) → OpenedLog → Type 0
+IsNext core cores first records (Ok (Some r)) still new = Follows core cores first still new (records ++ r ∷ [])
+IsNext core cores first records (Ok None) still new = EndsWhole core cores first records
+IsNext core cores first records (Err fault) still new = EndsAt core cores first fault

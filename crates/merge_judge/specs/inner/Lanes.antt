@@ -1,0 +1,102 @@
+-- The logs of a set while they are merged.
+use Rattle.std.specs.Prelude.{◌≡◌, ◌≢◌, ℕ, zero, suc, ◌+◌, ◌*◌, ◌<◌, ◌≤◌, ◌⊎◌, Bool, true, false, List, [], ◌∷◌, ◌++◌, Option, None, Some, length, slice_get, slice_index, slice_index_or}
+use Rattle.std.specs.Ordering.{is_lt}
+use Rattle.mem_op.specs.Limits.{operation_limit}
+use Rattle.line_stamps.specs.Ordered.{In}
+use Rattle.log_record.specs.declared.record.Record.{Record}
+use Rattle.log_record.specs.declared.record.Entry.{Entry}
+use Rattle.log_record.specs.Entries.{entries, entry_cmp}
+use Rattle.core_program.specs.Least.{IsLeastWhere}
+use Rattle.core_check.specs.CoreOrder.{is_core_fault, stamp_cmp}
+use Rattle.log_file.specs.declared.fault.LogFault.{LogFault}
+use Rattle.log_file.specs.declared.fault.LogFault.TheVariants.{Read}
+use Rattle.log_file.specs.Devices.{Failed}
+use Rattle.verdict.specs.ByKey.{by_key}
+use Rattle.merge_judge.specs.declared.lane.Lane.{Lane}
+use Rattle.merge_judge.specs.OpenedLog.{OpenedLog}
+use Rattle.merge_judge.specs.inner.Following.{EndsAt, EndsWhole, Follows}
+
+-- ---- one log
+
+abbrev pub front_list : Option Record → List Record
+front_list None = []
+front_list (Some r) = r ∷ []
+
+-- whether (ts, rank) of the later record is less than that of the earlier
+abbrev pub falls_after : Record → Record → Bool
+falls_after earlier later = is_lt (stamp_cmp later earlier)
+
+-- whether it is, and no earlier record of the log has fallen
+abbrev pub falls_now : Option ℕ → Record → Record → Bool
+falls_now None earlier later = falls_after earlier later
+falls_now (Some i) earlier later = false
+
+-- a fault was found in the log
+abbrev pub IsFaulty : Lane → Type 0
+IsFaulty lane = (lane.falls ≢ None) ⊎ (lane.fault ≢ None)
+
+-- where a log stands: before a record that was read, or at its end
+abbrev pub IsStage : ℕ → ℕ → Option (List ℕ) → Option (List ℕ) → OpenedLog → List Record → Option Record → Option LogFault → Type 0
+IsStage core cores first still log merged (Some r) fault = (fault ≡ None) × Follows core cores first still log (merged ++ r ∷ [])
+IsStage core cores first still log merged None None = EndsWhole core cores first merged
+IsStage core cores first still log merged None (Some fault) = EndsAt core cores first fault
+
+-- the log of this core was merged up to these records
+pub record IsLaneAt {S : Type 0} (remaining : S → Option (List ℕ)) (failed : S → ℕ) (core cores : ℕ) (before after : S) (lane : Lane) (merged : List Record) : Type 0 where
+  pub stage : IsStage core cores (remaining before) (remaining after) lane.log merged lane.front lane.fault
+  pub first_fall : IsLeastWhere (is_core_fault (merged ++ front_list lane.front)) lane.falls
+  pub count : lane.merged ≡ length merged
+  pub few : length merged ≤ operation_limit
+  pub read : lane.fault ≡ Some Read → Failed (failed before) (failed after)
+  pub quiet : (lane.fault ≡ Some Read → ⊥) → failed after ≡ failed before
+
+-- ---- all logs
+
+-- the logs with one more record of a core
+abbrev pub add : List (List Record) → ℕ → Record → List (List Record)
+add [] core r = []
+add (log ∷ logs) zero r = (log ++ r ∷ []) ∷ logs
+add (log ∷ logs) (suc core) r = log ∷ add logs core r
+
+abbrev pub log_at : List (List Record) → ℕ → List Record
+log_at logs core = slice_index_or logs core []
+
+abbrev pub entry_at : ℕ → ℕ → Record → Entry
+entry_at core index r = record { id = record { core = core; index = index }; logged = r }
+
+-- (ts, rank, core) of a front as one number, or the greatest of all where there is none
+abbrev pub IsFrontNumber : ℕ → Option Record → ℕ → Type 0
+IsFrontNumber core None n = n ≡ 340282366920938463463374607431768211455
+IsFrontNumber core (Some r) n = (n ≡ (r.ts * 4294967296 + r.rank) * 64 + core) × (r.ts ≤ 281474976710656) × (r.rank < 4294967296)
+
+-- no log falls
+abbrev pub NoFalls : List Lane → Type 0
+NoFalls lanes = (k : ℕ) (lane : Lane) → slice_get lanes k ≡ Some lane → lane.falls ≡ None
+
+-- what was done comes before each front
+abbrev pub ComeBefore : List Entry → List Lane → List (List Record) → Type 0
+ComeBefore done lanes merged =
+    (x : Entry) → In x done → (k : ℕ) (lane : Lane) (r : Record) → slice_get lanes k ≡ Some lane → lane.front ≡ Some r
+    → is_lt (entry_cmp x (entry_at k (length (log_at merged k)) r)) ≡ true
+
+abbrev pub SomeFaulty : List Lane → Type 0
+SomeFaulty lanes = (k : ℕ) × ((lane : Lane) × (slice_get lanes k ≡ Some lane) × IsFaulty lane)
+
+-- all logs have ended
+abbrev pub AllEnded : List Lane → Type 0
+AllEnded lanes = (k : ℕ) (lane : Lane) → slice_get lanes k ≡ Some lane → lane.front ≡ None
+
+-- the logs were merged up to these records; where none falls, they were done in the order of their keys
+pub record IsMerged {S : Type 0} (remaining : S → Option (List ℕ)) (failed : S → ℕ) (before after : List S) (lanes : List Lane) (numbers : List ℕ) (clean : Bool) (merged : List (List Record)) (done : List Entry) : Type 0 where
+  pub readers : length after ≡ length before
+  pub many : length lanes ≡ length before
+  pub logs : length merged ≡ length before
+  pub fronts : length numbers ≡ length before
+  pub some : 0 < length before
+  pub few : length before ≤ 64
+  pub lane : (k : ℕ) (b a : S) (l : Lane) → slice_get before k ≡ Some b → slice_get after k ≡ Some a → slice_get lanes k ≡ Some l → IsLaneAt remaining failed k (length before) b a l (log_at merged k)
+  pub number : (k : ℕ) (l : Lane) → slice_get lanes k ≡ Some l → IsFrontNumber k l.front (slice_index numbers k)
+  pub total : length done ≡ length (entries merged)
+  pub by_key_so_far : NoFalls lanes → done ≡ by_key merged
+  pub come_before : NoFalls lanes → ComeBefore done lanes merged
+  pub faulty : clean ≡ false → SomeFaulty lanes

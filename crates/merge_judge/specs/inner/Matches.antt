@@ -1,0 +1,32 @@
+-- A tree of matches between numbers, of which the lesser wins, and the first where they tie.
+use Rattle.std.specs.Prelude.{◌≡◌, ℕ, ◌+◌, ◌-◌, ◌*◌, ◌<◌, ◌≤◌, if◌then◌else◌, nat_lt, List, length, slice_index}
+
+-- which number comes to a place of the tree: the places below `many` are matches, the others are the numbers themselves
+abbrev pub comer : List ℕ → ℕ → ℕ → ℕ
+comer winners many place = if nat_lt place many then slice_index winners place else place - many
+
+-- which of two numbers wins
+abbrev pub winner : List ℕ → ℕ → ℕ → ℕ
+winner numbers a b = if nat_lt (slice_index numbers b) (slice_index numbers a) then b else a
+
+-- who won the match at a place, between those that come to the two places below
+abbrev pub match_at : List ℕ → List ℕ → ℕ → ℕ
+match_at numbers winners place =
+    winner numbers (comer winners (length numbers) (2 * place)) (comer winners (length numbers) (2 * place + 1))
+
+-- all matches from a place on were played
+pub record ArePlayed (numbers winners : List ℕ) (from : ℕ) : Type 0 where
+  pub many : length winners ≡ length numbers
+  pub within : (place : ℕ) → from ≤ place → place < length numbers → slice_index winners place < length numbers
+  pub won : (place : ℕ) → from ≤ place → place < length numbers → slice_index winners place ≡ match_at numbers winners place
+
+-- the matches were played with these numbers, one of which may have been another
+pub record ArePlayedBut (other : ℕ) (numbers winners : List ℕ) : Type 0 where
+  pub before : List ℕ
+  pub many : length before ≡ length numbers
+  pub same : (k : ℕ) → (k ≡ other → ⊥) → slice_index before k ≡ slice_index numbers k
+  pub played : ArePlayed before winners 1
+
+-- none of the numbers is less
+abbrev pub IsLeastAt : List ℕ → ℕ → Type 0
+IsLeastAt numbers first = (k : ℕ) → k < length numbers → slice_index numbers first ≤ slice_index numbers k

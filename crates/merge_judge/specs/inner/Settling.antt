@@ -1,0 +1,43 @@
+-- The faults of logs that have ended.
+use Rattle.std.specs.Prelude.{◌≡◌, ℕ, ◌<◌, List, Option, None, Some, Result, Ok, Err, IfErr, slice_get}
+use Rattle.log_record.specs.declared.record.Record.{Record}
+use Rattle.log_file.specs.Sets.{ReaderFailed, SpellSet, TellEach}
+use Rattle.verdict.specs.declared.answer.Verdict.{Verdict}
+use Rattle.verdict.specs.declared.answer.Verdict.TheVariants.{Yes, No}
+use Rattle.verdict.specs.declared.judge_fault.JudgeFault.{JudgeFault}
+use Rattle.verdict.specs.declared.judge_fault.JudgeFault.TheVariants.{Read}
+use Rattle.verdict.specs.Judgement.{IsAnswerTo}
+use Rattle.verdict.specs.VerdictOf.{verdict_of}
+use Rattle.log_file.specs.declared.fault.SetFault.{SetFault}
+use Rattle.merge_judge.specs.declared.lane.Lane.{Lane}
+
+-- none of the first n logs has a fault
+abbrev pub NoneFaulty : List Lane → ℕ → Type 0
+NoneFaulty lanes n = (k : ℕ) (lane : Lane) → k < n → slice_get lanes k ≡ Some lane → lane.fault ≡ None
+
+-- none of the first n logs falls
+abbrev pub NoneFalls : List Lane → ℕ → Type 0
+NoneFalls lanes n = (k : ℕ) (lane : Lane) → k < n → slice_get lanes k ≡ Some lane → lane.falls ≡ None
+
+abbrev pub IsFirstFaulty : List Lane → SetFault → Type 0
+IsFirstFaulty lanes e =
+    ((lane : Lane) × (slice_get lanes e.file ≡ Some lane) × (lane.fault ≡ Some e.fault)) × NoneFaulty lanes e.file
+
+abbrev pub IsFirstFall : List Lane → (ℕ × ℕ) → Type 0
+IsFirstFall lanes at =
+    ((lane : Lane) × (slice_get lanes at.0 ≡ Some lane) × (lane.falls ≡ Some at.1)) × NoneFalls lanes at.0
+
+-- Yes comes where no log has a fault or falls, and is the verdict on the set of these records
+abbrev pub IsClean : List Lane → List (List Record) → List (List ℕ) → Result Verdict JudgeFault → Type 0
+IsClean lanes merged texts (Ok (Yes count)) =
+    SpellSet texts merged × (Yes count ≡ verdict_of merged) × ((k : ℕ) (lane : Lane) → slice_get lanes k ≡ Some lane → (lane.falls ≡ None) × (lane.fault ≡ None))
+IsClean lanes merged texts (Ok (No fault)) = Unit {0}
+IsClean lanes merged texts (Err fault) = Unit {0}
+
+-- the answer to the texts that the readers told
+pub record Settles {S : Type 0} (remaining : S → Option (List ℕ)) (failed : S → ℕ) (before after : List S) (lanes : List Lane) (merged : List (List Record)) (result : Result Verdict JudgeFault) : Type 0 where
+  pub texts : List (List ℕ)
+  pub tells : TellEach remaining before texts
+  pub answers : IsAnswerTo texts result
+  pub clean : IsClean lanes merged texts result
+  pub failed_at : IfErr result (λ fault. (file : ℕ) → fault ≡ Read file → ReaderFailed failed before after file)

@@ -1,0 +1,135 @@
+//! The judge that merges.
+
+ghost use Rattle.std.specs.Prelude.{◌≡◌, ◌↔◌, ◌<◌, ◌≤◌, ◌∷◌, ◌++◌, ◌&&◌, ℕ, List, [], None, length, is_none, IfErr, IfSome, IsErrOf};
+ghost use Rattle.std.specs.Io.KnownBytes.{Appends};
+ghost use Rattle.log_file.specs.Devices.{Failed};
+ghost use Rattle.log_file.specs.Sets.{ReaderFailed, TellEach};
+ghost use Rattle.verdict.specs.Counts.{IsOutOfRange};
+ghost use Rattle.verdict.specs.Judgement.{IsAnswerTo};
+ghost use Rattle.verdict.specs.declared.judge_fault.Count.TheVariants.{Files};
+ghost use Rattle.verdict.specs.declared.judge_fault.JudgeFault.TheVariants.{BadConfig, Read};
+ghost use Rattle.merge_judge.specs.declared.merge_fault.MergeFault.TheVariants.{Judge, Write};
+ghost use Rattle.merge_judge.specs.Answer.{WritesOrder, judged};
+ghost use Rattle.std.specs.Option.{option_or};
+ghost use Rattle.log_record.specs.declared.record.Entry.{Entry};
+ghost use Rattle.merge_judge.specs.inner.Judging.{IsMergedBy, IsNoCount, line_where};
+ghost use Rattle.merge_judge.specs.inner.Words.{Holds, fault_after};
+ghost use Rattle.merge_judge.specs.inner.Writing.{IsWritten};
+
+use super::merge::Merge;
+use super::merge_fault::MergeFault;
+use super::order_text::OrderText;
+use super::words::Words;
+use address_check::AddressFault;
+use log_file::{ByteSink, ByteSource, WriteFault};
+use log_record::Entry;
+use std::alloc::Global;
+use verdict::{Verdict, check_counts};
+
+/// Looks at a record that was merged, and writes its id where no fault was found up to it.
+fn look<W: ByteSink>(
+    entry: &Entry,
+    clean: bool,
+    words: &mut Words,
+    fault: &mut Option<AddressFault>,
+    order: &mut OrderText,
+    order_out: &mut W,
+) -> Result<(), WriteFault>
+    requires words { length words.old.values.items ≡ 65536 }
+    requires origins { length words.old.sources.items ≡ 65536 }
+    ensures words { length words.new.values.items ≡ 65536 }
+    ensures origins { length words.new.sources.items ≡ 65536 }
+    ensures holds { (done : List Entry)
+        → (fault.old ≡ None → Holds words.old.values.items words.old.sources.items done)
+        → fault.new ≡ None → Holds words.new.values.items words.new.sources.items (done ++ entry.now ∷ []) }
+    ensures fault { (done : List Entry)
+        → (fault.old ≡ None → Holds words.old.values.items words.old.sources.items done)
+        → fault.new ≡ option_or fault.old (fault_after done entry.now) }
+    ensures written { IsWritten (W.contents order_out.old) (W.contents order_out.new)
+        (order.old ++ line_where (is_none fault.new && clean) entry.now.id) result order.new }
+    ensures failed { IsErrOf result WriteFault.Write
+        → Failed (W.failed order_out.old) (W.failed order_out.new) }
+    ensures quiet { ¬ IsErrOf result WriteFault.Write
+        → W.failed order_out.new ≡ W.failed order_out.old }
+{
+    if fault.is_some() {
+        return Ok(());
+    }
+    *fault = words.perform(entry);
+    if fault.is_some() {
+        return Ok(());
+    }
+    if !clean {
+        return Ok(());
+    }
+    order.add(order_out, entry.id())
+}
+
+/// What `merge_judge` answers and writes, where the number of files is in range.
+fn merged<S: ByteSource, W: ByteSink>(
+    alloc: Global,
+    readers: &mut [S],
+    order_out: &mut W,
+) -> Result<Verdict, MergeFault>
+    requires some { 0 < length readers.old }
+    requires few { length readers.old ≤ 64 }
+    ensures counted { IfErr result IsNoCount }
+    ensures exact { IsMergedBy S.remaining S.failed (W.contents order_out.old) (W.contents order_out.new)
+        readers.old readers.new result }
+    ensures failed { IsErrOf result Write → Failed (W.failed order_out.old) (W.failed order_out.new) }
+    ensures quiet { ¬ IsErrOf result Write → W.failed order_out.new ≡ W.failed order_out.old }
+{
+    let mut merge = Merge::new(alloc, readers)?;
+    let mut words = Words::new(alloc)?;
+    let mut order = OrderText::new(alloc)?;
+    let mut fault = None;
+    let mut count: usize = 0;
+    while let Some(entry) = merge.take_first(readers) {
+        let clean = merge.clean;
+        look(&entry, clean, &mut words, &mut fault, &mut order, order_out)?;
+        count += 1;
+    }
+    match merge.settle(readers, fault, count)? {
+        Verdict::No(fault) => Ok(Verdict::No(fault)),
+        Verdict::Yes(count) => {
+            order.end(order_out, count as u64)?;
+            Ok(Verdict::Yes(count))
+        }
+    }
+}
+
+/// The verdict on the set of logs that the readers give, file `k` the log of core `k` of as many cores
+/// as there are files: that of the judge, in constant memory. With a Yes it has written the order of all
+/// operations by which the set is sequentially consistent, a line for each, and then the `end` line.
+///
+/// It reads all files at once, each in pieces, and keeps of each at most one record that isn't merged
+/// yet. From the first fault on it writes no more, and reads each file on to its end or its own first
+/// fault. It never flushes.
+///
+/// Refusals: 6 BadConfig before any read, where the number of files isn't 1..64; 20..27, the first fault
+/// of the least file that has one; 28 Read where the reader of a file failed; 29 Write where the writer
+/// failed; 10 OutOfMemory where a growth was refused.
+pub fn merge_judge<S: ByteSource, W: ByteSink>(
+    alloc: Global,
+    readers: &mut [S],
+    order_out: &mut W,
+) -> Result<Verdict, MergeFault>
+    // 6 comes exactly where the number of files is out of range, and nothing is read then.
+    ensures files { IsErrOf result (Judge (BadConfig Files)) ↔ IsOutOfRange (length readers.old) }
+    ensures unread { IsErrOf result (Judge (BadConfig Files)) → readers.new ≡ readers.old }
+    // The readers tell texts, and where no write failed the answer is that of the judge to these.
+    // With a Yes the writer took the text of an order by which the set is consistent; else what it took
+    // lacks the `end` line.
+    ensures exact { (texts : List (List ℕ)) × (TellEach S.remaining readers.old texts
+        × IfSome (judged result) (IsAnswerTo texts)
+        × ((written : List ℕ) × Appends (W.contents order_out.old) (W.contents order_out.new) written
+        × WritesOrder texts result written)) }
+    ensures read { IfErr result (λ fault. (file : ℕ) → fault ≡ Judge (Read file)
+        → ReaderFailed S.failed readers.old readers.new file) }
+    // A failed write is answered only where the writer failed in this call, and none is passed over.
+    ensures failed { IsErrOf result Write → Failed (W.failed order_out.old) (W.failed order_out.new) }
+    ensures quiet { ¬ IsErrOf result Write → W.failed order_out.new ≡ W.failed order_out.old }
+{
+    check_counts(readers.len(), 1)?;
+    merged(alloc, readers, order_out)
+}

@@ -1,0 +1,105 @@
+//! The logs of a set, merged in the order of their keys.
+
+ghost use Rattle.std.specs.Prelude.{◌≡◌, ◌<◌, ◌≤◌, ◌∷◌, ◌++◌, ℕ, List, [], Some, None, IfOk, MatchOption, length, true};
+ghost use Rattle.log_record.specs.declared.record.Record.{Record};
+ghost use Rattle.log_record.specs.declared.record.Entry.{Entry};
+ghost use Rattle.merge_judge.specs.inner.Lanes.{AllEnded, IsFrontNumber, add};
+ghost use Rattle.merge_judge.specs.inner.Merging.{HasMerged, IsMerging, none_of};
+
+use super::fronts::Fronts;
+use super::lane::Lane;
+use log_file::ByteSource;
+use log_record::{Entry, Record};
+use mem_op::{CoreId, OpId, OpIndex};
+use std::alloc::{AllocError, Global};
+
+/// How far the logs of a set were merged.
+#[derive(Drop)]
+pub(crate) struct Merge {
+    /// The logs, one a core.
+    pub(crate) lanes: Vec<Lane>,
+    /// The numbers of their fronts.
+    pub(crate) fronts: Fronts,
+    /// Whether no fault was found in any of them.
+    pub(crate) clean: bool,
+}
+
+/// The number of a front: its stamp, rank and core as one number, or the greatest of all where there is
+/// none. To compare these takes no branch.
+fn front_number(front: &Option<Record>, core: usize) -> u128
+    requires { core < 64 }
+    ensures { IsFrontNumber core front.now result }
+{
+    match front {
+        Some(logged) => {
+            let moment = u128::from(logged.ts.get()) * 4_294_967_296
+                + u128::from(logged.rank.get());
+            moment * 64 + core as u128
+        }
+        None => u128::MAX,
+    }
+}
+
+impl Merge {
+    /// The logs of a set, of each of which the first record was read. Err where memory was refused.
+    pub(crate) fn new<S: ByteSource>(alloc: Global, readers: &mut [S]) -> Result<Merge, AllocError>
+        requires some { 0 < length readers.old }
+        requires few { length readers.old ≤ 64 }
+        ensures { IfOk result (λ merge. HasMerged S.remaining S.failed readers.old readers.new merge
+            (none_of readers.old) []) }
+    {
+        let cores = readers.len() as u64;
+        let mut lanes = Vec::new(alloc);
+        let mut numbers = Vec::new(alloc);
+        let mut clean = true;
+        for (core, reader) in readers.iter_mut().enumerate() {
+            let Lane {
+                log,
+                front,
+                merged,
+                falls,
+                fault,
+            } = Lane::new(alloc, CoreId::at(core), cores, reader)?;
+            clean = clean && fault.is_none();
+            numbers.push(front_number(&front, core))?;
+            lanes.push(Lane {
+                log,
+                front,
+                merged,
+                falls,
+                fault,
+            })?;
+        }
+        let fronts = Fronts::new(alloc, numbers)?;
+        Ok(Merge {
+            lanes,
+            fronts,
+            clean,
+        })
+    }
+
+    /// Takes the front of least key, and reads the record after it; None where all logs have ended.
+    pub(crate) fn take_first<S: ByteSource>(&mut self, readers: &mut [S]) -> Option<Entry>
+        requires { IsMerging S.remaining S.failed readers.old self.old }
+        ensures clean { self.new.clean ≡ true → self.old.clean ≡ true }
+        ensures merged { (before : List S) (merged : List (List Record)) (done : List Entry)
+            → HasMerged S.remaining S.failed before readers.old self.old merged done
+            → MatchOption result
+            (AllEnded self.new.lanes.items
+            × HasMerged S.remaining S.failed before readers.new self.new merged done)
+            (λ entry. HasMerged S.remaining S.failed before readers.new self.new
+            (add merged entry.id.core entry.logged) (done ++ entry ∷ [])) }
+    {
+        let core = self.fronts.first();
+        let lane = &mut self.lanes[core];
+        let Some(logged) = lane.front else {
+            return None;
+        };
+        let (place, index) = (CoreId::at(core), OpIndex::at(lane.merged));
+        let entry = Entry::new(OpId { core: place, index }, &logged);
+        let clean = lane.advance(&mut readers[core], &logged);
+        self.fronts.set(core, front_number(&lane.front, core));
+        self.clean = self.clean && clean;
+        Some(entry)
+    }
+}

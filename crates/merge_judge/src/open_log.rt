@@ -1,0 +1,124 @@
+//! A log whose records are read one at a time.
+
+ghost use Rattle.std.specs.Prelude.{◌≡◌, ◌<◌, ◌≤◌, ◌++◌, ℕ, List, [], Ok, Some, Option, IfOk, IfErr, IsErrOf, MatchResult, OnErr, length};
+ghost use Rattle.std.specs.Io.KnownBytes.{Consumes, IsAtEnd, Keeps};
+ghost use Rattle.log_record.specs.declared.record.Record.{Record};
+ghost use Rattle.log_file.specs.Answering.{HasAnswered, IsFaultless};
+ghost use Rattle.log_file.specs.Devices.{CountsFailure, Failed};
+ghost use Rattle.merge_judge.specs.inner.Following.{Follows, IsNext, TakesOne};
+
+use log_file::{ByteSource, LogFault, ReadFailed, RecordReader};
+use log_record::Record;
+use mem_op::CoreId;
+use std::alloc::{AllocError, Global};
+use std::marker::Model;
+
+/// The most bytes of a file that are read at once.
+const PIECE: usize = 65_536;
+
+/// The log of one core, whose file is read in pieces as records are asked for.
+#[derive(Drop)]
+pub(crate) struct OpenLog {
+    reader: RecordReader,
+    piece: Vec<u8>,
+    /// How many bytes of the piece were fed.
+    used: usize,
+    /// How many bytes of the piece were read.
+    filled: usize,
+}
+
+impl Model for OpenLog {
+    ghost use Rattle.merge_judge.specs.OpenedLog.{OpenedLog};
+
+    ghost Value = { OpenedLog };
+
+    ghost use Rattle.merge_judge.specs.LogKept.{opened, IsWithin};
+
+    ghost view = { opened };
+
+    ghost invariant = { IsWithin };
+}
+
+/// Room for a piece.
+fn room(alloc: Global) -> Result<Vec<u8>, AllocError>
+    ensures { IfOk result (λ piece. 0 < length piece.items) }
+{
+    vec![in alloc; 0u8; PIECE]
+}
+
+impl OpenLog {
+    /// The log of this core of `cores`, of which nothing was read. Err where memory was refused.
+    pub(crate) fn new(alloc: Global, core: CoreId, cores: u64) -> Result<OpenLog, AllocError>
+        requires core { core < cores }
+        requires cores { cores ≤ 64 }
+        ensures core { IfOk result (λ log. log.reader.core ≡ core) }
+        ensures cores { IfOk result (λ log. log.reader.cores ≡ cores) }
+        ensures none { IfOk result (λ log. HasAnswered log.reader [] []) }
+        ensures unused { IfOk result (λ log. log.unused ≡ []) }
+    {
+        let piece = room(alloc)?;
+        Ok(OpenLog {
+            reader: RecordReader::new(core, cores),
+            piece,
+            used: 0,
+            filled: 0,
+        })
+    }
+
+    /// The next record of the bytes that were read; None where they have no more.
+    fn take(&mut self) -> Result<Option<Record>, LogFault>
+        ensures core { self.new.reader.core ≡ self.old.reader.core }
+        ensures cores { self.new.reader.cores ≡ self.old.reader.cores }
+        ensures taken { (bytes : List ℕ) (records : List Record)
+            → HasAnswered self.old.reader bytes records
+            → TakesOne bytes records self.old result self.new }
+    {
+        let (used, logged) = self.reader.feed_one(&self.piece[self.used..self.filled])?;
+        self.used += used;
+        Ok(logged)
+    }
+
+    /// Reads a piece in place of the one that was fed, and answers how many bytes it has.
+    fn fill<S: ByteSource>(&mut self, source: &mut S) -> Result<usize, ReadFailed>
+        ensures reader { self.new.reader ≡ self.old.reader }
+        ensures filled { MatchResult result
+            (λ count. (length self.new.unused ≡ count)
+            × Consumes (S.remaining source.old) (S.remaining source.new) self.new.unused
+            × (count ≡ 0 → IsAtEnd (S.remaining source.new)))
+            (λ _. Keeps (S.remaining source.old) (S.remaining source.new)) }
+        ensures counts { CountsFailure (S.failed source.old) (S.failed source.new) result }
+    {
+        let count = source.read(self.piece.as_mut_slice())?;
+        self.used = 0;
+        self.filled = count;
+        Ok(count)
+    }
+
+    /// The next record of the log; None where it has ended, whole. Else its first fault, or Read where
+    /// the source failed.
+    pub(crate) fn next<S: ByteSource>(&mut self, source: &mut S) -> Result<Option<Record>, LogFault>
+        requires { IsFaultless self.old.reader }
+        ensures core { self.new.reader.core ≡ self.old.reader.core }
+        ensures cores { self.new.reader.cores ≡ self.old.reader.cores }
+        ensures next { (core cores : ℕ) (first : Option (List ℕ)) (records : List Record)
+            → Follows core cores first (S.remaining source.old) self.old records
+            → IsNext core cores first records result (S.remaining source.new) self.new }
+        ensures read { IsErrOf result LogFault.Read →
+            Failed (S.failed source.old) (S.failed source.new) }
+        ensures quiet { ¬ IsErrOf result LogFault.Read → S.failed source.new ≡ S.failed source.old }
+    {
+        let mut reads: usize = 0;
+        loop {
+            let logged = self.take()?;
+            if logged.is_some() {
+                return Ok(logged);
+            }
+            let count = self.fill(source)?;
+            if count == 0 {
+                self.reader.check_end()?;
+                return Ok(None);
+            }
+            reads += 1;
+        }
+    }
+}

@@ -1,0 +1,92 @@
+//! The text of an order, written in pieces.
+
+ghost use Rattle.std.specs.Prelude.{◌≡◌, ◌++◌, ℕ, List, [], IfOk, IsErrOf, OnOk, string_bytes};
+ghost use Rattle.std.specs.Io.KnownBytes.{Appends};
+ghost use Rattle.log_file.specs.Devices.{Failed};
+ghost use Rattle.merge_judge.specs.OrderText.{end_line, id_line};
+ghost use Rattle.merge_judge.specs.inner.Writing.{IsWritten};
+
+use log_file::{ByteSink, WriteFault, write_all};
+use mem_op::OpId;
+use std::alloc::{AllocError, Global};
+use std::marker::Model;
+
+/// How many bytes are written at once, or a line more.
+const PIECE: usize = 65_536;
+
+/// The lines of an order that weren't written yet.
+#[derive(Drop)]
+pub(crate) struct OrderText {
+    text: String,
+}
+
+impl Model for OrderText {
+    ghost use Rattle.std.specs.Prelude.{List, ℕ, string_bytes};
+
+    ghost Value = { List ℕ };
+
+    ghost view = { λ order. string_bytes order.text };
+}
+
+/// Puts the line of an id behind a text.
+fn push_id(text: &mut String, id: OpId) -> Result<(), AllocError>
+    ensures { OnOk result (string_bytes text.new ≡ string_bytes text.old ++ id_line id) }
+{
+    let (core, index) = (id.core.get(), id.index.get());
+    writeln!(text, "{core}.{index}")
+}
+
+/// Puts the last line behind a text.
+fn push_end(text: &mut String, count: u64) -> Result<(), AllocError>
+    ensures { OnOk result (string_bytes text.new ≡ string_bytes text.old ++ end_line count) }
+{
+    writeln!(text, "end {count}")
+}
+
+impl OrderText {
+    /// No line. Err where memory was refused.
+    pub(crate) fn new(alloc: Global) -> Result<OrderText, AllocError>
+        ensures { IfOk result (λ order. order ≡ []) }
+    {
+        Ok(OrderText {
+            text: String::with_capacity(alloc, PIECE)?,
+        })
+    }
+
+    /// Writes all of the lines.
+    fn flush<W: ByteSink>(&mut self, out: &mut W) -> Result<(), WriteFault>
+        ensures lines { OnOk result (self.new ≡ []) }
+        ensures written { IsWritten (W.contents out.old) (W.contents out.new) self.old result [] }
+        ensures failed { IsErrOf result WriteFault.Write → Failed (W.failed out.old) (W.failed out.new) }
+        ensures quiet { ¬ IsErrOf result WriteFault.Write → W.failed out.new ≡ W.failed out.old }
+    {
+        write_all(out, self.text.as_bytes())?;
+        self.text.clear();
+        Ok(())
+    }
+
+    /// Adds the line of an id, and writes the lines where they are enough for a piece.
+    pub(crate) fn add<W: ByteSink>(&mut self, out: &mut W, id: OpId) -> Result<(), WriteFault>
+        ensures written { IsWritten (W.contents out.old) (W.contents out.new) (self.old ++ id_line id)
+            result self.new }
+        ensures failed { IsErrOf result WriteFault.Write → Failed (W.failed out.old) (W.failed out.new) }
+        ensures quiet { ¬ IsErrOf result WriteFault.Write → W.failed out.new ≡ W.failed out.old }
+    {
+        push_id(&mut self.text, id)?;
+        if self.text.len() < PIECE {
+            return Ok(());
+        }
+        self.flush(out)
+    }
+
+    /// Adds the last line, and writes all of the lines.
+    pub(crate) fn end<W: ByteSink>(mut self, out: &mut W, count: u64) -> Result<(), WriteFault>
+        ensures written { IsWritten (W.contents out.old) (W.contents out.new) (self ++ end_line count)
+            result [] }
+        ensures failed { IsErrOf result WriteFault.Write → Failed (W.failed out.old) (W.failed out.new) }
+        ensures quiet { ¬ IsErrOf result WriteFault.Write → W.failed out.new ≡ W.failed out.old }
+    {
+        push_end(&mut self.text, count)?;
+        self.flush(out)
+    }
+}
