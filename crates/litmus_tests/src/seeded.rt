@@ -32,10 +32,10 @@ fn table_of<R: Threads + Sync>(
 fn no_forbidden_outcome_is_seen(rt: HostRuntime) -> Result<(), Fail> {
     for text in TESTS {
         let table = table_of(&rt, rt.alloc(), text, 100)?;
-        let mut count = 0;
+        let mut count: u64 = 0;
         for row in table.rows() {
             assert!(rt; !row.forbidden);
-            count += row.count;
+            count = count.saturating_add(row.count);
         }
         assert_eq!(rt; count, 100);
     }
