@@ -124,25 +124,32 @@ not_help s names w (word ∷ words) p on none quiet e =
 
 -- ---- the subcommand that is entered
 
--- it is named as one of three
-abbrev pub IsNamed : Text → Text → Text → Text → Type 0
-IsNamed name a b c = (name ≡ a) ⊎ ((name ≡ b) ⊎ (name ≡ c))
+-- it is named as one of these
+abbrev pub IsOneOf : Text → List Shape → Type 0
+IsOneOf name [] = ⊥
+IsOneOf name (s ∷ subs) = (name ≡ s.name) ⊎ IsOneOf name subs
 
--- where the last of four isn't meant, one of the first three is
-first_three : (a b c last : Shape) (p : Text × List Text) (named : Text × List Row) → answers_to p.0 (label_of last) ≡ false
-    → option_map (λ s. rows_at s p.1) (find (λ s. answers_to p.0 (label_of s)) (a ∷ b ∷ c ∷ last ∷ [])) ≡ Some named
-    → IsNamed named.0 a.name b.name c.name
-first_three a b c last p named off e =
-    go (answers_to p.0 (label_of a)) (answers_to p.0 (label_of b)) (answers_to p.0 (label_of c)) (answers_to p.0 (label_of last)) off e
+-- the first that a name means
+abbrev found_in : Text × List Text → List Shape → Option (Text × List Row)
+found_in p subs = option_map (λ s. rows_at s p.1) (find (λ s. answers_to p.0 (label_of s)) subs)
+
+-- where the last isn't meant, one of those before it is
+one_before : (subs : List Shape) (last : Shape) (p : Text × List Text) (named : Text × List Row) → answers_to p.0 (label_of last) ≡ false
+    → found_in p (subs ++ last ∷ []) ≡ Some named → IsOneOf named.0 subs
+one_before [] last p named off e = go (answers_to p.0 (label_of last)) off e
   where
-    go : (i j k l : Bool) → l ≡ false
-        → option_map (λ s. rows_at s p.1) (cond i (Some a) (cond j (Some b) (cond k (Some c) (cond l (Some last) None)))) ≡ Some named
-        → IsNamed named.0 a.name b.name c.name
-    go true j k l off e = let is : rows_at a p.1 ≡ named = cc in inl (ap (λ (n : Text × List Row). n.0) (sym is))
-    go false true k l off e = let is : rows_at b p.1 ≡ named = cc in inr (inl (ap (λ (n : Text × List Row). n.0) (sym is)))
-    go false false true l off e = let is : rows_at c p.1 ≡ named = cc in inr (inr (ap (λ (n : Text × List Row). n.0) (sym is)))
-    go false false false true off e = absurd cc
-    go false false false false off e = absurd cc
+    go : (b : Bool) → b ≡ false → option_map (λ s. rows_at s p.1) (cond b (Some last) None) ≡ Some named → ⊥
+    go true off e = absurd cc
+    go false off e = absurd cc
+one_before (s ∷ subs) last p named off e = go (answers_to p.0 (label_of s)) (one_before subs last p named off) e
+  where
+    later : Option Shape
+    later = find (λ s. answers_to p.0 (label_of s)) (subs ++ last ∷ [])
+
+    go : (b : Bool) → (option_map (λ s. rows_at s p.1) later ≡ Some named → IsOneOf named.0 subs)
+        → option_map (λ s. rows_at s p.1) (cond b (Some s) later) ≡ Some named → IsOneOf named.0 (s ∷ subs)
+    go true others e = let is : rows_at s p.1 ≡ named = cc in inl (ap (λ (n : Text × List Row). n.0) (sym is))
+    go false others e = inr (others e)
 
 -- a name that isn't `help`
 help_unmet : (t : Text) → bytes_eq t (codes "help") ≡ false → answers_to t (codes "help", []) ≡ false
@@ -167,17 +174,21 @@ built_walk a h words quiet = level_walk a.top (names_of a) h words _ _ quiet
 abbrev sub : ℕ → Shape
 sub i = get_or (built tardis).subs i (built tardis).top
 
+-- its own subcommands
+abbrev pub own : List Shape
+own = sub 0 ∷ sub 1 ∷ sub 2 ∷ sub 3 ∷ []
+
 pub names_own : (words : List Text) (named : Text × List Row) → fault_of tardis words ≡ [] → subcommand_of tardis words ≡ Some named
-    → IsNamed named.0 (codes "check") (codes "sim") (codes "run")
+    → IsOneOf named.0 own
 names_own words named quiet is = go (stop_after (built tardis).top.rules (names_of (built tardis)) (argument_words tardis words)) refl is
   where
     go : (stop : Option (Text × List Text)) → stop_after (built tardis).top.rules (names_of (built tardis)) (argument_words tardis words) ≡ stop
-        → entered (built tardis) stop ≡ Some named → IsNamed named.0 (codes "check") (codes "sim") (codes "run")
+        → entered (built tardis) stop ≡ Some named → IsOneOf named.0 own
     go None was e = absurd cc
     go (Some p) was e =
         let well = built_walk (built tardis) nothing_held (argument_words tardis words) quiet in
         let off = not_help (built tardis).top (names_of (built tardis)) (walk_from nothing_held) (argument_words tardis words) p refl refl well was in
-        first_three (sub 0) (sub 1) (sub 2) (sub 3) p named (help_unmet p.0 off) e
+        one_before own (sub 4) p named (help_unmet p.0 off) e
 
 -- ---- the subcommand that was found
 

@@ -9,6 +9,7 @@ use Rattle.command_line.specs.declared.refusal.Refusal.{Refusal}
 use Rattle.command_line.specs.declared.refusal.Refusal.TheVariants.{Usage, OutOfMemory}
 use Rattle.command_line.specs.declared.request.Check.{Check}
 use Rattle.command_line.specs.declared.request.Limits.{Limits}
+use Rattle.command_line.specs.declared.request.Order.{Order}
 use Rattle.command_line.specs.declared.request.Request.{Request}
 use Rattle.command_line.specs.declared.request.Request.TheVariants as request
 use Rattle.command_line.specs.declared.request.Run.{Run}
@@ -41,6 +42,10 @@ pub record IsCheck (rows : List Row) (check : Check) : Type 0 where
   pub program : text_of check.program ≡ first_of (codes "program") rows
   pub files : texts check.files.items ≡ unwrap_or (all_of (codes "FILE") rows) []
 
+-- an order of the files that were given
+pub record IsOrder (rows : List Row) (order : Order) : Type 0 where
+  pub files : texts order.files.items ≡ unwrap_or (all_of (codes "FILE") rows) []
+
 -- the numbers of the machine that were given, or the default of each that wasn't
 pub record AreLimits (rows : List Row) (limits : Limits) : Type 0 where
   pub slices : IsCountOr 1 (one_of (codes "slices") rows) limits.slices
@@ -67,6 +72,7 @@ pub record IsThreaded (rows : List Row) (run : Run) : Type 0 where
 -- the request is that of the subcommand of this name, by these arguments
 abbrev pub IsAskedBy : Text × List Row → Request → Type 0
 IsAskedBy named (request.Check check) = (named.0 ≡ codes "check") × IsCheck named.1 check
+IsAskedBy named (request.Order order) = (named.0 ≡ codes "order") × IsOrder named.1 order
 IsAskedBy named (request.Sim sim) = (named.0 ≡ codes "sim") × IsSim named.1 sim
 IsAskedBy named (request.Run run) = (named.0 ≡ codes "run") × IsThreaded named.1 run
 

@@ -35,6 +35,10 @@ with_check_options app = with_rule (with_rule app (number_option (codes "workers
 abbrev pub check : App
 check = with_rule (with_check_options (new_app (codes "check"))) files
 
+-- tardis order FILE..
+abbrev pub order : App
+order = with_rule (new_app (codes "order")) files
+
 -- a name that has to be there
 abbrev pub name : Text → Rule
 name place = record (new_rule place) { required = true; action = Some Set }
@@ -64,9 +68,10 @@ sim = with_names (with_sim_options (with_limits (new_app (codes "sim"))))
 abbrev pub run : App
 run = with_names (with_limits (new_app (codes "run")))
 
--- the program with the subcommand that judges, and never called without one
+-- the program with the subcommands that judge, and never called without one
 abbrev pub judging : App
-judging = with_subcommand (on_top (λ top. record top { subcommand_required = true }) (new_app (codes "tardis"))) check.top
+judging =
+    with_subcommand (with_subcommand (on_top (λ top. record top { subcommand_required = true }) (new_app (codes "tardis"))) check.top) order.top
 
 -- sim and run
 abbrev pub with_machine : App → App

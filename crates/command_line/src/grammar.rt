@@ -16,7 +16,7 @@ pub(crate) fn tardis<'a>(alloc: Global) -> Result<Command<'a>, AllocError>
     with_machine(alloc, judging(alloc)?)
 }
 
-/// The command line with the subcommand that judges.
+/// The command line with the subcommands that judge.
 fn judging<'a>(alloc: Global) -> Result<Command<'a>, AllocError>
     ensures app { IfOk result (λ command. app_of command ≡ grammar.judging) }
     ensures local { IfOk result (λ command. (fields_of command).has_globals ≡ false) }
@@ -25,7 +25,8 @@ fn judging<'a>(alloc: Global) -> Result<Command<'a>, AllocError>
         .about("Judges the logs of a multiprocessor for sequential consistency, and runs one")
         .after_help("Example: tardis check log.0 log.1")
         .subcommand_required(true)
-        .subcommand(check(alloc)?)
+        .subcommand(check(alloc)?)?
+        .subcommand(order(alloc)?)
 }
 
 /// A command line with the subcommands that run the machine.
@@ -47,6 +48,17 @@ fn check<'a>(alloc: Global) -> Result<Command<'a>, AllocError>
         .about("Tells whether logs, one of each core, are sequentially consistent")
         .after_help("Example: tardis check --workers 4 log.0 log.1");
     with_check_options(alloc, command)?.arg(files(alloc).help("The logs, that of core 0 first"))
+}
+
+/// The subcommand that judges a set of logs and writes its order.
+fn order<'a>(alloc: Global) -> Result<Command<'a>, AllocError>
+    ensures app { IfOk result (λ command. app_of command ≡ grammar.order) }
+    ensures local { IfOk result (λ command. (fields_of command).has_globals ≡ false) }
+{
+    let command = Command::new(alloc, "order")
+        .about("Judges logs, and writes the order by which they are sequentially consistent")
+        .after_help("Example: tardis order log.0 log.1");
+    command.arg(files(alloc).help("The logs, that of core 0 first"))
 }
 
 /// A command with the options of a check.

@@ -5,6 +5,8 @@
 pub enum Request<'a> {
     /// The verdict on a set of logs.
     Check(Check<'a>),
+    /// The verdict on a set of logs, and its order.
+    Order(Order<'a>),
     /// A run of the machine, one event after the other.
     Sim(Sim<'a>),
     /// A run of the machine, each core in a thread of its own.
@@ -18,6 +20,13 @@ pub struct Check<'a> {
     pub workers: u64,
     /// The name of the file of the programs that the cores ran, where one is given.
     pub program: Option<&'a str>,
+    /// The names of its files, that of core 0 first.
+    pub files: Vec<&'a str>,
+}
+
+/// Asks for the verdict on a set of logs, and for the order of one that gets Yes.
+#[derive(Debug, Drop)]
+pub struct Order<'a> {
     /// The names of its files, that of core 0 first.
     pub files: Vec<&'a str>,
 }

@@ -7,7 +7,7 @@ ghost use Rattle.command_line.specs.Asking as asking;
 
 use super::grammar::tardis;
 use super::refusal::Refusal;
-use super::request::{Check, Limits, Request, Run, Sim};
+use super::request::{Check, Limits, Order, Request, Run, Sim};
 use clap::error::ErrorKind;
 use clap::{ArgMatches, Error};
 use std::alloc::{AllocError, Global};
@@ -33,6 +33,9 @@ pub fn read<'a>(alloc: Global, words: &'a [&'a str]) -> Result<Request<'a>, Refu
     if name == "run" {
         return Ok(Request::Run(run_of(asked)));
     }
+    if name == "order" {
+        return Ok(Request::Order(order_of(alloc, asked)?));
+    }
     Ok(Request::Check(check_of(alloc, asked)?))
 }
 
@@ -43,6 +46,15 @@ fn check_of<'a>(alloc: Global, matches: &ArgMatches<'a>) -> Result<Check<'a>, Al
     Ok(Check {
         workers: count_of(matches, "workers", 1),
         program: name_of(matches, "program"),
+        files: files_of(alloc, matches)?,
+    })
+}
+
+/// What the words after `order` ask for.
+fn order_of<'a>(alloc: Global, matches: &ArgMatches<'a>) -> Result<Order<'a>, AllocError>
+    ensures { IfOk result (asking.IsOrder (rows_of (found_of matches.now))) }
+{
+    Ok(Order {
         files: files_of(alloc, matches)?,
     })
 }

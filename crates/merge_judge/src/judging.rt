@@ -6,7 +6,7 @@ ghost use Rattle.log_file.specs.Devices.{Failed};
 ghost use Rattle.log_file.specs.Sets.{ReaderFailed, TellEach};
 ghost use Rattle.verdict.specs.Counts.{IsOutOfRange};
 ghost use Rattle.verdict.specs.Judgement.{IsAnswerTo};
-ghost use Rattle.verdict.specs.declared.judge_fault.Count.TheVariants.{Files};
+ghost use Rattle.verdict.specs.declared.judge_fault.Count.TheVariants.{Files, Programs, Workers};
 ghost use Rattle.verdict.specs.declared.judge_fault.JudgeFault.TheVariants.{BadConfig, Read};
 ghost use Rattle.merge_judge.specs.declared.merge_fault.MergeFault.TheVariants.{Judge, Write};
 ghost use Rattle.merge_judge.specs.Answer.{WritesOrder, judged};
@@ -117,6 +117,8 @@ pub fn merge_judge<S: ByteSource, W: ByteSink>(
     // 6 comes exactly where the number of files is out of range, and nothing is read then.
     ensures files { IsErrOf result (Judge (BadConfig Files)) ↔ IsOutOfRange (length readers.old) }
     ensures unread { IsErrOf result (Judge (BadConfig Files)) → readers.new ≡ readers.old }
+    ensures workers { ¬ IsErrOf result (Judge (BadConfig Workers)) }
+    ensures programs { ¬ IsErrOf result (Judge (BadConfig Programs)) }
     // The readers tell texts, and where no write failed the answer is that of the judge to these.
     // With a Yes the writer took the text of an order by which the set is consistent; else what it took
     // lacks the `end` line.

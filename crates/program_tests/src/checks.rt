@@ -6,7 +6,7 @@ use std::thread::Threads;
 use tardis_command::{Folder, Unwatched, command};
 
 /// Sets of logs by their records, and the verdict on each.
-const VERDICTS: &[(&[&[&str]], u8, &str)] = &[
+pub(super) const VERDICTS: &[(&[&[&str]], u8, &str)] = &[
     (&[&[]], 0, "yes: 0 operations\n"),
     (
         &[&["S 5 7 1 0", "L 5 7 1 1 0.0", "S 5 8 1 1"]],
@@ -78,7 +78,7 @@ const EMPTY_0_OF_2: &[u8] = b"tardis-log 1 core 0 of 2\nend 0\n";
 const EMPTY_1_OF_2: &[u8] = b"tardis-log 1 core 1 of 2\nend 0\n";
 
 /// Files that aren't a set of logs, and what is told of them.
-const REFUSED: &[(&[&[u8]], &str)] = &[
+pub(super) const REFUSED: &[(&[&[u8]], &str)] = &[
     (&[b""], "refused: file 0 line 1: 26 Truncated\n"),
     (
         &[b"tardis-log 1 core 0 of 1\nS 0 1 1 0\nL 0 1 1 1 0.0\n"],
@@ -318,14 +318,14 @@ impl<'a> Folder for Texts<'a> {
 
 /// What the devices of a call do.
 #[derive(Clone, Copy)]
-struct Devices<'a> {
-    reads: &'a [Step],
-    writes: &'a [Step],
-    complaints: &'a [Step],
+pub(super) struct Devices<'a> {
+    pub(super) reads: &'a [Step],
+    pub(super) writes: &'a [Step],
+    pub(super) complaints: &'a [Step],
 }
 
 /// Devices that don't fail.
-const SOUND: Devices<'static> = Devices {
+pub(super) const SOUND: Devices<'static> = Devices {
     reads: &[],
     writes: &[],
     complaints: &[],
@@ -333,10 +333,10 @@ const SOUND: Devices<'static> = Devices {
 
 /// What a call did.
 #[derive(Drop)]
-struct Done {
-    status: u8,
-    printed: String,
-    told: String,
+pub(super) struct Done {
+    pub(super) status: u8,
+    pub(super) printed: String,
+    pub(super) told: String,
 }
 
 #[test]
@@ -556,7 +556,7 @@ fn long_logs(alloc: Global, last: &str) -> Result<Vec<Vec<u8>>, Fail> {
 }
 
 /// Texts of one's own.
-fn owned(alloc: Global, texts: &[&[u8]]) -> Result<Vec<Vec<u8>>, Fail> {
+pub(super) fn owned(alloc: Global, texts: &[&[u8]]) -> Result<Vec<Vec<u8>>, Fail> {
     let mut all = Vec::new(alloc);
     for text in texts {
         all.push(Vec::from_slice(alloc, text)?)?;
@@ -565,7 +565,7 @@ fn owned(alloc: Global, texts: &[&[u8]]) -> Result<Vec<Vec<u8>>, Fail> {
 }
 
 /// Words of one's own.
-fn strings(alloc: Global, words: &[&str]) -> Result<Vec<String>, Fail> {
+pub(super) fn strings(alloc: Global, words: &[&str]) -> Result<Vec<String>, Fail> {
     let mut all = Vec::new(alloc);
     for word in words {
         all.push(String::from_str(alloc, word)?)?;
@@ -597,7 +597,7 @@ fn check_texts<R: Threads + Wait + Sync>(
 }
 
 /// Calls the program with these words, over files of these texts.
-fn call<R: Threads + Wait + Sync>(
+pub(super) fn call<R: Threads + Wait + Sync>(
     rt: &R,
     alloc: Global,
     words: &Vec<String>,

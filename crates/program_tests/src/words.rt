@@ -38,6 +38,15 @@ fn words_of_a_check(rt: HostRuntime) -> Result<(), Fail> {
 }
 
 #[test]
+fn words_of_an_order(rt: HostRuntime) {
+    match read(rt.alloc(), &["tardis", "order", "b", "a"]) {
+        Ok(Request::Order(order)) => assert_eq!(rt; order.files.as_slice(), ["b", "a"].as_slice()),
+        Ok(_other) => assert!(rt; false, "no order"),
+        Err(refusal) => assert!(rt; false, "refused: {refusal}"),
+    }
+}
+
+#[test]
 fn words_of_a_sim(rt: HostRuntime) -> Result<(), Fail> {
     for (words, schedule, seed, programs, out) in [
         (["p", "o"].as_slice(), None, None, "p", "o"),
@@ -130,7 +139,8 @@ fn words_that_ask_for_nothing(rt: HostRuntime) -> Result<(), Fail> {
         &["help", "sim"],
         &["--help"],
         &["sim", "--help"],
-        &["order", "a"],
+        &["order"],
+        &["order", "--workers", "1", "a"],
         &["check"],
         &["check", "--seed", "1", "a"],
         &["sim"],

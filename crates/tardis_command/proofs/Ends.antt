@@ -1,14 +1,19 @@
 -- How a call ends, from what its parts answer.
-use Rattle.std.proofs.Common.{◌≡◌, ◌⊎◌, ◌∙◌, ap, subst, sym, refl, ℕ, List, Option, None, Some, Ok, Err, inl, inr}
-use Rattle.std.specs.Io.KnownBytes.{Keeps}
+use Rattle.std.proofs.Common.{◌≡◌, ◌⊎◌, ◌∙◌, ap, subst, sym, refl, ℕ, List, Option, None, Some, Result, Ok, Err, inl, inr}
+use Rattle.std.specs.Prelude.{IfOk, OnOk, IfErr}
+use Rattle.std.specs.Io.KnownBytes.{Appends, Keeps}
 use Rattle.std.proofs.KnownBytes.{Appends-nil}
 use Rattle.command_line.specs.Asking.{Asks, IsCommandLine}
 use Rattle.command_line.specs.declared.request.Request.{Request}
 use Rattle.command_line.specs.declared.request.Request.TheVariants as request
-use Rattle.tardis_command.specs.Answers.{answer_status, answer_text}
+use Rattle.verdict.specs.Judgement.{IsYes}
+use Rattle.verdict.specs.declared.answer.Verdict.{Verdict}
+use Rattle.verdict.specs.declared.answer.Verdict.TheVariants.{Yes, No}
+use Rattle.tardis_command.specs.Answers.{answer_status, answer_text, told_text, verdict_status}
 use Rattle.tardis_command.specs.declared.answer.Answer.{Answer}
+use Rattle.tardis_command.specs.declared.answer.Answer.TheVariants as answer
 use Rattle.tardis_command.specs.inner.Printing.{IsUnprinted}
-use Rattle.tardis_command.specs.Endings.{Answered, Ending, EndsBy, HasFailed, IsAnswered, IsDoneBy, Misused, OutputAt, Refused, IsAnswerTo, Sink, Takes, Unprinted, line, status_of}
+use Rattle.tardis_command.specs.Endings.{Answered, Ending, EndsBy, HasFailed, IsAnswered, IsAnswerTo, IsDoneBy, IsPrintedBy, Misused, OutputAt, Refused, Sink, Takes, Unprinted, Unread, line, status_of}
 use Rattle.tardis_command.specs.Files.{Files}
 use Rattle.tardis_command.specs.Faults.{command_fault_text, fault_status}
 use Rattle.tardis_command.specs.declared.fault.CommandFault.{CommandFault}
@@ -24,53 +29,82 @@ unless_failed : (old new : Sink) (fault : CommandFault) (ending : Ending) → Is
 unless_failed old new fault (Answered answer) answered output = cc
 unless_failed old new fault (Unprinted answer) answered output = inr output.0
 unless_failed old new fault (Refused reason) answered output = output
+unless_failed old new fault Unread answered output = absurd answered
 unless_failed old new fault (Misused text) answered output = absurd answered
 
--- lack of memory may end whatever was asked
-memory_ends : (before after : Files) (asked : Request) → IsAnswerTo before after asked (Err OutOfMemory)
-memory_ends before after (request.Check check) = tt
-memory_ends before after (request.Sim sim) = tt
-memory_ends before after (request.Run run) = tt
+-- lack of memory may be told in place of whatever refusal
+memory_instead : (before after : Files) (asked : Request) (out out' : Sink) (fault : CommandFault) (ending : Ending) → IsAnswered ending (Err fault)
+    → IsDoneBy before after asked out out' ending → IsDoneBy before after asked out out' (Refused OutOfMemory)
+memory_instead before after (request.Check check) out out' fault ending answered done = (tt, unless_failed out out' fault ending answered done.1)
+memory_instead before after (request.Sim sim) out out' fault ending answered done = (tt, unless_failed out out' fault ending answered done.1)
+memory_instead before after (request.Run run) out out' fault ending answered done = (tt, unless_failed out out' fault ending answered done.1)
+memory_instead before after (request.Order order) out out' fault (Answered answer) answered done = cc
+memory_instead before after (request.Order order) out out' fault (Unprinted answer) answered done = absurd done
+memory_instead before after (request.Order order) out out' fault (Refused reason) answered done = (tt, done.1)
+memory_instead before after (request.Order order) out out' fault Unread answered done = absurd done
+memory_instead before after (request.Order order) out out' fault (Misused text) answered done = absurd done
 
--- an answer whose line wasn't printed
-pub unprinted : (before after : Files) (asked : Request) (answer : Answer) (out out' : Sink) (fault : CommandFault)
-    → IsAnswerTo before after asked (Ok answer) → IsUnprinted out out' (line (answer_text answer)) fault
-    → (ending : Ending) × IsAnswered ending (Err fault) × IsDoneBy before after asked out out' ending
-unprinted before after asked answer out out' Output answered failed = (Unprinted answer, refl, (answered, failed))
-unprinted before after asked answer out out' OutOfMemory answered same =
-    (Refused OutOfMemory, refl, (memory_ends before after asked, subst (λ (s : Sink). Keeps out.contents s.contents ⊎ HasFailed out s) (sym same) (inl (kept out.contents))))
-unprinted before after asked answer out out' (Judge reason) answered never = absurd never
-unprinted before after asked answer out out' (Config reason) answered never = absurd never
-unprinted before after asked answer out out' (Programs reason) answered never = absurd never
-unprinted before after asked answer out out' ProgramsUnread answered never = absurd never
-unprinted before after asked answer out out' (Schedule reason) answered never = absurd never
-unprinted before after asked answer out out' ScheduleUnread answered never = absurd never
-unprinted before after asked answer out out' (Simulation reason) answered never = absurd never
-unprinted before after asked answer out out' (Run reason) answered never = absurd never
-unprinted before after asked answer out out' (LogUnwritten file) answered never = absurd never
+-- what was asked was refused before there was an answer to print
+pub refused_at_once : (before after : Files) (asked : Request) (out : Sink) (fault : CommandFault) (result : Result Answer CommandFault) → result ≡ Err fault
+    → IsAnswerTo before after asked (Err fault) → (ending : Ending) × IsAnswered ending result × IsPrintedBy before after asked out out ending
+refused_at_once before after asked out fault result is answered = (Refused fault, is, (answered, inl (kept out.contents)))
+
+module _ (before after : Files) (asked : Request) (answer : Answer) (out out' : Sink) (answered : IsAnswerTo before after asked (Ok answer))
+    (memory : IsAnswerTo before after asked (Err OutOfMemory)) where
+  -- an answer whose line wasn't printed
+  unprinted : (fault : CommandFault) → IsUnprinted out out' (line (answer_text answer)) fault
+      → (ending : Ending) × IsAnswered ending (Err fault) × IsPrintedBy before after asked out out' ending
+  unprinted Output failed = (Unprinted answer, refl, (answered, failed))
+  unprinted OutOfMemory same =
+      (Refused OutOfMemory, refl, (memory, subst (λ (s : Sink). Keeps out.contents s.contents ⊎ HasFailed out s) (sym same) (inl (kept out.contents))))
+  unprinted (Judge reason) never = absurd never
+  unprinted (Config reason) never = absurd never
+  unprinted (Programs reason) never = absurd never
+  unprinted ProgramsUnread never = absurd never
+  unprinted (Schedule reason) never = absurd never
+  unprinted ScheduleUnread never = absurd never
+  unprinted (Simulation reason) never = absurd never
+  unprinted (Run reason) never = absurd never
+  unprinted (LogUnwritten file) never = absurd never
+
+  -- an answer that was to be printed
+  pub printed : (result : Result Answer CommandFault) → IfOk result (λ same. same ≡ answer)
+      → OnOk result (Appends out.contents out'.contents (line (answer_text answer))) → IfErr result (IsUnprinted out out' (line (answer_text answer)))
+      → (ending : Ending) × IsAnswered ending result × IsPrintedBy before after asked out out' ending
+  printed (Ok same) is appends failed = (Answered answer, ap (λ (a : Answer). Ok a) is, (answered, appends))
+  printed (Err fault) is appends failed = unprinted fault failed
+
+yes_of : (verdict : Verdict) → verdict_status verdict ≡ 0 → IsYes verdict
+yes_of (Yes count) zero = tt
+yes_of (No fault) zero = cc
+
+-- a verdict that was printed, with the status of a Yes
+pub printed_yes : (verdict : Verdict) (result : Result Answer CommandFault) (Holds : Type 0) → IfOk result (λ same. same ≡ answer.Judged verdict) → (IsYes verdict → Holds)
+    → IfOk result (λ answer. answer_status answer ≡ 0 → Holds)
+printed_yes verdict (Ok answer) Holds is holds = λ zero. holds (yes_of verdict (sym (ap answer_status is) ∙ zero))
+printed_yes verdict (Err fault) Holds is holds = tt
 
 module _ (before after : Files) (words : List (List ℕ)) (out err : Sink) where
   pub ends_misused : (err' : Sink) (text : List ℕ) → ¬ (IsCommandLine words) → Takes err err' text
       → EndsBy before after words out out err err' (Misused text)
-  ends_misused err' text misused takes = record { end = misused; output = kept out.contents; complaint = takes }
+  ends_misused err' text misused takes = record { end = (misused, kept out.contents); complaint = takes }
 
   -- the call answered this status, and told of this fault
   abbrev pub EndsAt : Sink → Sink → ℕ → Type 0
   EndsAt out' err' status = (ending : Ending) × (status ≡ status_of ending) × EndsBy before after words out out' err err' ending
 
-  pub ends_answered : (asked : Request) (ending : Ending) (out' : Sink) (status : ℕ) → Asks words asked → IsAnswered ending (Ok status)
-      → IsDoneBy before after asked out out' ending → EndsAt out' err status
-  ends_answered asked (Answered answer) out' status asks answered done =
-      let same : status ≡ answer_status answer = cc in
-      (Answered answer, same, record { end = (asked, asks, done.0); output = done.1; complaint = inl (Appends-nil err.contents) })
-  ends_answered asked (Unprinted answer) out' status asks answered done = cc
-  ends_answered asked (Refused fault) out' status asks answered done = cc
-  ends_answered asked (Misused text) out' status asks answered done = absurd answered
-
-  -- without the memory to go on, or to tell of another refusal
-  ends_without_memory : (out' err' : Sink) (status : ℕ) → Keeps out.contents out'.contents ⊎ HasFailed out out'
-      → Takes err err' (line (command_fault_text OutOfMemory)) → status ≡ fault_status OutOfMemory → EndsAt out' err' status
-  ends_without_memory out' err' status output takes same = (Refused OutOfMemory, same, record { end = inr refl; output = output; complaint = takes })
+  pub ends_answered : (asked : Request) (ending : Ending) (out' err' : Sink) (answer : Answer) (status : ℕ) → Asks words asked → IsAnswered ending (Ok answer)
+      → IsDoneBy before after asked out out' ending → Takes err err' (told_text answer) → status ≡ answer_status answer → EndsAt out' err' status
+  ends_answered asked (Answered own) out' err' answer status asks answered done takes is =
+      let same : answer ≡ own = cc in (
+        Answered own,
+        is ∙ ap answer_status same,
+        record { end = (asked, asks, done); complaint = subst (λ (a : Answer). Takes err err' (told_text a)) same takes },
+      )
+  ends_answered asked (Unprinted own) out' err' answer status asks answered done takes is = cc
+  ends_answered asked (Refused fault) out' err' answer status asks answered done takes is = cc
+  ends_answered asked Unread out' err' answer status asks answered done takes is = absurd answered
+  ends_answered asked (Misused text) out' err' answer status asks answered done takes is = absurd answered
 
   -- the fault was told
   ends_told : (asked : Request) (ending : Ending) (fault : CommandFault) (out' err' : Sink) (status : ℕ) → Asks words asked
@@ -81,24 +115,18 @@ module _ (before after : Files) (words : List (List ℕ)) (out err : Sink) where
       let is : fault ≡ Output = cc in (
         Unprinted answer,
         same ∙ ap fault_status is,
-        record {
-          end = (asked, asks, done.0);
-          output = done.1;
-          complaint = subst (λ (f : CommandFault). Takes err err' (line (command_fault_text f))) is takes;
-        },
+        record { end = (asked, asks, done); complaint = subst (λ (f : CommandFault). Takes err err' (line (command_fault_text f))) is takes },
       )
   ends_told asked (Refused reason) fault out' err' status asks answered done takes same =
       let is : fault ≡ reason = cc in (
         Refused reason,
         same ∙ ap fault_status is,
-        record {
-          end = inl (asked, asks, done.0);
-          output = done.1;
-          complaint = subst (λ (f : CommandFault). Takes err err' (line (command_fault_text f))) is takes;
-        },
+        record { end = (asked, asks, done); complaint = subst (λ (f : CommandFault). Takes err err' (line (command_fault_text f))) is takes },
       )
+  ends_told asked Unread fault out' err' status asks answered done takes same = absurd answered
   ends_told asked (Misused text) fault out' err' status asks answered done takes same = absurd answered
 
+  -- what was told is the fault, or lack of the memory to tell it
   pub ends_refused : (asked : Request) (ending : Ending) (fault reported : CommandFault) (out' err' : Sink) (status : ℕ) → Asks words asked
       → IsAnswered ending (Err fault) → IsDoneBy before after asked out out' ending → (reported ≡ fault) ⊎ (reported ≡ OutOfMemory)
       → Takes err err' (line (command_fault_text reported)) → status ≡ fault_status reported → EndsAt out' err' status
@@ -106,13 +134,15 @@ module _ (before after : Files) (words : List (List ℕ)) (out err : Sink) where
       ends_told asked ending fault out' err' status asks answered done
       (subst (λ (f : CommandFault). Takes err err' (line (command_fault_text f))) is takes) (same ∙ ap fault_status is)
   ends_refused asked ending fault reported out' err' status asks answered done (inr is) takes same =
-      ends_without_memory out' err' status (unless_failed out out' fault ending answered done.1)
+      ends_told asked (Refused OutOfMemory) OutOfMemory out' err' status asks refl (memory_instead before after asked out out' fault ending answered done)
       (subst (λ (f : CommandFault). Takes err err' (line (command_fault_text f))) is takes) (same ∙ ap fault_status is)
 
   -- and there was no memory to read the words
   pub ends_unread : (reported : CommandFault) (err' : Sink) (status : ℕ) → (reported ≡ OutOfMemory) ⊎ (reported ≡ OutOfMemory)
       → Takes err err' (line (command_fault_text reported)) → status ≡ fault_status reported → EndsAt out err' status
   ends_unread reported err' status which takes same =
-      let is : reported ≡ OutOfMemory = elim which [ inl is ↦ is | inr is ↦ is ] in
-      ends_without_memory out err' status (inl (kept out.contents))
-      (subst (λ (f : CommandFault). Takes err err' (line (command_fault_text f))) is takes) (same ∙ ap fault_status is)
+      let is : reported ≡ OutOfMemory = elim which [ inl is ↦ is | inr is ↦ is ] in (
+        Unread,
+        same ∙ ap fault_status is,
+        record { end = kept out.contents; complaint = subst (λ (f : CommandFault). Takes err err' (line (command_fault_text f))) is takes },
+      )

@@ -1,5 +1,6 @@
 mod Checks
 mod Ends
 mod Logs
+mod Orders
 mod Runs
 mod ThreadRuns

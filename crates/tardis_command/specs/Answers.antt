@@ -1,15 +1,26 @@
 -- The texts and the exit statuses of answers.
-use Rattle.std.specs.Prelude.{ℕ, List, ◌++◌, codes}
+use Rattle.std.specs.Prelude.{ℕ, List, [], ◌∷◌, ◌++◌, codes}
 use Rattle.std.specs.Fmt.{decimal}
 use Rattle.verdict.specs.Texts.{verdict_text}
 use Rattle.verdict.specs.declared.answer.Verdict.{Verdict}
 use Rattle.verdict.specs.declared.answer.Verdict.TheVariants.{Yes, No}
 use Rattle.tardis_command.specs.declared.answer.Answer.{Answer}
-use Rattle.tardis_command.specs.declared.answer.Answer.TheVariants.{Judged, Done}
+use Rattle.tardis_command.specs.declared.answer.Answer.TheVariants.{Judged, Ordered, Done}
 
 abbrev pub answer_text : Answer → List ℕ
 answer_text (Judged verdict) = verdict_text verdict
+answer_text (Ordered verdict) = verdict_text verdict
 answer_text (Done operations) = codes "done: " ++ (decimal operations ++ codes " operations")
+
+-- a text and its line feed
+abbrev pub line : List ℕ → List ℕ
+line text = text ++ 10 ∷ []
+
+-- what standard error is told of an answer: the verdict, where the order is what goes to standard output
+abbrev pub told_text : Answer → List ℕ
+told_text (Judged verdict) = []
+told_text (Ordered verdict) = line (verdict_text verdict)
+told_text (Done operations) = []
 
 abbrev pub verdict_status : Verdict → ℕ
 verdict_status (Yes count) = 0
@@ -17,4 +28,5 @@ verdict_status (No fault) = 1
 
 abbrev pub answer_status : Answer → ℕ
 answer_status (Judged verdict) = verdict_status verdict
+answer_status (Ordered verdict) = verdict_status verdict
 answer_status (Done operations) = 0

@@ -113,8 +113,11 @@ IsChecked told asked (Err Output) = ⊥
 -- ---- what a Yes says
 
 -- the texts of the files spell a set whose operations are sequentially consistent
+abbrev pub TextsAreConsistent : (List ℕ → Option (List ℕ)) → List (Bor (List ℕ)) → Type 0
+TextsAreConsistent told names = (texts : List (List ℕ)) × AreTextsOf told names texts × SpellConsistentSet texts
+
 abbrev pub FilesAreConsistent : (List ℕ → Option (List ℕ)) → Check → Type 0
-FilesAreConsistent told asked = (texts : List (List ℕ)) × AreTextsOf told asked.files.items texts × SpellConsistentSet texts
+FilesAreConsistent told asked = TextsAreConsistent told asked.files.items
 
 -- some whole run of these programs on the flat machine performs just the operations of the set that the texts of the files spell
 abbrev pub FilesRunFlatBy : (List ℕ → Option (List ℕ)) → Check → Option (List (List Instruction)) → Type 0

@@ -6,6 +6,8 @@ use Rattle.core_program.specs.declared.fault.ProgramFault.{ProgramFault}
 use Rattle.core_program.specs.declared.fault.ProgramFault.TheVariants.{BadLine, TooLong, SkipPastEnd, OutOfMemory as NoMemory}
 use Rattle.lease_rule.specs.Faults.{fault_text as config_fault_text}
 use Rattle.machine.specs.Faults.{fault_text as run_fault_text}
+use Rattle.merge_judge.specs.declared.merge_fault.MergeFault.{MergeFault}
+use Rattle.merge_judge.specs.declared.merge_fault.MergeFault.TheVariants.{Judge as MergeJudge, Write as MergeWrite}
 use Rattle.schedule.specs.FaultTexts.{fault_text as schedule_line_text}
 use Rattle.schedule.specs.declared.fault.ScheduleFault.{ScheduleFault}
 use Rattle.schedule.specs.declared.fault.ScheduleFault.TheVariants.{BadScheduleLine, OutOfMemory as NoScheduleMemory}
@@ -22,6 +24,11 @@ from_judge (BadConfig count) = Judge (BadConfig count)
 from_judge (Log file line fault) = Judge (Log file line fault)
 from_judge (Read file) = Judge (Read file)
 from_judge OutOfMemory = NoMemoryAtAll
+
+-- why there is no order, as a refusal of the command
+abbrev pub from_merge : MergeFault → CommandFault
+from_merge (MergeJudge fault) = from_judge fault
+from_merge MergeWrite = Output
 
 -- lack of memory is told as everywhere
 abbrev pub programs_fault_text : ProgramFault → List ℕ

@@ -4,7 +4,9 @@ pub mod Endings
 pub mod Faults
 pub mod Files
 pub mod Logs
+pub mod Ordering
 pub mod Programmed
 pub mod Running
 pub mod Simulating
+pub mod Sinks
 pub mod inner

@@ -12,6 +12,8 @@ use verdict::Verdict;
 pub enum Answer {
     /// The verdict on a set of logs.
     Judged(Verdict),
+    /// The verdict on a set of logs whose order was written, where it is Yes.
+    Ordered(Verdict),
     /// Programs were run to their ends, and have performed this number of operations.
     Done(u64),
 }
@@ -22,8 +24,9 @@ impl Answer {
         ensures { result ≡ answer_status self.now }
     {
         match self {
-            Answer::Judged(Verdict::No(_)) => 1,
-            Answer::Judged(Verdict::Yes(_)) | Answer::Done(_) => 0,
+            Answer::Judged(Verdict::No(_)) | Answer::Ordered(Verdict::No(_)) => 1,
+            Answer::Judged(Verdict::Yes(_)) | Answer::Ordered(Verdict::Yes(_)) => 0,
+            Answer::Done(_) => 0,
         }
     }
 }
@@ -36,7 +39,7 @@ impl Display for Answer {
 
     fn fmt<W: fmt::Write>(&self, f: &mut fmt::Formatter<W>) -> fmt::Result {
         match self {
-            Answer::Judged(verdict) => write!(f, "{verdict}"),
+            Answer::Judged(verdict) | Answer::Ordered(verdict) => write!(f, "{verdict}"),
             Answer::Done(operations) => write!(f, "done: {operations} operations"),
         }
     }

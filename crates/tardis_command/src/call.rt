@@ -10,7 +10,8 @@ use super::answer::Answer;
 use super::check::check;
 use super::fault::CommandFault;
 use super::folder::Folder;
-use super::output::{print_answer, refuse, tell};
+use super::order::order;
+use super::output::{print_answer, refuse, tell, tell_answer};
 use super::run::run;
 use super::sim::sim;
 use super::watch::Watch;
@@ -26,7 +27,8 @@ const USAGE: u8 = 3;
 /// Does what the words of a command line ask for; the first is the program's own name, and
 /// answers the exit status: 0 for Yes or done, 1 for No, 2 where a log, the programs or the schedule
 /// are refused, 3 where the words are or a number is out of range, else 4. An answer goes to standard
-/// output, all else to standard error; in the folder nothing but the logs of a run is put.
+/// output, all else to standard error; where an order goes to standard output, its verdict goes to
+/// standard error. In the folder nothing but the logs of a run is put.
 pub fn command<R: Threads + Wait + Sync, W: Watch + Sync, F: Folder, O: ByteSink, E: ByteSink>(
     rt: &R,
     alloc: Global,
@@ -47,6 +49,9 @@ pub fn command<R: Threads + Wait + Sync, W: Watch + Sync, F: Folder, O: ByteSink
         (λ name. endings.AskFor (texts words.entry.now) (λ asked. endings.IsLogName asked name)) }
     ensures sound { result ≡ 0 → endings.AskFor (texts words.entry.now)
         (endings.AreConsistent (F.told folder.old)) }
+    ensures order { result ≡ 0 → endings.AskFor (texts words.entry.now)
+        (endings.AreOrdered (F.told folder.old) (endings.sink_of O.contents O.failed out.old)
+        (endings.sink_of O.contents O.failed out.new)) }
     ensures flat { result ≡ 0 → endings.AskFor (texts words.entry.now)
         (endings.RunFlat (F.told folder.old)) }
 {
@@ -61,12 +66,12 @@ pub fn command<R: Threads + Wait + Sync, W: Watch + Sync, F: Folder, O: ByteSink
         }
     };
     match perform(rt, alloc, &request, watch, folder, out) {
-        Ok(status) => status,
+        Ok(answer) => tell_answer(err, &answer),
         Err(fault) => refuse(alloc, err, fault),
     }
 }
 
-/// Does what was asked, prints the answer and answers the exit status.
+/// Does what was asked, and prints the answer.
 fn perform<R: Threads + Wait + Sync, W: Watch + Sync, F: Folder, O: ByteSink>(
     rt: &R,
     alloc: Global,
@@ -74,7 +79,7 @@ fn perform<R: Threads + Wait + Sync, W: Watch + Sync, F: Folder, O: ByteSink>(
     watch: &W,
     folder: &mut F,
     out: &mut O,
-) -> Result<u8, CommandFault>
+) -> Result<Answer, CommandFault>
     ensures exact { (ending : endings.Ending) × endings.IsAnswered ending result
         × endings.IsDoneBy (files_of F.told F.failed folder.old)
         (files_of F.told F.failed folder.new) request.now
@@ -82,36 +87,27 @@ fn perform<R: Threads + Wait + Sync, W: Watch + Sync, F: Folder, O: ByteSink>(
         (endings.sink_of O.contents O.failed out.new) ending }
     ensures files { endings.KeepsFiles (F.told folder.old) (F.told folder.new)
         (endings.IsLogName request.now) }
-    ensures sound { IfOk result (λ status. status ≡ 0
-        → endings.AreConsistent (F.told folder.old) request.now) }
-    ensures flat { IfOk result (λ status. status ≡ 0
-        → endings.RunFlat (F.told folder.old) request.now) }
-{
-    let answer = answer(rt, alloc, request, watch, folder)?;
-    print_answer(alloc, out, &answer)?;
-    Ok(answer.status())
-}
-
-/// The answer to what was asked.
-fn answer<R: Threads + Wait + Sync, W: Watch + Sync, F: Folder>(
-    rt: &R,
-    alloc: Global,
-    request: &Request<'_>,
-    watch: &W,
-    folder: &mut F,
-) -> Result<Answer, CommandFault>
-    ensures exact { endings.IsAnswerTo (files_of F.told F.failed folder.old)
-        (files_of F.told F.failed folder.new) request.now result }
-    ensures files { endings.KeepsFiles (F.told folder.old) (F.told folder.new)
-        (endings.IsLogName request.now) }
     ensures sound { IfOk result (λ answer. answer_status answer ≡ 0
         → endings.AreConsistent (F.told folder.old) request.now) }
+    ensures order { IfOk result (λ answer. answer_status answer ≡ 0
+        → endings.AreOrdered (F.told folder.old) (endings.sink_of O.contents O.failed out.old)
+        (endings.sink_of O.contents O.failed out.new) request.now) }
     ensures flat { IfOk result (λ answer. answer_status answer ≡ 0
         → endings.RunFlat (F.told folder.old) request.now) }
 {
     match request {
-        Request::Check(asked) => Ok(Answer::Judged(check(rt, alloc, folder, asked)?)),
-        Request::Sim(asked) => Ok(Answer::Done(sim(alloc, folder, asked)?)),
-        Request::Run(asked) => Ok(Answer::Done(run(rt, alloc, watch, folder, asked)?)),
+        Request::Check(asked) => {
+            let verdict = check(rt, alloc, folder, asked)?;
+            print_answer(alloc, out, Answer::Judged(verdict))
+        }
+        Request::Order(asked) => Ok(Answer::Ordered(order(alloc, folder, asked, out)?)),
+        Request::Sim(asked) => {
+            let operations = sim(alloc, folder, asked)?;
+            print_answer(alloc, out, Answer::Done(operations))
+        }
+        Request::Run(asked) => {
+            let operations = run(rt, alloc, watch, folder, asked)?;
+            print_answer(alloc, out, Answer::Done(operations))
+        }
     }
 }

@@ -88,7 +88,7 @@ fn judge_run_files<R: Threads + Sync, F: Folder>(
 }
 
 /// Opens the files of these names in their order: 28 for the first that can't be opened.
-fn open_all<F: Folder>(
+pub(crate) fn open_all<F: Folder>(
     alloc: Global,
     folder: &F,
     names: &[&str],

@@ -1,13 +1,14 @@
 //! Why a command was refused.
 
 ghost use Rattle.std.specs.Prelude.{◌≡◌};
-ghost use Rattle.tardis_command.specs.Faults.{fault_status, from_judge};
+ghost use Rattle.tardis_command.specs.Faults.{fault_status, from_judge, from_merge};
 ghost use Rattle.tardis_command.specs.declared.fault.CommandFault.TheVariants.{Config, OutOfMemory, Output, Programs, Run, Schedule, Simulation};
 
 use core_program::ProgramFault;
 use lease_rule::BadConfig;
 use log_file::WriteFailed;
 use machine::RunFault;
+use merge_judge::MergeFault;
 use schedule::ScheduleFault;
 use simulation::SimulationFault;
 use std::alloc::AllocError;
@@ -102,6 +103,17 @@ impl From<JudgeFault> for CommandFault {
         match reason {
             JudgeFault::OutOfMemory => CommandFault::OutOfMemory,
             reason => CommandFault::Judge(reason),
+        }
+    }
+}
+
+impl From<MergeFault> for CommandFault {
+    ghost from_gives = { λ reason fault. fault ≡ from_merge reason };
+
+    fn from(reason: MergeFault) -> CommandFault {
+        match reason {
+            MergeFault::Judge(reason) => CommandFault::from(reason),
+            MergeFault::Write => CommandFault::Output,
         }
     }
 }

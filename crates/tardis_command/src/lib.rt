@@ -8,10 +8,12 @@ mod config;
 mod fault;
 mod folder;
 mod gate;
+mod order;
 mod output;
 mod run;
 mod sim;
 mod text;
+mod verdict_line;
 mod watch;
 mod writing;
 

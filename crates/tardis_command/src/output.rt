@@ -1,8 +1,8 @@
 //! What the program prints.
 
-ghost use Rattle.std.specs.Prelude.{◌≡◌, ◌⊎◌, IfErr, OnOk};
+ghost use Rattle.std.specs.Prelude.{◌≡◌, ◌⊎◌, IfErr, IfOk, OnOk};
 ghost use Rattle.std.specs.Io.KnownBytes.{Appends};
-ghost use Rattle.tardis_command.specs.Answers.{answer_text};
+ghost use Rattle.tardis_command.specs.Answers.{answer_status, answer_text, told_text};
 ghost use Rattle.tardis_command.specs.Endings as endings;
 ghost use Rattle.tardis_command.specs.Faults as faults;
 ghost use Rattle.tardis_command.specs.inner.Printing as printing;
@@ -10,25 +10,40 @@ ghost use Rattle.tardis_command.specs.declared.fault.CommandFault.TheVariants.{O
 
 use super::answer::Answer;
 use super::fault::CommandFault;
+use super::verdict_line::verdict_line;
 use log_file::{ByteSink, write_all};
 use std::alloc::Global;
 
-/// Prints the line of an answer: 29 where standard output fails, and then it took a beginning of it.
+/// Prints the line of an answer, and gives it back: 29 where standard output fails, and then it took a
+/// beginning of it.
 pub(crate) fn print_answer<O: ByteSink>(
     alloc: Global,
     out: &mut O,
-    answer: &Answer,
-) -> Result<(), CommandFault>
-    ensures ok { OnOk result (Appends (O.contents out.old) (O.contents out.new)
-        (endings.line (answer_text answer.now))) }
+    answer: Answer,
+) -> Result<Answer, CommandFault>
+    ensures ok { IfOk result (λ same. same ≡ answer) }
+    ensures printed { OnOk result (Appends (O.contents out.old) (O.contents out.new)
+        (endings.line (answer_text answer))) }
     ensures err { IfErr result (printing.IsUnprinted
         (endings.sink_of O.contents O.failed out.old)
         (endings.sink_of O.contents O.failed out.new)
-        (endings.line (answer_text answer.now))) }
+        (endings.line (answer_text answer))) }
 {
     let line = format!(in alloc; "{answer}\n")?;
     write_all(out, line.as_bytes())?;
-    Ok(())
+    Ok(answer)
+}
+
+/// Tells on standard error what belongs there of an answer, and answers its exit status.
+pub(crate) fn tell_answer<E: ByteSink>(err: &mut E, answer: &Answer) -> u8
+    ensures told { endings.Takes (endings.sink_of E.contents E.failed err.old)
+        (endings.sink_of E.contents E.failed err.new) (told_text answer.now) }
+    ensures status { result ≡ answer_status answer.now }
+{
+    if let Answer::Ordered(verdict) = answer {
+        tell(err, verdict_line(verdict).as_str());
+    }
+    answer.status()
 }
 
 /// Tells the user of a refusal on standard error, and answers its exit status. Where there is no

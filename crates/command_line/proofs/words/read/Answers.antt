@@ -1,8 +1,9 @@
-use Rattle.std.proofs.Common.{◌≡◌, ◌∙◌, ap, sym, true, false, [], inl, inr}
+use Rattle.std.proofs.Common.{◌≡◌, ◌∙◌, ap, sym, Bool, true, false, [], inl, inr}
 use Rattle.std.specs.Prelude.{codes}
+use Rattle.std.specs.Str.{bytes_eq}
 use Rattle.std.proofs.lemmas.Slice.Eq.{bytes_eq-Decides}
 use Rattle.clap.specs.Faults.{fault_of, is_simple_and_free}
-use Rattle.clap.specs.Words.{App}
+use Rattle.clap.specs.Words.{App, Text}
 use Rattle.command_line.specs.Asking.{texts}
 use Rattle.command_line.proofs.Reading.{refused}
 use Rattle.command_line.proofs.Subcommands.{names_own, both_found, found_named}
@@ -40,6 +41,23 @@ returns-then-eq-2-clause-usage c =
     sym (ap (λ (app : App). fault_of app (texts c.args.words.now)) c.in_ok-tardis.ensures.app)
     ∙ c.in-Ok.ensures.kinds (ap is_simple_and_free c.in_ok-tardis.ensures.app)
 
+pub returns-then-eq-3-clause-request : goal.returns-then-eq-3-clause-request
+returns-then-eq-3-clause-request c =
+    let words = texts c.args.words.now in
+    let found = both_found _ _ _ c.in-Some.name.now _ c.in-Some.ensures.name c.in-Some.ensures.rows in
+    let named = found_named _ words c.in-Ok.matches _ c.in_ok-tardis.ensures.app c.in-Ok.ensures.matches found in
+    let is_order = (bytes_eq-Decides c.in-Some.name.now (codes "order")).0 (sym c.eq-3.ensures ∙ c.if-eq-3.true) in
+    (_, named, (is_order, c.in_ok-order_of.ensures))
+
+pub returns-then-eq-3-clause-usage : goal.returns-then-eq-3-clause-usage
+returns-then-eq-3-clause-usage c =
+    sym (ap (λ (app : App). fault_of app (texts c.args.words.now)) c.in_ok-tardis.ensures.app)
+    ∙ c.in-Ok.ensures.kinds (ap is_simple_and_free c.in_ok-tardis.ensures.app)
+
+-- a name that was looked for isn't there
+other : (name own : Text) (b : Bool) → b ≡ bytes_eq name own → b ≡ false → name ≡ own → ⊥
+other name own b is off same = let wrong : true ≡ false = sym ((bytes_eq-Decides name own).1 same) ∙ sym is ∙ off in absurd cc
+
 pub returns-clause-request : goal.returns-clause-request
 returns-clause-request c =
     let words = texts c.args.words.now in
@@ -49,8 +67,10 @@ returns-clause-request c =
     sym (ap (λ (app : App). fault_of app words) c.in_ok-tardis.ensures.app) ∙ c.in-Ok.ensures.kinds (ap is_simple_and_free c.in_ok-tardis.ensures.app) in
     let is_check : c.in-Some.name.now ≡ codes "check" = elim (names_own words _ quiet named) [
       | inl is ↦ is
-      | inr (inl is) ↦ absurd (let wrong : true ≡ false = sym ((bytes_eq-Decides c.in-Some.name.now (codes "sim")).1 is) ∙ sym c.eq.ensures ∙ c.if-eq.false in cc)
-      | inr (inr is) ↦ absurd (let wrong : true ≡ false = sym ((bytes_eq-Decides c.in-Some.name.now (codes "run")).1 is) ∙ sym c.eq-2.ensures ∙ c.if-eq-2.false in cc)
+      | inr (inl is) ↦ absurd (other c.in-Some.name.now (codes "order") _ c.eq-3.ensures c.if-eq-3.false is)
+      | inr (inr (inl is)) ↦ absurd (other c.in-Some.name.now (codes "sim") _ c.eq.ensures c.if-eq.false is)
+      | inr (inr (inr (inl is))) ↦ absurd (other c.in-Some.name.now (codes "run") _ c.eq-2.ensures c.if-eq-2.false is)
+      | inr (inr (inr (inr never))) ↦ absurd never
     ] in
     (_, named, (is_check, c.in_ok-check_of.ensures))
 

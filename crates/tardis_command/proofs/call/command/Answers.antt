@@ -1,4 +1,4 @@
-use Rattle.std.proofs.Common.{refl, subst}
+use Rattle.std.proofs.Common.{◌∙◌, refl, subst, sym}
 use Rattle.command_line.specs.Asking.{IsRefusalOf, texts}
 use Rattle.tardis_command.proofs.Ends.{ends_answered, ends_misused, ends_refused, ends_unread}
 use Rattle.tardis_command.specs.Endings.{Misused}
@@ -21,13 +21,19 @@ returns-in-Err-OutOfMemory-clause-ends g c =
 pub returns-in-Ok-perform-clause-ends : goal.returns-in-Ok-perform-clause-ends
 returns-in-Ok-perform-clause-ends g c =
     let (ending, answered, done) = c.in-Ok-perform.ensures.exact in
-    ends_answered _ _ _ _ _ c.in-Ok.request ending _ _ c.in-Ok.ensures.request answered done
+    ends_answered _ _ _ _ _ c.in-Ok.request ending _ _ c.in-Ok-perform.answer _ c.in-Ok.ensures.request answered done c.tell_answer.ensures.told c.tell_answer.ensures.status
 
 pub returns-in-Ok-perform-clause-sound : goal.returns-in-Ok-perform-clause-sound
-returns-in-Ok-perform-clause-sound g c zero = (c.in-Ok.request, c.in-Ok.ensures.request, c.in-Ok-perform.ensures.sound zero)
+returns-in-Ok-perform-clause-sound g c zero =
+    (c.in-Ok.request, c.in-Ok.ensures.request, c.in-Ok-perform.ensures.sound (sym c.tell_answer.ensures.status ∙ zero))
+
+pub returns-in-Ok-perform-clause-order : goal.returns-in-Ok-perform-clause-order
+returns-in-Ok-perform-clause-order g c zero =
+    (c.in-Ok.request, c.in-Ok.ensures.request, c.in-Ok-perform.ensures.order (sym c.tell_answer.ensures.status ∙ zero))
 
 pub returns-in-Ok-perform-clause-flat : goal.returns-in-Ok-perform-clause-flat
-returns-in-Ok-perform-clause-flat g c zero = (c.in-Ok.request, c.in-Ok.ensures.request, c.in-Ok-perform.ensures.flat zero)
+returns-in-Ok-perform-clause-flat g c zero =
+    (c.in-Ok.request, c.in-Ok.ensures.request, c.in-Ok-perform.ensures.flat (sym c.tell_answer.ensures.status ∙ zero))
 
 pub returns-clause-ends : goal.returns-clause-ends
 returns-clause-ends g c =

@@ -1,19 +1,62 @@
-use Rattle.std.proofs.Common.{rules, ◌≡◌, ap, inl, Ok, Err}
-use Rattle.tardis_command.proofs.Ends.{kept, unprinted}
+use Rattle.std.proofs.Common.{rules, ◌≡◌, refl, Ok, Err}
+use Rattle.command_line.specs.declared.request.Request.TheVariants as request
+use Rattle.tardis_command.proofs.Ends.{printed, printed_yes, refused_at_once}
+use Rattle.tardis_command.specs.Endings.{Answered, Refused, sink_of}
 use Rattle.tardis_command.specs.Files.{files_of}
-use Rattle.tardis_command.specs.Endings.{Answered, Refused}
+use Rattle.tardis_command.specs.declared.answer.Answer.TheVariants.{Judged, Ordered, Done}
 use Rattle.tardis_command.proofs.call.perform.Goals as goal
 
-pub returns-in_err-answer-clause-exact : goal.returns-in_err-answer-clause-exact
-returns-in_err-answer-clause-exact g c =
-    let is : c.from_residual.result ≡ Err c.in_err-answer.field-0.0 = search rules in
-    (Refused c.in_err-answer.field-0.0, is, (c.in_err-answer.ensures.exact, inl (kept _)))
+pub returns-in_err-verdict-in-Check-clause-exact : goal.returns-in_err-verdict-in-Check-clause-exact
+returns-in_err-verdict-in-Check-clause-exact g c =
+    let files = files_of g.F.Folder.told g.F.Folder.failed in
+    let is : c.from_residual.result ≡ Err c.in_err-verdict-in-Check.field-0.0 = search rules in
+    rw c.in-Check.is (refused_at_once (files c.args.folder.now) (files c.args.folder.now) (request.Check c.in-Check.asked) _ c.in_err-verdict-in-Check.field-0.0 _ is c.in_err-verdict-in-Check.ensures.exact)
 
-pub returns-in_err-print_answer-clause-exact : goal.returns-in_err-print_answer-clause-exact
-returns-in_err-print_answer-clause-exact g c =
-    let is : c.from_residual-in_err-print_answer.result ≡ Err c.in_err-print_answer.field-0.0 = search rules in
-    rw is (unprinted (files_of g.F.Folder.told g.F.Folder.failed c.args.folder.now) (files_of g.F.Folder.told g.F.Folder.failed c.answer.new.folder) c.args.request.now c.in_ok-answer.answer _ _ c.in_err-print_answer.field-0.0 c.in_ok-answer.ensures.exact c.in_err-print_answer.ensures.err)
+pub returns-in_err-order-in-Order-clause-exact : goal.returns-in_err-order-in-Order-clause-exact
+returns-in_err-order-in-Order-clause-exact g c =
+    let is : c.from_residual-in_err-order-in-Order.result ≡ Err c.in_err-order-in-Order.field-0.0 = search rules in
+    rw c.in-Order.is (Refused c.in_err-order-in-Order.field-0.0, is, c.in_err-order-in-Order.ensures.exact)
 
-pub returns-clause-exact : goal.returns-clause-exact
-returns-clause-exact g c =
-    (Answered c.in_ok-answer.answer, ap Ok c.status.ensures, (c.in_ok-answer.ensures.exact, c.in_ok-print_answer.ensures.ok))
+pub returns-in_err-operations-in-Sim-clause-exact : goal.returns-in_err-operations-in-Sim-clause-exact
+returns-in_err-operations-in-Sim-clause-exact g c =
+    let files = files_of g.F.Folder.told g.F.Folder.failed in
+    let is : c.from_residual-in_err-operations-in-Sim.result ≡ Err c.in_err-operations-in-Sim.field-0.0 = search rules in
+    rw c.in-Sim.is (refused_at_once (files c.args.folder.now) (files c.sim.new.folder) (request.Sim c.in-Sim.asked) _ c.in_err-operations-in-Sim.field-0.0 _ is c.in_err-operations-in-Sim.ensures.exact)
+
+pub returns-in_err-operations-in-Run-clause-exact : goal.returns-in_err-operations-in-Run-clause-exact
+returns-in_err-operations-in-Run-clause-exact g c =
+    let files = files_of g.F.Folder.told g.F.Folder.failed in
+    let is : c.from_residual-in_err-operations-in-Run.result ≡ Err c.in_err-operations-in-Run.field-0.0 = search rules in
+    rw c.in-Run.is (refused_at_once (files c.args.folder.now) (files c.run.new.folder) (request.Run c.in-Run.asked) _ c.in_err-operations-in-Run.field-0.0 _ is c.in_err-operations-in-Run.ensures.exact)
+
+pub returns-in_ok-verdict-in-Check-clause-exact : goal.returns-in_ok-verdict-in-Check-clause-exact
+returns-in_ok-verdict-in-Check-clause-exact g c =
+    let files = files_of g.F.Folder.told g.F.Folder.failed in
+    let sink = sink_of g.O.ByteSink.contents g.O.ByteSink.failed in
+    rw c.in-Check.is (printed (files c.args.folder.now) (files c.args.folder.now) (request.Check c.in-Check.asked) (Judged c.in_ok-verdict-in-Check.verdict) (sink c.args.out.now) (sink c.print_answer.new.out)
+    c.in_ok-verdict-in-Check.ensures.exact tt c.print_answer.result c.print_answer.ensures.ok c.print_answer.ensures.printed c.print_answer.ensures.err)
+
+pub returns-in_ok-verdict-in-Check-clause-sound : goal.returns-in_ok-verdict-in-Check-clause-sound
+returns-in_ok-verdict-in-Check-clause-sound g c =
+    rw c.in-Check.is (printed_yes c.in_ok-verdict-in-Check.verdict c.print_answer.result _ c.print_answer.ensures.ok c.in_ok-verdict-in-Check.ensures.sound)
+
+pub returns-in_ok-verdict-in-Check-clause-flat : goal.returns-in_ok-verdict-in-Check-clause-flat
+returns-in_ok-verdict-in-Check-clause-flat g c =
+    rw c.in-Check.is (printed_yes c.in_ok-verdict-in-Check.verdict c.print_answer.result _ c.print_answer.ensures.ok c.in_ok-verdict-in-Check.ensures.flat)
+
+pub returns-in_ok-order-in-Order-clause-exact : goal.returns-in_ok-order-in-Order-clause-exact
+returns-in_ok-order-in-Order-clause-exact g c = rw c.in-Order.is (Answered (Ordered c.in_ok-order-in-Order.field-0), refl, c.in_ok-order-in-Order.ensures.exact)
+
+pub returns-in_ok-operations-in-Sim-clause-exact : goal.returns-in_ok-operations-in-Sim-clause-exact
+returns-in_ok-operations-in-Sim-clause-exact g c =
+    let files = files_of g.F.Folder.told g.F.Folder.failed in
+    let sink = sink_of g.O.ByteSink.contents g.O.ByteSink.failed in
+    rw c.in-Sim.is (printed (files c.args.folder.now) (files c.sim.new.folder) (request.Sim c.in-Sim.asked) (Done c.in_ok-operations-in-Sim.operations) (sink c.args.out.now) (sink c.print_answer-in-Sim.new.out)
+    c.in_ok-operations-in-Sim.ensures.exact tt c.print_answer-in-Sim.result c.print_answer-in-Sim.ensures.ok c.print_answer-in-Sim.ensures.printed c.print_answer-in-Sim.ensures.err)
+
+pub returns-in_ok-operations-in-Run-clause-exact : goal.returns-in_ok-operations-in-Run-clause-exact
+returns-in_ok-operations-in-Run-clause-exact g c =
+    let files = files_of g.F.Folder.told g.F.Folder.failed in
+    let sink = sink_of g.O.ByteSink.contents g.O.ByteSink.failed in
+    rw c.in-Run.is (printed (files c.args.folder.now) (files c.run.new.folder) (request.Run c.in-Run.asked) (Done c.in_ok-operations-in-Run.operations) (sink c.args.out.now) (sink c.print_answer-in-Run.new.out)
+    c.in_ok-operations-in-Run.ensures.exact tt c.print_answer-in-Run.result c.print_answer-in-Run.ensures.ok c.print_answer-in-Run.ensures.printed c.print_answer-in-Run.ensures.err)
