@@ -2,7 +2,7 @@
 use Rattle.std.proofs.Common.{◌≡◌, ℕ, zero, suc, ◌+◌, List, [], ◌∷◌, ◌++◌, length, map, Some, refl, sym, ap, subst, ◌∙◌, arith, append-nil, length-append}
 use Rattle.std.specs.Global.{Vec}
 use Rattle.std.specs.List.{AllZip}
-use Rattle.std.specs.Prelude.{Ok, Err}
+use Rattle.std.specs.Prelude.{Result, Ok, Err, MatchResult}
 use Rattle.std.proofs.lemmas.List.{map_push}
 use Rattle.log_record.specs.declared.record.Record.{Record}
 use Rattle.log_file.specs.Devices.{Tells}
@@ -12,12 +12,16 @@ use Rattle.log_file.proofs.Once.{spelled_once}
 use Rattle.core_program.specs.declared.instruction.Instruction.{Instruction}
 use Rattle.tardis_core.specs.Machine.{World}
 use Rattle.tardis_core.specs.Works.{log_at}
-use Rattle.verdict.specs.Judgement.{IsRunAnswerTo}
+use Rattle.verdict.specs.Judgement.{IsRunAnswerTo, IsYes}
 use Rattle.verdict.specs.VerdictOf.{run_verdict_of}
 use Rattle.verdict.specs.declared.answer.Verdict.{Verdict}
-use Rattle.litmus.specs.Runs.{logs_below}
+use Rattle.verdict.specs.declared.answer.Verdict.TheVariants.{Yes, No}
+use Rattle.litmus.specs.Parts.{LitmusParts}
+use Rattle.litmus.specs.Runs.{GetsYes, IsCauseOf, IsEndOf, IsJudgeCause, logs_below, logs_of, not_yes, outcome_of}
+use Rattle.litmus.specs.declared.run_fault.RunCause.{RunCause}
 use Rattle.litmus.specs.declared.judging.TextSource.{TextSource}
 use Rattle.litmus.specs.inner.Ending.{word_lists}
+use Rattle.litmus.specs.inner.Judged.{IsNo}
 
 -- ---- texts of logs
 
@@ -90,3 +94,21 @@ pub verdict_is : (programs : List (List Instruction)) (texts : List (List ℕ)) 
     → IsRunAnswerTo programs texts (Ok verdict) → run_verdict_of programs logs ≡ verdict
 verdict_is programs texts logs verdict spell (others, there, is) =
     sym (is ∙ ap (run_verdict_of programs) (logs_once 0 (length texts) texts others logs there spell))
+
+-- ---- what is told of a run
+
+-- what is told of the verdict on the texts is so of the logs that they spell
+pub told_of : {A : Type 0} (t : LitmusParts) (w : World) (texts : List (List ℕ)) (v : Verdict) (r : Result A RunCause) → SpellSet texts (logs_of t w)
+    → IsRunAnswerTo t.programs texts (Ok v) → MatchResult r (λ _. IsYes v) (λ why. IsNo v why) → MatchResult r (λ _. GetsYes t w) (λ why. IsJudgeCause t w why)
+told_of t w texts (Yes count) (Ok x) spell answer is = (count, verdict_is t.programs texts (logs_of t w) (Yes count) spell answer)
+told_of t w texts (No fault) (Ok x) spell answer is = absurd is
+told_of t w texts (Yes count) (Err why) spell answer is = absurd is
+told_of t w texts (No fault) (Err why) spell answer is =
+    subst (IsJudgeCause t w) (sym is) (verdict_is t.programs texts (logs_of t w) (No fault) spell answer)
+
+-- a run that has ended has its outcome where its logs get Yes, and else a cause
+pub judged_end : (E : Type 0) (Ran : E → Type 0) (NotEnded : RunCause → Type 0) (at : E → World) (t : LitmusParts) (end : E) (r : Result (Vec ℕ) RunCause) → Ran end
+    → MatchResult r (λ o. GetsYes t (at end) × (o.items ≡ outcome_of t (at end))) (λ why. IsJudgeCause t (at end) why)
+    → MatchResult r (λ o. IsEndOf E Ran at t o.items) (λ why. IsCauseOf E Ran NotEnded at t why)
+judged_end E Ran NotEnded at t end (Ok o) ran judged = record { end = end; run = ran; yes = judged.0; outcome_is = judged.1 }
+judged_end E Ran NotEnded at t end (Err why) ran judged = not_yes end ran judged

@@ -5,10 +5,12 @@ use Rattle.std.specs.List.{AllByRecursion, filter, list_any}
 use Rattle.std.specs.Ordering.{nat_cmp}
 use Rattle.std.specs.declared.cmp.Ordering.TheVariants.{Less}
 use Rattle.lease_rule.specs.ConfigParts.{ConfigParts}
+use Rattle.tardis_core.specs.Machine.{World}
 use Rattle.tardis_core.specs.Parts.{CoreParts, world}
 use Rattle.litmus.specs.Parts.{LitmusParts}
-use Rattle.litmus.specs.Runs.{GetsYes, IsRunCause, IsSeededRun, outcome_of, seed_of}
+use Rattle.litmus.specs.Runs.{ThreadEnd, GetsYes, IsRunCause, IsSeededRun, IsThreadCause, IsThreadRun, left, outcome_of, seed_of}
 use Rattle.litmus.specs.TableParts.{RowParts, TableParts}
+use Rattle.litmus.specs.declared.run_fault.RunCause.{RunCause}
 use Rattle.litmus.specs.declared.run_fault.CollectFault.{CollectFault}
 use Rattle.litmus.specs.declared.run_fault.CollectFault.TheVariants.{BadRuns, Run, OutOfMemory}
 
@@ -47,32 +49,55 @@ pub record AreRowsOf (t : LitmusParts) (outcomes : List (List ℕ)) (rows : List
   pub ascending : AreAscending rows
   pub all : total rows ≡ length outcomes
 
--- ---- tables of seeded runs
+-- ---- tables of runs, each of which `Ran` says by its number, and where they ended
 
--- the ends of runs 0, 1, .., each by its own seed, and each with logs that get Yes
-abbrev pub AreSeededRuns : LitmusParts → ConfigParts → ℕ → List CoreParts → Type 0
-AreSeededRuns t g seed ends =
-    (k : ℕ) (q : CoreParts) → slice_get ends k ≡ Some q → IsSeededRun t g (seed_of seed k) q × GetsYes t (world q)
+-- a table is made of this number of runs
+abbrev pub IsRunCount : ℕ → Type 0
+IsRunCount runs = (1 ≤ runs) × (runs ≤ 100000)
+
+abbrev pub IsBadRunCount : ℕ → Type 0
+IsBadRunCount runs = (runs < 1) ⊎ (100000 < runs)
+
+-- the ends of runs 0, 1, .., each with logs that get Yes
+abbrev pub AreEndsOf : (E : Type 0) → (ℕ → E → Type 0) → (E → World) → LitmusParts → List E → Type 0
+AreEndsOf E Ran at t ends = (k : ℕ) (end : E) → slice_get ends k ≡ Some end → Ran k end × GetsYes t (at end)
 
 -- there are runs, one for each number below `runs`, whose outcomes the rows tell
-pub record IsSeededTable (t : LitmusParts) (g : ConfigParts) (runs seed : ℕ) (table : TableParts) : Type 0 where
-  pub in_range : (1 ≤ runs) × (runs ≤ 100000)
-  pub ends : List CoreParts
+pub record IsTableOf (E : Type 0) (Ran : ℕ → E → Type 0) (at : E → World) (t : LitmusParts) (runs : ℕ) (table : TableParts) : Type 0 where
+  pub in_range : IsRunCount runs
+  pub ends : List E
   pub count : length ends ≡ runs
-  pub each : AreSeededRuns t g seed ends
+  pub each : AreEndsOf E Ran at t ends
   pub shown : table.shown ≡ t.shown
-  pub rows : AreRowsOf t (map (λ q. outcome_of t (world q)) ends) table.rows
+  pub rows : AreRowsOf t (map (λ end. outcome_of t (at end)) ends) table.rows
 
 -- run k is the first that has no outcome that counts
-pub record IsFirstWithout (t : LitmusParts) (g : ConfigParts) (runs seed k : ℕ) (Cause : ℕ → Type 0) : Type 0 where
+pub record IsFirstWithout (E : Type 0) (Ran : ℕ → E → Type 0) (at : E → World) (t : LitmusParts) (runs k : ℕ) (Why : Type 0) : Type 0 where
   pub below : k < runs
-  pub ends : List CoreParts
+  pub ends : List E
   pub count : length ends ≡ k
-  pub before : AreSeededRuns t g seed ends
-  pub cause : Cause (seed_of seed k)
+  pub before : AreEndsOf E Ran at t ends
+  pub cause : Why
 
--- why there is no table
+-- why there is no table, where `Why` says of a run by its number why it has no outcome that counts
+abbrev pub IsFaultOf : (E : Type 0) → (ℕ → E → Type 0) → (ℕ → RunCause → Type 0) → (E → World) → LitmusParts → ℕ → CollectFault → Type 0
+IsFaultOf E Ran Why at t runs BadRuns = IsBadRunCount runs
+IsFaultOf E Ran Why at t runs (Run k cause) = IsFirstWithout E Ran at t runs k (Why k cause)
+IsFaultOf E Ran Why at t runs OutOfMemory = Unit {0}
+
+-- ---- tables of seeded runs, each by its own seed
+
+abbrev pub IsSeededTable : LitmusParts → ConfigParts → ℕ → ℕ → TableParts → Type 0
+IsSeededTable t g runs seed table = IsTableOf CoreParts (λ k. IsSeededRun t g (seed_of seed k)) world t runs table
+
 abbrev pub IsCollectFault : LitmusParts → ConfigParts → ℕ → ℕ → CollectFault → Type 0
-IsCollectFault t g runs seed BadRuns = (runs < 1) ⊎ (100000 < runs)
-IsCollectFault t g runs seed (Run k cause) = IsFirstWithout t g runs seed k (λ s. IsRunCause t g s cause)
-IsCollectFault t g runs seed OutOfMemory = Unit {0}
+IsCollectFault t g runs seed fault =
+    IsFaultOf CoreParts (λ k. IsSeededRun t g (seed_of seed k)) (λ k. IsRunCause t g (seed_of seed k)) world t runs fault
+
+-- ---- tables of runs by threads
+
+abbrev pub IsThreadTable : LitmusParts → ConfigParts → ℕ → TableParts → Type 0
+IsThreadTable t g runs table = IsTableOf ThreadEnd (λ k. IsThreadRun t g) left t runs table
+
+abbrev pub IsThreadFault : LitmusParts → ConfigParts → ℕ → CollectFault → Type 0
+IsThreadFault t g runs fault = IsFaultOf ThreadEnd (λ k. IsThreadRun t g) (λ k. IsThreadCause t g) left t runs fault

@@ -4,13 +4,13 @@ ghost use Rattle.std.specs.Prelude.{◌≡◌, ◌<◌, ◌≤◌, length, map, 
 ghost use Rattle.log_file.specs.Log.{Spells, first_format};
 ghost use Rattle.log_file.specs.Sets.{SpellSet};
 ghost use Rattle.mem_op.specs.Limits.{operation_limit};
-ghost use Rattle.tardis_core.specs.Parts.{world};
-ghost use Rattle.tardis_core.specs.Works.{log_at};
-ghost use Rattle.litmus.specs.Runs.{GetsYes, IsJudgeCause, logs_below};
+ghost use Rattle.litmus.specs.Runs.{GetsYes, IsJudgeCause, logs_below, outcome_of};
 ghost use Rattle.litmus.specs.declared.run_fault.RunCause.TheVariants as cause;
 ghost use Rattle.litmus.specs.inner.Ending.{word_lists};
-ghost use Rattle.verdict.specs.Judgement.{IsRunAnswerTo};
+ghost use Rattle.litmus.specs.inner.Judged.{IsNo};
+ghost use Rattle.verdict.specs.Judgement.{IsRunAnswerTo, IsYes};
 
+use super::ended::{Ended, outcome_of};
 use super::run_fault::RunCause;
 use super::test::Litmus;
 use core_program::ProgramSet;
@@ -19,7 +19,6 @@ use log_record::Record;
 use mem_op::CoreId;
 use std::alloc::Global;
 use std::thread::Threads;
-use tardis_core::Core;
 use verdict::{Gate, JudgeFault, Phase, Verdict, judge_run};
 
 /// A source of a text in memory. It never fails.
@@ -65,17 +64,6 @@ impl Gate for OpenGate {
     fn enter(&self, _phase: Phase, _piece: usize) {}
 }
 
-/// The records of a core; none where it isn't there.
-fn log_of(machine: &Core, core: CoreId) -> &[Record]
-    ensures records { result.now ≡ log_at (world machine.now) core }
-    ensures few { length result.now ≤ operation_limit }
-{
-    let Some(unit) = machine.unit(core) else {
-        return &[];
-    };
-    unit.log()
-}
-
 /// The text of the log of a core, of `cores`.
 fn log_text(
     alloc: Global,
@@ -97,16 +85,16 @@ fn log_text(
 }
 
 /// The texts of the logs of so many cores.
-fn log_texts(alloc: Global, machine: &Core, cores: usize) -> Result<Vec<Vec<u8>>, RunCause>
+fn log_texts<E: Ended>(alloc: Global, end: &E, cores: usize) -> Result<Vec<Vec<u8>>, RunCause>
     requires { cores ≤ 64 }
     ensures texts { IfOk result (λ texts.
-        SpellSet (word_lists texts.items) (logs_below (world machine.now) cores)) }
+        SpellSet (word_lists texts.items) (logs_below (E.at_end end.now) cores)) }
     ensures refused { IfErr result (λ cause. cause ≡ RunCause.OutOfMemory) }
 {
     let mut texts = Vec::new(alloc);
     for number in 0..cores {
         let core = CoreId::at(number);
-        let text = log_text(alloc, core, cores, log_of(machine, core))?;
+        let text = log_text(alloc, core, cores, end.log(core))?;
         texts.push(text)?;
     }
     Ok(texts)
@@ -143,22 +131,47 @@ fn judge_texts<R: Threads + Sync>(
     judge_run(rt, alloc, programs, sources.as_mut_slice(), 1, &OpenGate)
 }
 
+/// Ok where the verdict is Yes.
+fn check_yes(verdict: &Verdict) -> Result<(), RunCause>
+    ensures { MatchResult result (λ _. IsYes verdict.now) (λ cause. IsNo verdict.now cause) }
+{
+    match verdict {
+        Verdict::Yes(_) => Ok(()),
+        Verdict::No(fault) => Err(RunCause::No(fault.id, fault.rule)),
+    }
+}
+
 /// Judges the logs of a run that has ended: Ok where they get Yes.
-pub(crate) fn judge_end<R: Threads + Sync>(
+fn judge_end<R: Threads + Sync, E: Ended>(
     rt: &R,
     alloc: Global,
     test: &Litmus,
-    machine: &Core,
+    end: &E,
 ) -> Result<(), RunCause>
     ensures { MatchResult result
-        (λ _. GetsYes test.now (world machine.now))
-        (λ cause. IsJudgeCause test.now (world machine.now) cause) }
+        (λ _. GetsYes test.now (E.at_end end.now))
+        (λ cause. IsJudgeCause test.now (E.at_end end.now) cause) }
 {
     let programs = test.programs();
-    let texts = log_texts(alloc, machine, programs.len())?;
+    let texts = log_texts(alloc, end, programs.len())?;
     match &judge_texts(rt, alloc, programs, texts.as_slice()) {
-        Ok(Verdict::Yes(_)) => Ok(()),
-        Ok(Verdict::No(fault)) => Err(RunCause::No(fault.id, fault.rule)),
+        Ok(verdict) => check_yes(verdict),
         Err(fault) => Err(RunCause::Judge(*fault)),
     }
+}
+
+/// The outcome of a run that has ended, whose logs get Yes.
+pub(crate) fn judged_outcome<R: Threads + Sync, E: Ended>(
+    rt: &R,
+    alloc: Global,
+    test: &Litmus,
+    end: &E,
+) -> Result<Vec<u64>, RunCause>
+    ensures { MatchResult result
+        (λ outcome. GetsYes test.now (E.at_end end.now)
+        × (outcome.items ≡ outcome_of test.now (E.at_end end.now)))
+        (λ cause. IsJudgeCause test.now (E.at_end end.now) cause) }
+{
+    judge_end(rt, alloc, test, end)?;
+    Ok(outcome_of(alloc, test, end)?)
 }

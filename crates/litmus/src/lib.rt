@@ -2,6 +2,7 @@
 #![tactic(auto)]
 
 mod collecting;
+mod ended;
 mod ending;
 mod fault;
 mod header;
@@ -14,11 +15,13 @@ mod table;
 mod table_text;
 mod tally;
 mod test;
+mod threaded;
 mod words;
 
-pub use collecting::collect_seeded;
 pub use fault::LitmusFault;
 pub use run_fault::{CollectFault, RunCause};
+pub use seeded::collect_seeded;
 pub use table::{Row, Table};
 pub use table_text::write_table;
 pub use test::{Litmus, Shown};
+pub use threaded::collect_threaded;

@@ -5,6 +5,7 @@ ghost use Rattle.litmus.specs.declared.run_fault.CollectFault.TheVariants.{OutOf
 ghost use Rattle.litmus.specs.declared.run_fault.RunCause.TheVariants.{Simulation};
 ghost use Rattle.litmus.specs.declared.run_fault.RunCause.TheVariants as cause;
 
+use machine::RunFault;
 use mem_op::OpId;
 use simulation::SimulationFault;
 use std::alloc::{AllocError, AllocFailed};
@@ -18,6 +19,8 @@ use verdict::{JudgeFault, Rule};
 pub enum RunCause {
     /// Its cores didn't come to their ends.
     Simulation(SimulationFault),
+    /// Its threads didn't come to their ends.
+    Threads(RunFault),
     /// Its logs get No: whose record breaks a rule, and which one.
     No(OpId, Rule),
     /// Its logs get no verdict: for lack of memory.
@@ -48,6 +51,7 @@ impl Display for CollectFault {
             CollectFault::BadRuns => f.write_str("6 BadConfig runs"),
             CollectFault::Run { run, cause } => match cause {
                 RunCause::Simulation(fault) => write!(f, "{fault}"),
+                RunCause::Threads(fault) => write!(f, "{fault}"),
                 RunCause::No(id, rule) => {
                     write!(f, "run {run}: {}.{} {rule}", id.core.get(), id.index.get())
                 }

@@ -1,15 +1,21 @@
-//! A run by the rounds that a seed draws.
+//! Runs by the rounds that seeds draw, and their table.
 
-ghost use Rattle.std.specs.Prelude.{◌≡◌, map, take, IfOk, MatchResult};
-ghost use Rattle.tardis_core.specs.Parts.{world};
-ghost use Rattle.litmus.specs.Runs.{IsRunCause, IsSeededEnd, IsSeededRun, outcome_of, word_in};
+ghost use Rattle.std.specs.Prelude.{◌≡◌, ◌↔◌, IsErrOf, MatchResult};
+ghost use Rattle.litmus.specs.Collecting.{IsBadRunCount, IsCollectFault, IsSeededTable};
+ghost use Rattle.litmus.specs.Runs.{IsRunCause, IsSeededEnd, IsSeededRun, IsUnsimulated};
+ghost use Rattle.litmus.specs.declared.run_fault.CollectFault.TheVariants.{BadRuns};
+ghost use Rattle.litmus.specs.declared.run_fault.RunCause.TheVariants as cause;
 
-use super::judging::judge_end;
-use super::run_fault::RunCause;
-use super::test::{Litmus, Shown};
+use super::collecting::{check_runs, table_of};
+use super::judging::judged_outcome;
+use super::run_fault::{CollectFault, RunCause};
+use super::table::Table;
+use super::tally::count_outcome;
+use super::test::Litmus;
 use lease_rule::Config;
 use simulation::simulate;
-use std::alloc::{AllocError, Global};
+use std::alloc::Global;
+use std::collections::BTreeMap;
 use std::thread::Threads;
 use tardis_core::Core;
 
@@ -26,29 +32,8 @@ fn simulate_run(alloc: Global, test: &Litmus, config: &Config, seed: u64) -> Res
     Ok(machine)
 }
 
-/// The word in a register of a core.
-fn word_in(machine: &Core, shown: &Shown) -> u64
-    ensures { result ≡ word_in (world machine.now) shown.now }
-{
-    let Some(unit) = machine.unit(shown.core) else {
-        return 0;
-    };
-    unit.program_state().reg(shown.register)
-}
-
-/// The outcome of a run that has ended.
-fn outcome_of(alloc: Global, test: &Litmus, machine: &Core) -> Result<Vec<u64>, AllocError>
-    ensures { IfOk result (λ outcome. outcome.items ≡ outcome_of test.now (world machine.now)) }
-{
-    let mut outcome = Vec::new(alloc);
-    for shown in test.shown() {
-        outcome.push(word_in(machine, shown))?;
-    }
-    Ok(outcome)
-}
-
 /// The outcome of the run of this seed, whose logs get Yes.
-pub(crate) fn run_seeded<R: Threads + Sync>(
+fn run_seeded<R: Threads + Sync>(
     rt: &R,
     alloc: Global,
     test: &Litmus,
@@ -60,6 +45,35 @@ pub(crate) fn run_seeded<R: Threads + Sync>(
         (λ cause. IsRunCause test.now config.now seed cause) }
 {
     let machine = simulate_run(alloc, test, config, seed)?;
-    judge_end(rt, alloc, test, &machine)?;
-    Ok(outcome_of(alloc, test, &machine)?)
+    judged_outcome(rt, alloc, test, &machine)
+}
+
+/// Runs a test so many times, 1..100,000, and counts the outcomes. Run `k`, from 0, is by the rounds
+/// that the seed `seed + k`, wrapping, draws; its logs are judged against the test's programs, and have
+/// to get Yes. The first run that doesn't come to its end, or whose logs get No, is answered in place
+/// of the table.
+pub fn collect_seeded<R: Threads + Sync>(
+    rt: &R,
+    alloc: Global,
+    test: &Litmus,
+    config: &Config,
+    runs: u64,
+    seed: u64,
+) -> Result<Table, CollectFault>
+    // There are runs, one for each number, whose outcomes the table counts, or a first one that has none.
+    ensures runs { MatchResult result
+        (λ table. IsSeededTable test.now config.now runs seed table)
+        (λ fault. IsCollectFault test.now config.now runs seed fault) }
+    // 6 comes exactly where the number of runs is out of range.
+    ensures range { IsErrOf result BadRuns ↔ IsBadRunCount runs }
+{
+    check_runs(runs)?;
+    let mut tally = BTreeMap::new(alloc);
+    for run in 0..runs {
+        match run_seeded(rt, alloc, test, config, seed.wrapping_add(run)) {
+            Ok(outcome) => count_outcome(&mut tally, outcome)?,
+            Err(cause) => return Err(CollectFault::Run { run, cause }),
+        }
+    }
+    Ok(table_of(alloc, test, tally)?)
 }

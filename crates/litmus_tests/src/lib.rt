@@ -7,3 +7,5 @@ mod reading;
 mod seeded;
 #[cfg(test)]
 mod tables;
+#[cfg(test)]
+mod threaded;

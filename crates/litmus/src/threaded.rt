@@ -1,0 +1,75 @@
+//! Runs by threads, and their table.
+
+ghost use Rattle.std.specs.Prelude.{◌↔◌, IsErrOf, MatchResult};
+ghost use Rattle.litmus.specs.Collecting.{IsBadRunCount, IsThreadFault, IsThreadTable};
+ghost use Rattle.litmus.specs.Runs.{IsThreadCause, IsThreadEnd};
+ghost use Rattle.litmus.specs.declared.run_fault.CollectFault.TheVariants.{BadRuns};
+
+use super::collecting::{check_runs, table_of};
+use super::judging::judged_outcome;
+use super::run_fault::{CollectFault, RunCause};
+use super::table::Table;
+use super::tally::count_outcome;
+use super::test::Litmus;
+use lease_rule::Config;
+use machine::{Go, Pace, RunFault, run_threads};
+use mem_op::CoreId;
+use std::alloc::Global;
+use std::collections::BTreeMap;
+use std::sync::Wait;
+use std::thread::Threads;
+
+/// A pace that always goes.
+struct Unpaced;
+
+impl Pace for Unpaced {
+    fn before(&self, _core: CoreId, _done: usize, _turn: u64) -> Go {
+        Go::Go
+    }
+}
+
+/// The outcome of a run by threads, whose logs get Yes.
+fn run_threaded<R: Threads + Wait + Sync>(
+    rt: &R,
+    alloc: Global,
+    test: &Litmus,
+    config: &Config,
+) -> Result<Vec<u64>, RunCause>
+    ensures { MatchResult result
+        (λ outcome. IsThreadEnd test.now config.now outcome.items)
+        (λ cause. IsThreadCause test.now config.now cause) }
+{
+    match run_threads(rt, alloc, test.programs(), config, &Unpaced) {
+        Ok(end) => judged_outcome(rt, alloc, test, &end),
+        Err(stopped) => Err(RunCause::Threads(RunFault::of(&stopped))),
+    }
+}
+
+/// Runs a test so many times, 1..100,000, and counts the outcomes. Each run has a thread for each
+/// core, and comes to its end by the order in which these happen to go on; its logs are judged against the test's
+/// programs, and have to get Yes. The first run that doesn't come to its end, or whose logs get No, is answered in place
+/// of the table. May wait for its threads.
+pub fn collect_threaded<R: Threads + Wait + Sync>(
+    rt: &R,
+    alloc: Global,
+    test: &Litmus,
+    config: &Config,
+    runs: u64,
+) -> Result<Table, CollectFault>
+    // There are runs, one for each number, whose outcomes the table counts, or a first one that has none.
+    ensures runs { MatchResult result
+        (λ table. IsThreadTable test.now config.now runs table)
+        (λ fault. IsThreadFault test.now config.now runs fault) }
+    // 6 comes exactly where the number of runs is out of range.
+    ensures range { IsErrOf result BadRuns ↔ IsBadRunCount runs }
+{
+    check_runs(runs)?;
+    let mut tally = BTreeMap::new(alloc);
+    for run in 0..runs {
+        match run_threaded(rt, alloc, test, config) {
+            Ok(outcome) => count_outcome(&mut tally, outcome)?,
+            Err(cause) => return Err(CollectFault::Run { run, cause }),
+        }
+    }
+    Ok(table_of(alloc, test, tally)?)
+}
