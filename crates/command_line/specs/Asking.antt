@@ -1,5 +1,5 @@
 -- What the words of a command line ask for, and when they ask for nothing.
-use Rattle.std.specs.Prelude.{◌≡◌, ◌⊎◌, ◌<◌, ◌^◌, ⊤, ℕ, List, [], Option, Some, None, map, option_map, unwrap_or, codes}
+use Rattle.std.specs.Prelude.{◌≡◌, ◌⊎◌, ◌<◌, ◌^◌, ⊤, ℕ, Bool, true, false, List, [], Option, Some, None, map, option_map, unwrap_or, codes}
 use Rattle.std.specs.Borrow.{Bor}
 use Rattle.std.specs.Str.Parse.{IsNumeral, digits_value, without_leading_plus}
 use Rattle.clap.specs.Faults.{fault_of}
@@ -9,6 +9,7 @@ use Rattle.command_line.specs.declared.refusal.Refusal.{Refusal}
 use Rattle.command_line.specs.declared.refusal.Refusal.TheVariants.{Usage, OutOfMemory}
 use Rattle.command_line.specs.declared.request.Check.{Check}
 use Rattle.command_line.specs.declared.request.Limits.{Limits}
+use Rattle.command_line.specs.declared.request.Litmus.{Litmus}
 use Rattle.command_line.specs.declared.request.Order.{Order}
 use Rattle.command_line.specs.declared.request.Request.{Request}
 use Rattle.command_line.specs.declared.request.Request.TheVariants as request
@@ -31,6 +32,12 @@ IsNumberOf (Some text) number = (IsNumber text × (number ≡ Some (digits_value
 -- the same, with a number instead of none
 abbrev pub IsCountOr : ℕ → Option Text → ℕ → Type 0
 IsCountOr default text n = (number : Option ℕ) × IsNumberOf text number × (n ≡ unwrap_or number default)
+
+-- whether an option that takes nothing is there: it has the text of that
+pub record IsFlag (text : Option Text) (there : Bool) : Type 0 where
+  pub none : text ≡ None → there ≡ false
+  pub yes : text ≡ Some (codes "true") → there ≡ true
+  pub no : text ≡ Some (codes "false") → there ≡ false
 
 -- the text of a word, where there is one
 abbrev pub text_of : Option (Bor Text) → Option Text
@@ -69,12 +76,21 @@ pub record IsThreaded (rows : List Row) (run : Run) : Type 0 where
   pub programs : run.programs.now ≡ unwrap_or (first_of (codes "PROGRAMS") rows) []
   pub out : run.out.now ≡ unwrap_or (first_of (codes "OUT") rows) []
 
+-- runs of the test of the file that was given, by the numbers, as many and from the seed that were given
+pub record IsLitmus (rows : List Row) (litmus : Litmus) : Type 0 where
+  pub limits : AreLimits rows litmus.limits
+  pub runs : IsCountOr 100 (one_of (codes "runs") rows) litmus.runs
+  pub seed : IsCountOr 1 (one_of (codes "seed") rows) litmus.seed
+  pub threads : IsFlag (one_of (codes "threads") rows) litmus.threads
+  pub test : litmus.test.now ≡ unwrap_or (first_of (codes "TEST") rows) []
+
 -- the request is that of the subcommand of this name, by these arguments
 abbrev pub IsAskedBy : Text × List Row → Request → Type 0
 IsAskedBy named (request.Check check) = (named.0 ≡ codes "check") × IsCheck named.1 check
 IsAskedBy named (request.Order order) = (named.0 ≡ codes "order") × IsOrder named.1 order
 IsAskedBy named (request.Sim sim) = (named.0 ≡ codes "sim") × IsSim named.1 sim
 IsAskedBy named (request.Run run) = (named.0 ≡ codes "run") × IsThreaded named.1 run
+IsAskedBy named (request.Litmus litmus) = (named.0 ≡ codes "litmus") × IsLitmus named.1 litmus
 
 -- the request is that of the subcommand that the words name, by its arguments there
 abbrev pub Asks : List Text → Request → Type 0

@@ -3,7 +3,7 @@ use Rattle.std.specs.Prelude.{Some, true, codes}
 use Rattle.clap.specs.Lexer.{usize_max}
 use Rattle.clap.specs.Simple.{on_top}
 use Rattle.clap.specs.Words.{App, Rule, Text, new_app, new_rule, with_rule, with_subcommand}
-use Rattle.clap.specs.declared.builder.action.ArgAction.TheVariants.{Set, Append}
+use Rattle.clap.specs.declared.builder.action.ArgAction.TheVariants.{Set, SetTrue, Append}
 use Rattle.clap.specs.declared.builder.value_parser.ValueParser.TheVariants.{Unsigned}
 
 -- an option that takes a number
@@ -14,6 +14,10 @@ number_option name = record (new_rule name) {
   parser = Some (Unsigned 0 18446744073709551615);
   action = Some Set;
 }
+
+-- an option that takes nothing
+abbrev pub flag : Text → Rule
+flag name = record (new_rule name) { long = Some name; action = Some SetTrue }
 
 -- an option that takes the name of a file
 abbrev pub file_option : Text → Rule
@@ -68,14 +72,22 @@ sim = with_names (with_sim_options (with_limits (new_app (codes "sim"))))
 abbrev pub run : App
 run = with_names (with_limits (new_app (codes "run")))
 
+-- [--runs N] [--seed N] [--threads]
+abbrev pub with_litmus_options : App → App
+with_litmus_options app = with_rule (with_number (with_number app (codes "runs")) (codes "seed")) (flag (codes "threads"))
+
+-- tardis litmus [--slices N] [--lease N] [--period N] [--cache N] [--slice-lines N] [--inbox N] [--runs N] [--seed N] [--threads] TEST
+abbrev pub litmus : App
+litmus = with_rule (with_litmus_options (with_limits (new_app (codes "litmus")))) (name (codes "TEST"))
+
 -- the program with the subcommands that judge, and never called without one
 abbrev pub judging : App
 judging =
     with_subcommand (with_subcommand (on_top (λ top. record top { subcommand_required = true }) (new_app (codes "tardis"))) check.top) order.top
 
--- sim and run
+-- sim, run and litmus
 abbrev pub with_machine : App → App
-with_machine app = with_subcommand (with_subcommand app sim.top) run.top
+with_machine app = with_subcommand (with_subcommand (with_subcommand app sim.top) run.top) litmus.top
 
 -- the program
 abbrev pub tardis : App

@@ -36,7 +36,10 @@ fn with_machine<'a>(alloc: Global, command: Command<'a>) -> Result<Command<'a>, 
     ensures local { (fields_of command.entry).has_globals ≡ false
         → IfOk result (λ made. (fields_of made).has_globals ≡ false) }
 {
-    command.subcommand(sim(alloc)?)?.subcommand(run(alloc)?)
+    command
+        .subcommand(sim(alloc)?)?
+        .subcommand(run(alloc)?)?
+        .subcommand(litmus(alloc)?)
 }
 
 /// The subcommand that judges a set of logs.
@@ -94,6 +97,33 @@ fn run<'a>(alloc: Global) -> Result<Command<'a>, AllocError>
         .about("Runs programs at once, each core in a thread, and writes a log of each core")
         .after_help("Example: tardis run examples/read_across.programs log");
     with_names(alloc, with_limits(alloc, command)?)
+}
+
+/// The subcommand that runs a litmus test again and again, and counts its outcomes.
+fn litmus<'a>(alloc: Global) -> Result<Command<'a>, AllocError>
+    ensures app { IfOk result (λ command. app_of command ≡ grammar.litmus) }
+    ensures local { IfOk result (λ command. (fields_of command).has_globals ≡ false) }
+{
+    let command = Command::new(alloc, "litmus")
+        .about("Runs a litmus test again and again, judges each run, and counts the outcomes")
+        .after_help("Example: tardis litmus --runs 1000 examples/litmus/SB.litmus");
+    let command = with_limits(alloc, command)?;
+    with_litmus_options(alloc, command)?.arg(name(alloc, "TEST").help("The file of the test"))
+}
+
+/// A command with the options that say which runs are made.
+fn with_litmus_options<'a>(alloc: Global, command: Command<'a>) -> Result<Command<'a>, AllocError>
+    ensures app { IfOk result (λ made. app_of made
+        ≡ grammar.with_litmus_options (app_of command.entry)) }
+    ensures local { (fields_of command.entry).has_globals ≡ false
+        → IfOk result (λ made. (fields_of made).has_globals ≡ false) }
+{
+    command
+        .arg(number(alloc, "runs").help("How many runs there are [default: 100]"))?
+        .arg(number(alloc, "seed").help(
+            "What the rounds of the first run are drawn from; one more for each run after it [default: 1]",
+        ))?
+        .arg(flag(alloc, "threads").help("Runs each core in a thread; the seed has no use then"))
 }
 
 /// A command with the options that give the numbers of the machine.
@@ -194,6 +224,14 @@ fn number<'a>(alloc: Global, name: &'a str) -> Arg<'a>
         .value_name("N")
         .value_parser(value_parser!(u64))
         .action(ArgAction::Set)
+}
+
+/// An option that takes nothing.
+fn flag<'a>(alloc: Global, name: &'a str) -> Arg<'a>
+    ensures rule { rule_of result ≡ grammar.flag name.entry.now }
+    ensures local { result.global ≡ false }
+{
+    Arg::new(alloc, name).long(name).action(ArgAction::SetTrue)
 }
 
 /// An option that takes the name of a file.

@@ -11,6 +11,8 @@ pub enum Request<'a> {
     Sim(Sim<'a>),
     /// A run of the machine, each core in a thread of its own.
     Run(Run<'a>),
+    /// The outcomes of a litmus test.
+    Litmus(Litmus<'a>),
 }
 
 /// Asks for the verdict on a set of logs.
@@ -55,6 +57,21 @@ pub struct Run<'a> {
     pub programs: &'a str,
     /// What the names of the logs begin with.
     pub out: &'a str,
+}
+
+/// Asks for runs of a litmus test, and the table of their outcomes.
+#[derive(Debug, Drop)]
+pub struct Litmus<'a> {
+    /// The numbers of the machine.
+    pub limits: Limits,
+    /// How many runs there are.
+    pub runs: u64,
+    /// What the rounds of the first run are drawn from.
+    pub seed: u64,
+    /// Whether each core runs in a thread of its own; nothing is drawn then.
+    pub threads: bool,
+    /// The name of the file of the test.
+    pub test: &'a str,
 }
 
 /// The numbers of the machine.

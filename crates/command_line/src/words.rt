@@ -7,7 +7,7 @@ ghost use Rattle.command_line.specs.Asking as asking;
 
 use super::grammar::tardis;
 use super::refusal::Refusal;
-use super::request::{Check, Limits, Order, Request, Run, Sim};
+use super::request::{Check, Limits, Litmus, Order, Request, Run, Sim};
 use clap::error::ErrorKind;
 use clap::{ArgMatches, Error};
 use std::alloc::{AllocError, Global};
@@ -35,6 +35,9 @@ pub fn read<'a>(alloc: Global, words: &'a [&'a str]) -> Result<Request<'a>, Refu
     }
     if name == "order" {
         return Ok(Request::Order(order_of(alloc, asked)?));
+    }
+    if name == "litmus" {
+        return Ok(Request::Litmus(litmus_of(asked)));
     }
     Ok(Request::Check(check_of(alloc, asked)?))
 }
@@ -83,6 +86,19 @@ fn run_of<'a>(matches: &ArgMatches<'a>) -> Run<'a>
     }
 }
 
+/// What the words after `litmus` ask for.
+fn litmus_of<'a>(matches: &ArgMatches<'a>) -> Litmus<'a>
+    ensures { asking.IsLitmus (rows_of (found_of matches.now)) result }
+{
+    Litmus {
+        limits: limits_of(matches),
+        runs: count_of(matches, "runs", 100),
+        seed: count_of(matches, "seed", 1),
+        threads: flag_of(matches, "threads"),
+        test: word_of(matches, "TEST"),
+    }
+}
+
 /// The numbers of the machine.
 fn limits_of(matches: &ArgMatches<'_>) -> Limits
     ensures { asking.AreLimits (rows_of (found_of matches.now)) result }
@@ -109,6 +125,13 @@ fn number_of(matches: &ArgMatches<'_>, name: &str) -> Option<u64>
     ensures { asking.IsNumberOf (one_of name.now (rows_of (found_of matches.now))) result }
 {
     matches.get_one(name)
+}
+
+/// Whether an option that takes nothing is there.
+fn flag_of(matches: &ArgMatches<'_>, name: &str) -> bool
+    ensures { asking.IsFlag (one_of name.now (rows_of (found_of matches.now))) result }
+{
+    matches.get_flag(name)
 }
 
 /// The name of the file that an option gives, or none where the option isn't there.

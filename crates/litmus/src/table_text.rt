@@ -109,6 +109,8 @@ pub fn write_table<W: ByteSink>(
     // A failed write is answered only where the sink failed in this call.
     ensures failed { IsErrOf result WriteFault.Write →
         Failed (W.failed sink.old) (W.failed sink.new) }
+    // Where there was no memory for the text, nothing was written.
+    ensures unmade { IsErrOf result WriteFault.OutOfMemory → sink.new ≡ sink.old }
     // And no failed write is passed over.
     ensures quiet { ¬ IsErrOf result WriteFault.Write → W.failed sink.new ≡ W.failed sink.old }
 {

@@ -8,6 +8,8 @@ mod orders;
 #[cfg(test)]
 mod runs;
 #[cfg(test)]
+mod tables;
+#[cfg(test)]
 mod thread_runs;
 #[cfg(test)]
 mod words;

@@ -132,6 +132,28 @@ fn words_of_a_run(rt: HostRuntime) -> Result<(), Fail> {
 }
 
 #[test]
+fn words_of_a_litmus_test(rt: HostRuntime) -> Result<(), Fail> {
+    for (words, runs, seed, threads) in [
+        (["t"].as_slice(), 100, 1, false),
+        (&["--threads", "t", "--runs=7"], 7, 1, true),
+        (&["--seed", "0", "t"], 100, 0, false),
+    ] {
+        let mut line = Vec::from_slice(rt.alloc(), &["tardis", "litmus"])?;
+        line.extend_from_slice(words)?;
+        match read(rt.alloc(), line.as_slice()) {
+            Ok(Request::Litmus(litmus)) => {
+                assert_eq!(rt; numbers(&litmus.limits), [1, 10, 100, 64, 64, 8]);
+                assert_eq!(rt; (litmus.runs, litmus.seed), (runs, seed));
+                assert_eq!(rt; (litmus.threads, litmus.test), (threads, "t"));
+            }
+            Ok(_other) => assert!(rt; false, "no litmus test"),
+            Err(refusal) => assert!(rt; false, "refused: {refusal}"),
+        }
+    }
+    Ok(())
+}
+
+#[test]
 fn words_that_ask_for_nothing(rt: HostRuntime) -> Result<(), Fail> {
     for words in [
         [].as_slice(),
@@ -154,6 +176,8 @@ fn words_that_ask_for_nothing(rt: HostRuntime) -> Result<(), Fail> {
         &["run", "p"],
         &["run", "--seed", "1", "p", "o"],
         &["run", "--schedule", "f", "p", "o"],
+        &["litmus"],
+        &["litmus", "--threads=1", "t"],
     ] {
         let mut line = Vec::from_slice(rt.alloc(), &["tardis"])?;
         line.extend_from_slice(words)?;

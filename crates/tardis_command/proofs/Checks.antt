@@ -17,7 +17,7 @@ use Rattle.verdict.specs.declared.judge_fault.JudgeFault.{JudgeFault}
 use Rattle.verdict.specs.declared.judge_fault.JudgeFault.TheVariants.{BadConfig, Log, Read, OutOfMemory}
 use Rattle.tardis_command.specs.Faults.{from_judge}
 use Rattle.tardis_command.specs.declared.fault.CommandFault.{CommandFault}
-use Rattle.tardis_command.specs.declared.fault.CommandFault.TheVariants.{Judge, Config, Programs, ProgramsUnread, Schedule, ScheduleUnread, Simulation, Run, LogUnwritten, Output, OutOfMemory as NoMemory}
+use Rattle.tardis_command.specs.declared.fault.CommandFault.TheVariants.{Judge, Config, Programs, ProgramsUnread, Schedule, ScheduleUnread, Simulation, Run, Test, TestUnread, Collect, LogUnwritten, Output, OutOfMemory as NoMemory}
 use Rattle.tardis_command.specs.Checking.{Against, AreInRange, AreNotAsMany, AreSourcesOf, AreTextsOf, IsAnswerAgainst, IsChecked, IsCheckedAgainst, IsFaultOfPrograms, IsUnprogrammed}
 
 -- the next file's source, after those of the files before it
@@ -115,5 +115,8 @@ unprogrammed told asked name (Schedule reason) range some h = absurd h
 unprogrammed told asked name ScheduleUnread range some h = absurd h
 unprogrammed told asked name (Simulation reason) range some h = absurd h
 unprogrammed told asked name (Run reason) range some h = absurd h
+unprogrammed told asked name (Test reason) range some h = absurd h
+unprogrammed told asked name TestUnread range some h = absurd h
+unprogrammed told asked name (Collect reason) range some h = absurd h
 unprogrammed told asked name (LogUnwritten file) range some h = absurd h
 unprogrammed told asked name Output range some h = absurd h

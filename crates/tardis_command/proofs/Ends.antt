@@ -4,6 +4,7 @@ use Rattle.std.specs.Prelude.{IfOk, OnOk, IfErr}
 use Rattle.std.specs.Io.KnownBytes.{Appends, Keeps}
 use Rattle.std.proofs.KnownBytes.{Appends-nil}
 use Rattle.command_line.specs.Asking.{Asks, IsCommandLine}
+use Rattle.command_line.specs.declared.request.Litmus.{Litmus}
 use Rattle.command_line.specs.declared.request.Request.{Request}
 use Rattle.command_line.specs.declared.request.Request.TheVariants as request
 use Rattle.verdict.specs.Judgement.{IsYes}
@@ -15,9 +16,10 @@ use Rattle.tardis_command.specs.declared.answer.Answer.TheVariants as answer
 use Rattle.tardis_command.specs.inner.Printing.{IsUnprinted}
 use Rattle.tardis_command.specs.Endings.{Answered, Ending, EndsBy, HasFailed, IsAnswered, IsAnswerTo, IsDoneBy, IsPrintedBy, Misused, OutputAt, Refused, Sink, Takes, Unprinted, Unread, line, status_of}
 use Rattle.tardis_command.specs.Files.{Files}
+use Rattle.tardis_command.specs.Tabling.{IsCounted}
 use Rattle.tardis_command.specs.Faults.{command_fault_text, fault_status}
 use Rattle.tardis_command.specs.declared.fault.CommandFault.{CommandFault}
-use Rattle.tardis_command.specs.declared.fault.CommandFault.TheVariants.{Judge, Config, Programs, ProgramsUnread, Schedule, ScheduleUnread, Simulation, Run, LogUnwritten, Output, OutOfMemory}
+use Rattle.tardis_command.specs.declared.fault.CommandFault.TheVariants.{Judge, Config, Programs, ProgramsUnread, Schedule, ScheduleUnread, Simulation, Run, Test, TestUnread, Collect, LogUnwritten, Output, OutOfMemory}
 
 pub kept : (contents : Option (List ℕ)) → Keeps contents contents
 kept None = tt
@@ -32,12 +34,35 @@ unless_failed old new fault (Refused reason) answered output = output
 unless_failed old new fault Unread answered output = absurd answered
 unless_failed old new fault (Misused text) answered output = absurd answered
 
+-- standard output holds what it held, or failed, where there is no table
+uncounted : (told : List ℕ → Option (List ℕ)) (asked : Litmus) (old new : Sink) (fault : CommandFault) → IsCounted told asked old new (Err fault)
+    → Keeps old.contents new.contents ⊎ HasFailed old new
+uncounted told asked old new Output done = let (order, t, test, table, is, failed, taken) = done in inr failed
+uncounted told asked old new OutOfMemory done = done
+uncounted told asked old new (Judge fault) done = inl done.1
+uncounted told asked old new (Config fault) done = inl done.1
+uncounted told asked old new (Programs fault) done = inl done.1
+uncounted told asked old new ProgramsUnread done = inl done.1
+uncounted told asked old new (Schedule fault) done = inl done.1
+uncounted told asked old new ScheduleUnread done = inl done.1
+uncounted told asked old new (Simulation fault) done = inl done.1
+uncounted told asked old new (Run fault) done = inl done.1
+uncounted told asked old new (Test fault) done = inl done.1
+uncounted told asked old new TestUnread done = inl done.1
+uncounted told asked old new (Collect fault) done = inl done.1
+uncounted told asked old new (LogUnwritten file) done = inl done.1
+
 -- lack of memory may be told in place of whatever refusal
 memory_instead : (before after : Files) (asked : Request) (out out' : Sink) (fault : CommandFault) (ending : Ending) → IsAnswered ending (Err fault)
     → IsDoneBy before after asked out out' ending → IsDoneBy before after asked out out' (Refused OutOfMemory)
 memory_instead before after (request.Check check) out out' fault ending answered done = (tt, unless_failed out out' fault ending answered done.1)
 memory_instead before after (request.Sim sim) out out' fault ending answered done = (tt, unless_failed out out' fault ending answered done.1)
 memory_instead before after (request.Run run) out out' fault ending answered done = (tt, unless_failed out out' fault ending answered done.1)
+memory_instead before after (request.Litmus litmus) out out' fault (Answered answer) answered done = cc
+memory_instead before after (request.Litmus litmus) out out' fault (Unprinted answer) answered done = absurd done
+memory_instead before after (request.Litmus litmus) out out' fault (Refused reason) answered done = uncounted before.told litmus out out' reason done
+memory_instead before after (request.Litmus litmus) out out' fault Unread answered done = absurd done
+memory_instead before after (request.Litmus litmus) out out' fault (Misused text) answered done = absurd done
 memory_instead before after (request.Order order) out out' fault (Answered answer) answered done = cc
 memory_instead before after (request.Order order) out out' fault (Unprinted answer) answered done = absurd done
 memory_instead before after (request.Order order) out out' fault (Refused reason) answered done = (tt, done.1)
@@ -65,6 +90,9 @@ module _ (before after : Files) (asked : Request) (answer : Answer) (out out' : 
   unprinted ScheduleUnread never = absurd never
   unprinted (Simulation reason) never = absurd never
   unprinted (Run reason) never = absurd never
+  unprinted (Test reason) never = absurd never
+  unprinted TestUnread never = absurd never
+  unprinted (Collect reason) never = absurd never
   unprinted (LogUnwritten file) never = absurd never
 
   -- an answer that was to be printed

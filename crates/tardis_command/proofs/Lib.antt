@@ -3,4 +3,5 @@ mod Ends
 mod Logs
 mod Orders
 mod Runs
+mod Tables
 mod ThreadRuns

@@ -12,7 +12,7 @@ use Rattle.tardis_command.specs.Files.{Files}
 use Rattle.tardis_command.specs.inner.Putting.{IsUnput}
 use Rattle.tardis_command.specs.Logs.{ArePutAsFar, ArePutBefore, ArePutFirst, ArePutUpTo, IsUnwritten, KeepsOthers, log_name, TellsLog, TellsFirst}
 use Rattle.tardis_command.specs.declared.fault.CommandFault.{CommandFault}
-use Rattle.tardis_command.specs.declared.fault.CommandFault.TheVariants.{Judge, Config, Programs, ProgramsUnread, Schedule, ScheduleUnread, Simulation, Run, LogUnwritten, Output, OutOfMemory}
+use Rattle.tardis_command.specs.declared.fault.CommandFault.TheVariants.{Judge, Config, Programs, ProgramsUnread, Schedule, ScheduleUnread, Simulation, Run, Test, TestUnread, Collect, LogUnwritten, Output, OutOfMemory}
 
 -- no two cores' logs are of one name
 names_differ : (out : List ℕ) (c d : ℕ) → c < d → d < 64 → log_name out c ≢ log_name out d
@@ -71,6 +71,9 @@ module _ (old now new : Files) (out : List ℕ) (cores : ℕ) (made : ℕ → Li
   put_as_far ScheduleUnread never = absurd never
   put_as_far (Simulation fault) never = absurd never
   put_as_far (Run fault) never = absurd never
+  put_as_far (Test fault) never = absurd never
+  put_as_far TestUnread never = absurd never
+  put_as_far (Collect fault) never = absurd never
   put_as_far Output never = absurd never
 
   pub unwritten : (fault : CommandFault) → IsUnput now new core fault → IsUnwritten (ArePutUpTo old new out cores made) fault
@@ -84,6 +87,9 @@ module _ (old now new : Files) (out : List ℕ) (cores : ℕ) (made : ℕ → Li
   unwritten ScheduleUnread never = absurd never
   unwritten (Simulation fault) never = absurd never
   unwritten (Run fault) never = absurd never
+  unwritten (Test fault) never = absurd never
+  unwritten TestUnread never = absurd never
+  unwritten (Collect fault) never = absurd never
   unwritten Output never = absurd never
 
 -- the logs are 64 at most

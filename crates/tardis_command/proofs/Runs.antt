@@ -15,7 +15,7 @@ use Rattle.tardis_command.specs.Logs.{ArePut, ArePutAsFar, ArePutUpTo, IsUnwritt
 use Rattle.tardis_command.specs.Programmed.{AreProgramsIn, config_of}
 use Rattle.tardis_command.specs.Simulating.{AreCommandsOf, IsRun}
 use Rattle.tardis_command.specs.declared.fault.CommandFault.{CommandFault}
-use Rattle.tardis_command.specs.declared.fault.CommandFault.TheVariants.{Judge, Config, Programs, ProgramsUnread, Schedule, ScheduleUnread, Simulation, Run, LogUnwritten, Output, OutOfMemory}
+use Rattle.tardis_command.specs.declared.fault.CommandFault.TheVariants.{Judge, Config, Programs, ProgramsUnread, Schedule, ScheduleUnread, Simulation, Run, Test, TestUnread, Collect, LogUnwritten, Output, OutOfMemory}
 
 module _ (old new : Files) (asked : Sim) (programs : List (List Instruction)) (commands : List Command) (q : CoreParts)
     (sound : first_bad (config_of asked.limits) ≡ None) (read : AreProgramsIn old.told asked.programs.now programs)
@@ -38,4 +38,7 @@ module _ (old new : Files) (asked : Sim) (programs : List (List Instruction)) (c
   ended simulated (Err ScheduleUnread) counted put unwritten = absurd unwritten
   ended simulated (Err (Simulation fault)) counted put unwritten = absurd unwritten
   ended simulated (Err (Run fault)) counted put unwritten = absurd unwritten
+  ended simulated (Err (Test fault)) counted put unwritten = absurd unwritten
+  ended simulated (Err TestUnread) counted put unwritten = absurd unwritten
+  ended simulated (Err (Collect fault)) counted put unwritten = absurd unwritten
   ended simulated (Err Output) counted put unwritten = absurd unwritten

@@ -16,7 +16,7 @@ use Rattle.tardis_command.specs.Logs.{ArePut, ArePutAsFar, ArePutUpTo, IsUnwritt
 use Rattle.tardis_command.specs.Programmed.{AreProgramsIn, config_of}
 use Rattle.tardis_command.specs.Running.{AreLeft, IsThreadRun}
 use Rattle.tardis_command.specs.declared.fault.CommandFault.{CommandFault}
-use Rattle.tardis_command.specs.declared.fault.CommandFault.TheVariants.{Judge, Config, Programs, ProgramsUnread, Schedule, ScheduleUnread, Simulation, Run, LogUnwritten, Output, OutOfMemory}
+use Rattle.tardis_command.specs.declared.fault.CommandFault.TheVariants.{Judge, Config, Programs, ProgramsUnread, Schedule, ScheduleUnread, Simulation, Run, Test, TestUnread, Collect, LogUnwritten, Output, OutOfMemory}
 
 module _ (old new : Files) (asked : Asked) (programs : List (List Instruction)) (us : List UnitParts)
     (sound : first_bad (config_of asked.limits) ≡ None) (read : AreProgramsIn old.told asked.programs.now programs) where
@@ -39,6 +39,9 @@ module _ (old new : Files) (asked : Asked) (programs : List (List Instruction)) 
   whole ss is events (Err ScheduleUnread) counted put unwritten = absurd unwritten
   whole ss is events (Err (Simulation fault)) counted put unwritten = absurd unwritten
   whole ss is events (Err (Run fault)) counted put unwritten = absurd unwritten
+  whole ss is events (Err (Test fault)) counted put unwritten = absurd unwritten
+  whole ss is events (Err TestUnread) counted put unwritten = absurd unwritten
+  whole ss is events (Err (Collect fault)) counted put unwritten = absurd unwritten
   whole ss is events (Err Output) counted put unwritten = absurd unwritten
 
 -- what the units of a fault are, told of the fault

@@ -14,7 +14,7 @@ use Rattle.verdict.specs.declared.judge_fault.Count.TheVariants.{Files, Workers,
 use Rattle.verdict.specs.declared.judge_fault.JudgeFault.{JudgeFault}
 use Rattle.verdict.specs.declared.judge_fault.JudgeFault.TheVariants.{BadConfig, Log, Read, OutOfMemory}
 use Rattle.tardis_command.specs.declared.fault.CommandFault.{CommandFault}
-use Rattle.tardis_command.specs.declared.fault.CommandFault.TheVariants.{Judge, Config, Programs, ProgramsUnread, Schedule, ScheduleUnread, Simulation, Run, LogUnwritten, Output, OutOfMemory as NoMemory}
+use Rattle.tardis_command.specs.declared.fault.CommandFault.TheVariants.{Judge, Config, Programs, ProgramsUnread, Schedule, ScheduleUnread, Simulation, Run, Test, TestUnread, Collect, LogUnwritten, Output, OutOfMemory as NoMemory}
 
 -- these are sources of the files of these names: each tells the bytes that the folder tells
 abbrev pub AreSourcesOf : {S : Type 0} → (List ℕ → Option (List ℕ)) → (S → Option (List ℕ)) → List S → List (Bor (List ℕ)) → Type 0
@@ -65,6 +65,9 @@ IsUnprogrammed told name (Schedule fault) = ⊥
 IsUnprogrammed told name ScheduleUnread = ⊥
 IsUnprogrammed told name (Simulation fault) = ⊥
 IsUnprogrammed told name (Run fault) = ⊥
+IsUnprogrammed told name (Test fault) = ⊥
+IsUnprogrammed told name TestUnread = ⊥
+IsUnprogrammed told name (Collect fault) = ⊥
 IsUnprogrammed told name (LogUnwritten file) = ⊥
 IsUnprogrammed told name Output = ⊥
 
@@ -107,6 +110,9 @@ IsChecked told asked (Err (Schedule fault)) = ⊥
 IsChecked told asked (Err ScheduleUnread) = ⊥
 IsChecked told asked (Err (Simulation fault)) = ⊥
 IsChecked told asked (Err (Run fault)) = ⊥
+IsChecked told asked (Err (Test fault)) = ⊥
+IsChecked told asked (Err TestUnread) = ⊥
+IsChecked told asked (Err (Collect fault)) = ⊥
 IsChecked told asked (Err (LogUnwritten file)) = ⊥
 IsChecked told asked (Err Output) = ⊥
 

@@ -2,9 +2,10 @@
 use Rattle.std.specs.Prelude.{◌≡◌, ◌<◌, ◌≤◌, ◌⊎◌, ⊤, ℕ, List, [], ◌∷◌, ◌++◌, Option, Result, Ok, Err, length, take}
 use Rattle.std.specs.Io.KnownBytes.{Appends, Keeps}
 use Rattle.command_line.specs.Asking.{Asks, IsCommandLine}
+use Rattle.command_line.specs.declared.request.Litmus.{Litmus as AskedLitmus}
 use Rattle.command_line.specs.declared.request.Order.{Order as AskedOrder}
 use Rattle.command_line.specs.declared.request.Request.{Request}
-use Rattle.command_line.specs.declared.request.Request.TheVariants.{Check, Order, Sim, Run}
+use Rattle.command_line.specs.declared.request.Request.TheVariants.{Check, Order, Sim, Run, Litmus}
 use Rattle.tardis_command.specs.Answers.{answer_status, answer_text, told_text}
 use Rattle.tardis_command.specs.Checking.{FilesAreConsistent, FilesRunFlat, IsChecked, TextsAreConsistent}
 use Rattle.tardis_command.specs.Files.{Files}
@@ -13,8 +14,9 @@ use Rattle.tardis_command.specs.Logs.{log_name}
 use Rattle.tardis_command.specs.Ordering.{IsOrdered, TakesOrder}
 use Rattle.tardis_command.specs.Running.{IsThreadRun}
 use Rattle.tardis_command.specs.Simulating.{IsRun}
+use Rattle.tardis_command.specs.Tabling.{IsCounted}
 use Rattle.tardis_command.specs.declared.answer.Answer.{Answer}
-use Rattle.tardis_command.specs.declared.answer.Answer.TheVariants.{Judged, Ordered, Done}
+use Rattle.tardis_command.specs.declared.answer.Answer.TheVariants.{Judged, Ordered, Counted, Done}
 use Rattle.tardis_command.specs.declared.fault.CommandFault.{CommandFault}
 use Rattle.tardis_command.specs.declared.fault.CommandFault.TheVariants.{OutOfMemory, Output}
 pub use Rattle.tardis_command.specs.Answers.{line}
@@ -47,20 +49,24 @@ complaint_of (Misused text) = text
 
 -- ---- why
 
--- This may be the answer to what was asked, or why there is none; the folder was `old` before and is `new` after. An order has no
--- answer apart from what standard output took of it.
+-- This may be the answer to what was asked, or why there is none; the folder was `old` before and is `new` after. An order and a
+-- table have no answer apart from what standard output took of them.
 abbrev pub IsAnswerTo : Files → Files → Request → Result Answer CommandFault → Type 0
 IsAnswerTo old new (Check asked) (Ok (Judged verdict)) = IsChecked old.told asked (Ok verdict)
 IsAnswerTo old new (Check asked) (Ok (Ordered verdict)) = ⊥
+IsAnswerTo old new (Check asked) (Ok (Counted forbidden)) = ⊥
 IsAnswerTo old new (Check asked) (Ok (Done count)) = ⊥
 IsAnswerTo old new (Check asked) (Err fault) = IsChecked old.told asked (Err fault)
 IsAnswerTo old new (Order asked) answer = ⊥
+IsAnswerTo old new (Litmus asked) answer = ⊥
 IsAnswerTo old new (Sim asked) (Ok (Judged verdict)) = ⊥
 IsAnswerTo old new (Sim asked) (Ok (Ordered verdict)) = ⊥
+IsAnswerTo old new (Sim asked) (Ok (Counted forbidden)) = ⊥
 IsAnswerTo old new (Sim asked) (Ok (Done count)) = IsRun old new asked (Ok count)
 IsAnswerTo old new (Sim asked) (Err fault) = IsRun old new asked (Err fault)
 IsAnswerTo old new (Run asked) (Ok (Judged verdict)) = ⊥
 IsAnswerTo old new (Run asked) (Ok (Ordered verdict)) = ⊥
+IsAnswerTo old new (Run asked) (Ok (Counted forbidden)) = ⊥
 IsAnswerTo old new (Run asked) (Ok (Done count)) = IsThreadRun old new asked (Ok count)
 IsAnswerTo old new (Run asked) (Err fault) = IsThreadRun old new asked (Err fault)
 
@@ -82,6 +88,7 @@ AreConsistent told (Check asked) = FilesAreConsistent told asked
 AreConsistent told (Order asked) = TextsAreConsistent told asked.files.items
 AreConsistent told (Sim asked) = ⊤
 AreConsistent told (Run asked) = ⊤
+AreConsistent told (Litmus asked) = ⊤
 
 -- where an order was asked for, standard output took the order text of a sequential order of that set
 abbrev pub AreOrdered : (List ℕ → Option (List ℕ)) → Sink → Sink → Request → Type 0
@@ -89,6 +96,7 @@ AreOrdered told old new (Check asked) = ⊤
 AreOrdered told old new (Order asked) = TakesOrder told asked.files.items old new
 AreOrdered told old new (Sim asked) = ⊤
 AreOrdered told old new (Run asked) = ⊤
+AreOrdered told old new (Litmus asked) = ⊤
 
 -- and, where they were checked against programs, some whole run of these on the flat machine performs just its operations
 abbrev pub RunFlat : (List ℕ → Option (List ℕ)) → Request → Type 0
@@ -96,11 +104,13 @@ RunFlat told (Check asked) = FilesRunFlat told asked
 RunFlat told (Order asked) = ⊤
 RunFlat told (Sim asked) = ⊤
 RunFlat told (Run asked) = ⊤
+RunFlat told (Litmus asked) = ⊤
 
 -- the name of a log that was asked for
 abbrev pub IsLogName : Request → List ℕ → Type 0
 IsLogName (Check asked) name = ⊥
 IsLogName (Order asked) name = ⊥
+IsLogName (Litmus asked) name = ⊥
 IsLogName (Sim asked) name = (c : ℕ) × (c < 64) × (name ≡ log_name asked.out.now c)
 IsLogName (Run asked) name = (c : ℕ) × (c < 64) × (name ≡ log_name asked.out.now c)
 
@@ -126,11 +136,23 @@ IsPrintedBy old new asked out out' ending = IsEndOf old new asked ending × Outp
 abbrev pub IsWrittenBy : (List ℕ → Option (List ℕ)) → AskedOrder → Sink → Sink → Ending → Type 0
 IsWrittenBy told asked out out' (Answered (Ordered verdict)) = IsOrdered told asked out out' (Ok verdict)
 IsWrittenBy told asked out out' (Answered (Judged verdict)) = ⊥
+IsWrittenBy told asked out out' (Answered (Counted forbidden)) = ⊥
 IsWrittenBy told asked out out' (Answered (Done count)) = ⊥
 IsWrittenBy told asked out out' (Unprinted answer) = ⊥
 IsWrittenBy told asked out out' (Refused fault) = IsOrdered told asked out out' (Err fault)
 IsWrittenBy told asked out out' Unread = ⊥
 IsWrittenBy told asked out out' (Misused text) = ⊥
+
+-- the counting of outcomes ended so, whose table went to standard output
+abbrev pub IsCountedBy : (List ℕ → Option (List ℕ)) → AskedLitmus → Sink → Sink → Ending → Type 0
+IsCountedBy told asked out out' (Answered (Counted forbidden)) = IsCounted told asked out out' (Ok forbidden)
+IsCountedBy told asked out out' (Answered (Judged verdict)) = ⊥
+IsCountedBy told asked out out' (Answered (Ordered verdict)) = ⊥
+IsCountedBy told asked out out' (Answered (Done count)) = ⊥
+IsCountedBy told asked out out' (Unprinted answer) = ⊥
+IsCountedBy told asked out out' (Refused fault) = IsCounted told asked out out' (Err fault)
+IsCountedBy told asked out out' Unread = ⊥
+IsCountedBy told asked out out' (Misused text) = ⊥
 
 -- ---- all of it
 
@@ -140,6 +162,7 @@ IsDoneBy old new (Check asked) out out' ending = IsPrintedBy old new (Check aske
 IsDoneBy old new (Order asked) out out' ending = IsWrittenBy old.told asked out out' ending
 IsDoneBy old new (Sim asked) out out' ending = IsPrintedBy old new (Sim asked) out out' ending
 IsDoneBy old new (Run asked) out out' ending = IsPrintedBy old new (Run asked) out out' ending
+IsDoneBy old new (Litmus asked) out out' ending = IsCountedBy old.told asked out out' ending
 
 -- how an ending is answered: by the answer, or by a fault
 abbrev pub IsAnswered : Ending → Result Answer CommandFault → Type 0

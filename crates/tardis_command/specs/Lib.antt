@@ -9,4 +9,5 @@ pub mod Programmed
 pub mod Running
 pub mod Simulating
 pub mod Sinks
+pub mod Tabling
 pub mod inner

@@ -6,7 +6,7 @@ use Rattle.log_file.specs.Log.{spelling, first_format}
 use Rattle.log_record.specs.declared.record.Record.{Record}
 use Rattle.tardis_command.specs.Files.{Files}
 use Rattle.tardis_command.specs.declared.fault.CommandFault.{CommandFault}
-use Rattle.tardis_command.specs.declared.fault.CommandFault.TheVariants.{Judge, Config, Programs, ProgramsUnread, Schedule, ScheduleUnread, Simulation, Run, LogUnwritten, Output, OutOfMemory}
+use Rattle.tardis_command.specs.declared.fault.CommandFault.TheVariants.{Judge, Config, Programs, ProgramsUnread, Schedule, ScheduleUnread, Simulation, Run, Test, TestUnread, Collect, LogUnwritten, Output, OutOfMemory}
 
 -- the name of core c's log: that of the logs, a dot and the core's number
 abbrev pub log_name : List ℕ → ℕ → List ℕ
@@ -69,4 +69,7 @@ IsUnwritten Holds (Schedule fault) = ⊥
 IsUnwritten Holds ScheduleUnread = ⊥
 IsUnwritten Holds (Simulation fault) = ⊥
 IsUnwritten Holds (Run fault) = ⊥
+IsUnwritten Holds (Test fault) = ⊥
+IsUnwritten Holds TestUnread = ⊥
+IsUnwritten Holds (Collect fault) = ⊥
 IsUnwritten Holds Output = ⊥

@@ -17,7 +17,7 @@ use Rattle.tardis_command.specs.Files.{Files}
 use Rattle.tardis_command.specs.Logs.{ArePut, ArePutAsFar, ArePutUpTo, performed_below}
 use Rattle.tardis_command.specs.Programmed.{Programmed, config_of}
 use Rattle.tardis_command.specs.declared.fault.CommandFault.{CommandFault}
-use Rattle.tardis_command.specs.declared.fault.CommandFault.TheVariants.{Judge, Config, Programs, ProgramsUnread, Schedule, ScheduleUnread, Simulation, Run, LogUnwritten, Output, OutOfMemory}
+use Rattle.tardis_command.specs.declared.fault.CommandFault.TheVariants.{Judge, Config, Programs, ProgramsUnread, Schedule, ScheduleUnread, Simulation, Run, Test, TestUnread, Collect, LogUnwritten, Output, OutOfMemory}
 
 -- ---- what was asked for
 
@@ -42,6 +42,9 @@ IsUnscheduled told name cores (Programs fault) = ⊥
 IsUnscheduled told name cores ProgramsUnread = ⊥
 IsUnscheduled told name cores (Simulation fault) = ⊥
 IsUnscheduled told name cores (Run fault) = ⊥
+IsUnscheduled told name cores (Test fault) = ⊥
+IsUnscheduled told name cores TestUnread = ⊥
+IsUnscheduled told name cores (Collect fault) = ⊥
 IsUnscheduled told name cores (LogUnwritten file) = ⊥
 IsUnscheduled told name cores Output = ⊥
 
@@ -79,4 +82,7 @@ IsRun old new asked (Err (LogUnwritten file)) =
 IsRun old new asked (Err OutOfMemory) = ⊤
 IsRun old new asked (Err (Judge fault)) = ⊥
 IsRun old new asked (Err (Run fault)) = ⊥
+IsRun old new asked (Err (Test fault)) = ⊥
+IsRun old new asked (Err TestUnread) = ⊥
+IsRun old new asked (Err (Collect fault)) = ⊥
 IsRun old new asked (Err Output) = ⊥

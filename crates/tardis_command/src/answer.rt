@@ -14,19 +14,22 @@ pub enum Answer {
     Judged(Verdict),
     /// The verdict on a set of logs whose order was written, where it is Yes.
     Ordered(Verdict),
+    /// A table of the outcomes of a litmus test was written, and whether one of them is forbidden.
+    Counted(bool),
     /// Programs were run to their ends, and have performed this number of operations.
     Done(u64),
 }
 
 impl Answer {
-    /// The exit status: 1 for No, else 0.
+    /// The exit status: 1 for No and for a forbidden outcome, else 0.
     pub fn status(&self) -> u8
         ensures { result ≡ answer_status self.now }
     {
         match self {
             Answer::Judged(Verdict::No(_)) | Answer::Ordered(Verdict::No(_)) => 1,
             Answer::Judged(Verdict::Yes(_)) | Answer::Ordered(Verdict::Yes(_)) => 0,
-            Answer::Done(_) => 0,
+            Answer::Counted(true) => 1,
+            Answer::Counted(false) | Answer::Done(_) => 0,
         }
     }
 }
@@ -40,6 +43,7 @@ impl Display for Answer {
     fn fmt<W: fmt::Write>(&self, f: &mut fmt::Formatter<W>) -> fmt::Result {
         match self {
             Answer::Judged(verdict) | Answer::Ordered(verdict) => write!(f, "{verdict}"),
+            Answer::Counted(_) => f.write_str(""),
             Answer::Done(operations) => write!(f, "done: {operations} operations"),
         }
     }

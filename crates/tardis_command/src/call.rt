@@ -14,6 +14,7 @@ use super::order::order;
 use super::output::{print_answer, refuse, tell, tell_answer};
 use super::run::run;
 use super::sim::sim;
+use super::table::count_outcomes;
 use super::watch::Watch;
 use command_line::{Refusal, Request, read};
 use log_file::ByteSink;
@@ -25,8 +26,8 @@ use std::thread::Threads;
 const USAGE: u8 = 3;
 
 /// Does what the words of a command line ask for; the first is the program's own name, and
-/// answers the exit status: 0 for Yes or done, 1 for No, 2 where a log, the programs or the schedule
-/// are refused, 3 where the words are or a number is out of range, else 4. An answer goes to standard
+/// answers the exit status: 0 for Yes or done, 1 for No or a forbidden outcome, 2 where a log, the
+/// programs, the schedule or the test are refused, 3 where the words are or a number is out of range, else 4. An answer goes to standard
 /// output, all else to standard error; where an order goes to standard output, its verdict goes to
 /// standard error. In the folder nothing but the logs of a run is put.
 pub fn command<R: Threads + Wait + Sync, W: Watch + Sync, F: Folder, O: ByteSink, E: ByteSink>(
@@ -109,5 +110,8 @@ fn perform<R: Threads + Wait + Sync, W: Watch + Sync, F: Folder, O: ByteSink>(
             let operations = run(rt, alloc, watch, folder, asked)?;
             print_answer(alloc, out, Answer::Done(operations))
         }
+        Request::Litmus(asked) => Ok(Answer::Counted(count_outcomes(
+            rt, alloc, folder, asked, out,
+        )?)),
     }
 }

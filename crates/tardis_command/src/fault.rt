@@ -1,12 +1,13 @@
 //! Why a command was refused.
 
 ghost use Rattle.std.specs.Prelude.{◌≡◌};
-ghost use Rattle.tardis_command.specs.Faults.{fault_status, from_judge, from_merge};
-ghost use Rattle.tardis_command.specs.declared.fault.CommandFault.TheVariants.{Config, OutOfMemory, Output, Programs, Run, Schedule, Simulation};
+ghost use Rattle.tardis_command.specs.Faults.{fault_status, from_collect, from_judge, from_merge, from_write};
+ghost use Rattle.tardis_command.specs.declared.fault.CommandFault.TheVariants.{Config, OutOfMemory, Output, Programs, Run, Schedule, Simulation, Test};
 
 use core_program::ProgramFault;
 use lease_rule::BadConfig;
-use log_file::WriteFailed;
+use litmus::{CollectFault, LitmusFault, RunCause};
+use log_file::{WriteFailed, WriteFault};
 use machine::RunFault;
 use merge_judge::MergeFault;
 use schedule::ScheduleFault;
@@ -36,6 +37,12 @@ pub enum CommandFault {
     Simulation(SimulationFault),
     /// The run in threads isn't ended.
     Run(RunFault),
+    /// The file of the litmus test isn't one.
+    Test(LitmusFault),
+    /// The file of the litmus test can't be opened, or a read of it failed.
+    TestUnread,
+    /// There is no table of the outcomes of a litmus test, and not for lack of memory.
+    Collect(CollectFault),
     /// The log of this file can't be written.
     LogUnwritten { file: usize },
     /// Standard output failed.
@@ -45,8 +52,8 @@ pub enum CommandFault {
 }
 
 impl CommandFault {
-    /// The exit status: 2 where a log, the programs or the schedule were refused, 3 where a count or a
-    /// number of the configuration is out of range, else 4.
+    /// The exit status: 1 where a run of a litmus test got No, 2 where a log, the programs, the schedule
+    /// or the test were refused, 3 where a count or a number of the configuration is out of range, else 4.
     pub fn status(&self) -> u8
         ensures { result ≡ fault_status self.now }
     {
@@ -59,7 +66,18 @@ impl CommandFault {
             CommandFault::Programs(_) => 2,
             CommandFault::Schedule(ScheduleFault::OutOfMemory) => 4,
             CommandFault::Schedule(_) => 2,
+            CommandFault::Test(LitmusFault::OutOfMemory) => 4,
+            CommandFault::Test(_) => 2,
+            CommandFault::Collect(CollectFault::BadRuns) => 3,
+            CommandFault::Collect(
+                CollectFault::Run {
+                    cause: RunCause::No(_, _),
+                    ..
+                },
+            ) => 1,
+            CommandFault::Collect(_) => 4,
             CommandFault::ProgramsUnread | CommandFault::ScheduleUnread => 4,
+            CommandFault::TestUnread => 4,
             CommandFault::Simulation(_) | CommandFault::Run(_) => 4,
             CommandFault::LogUnwritten { .. } => 4,
             CommandFault::Output | CommandFault::OutOfMemory => 4,
@@ -89,6 +107,23 @@ impl Display for CommandFault {
             CommandFault::ScheduleUnread => f.write_str("refused: schedule: 28 Read"),
             CommandFault::Simulation(fault) => write!(f, "refused: {fault}"),
             CommandFault::Run(fault) => write!(f, "refused: {fault}"),
+            CommandFault::Test(LitmusFault::OutOfMemory) => f.write_str("refused: 10 OutOfMemory"),
+            CommandFault::Test(fault) => write!(f, "refused: litmus {fault}"),
+            CommandFault::TestUnread => f.write_str("refused: litmus: 28 Read"),
+            CommandFault::Collect(
+                CollectFault::Run {
+                    run,
+                    cause: RunCause::No(id, rule),
+                },
+            ) => {
+                write!(
+                    f,
+                    "no: run {run}: {}.{} {rule}",
+                    id.core.get(),
+                    id.index.get()
+                )
+            }
+            CommandFault::Collect(fault) => write!(f, "refused: {fault}"),
             CommandFault::LogUnwritten { file } => write!(f, "refused: file {file}: 29 Write"),
             CommandFault::Output => f.write_str("refused: output: 29 Write"),
             CommandFault::OutOfMemory => f.write_str("refused: 10 OutOfMemory"),
@@ -123,6 +158,36 @@ impl From<ProgramFault> for CommandFault {
 
     fn from(reason: ProgramFault) -> CommandFault {
         CommandFault::Programs(reason)
+    }
+}
+
+impl From<LitmusFault> for CommandFault {
+    ghost from_gives = { λ reason fault. fault ≡ Test reason };
+
+    fn from(reason: LitmusFault) -> CommandFault {
+        CommandFault::Test(reason)
+    }
+}
+
+impl From<CollectFault> for CommandFault {
+    ghost from_gives = { λ reason fault. fault ≡ from_collect reason };
+
+    fn from(reason: CollectFault) -> CommandFault {
+        match reason {
+            CollectFault::OutOfMemory => CommandFault::OutOfMemory,
+            reason => CommandFault::Collect(reason),
+        }
+    }
+}
+
+impl From<WriteFault> for CommandFault {
+    ghost from_gives = { λ reason fault. fault ≡ from_write reason };
+
+    fn from(reason: WriteFault) -> CommandFault {
+        match reason {
+            WriteFault::OutOfMemory => CommandFault::OutOfMemory,
+            WriteFault::Write => CommandFault::Output,
+        }
     }
 }
 

@@ -12,6 +12,7 @@ mod order;
 mod output;
 mod run;
 mod sim;
+mod table;
 mod text;
 mod verdict_line;
 mod watch;

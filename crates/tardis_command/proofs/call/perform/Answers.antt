@@ -3,7 +3,7 @@ use Rattle.command_line.specs.declared.request.Request.TheVariants as request
 use Rattle.tardis_command.proofs.Ends.{printed, printed_yes, refused_at_once}
 use Rattle.tardis_command.specs.Endings.{Answered, Refused, sink_of}
 use Rattle.tardis_command.specs.Files.{files_of}
-use Rattle.tardis_command.specs.declared.answer.Answer.TheVariants.{Judged, Ordered, Done}
+use Rattle.tardis_command.specs.declared.answer.Answer.TheVariants.{Judged, Ordered, Counted, Done}
 use Rattle.tardis_command.proofs.call.perform.Goals as goal
 
 pub returns-in_err-verdict-in-Check-clause-exact : goal.returns-in_err-verdict-in-Check-clause-exact
@@ -60,3 +60,12 @@ returns-in_ok-operations-in-Run-clause-exact g c =
     let sink = sink_of g.O.ByteSink.contents g.O.ByteSink.failed in
     rw c.in-Run.is (printed (files c.args.folder.now) (files c.run.new.folder) (request.Run c.in-Run.asked) (Done c.in_ok-operations-in-Run.operations) (sink c.args.out.now) (sink c.print_answer-in-Run.new.out)
     c.in_ok-operations-in-Run.ensures.exact tt c.print_answer-in-Run.result c.print_answer-in-Run.ensures.ok c.print_answer-in-Run.ensures.printed c.print_answer-in-Run.ensures.err)
+
+pub returns-in_err-count_outcomes-in-Litmus-clause-exact : goal.returns-in_err-count_outcomes-in-Litmus-clause-exact
+returns-in_err-count_outcomes-in-Litmus-clause-exact g c =
+    let is : c.from_residual-in_err-count_outcomes-in-Litmus.result ≡ Err c.in_err-count_outcomes-in-Litmus.field-0.0 = search rules in
+    rw c.in-Litmus.is (Refused c.in_err-count_outcomes-in-Litmus.field-0.0, is, c.in_err-count_outcomes-in-Litmus.ensures)
+
+pub returns-in_ok-count_outcomes-in-Litmus-clause-exact : goal.returns-in_ok-count_outcomes-in-Litmus-clause-exact
+returns-in_ok-count_outcomes-in-Litmus-clause-exact g c =
+    rw c.in-Litmus.is (Answered (Counted c.in_ok-count_outcomes-in-Litmus.field-0), refl, c.in_ok-count_outcomes-in-Litmus.ensures)
