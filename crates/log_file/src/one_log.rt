@@ -1,6 +1,6 @@
 //! A log read from a device.
 
-ghost use Rattle.std.specs.Prelude.{◌≡◌, ◌<◌, ◌≤◌, ◌^◌, ℕ, List, [], Ok, IsErrOf, length};
+ghost use Rattle.std.specs.Prelude.{◌≡◌, ◌<◌, ◌≤◌, ◌^◌, ℕ, List, [], Ok, IfOk, IsErrOf, vec_len};
 ghost use Rattle.log_file.specs.Devices.{Failed, Tells};
 ghost use Rattle.log_file.specs.Answers.{IsReadAnswer};
 
@@ -9,8 +9,11 @@ use super::fault::LogFault;
 use super::log_reader::LogReader;
 use log_record::Record;
 use mem_op::CoreId;
-use std::alloc::Global;
+use std::alloc::{AllocError, Global};
 use std::thread::Threads;
+
+/// The most bytes of the first piece: a short log needs room for no more.
+const FIRST_PIECE: usize = 1_024;
 
 /// The most bytes of a piece that the calling thread takes alone: they stay near the processor.
 const PIECE: usize = 65_536;
@@ -30,18 +33,34 @@ fn piece_len(workers: usize) -> usize
     if workers <= 1 { PIECE } else { SHARED_PIECE }
 }
 
-/// The log that a reader answers that was fed nothing, when it is fed all that the source has,
-/// through this buffer.
+/// The buffer for the next piece, after one of `count` bytes came through this: a greater one where that filled it.
+fn next_buffer(
+    alloc: Global,
+    buf: Vec<u8>,
+    count: usize,
+    workers: usize,
+) -> Result<Vec<u8>, AllocError>
+    requires { 0 < vec_len buf }
+    ensures { IfOk result (λ next. 0 < vec_len next) }
+{
+    if count < buf.len() || buf.len() >= piece_len(workers) {
+        return Ok(buf);
+    }
+    vec![in alloc; 0u8; piece_len(workers)]
+}
+
+/// The log that a reader answers that was fed nothing, when it is fed all that the source has, piece by
+/// piece, the first one through this buffer.
 fn read_through<R: Threads + Sync, S: ByteSource>(
     rt: &R,
     alloc: Global,
     source: &mut S,
     mut reader: LogReader,
-    buf: &mut [u8],
+    mut buf: Vec<u8>,
     workers: usize,
 ) -> Result<Vec<Record>, LogFault>
     requires fed { reader.fed ≡ Ok [] }
-    requires room { 0 < length buf.old }
+    requires room { 0 < vec_len buf }
     ensures answer { (bytes : List ℕ) × Tells (S.remaining source.old) bytes
         × IsReadAnswer reader.core reader.cores bytes result }
     ensures read { IsErrOf result LogFault.Read →
@@ -49,11 +68,13 @@ fn read_through<R: Threads + Sync, S: ByteSource>(
     ensures quiet { ¬ IsErrOf result LogFault.Read → S.failed source.new ≡ S.failed source.old }
 {
     loop {
-        let count = source.read(buf)?;
+        let room = buf.as_mut_slice();
+        let count = source.read(room)?;
         if count == 0 {
             return reader.finish();
         }
-        reader.feed_by(rt, alloc, &buf[..count], takers(count, workers))?;
+        reader.feed_by(rt, alloc, &room[..count], takers(count, workers))?;
+        buf = next_buffer(alloc, buf, count, workers)?;
     }
 }
 
@@ -81,6 +102,6 @@ pub fn read_log<R: Threads + Sync, S: ByteSource>(
     ensures quiet { ¬ IsErrOf result LogFault.Read → S.failed source.new ≡ S.failed source.old }
 {
     let reader = LogReader::new(alloc, core, cores);
-    let mut buf = vec![in alloc; 0u8; piece_len(workers)]?;
-    read_through(rt, alloc, source, reader, buf.as_mut_slice(), workers)
+    let buf = vec![in alloc; 0u8; FIRST_PIECE]?;
+    read_through(rt, alloc, source, reader, buf, workers)
 }

@@ -8,3 +8,8 @@ returns-in_err-buf-clause-answer g c =
     let p = err_from_is_err_and c.from_residual.result c.from_residual.ensures.1 in
     let old = g.S.ByteSource.remaining c.args.source.now in
     rw (p.1, p.2) (told old, tells_told old, tt)
+
+pub returns-clause-answer : goal.returns-clause-answer
+returns-clause-answer g c =
+    let answer = c.read_through.ensures.answer in
+    (answer.0, answer.1, rw c.new-reader.ensures at answer.2)
