@@ -8,9 +8,17 @@ mod cores;
 #[cfg(test)]
 mod decimals;
 #[cfg(test)]
+mod failing_reads;
+#[cfg(test)]
+mod growths;
+#[cfg(test)]
+mod hostile_logs;
+#[cfg(test)]
 mod lines;
 #[cfg(test)]
 mod logs;
+#[cfg(test)]
+mod merges;
 #[cfg(test)]
 mod orders;
 #[cfg(test)]
@@ -19,6 +27,8 @@ mod program_states;
 mod program_texts;
 #[cfg(test)]
 mod ranges;
+#[cfg(test)]
+mod rows;
 #[cfg(test)]
 mod stamps;
 #[cfg(test)]

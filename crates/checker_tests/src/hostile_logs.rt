@@ -1,0 +1,62 @@
+//! Logs that no machine writes.
+
+use super::rows::*;
+use log_file::{FormatFault, LogFault, LogReader, RecordReader};
+use mem_op::CoreId;
+use std::test::Fail;
+use verdict::JudgeFault;
+
+const HEADER: &[u8] = b"tardis-log 1 core 0 of 1\n";
+
+// Its 81st byte is told, and from then on the same fault whatever comes.
+#[test]
+fn a_line_of_a_million_bytes(rt: HostRuntime) -> Result<(), Fail> {
+    let core = CoreId::new(0)?;
+    let mut whole = LogReader::new(rt.alloc(), core, 1);
+    let mut single = RecordReader::new(core, 1);
+    whole.feed(HEADER)?;
+    assert_eq!(rt; single.feed_one(HEADER), Ok((25, None)));
+    for byte in 1..=1_000_000u32 {
+        let fault = LogFault::At(2, FormatFault::BadLine);
+        if byte <= 80 {
+            assert_eq!(rt; whole.feed(b"7"), Ok(()), "byte {byte}");
+            assert_eq!(rt; single.feed_one(b"7"), Ok((1, None)), "byte {byte}");
+        } else {
+            assert_eq!(rt; whole.feed(b"7"), Err(fault), "byte {byte}");
+            assert_eq!(rt; single.feed_one(b"7"), Err(fault), "byte {byte}");
+        }
+    }
+    Ok(())
+}
+
+/// Sets of two files, and the line and the fault of the first faulty one.
+const FAULTY: &[([&[u8]; 2], usize, u64, FormatFault)] = &[
+    ([b"", b"x\n"], 0, 1, FormatFault::Truncated),
+    // The second file's fault comes before the first one's in time.
+    (
+        [
+            b"tardis-log 1 core 0 of 2\nS 0 1 1 0\nL 1 0 1 0 init\nend 3\n",
+            b"x\n",
+        ],
+        0,
+        4,
+        FormatFault::CountDiffers,
+    ),
+    ([FIRST, b"x\n"], 1, 1, FormatFault::BadHeader),
+];
+
+#[test]
+fn the_first_faulty_file_is_told(rt: HostRuntime) -> Result<(), Fail> {
+    for by in JUDGES {
+        for (logs, file, line, fault) in FAULTY {
+            let answer = judged(&rt, rt.alloc(), by, logs, 0, &[])?;
+            let wanted = JudgeFault::Log {
+                file: *file,
+                line: *line,
+                fault: *fault,
+            };
+            assert_eq!(rt; answer, Err(wanted), "{by:?}");
+        }
+    }
+    Ok(())
+}
