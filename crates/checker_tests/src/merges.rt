@@ -1,9 +1,9 @@
 //! The judge that merges: the order that it writes, and writers that fail.
 
 use super::rows::{BOTH_READ_OLD, READ_ACROSS};
-use log_file::{ByteSink, MemSink, MemSource, Step};
+use log_file::{MemSink, MemSource, Step};
 use merge_judge::{MergeFault, merge_judge};
-use std::alloc::{AllocError, Global};
+use std::alloc::Global;
 use std::test::Fail;
 use verdict::Verdict;
 

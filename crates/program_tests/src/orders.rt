@@ -100,6 +100,14 @@ fn orders(rt: HostRuntime) -> Result<(), Fail> {
     Ok(())
 }
 
+/// The line that a check answered with.
+fn answer_of(checked: &Done) -> &str {
+    if checked.status < 2 {
+        return checked.printed.as_str();
+    }
+    checked.told.as_str()
+}
+
 // The verdict is that of a check, and only with a Yes the text is whole.
 #[test]
 fn orders_are_judged_as_checks(rt: HostRuntime) -> Result<(), Fail> {
@@ -107,12 +115,7 @@ fn orders_are_judged_as_checks(rt: HostRuntime) -> Result<(), Fail> {
         let checked = judge_texts(&rt, rt.alloc(), "check", texts, &SOUND)?;
         let ordered = judge_texts(&rt, rt.alloc(), "order", texts, &SOUND)?;
         assert_eq!(rt; ordered.status, checked.status, "at {texts:?}");
-        let line = if checked.status < 2 {
-            checked.printed.as_str()
-        } else {
-            checked.told.as_str()
-        };
-        assert_eq!(rt; ordered.told.as_str(), line, "at {texts:?}");
+        assert_eq!(rt; ordered.told.as_str(), answer_of(&checked), "at {texts:?}");
         assert_eq!(rt;
             ordered.printed.as_str().contains("end"),
             checked.status == 0,

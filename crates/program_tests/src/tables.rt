@@ -97,7 +97,12 @@ const TESTS: &[&[u8]] = &[
 
 /// Arguments, the status, and what the two outputs take.
 const CALLS: &[(&[&str], u8, &str, &str)] = &[
-    (&["--runs", "5", "0"], 0, "0.r0,count,forbidden\n1,5,no\n", ""),
+    (
+        &["--runs", "5", "0"],
+        0,
+        "0.r0,count,forbidden\n1,5,no\n",
+        "",
+    ),
     (
         &["--threads", "--runs", "5", "0"],
         0,
@@ -105,7 +110,12 @@ const CALLS: &[(&[&str], u8, &str, &str)] = &[
         "",
     ),
     (&["0"], 0, "0.r0,count,forbidden\n1,100,no\n", ""),
-    (&["--runs", "3", "1"], 1, "0.r0,count,forbidden\n1,3,yes\n", ""),
+    (
+        &["--runs", "3", "1"],
+        1,
+        "0.r0,count,forbidden\n1,3,yes\n",
+        "",
+    ),
     // Numbers are told before the test is opened, those of the machine first.
     (&["--runs", "0", "x"], 3, "", "refused: 6 BadConfig runs\n"),
     (
@@ -155,7 +165,10 @@ fn tables_of_the_examples(rt: HostRuntime) -> Result<(), Fail> {
             let words = words_of(rt.alloc(), &[mode, "--runs", "10", test])?;
             let done = call(&rt, rt.alloc(), &words, &texts, &SOUND)?;
             assert_eq!(rt; done.told.as_str(), "", "at {test} with {mode}");
-            assert!(rt; !done.printed.as_str().contains("yes"), "at {test} with {mode}");
+            assert!(rt;
+                !done.printed.as_str().contains("yes"),
+                "at {test} with {mode}"
+            );
             assert_eq!(rt; done.status, 0, "at {test} with {mode}");
         }
     }

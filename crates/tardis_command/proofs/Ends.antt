@@ -37,7 +37,7 @@ unless_failed old new fault (Misused text) answered output = absurd answered
 -- standard output holds what it held, or failed, where there is no table
 uncounted : (told : List ℕ → Option (List ℕ)) (asked : Litmus) (old new : Sink) (fault : CommandFault) → IsCounted told asked old new (Err fault)
     → Keeps old.contents new.contents ⊎ HasFailed old new
-uncounted told asked old new Output done = let (order, t, test, table, is, failed, taken) = done in inr failed
+uncounted told asked old new Output done = let (order, t, test, made) = done in let (table, is, written) = made in inr written.0
 uncounted told asked old new OutOfMemory done = done
 uncounted told asked old new (Judge fault) done = inl done.1
 uncounted told asked old new (Config fault) done = inl done.1
