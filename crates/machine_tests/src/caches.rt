@@ -9,7 +9,7 @@ use std::alloc::Global;
 use std::test::*;
 
 // An empty cache of so many lines.
-fn cache_of(alloc: Global, lines: u64) -> Result<PrivateCache, Fail> {
+pub(super) fn cache_of(alloc: Global, lines: u64) -> Result<PrivateCache, Fail> {
     let config = Config::new(1, 10, 100, lines, 64, 8, 10_000)?;
     Ok(PrivateCache::new(alloc, &config)?)
 }

@@ -6,7 +6,11 @@ mod audits;
 #[cfg(test)]
 mod caches;
 #[cfg(test)]
+mod growths;
+#[cfg(test)]
 mod inboxes;
+#[cfg(test)]
+mod limits;
 #[cfg(test)]
 mod machine;
 #[cfg(test)]

@@ -36,15 +36,15 @@ struct Sight {
 }
 
 // Events of core 0.
-fn turn() -> Event {
+pub(super) fn turn() -> Event {
     Event::Turn(core(0))
 }
 
-fn serve() -> Event {
+pub(super) fn serve() -> Event {
     Event::Serve(core(0))
 }
 
-fn take() -> Event {
+pub(super) fn take() -> Event {
     Event::Take(core(0))
 }
 
@@ -94,7 +94,7 @@ fn gives(recall: Recall, message: Message) -> Step {
 }
 
 // One slice, with this lease, period, lines of a cache and lines of the slice.
-fn config_of(lease: u64, period: u64, cache: u64, slice: u64) -> Result<Config, Fail> {
+pub(super) fn config_of(lease: u64, period: u64, cache: u64, slice: u64) -> Result<Config, Fail> {
     Ok(Config::new(1, lease, period, cache, slice, 8, 1_000)?)
 }
 
@@ -139,7 +139,7 @@ fn meets(rt: &impl Abort, machine: &mut Core, steps: &[Step]) {
 }
 
 // The machine after these events. Where memory of the host is refused, they are run again.
-fn ran(
+pub(super) fn ran(
     alloc: Global,
     programs: &ProgramSet,
     config: &Config,
@@ -155,7 +155,12 @@ fn ran(
 }
 
 // The log of a core has these lines.
-fn logs(rt: &impl Abort, machine: &Core, core: CoreId, lines: &[&str]) -> Result<(), Fail> {
+pub(super) fn logs(
+    rt: &impl Abort,
+    machine: &Core,
+    core: CoreId,
+    lines: &[&str],
+) -> Result<(), Fail> {
     let log = machine.unit(core).ok_or("the core is there")?.log();
     assert_eq!(rt; log.len(), lines.len());
     for (made, line) in log.iter().zip(lines) {

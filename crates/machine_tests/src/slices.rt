@@ -13,20 +13,20 @@ use std::test::Fail;
 
 // A message of a core, and what the slice answers.
 #[derive(Clone, Copy)]
-struct Row {
+pub(super) struct Row {
     from: CoreId,
     message: Message,
     answer: Result<Reply, SliceFault>,
 }
 
 // A slice of so many lines, with a lease of 10.
-fn slice_of(alloc: Global, lines: u64) -> Result<ManagerSlice, Fail> {
+pub(super) fn slice_of(alloc: Global, lines: u64) -> Result<ManagerSlice, Fail> {
     let config = Config::new(1, 10, 1_000, 64, lines, 64, 1_000)?;
     Ok(ManagerSlice::new(alloc, 0, &config)?)
 }
 
 // The row of a message that is answered.
-fn answered(from: u8, message: Message, reply: Reply) -> Row
+pub(super) fn answered(from: u8, message: Message, reply: Reply) -> Row
     requires { from < 64 }
 {
     Row {
@@ -47,7 +47,7 @@ fn refused(from: u8, message: Message, fault: SliceFault) -> Row
 }
 
 // The slice answers row by row. Where memory of the host is refused, it is as before, and is asked again.
-fn meets(rt: &impl Abort, slice: &mut ManagerSlice, rows: &[Row]) {
+pub(super) fn meets(rt: &impl Abort, slice: &mut ManagerSlice, rows: &[Row]) {
     for row in rows {
         let entries = slice.history().len();
         let lines = slice.state().lines.len();

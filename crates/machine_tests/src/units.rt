@@ -13,7 +13,7 @@ use std::test::*;
 
 // A call that changes a unit.
 #[derive(Clone, Copy)]
-enum Call {
+pub(super) enum Call {
     Turn,
     Take(Reply),
     Recall(Recall),
@@ -23,28 +23,33 @@ enum Call {
 
 // A call, and what it answers.
 #[derive(Clone, Copy)]
-struct Row {
+pub(super) struct Row {
     call: Call,
     answer: Result<Outcome, UnitFault>,
 }
 
-fn expects(call: Call, outcome: Outcome) -> Row {
+pub(super) fn expects(call: Call, outcome: Outcome) -> Row {
     Row {
         call,
         answer: Ok(outcome),
     }
 }
 
-fn turn(outcome: Outcome) -> Row {
+pub(super) fn turn(outcome: Outcome) -> Row {
     expects(Call::Turn, outcome)
 }
 
-fn takes(reply: Reply) -> Row {
+pub(super) fn takes(reply: Reply) -> Row {
     expects(Call::Take(reply), Outcome::Took)
 }
 
 // Core 0 at the start of a program, with a lease of 10 and a cache of so many lines.
-fn unit_of(alloc: Global, text: &[u8], period: u64, lines: u64) -> Result<CoreUnit, Fail> {
+pub(super) fn unit_of(
+    alloc: Global,
+    text: &[u8],
+    period: u64,
+    lines: u64,
+) -> Result<CoreUnit, Fail> {
     let config = Config::new(1, 10, period, lines, 64, 8, 1_000)?;
     let program = Program::parse(alloc, text)?;
     Ok(CoreUnit::new(alloc, CoreId::new(0)?, program, &config)?)
@@ -61,7 +66,7 @@ fn answer(unit: &mut CoreUnit, call: &Call) -> Result<Outcome, UnitFault> {
 }
 
 // The core answers row by row. A refusal and NoEffect leave it as it was. Where memory of the host is refused, it is asked again.
-fn meets(rt: &impl Abort, unit: &mut CoreUnit, rows: &[Row]) {
+pub(super) fn meets(rt: &impl Abort, unit: &mut CoreUnit, rows: &[Row]) {
     for row in rows {
         let entries = unit.transcript().len();
         let operations = unit.log().len();
@@ -84,7 +89,7 @@ fn meets(rt: &impl Abort, unit: &mut CoreUnit, rows: &[Row]) {
 }
 
 // The core's log has these lines.
-fn logs(rt: &impl Abort, unit: &CoreUnit, lines: &[&str]) {
+pub(super) fn logs(rt: &impl Abort, unit: &CoreUnit, lines: &[&str]) {
     assert_eq!(rt; unit.log().len(), lines.len());
     for (made, line) in unit.log().iter().zip(lines) {
         assert_eq!(rt; Ok(*made), read_line(line.as_bytes()), "at {line}");

@@ -1,9 +1,11 @@
-use log_file::{MemSink, MemSource, ReadFailed, Step, WriteFailed};
+//! Verdicts on sets of logs, through the program.
+
+use super::calls::{Devices, Done, SOUND, call, logs_of, owned, strings};
+use log_file::Step;
 use std::alloc::Global;
 use std::sync::Wait;
 use std::test::Fail;
 use std::thread::Threads;
-use tardis_command::{Folder, Unwatched, command};
 
 /// Sets of logs by their records, and the verdict on each.
 pub(super) const VERDICTS: &[(&[&[&str]], u8, &str)] = &[
@@ -265,80 +267,6 @@ const NO_COMMAND_LINES: &[&[&str]] = &[
     &["tardis", "check", "--workers", "18446744073709551616", "0"],
 ];
 
-/// Logs, what the two outputs do, the status, and what they took.
-const FAILING_WRITES: &[(&[u8], &[Step], &[Step], u8, &str, &str)] = &[
-    (
-        PRIVATE_WRITE,
-        &[Step::Fail],
-        &[],
-        4,
-        "",
-        "refused: output: 29 Write\n",
-    ),
-    (
-        PRIVATE_WRITE,
-        &[Step::Move(3), Step::Fail],
-        &[],
-        4,
-        "yes:",
-        "refused: output: 29 Write\n",
-    ),
-    // A complaint that can't be written is passed over.
-    (b"", &[], &[Step::Move(6), Step::Fail], 2, "", "refused"),
-];
-
-/// A folder in which the file named `k` is text `k`.
-#[derive(Clone, Copy)]
-struct Texts<'a> {
-    texts: &'a [Vec<u8>],
-    reads: &'a [Step],
-    failures: u64,
-}
-
-impl<'a> Folder for Texts<'a> {
-    ghost failed = { λ folder. folder.failures };
-
-    type Source = MemSource<'a>;
-
-    fn open_file(&self, name: &str) -> Result<MemSource<'a>, ReadFailed> {
-        let Ok(number) = name.parse::<usize>() else {
-            return Err(ReadFailed);
-        };
-        match self.texts.get(number) {
-            Some(text) => Ok(MemSource::new(text.as_slice(), self.reads)),
-            None => Err(ReadFailed),
-        }
-    }
-
-    fn put(&mut self, _name: &str, _bytes: &[u8]) -> Result<(), WriteFailed> {
-        self.failures = self.failures.saturating_add(1);
-        Err(WriteFailed)
-    }
-}
-
-/// What the devices of a call do.
-#[derive(Clone, Copy)]
-pub(super) struct Devices<'a> {
-    pub(super) reads: &'a [Step],
-    pub(super) writes: &'a [Step],
-    pub(super) complaints: &'a [Step],
-}
-
-/// Devices that don't fail.
-pub(super) const SOUND: Devices<'static> = Devices {
-    reads: &[],
-    writes: &[],
-    complaints: &[],
-};
-
-/// What a call did.
-#[derive(Drop)]
-pub(super) struct Done {
-    pub(super) status: u8,
-    pub(super) printed: String,
-    pub(super) told: String,
-}
-
 #[test]
 fn verdicts(rt: HostRuntime) -> Result<(), Fail> {
     for (records, status, line) in VERDICTS {
@@ -495,24 +423,6 @@ fn reads_that_fail(rt: HostRuntime) -> Result<(), Fail> {
 }
 
 #[test]
-fn writes_that_fail(rt: HostRuntime) -> Result<(), Fail> {
-    let words = words_of(rt.alloc(), &["0"], 0)?;
-    for (text, writes, complaints, status, printed, told) in FAILING_WRITES {
-        let texts = owned(rt.alloc(), &[*text])?;
-        let devices = Devices {
-            reads: &[],
-            writes,
-            complaints,
-        };
-        let done = call(&rt, rt.alloc(), &words, &texts, &devices)?;
-        assert_eq!(rt; done.status, *status);
-        assert_eq!(rt; done.printed.as_str(), *printed);
-        assert_eq!(rt; done.told.as_str(), *told);
-    }
-    Ok(())
-}
-
-#[test]
 fn most_files(rt: HostRuntime) -> Result<(), Fail> {
     let most = logs_of(rt.alloc(), &[[].as_slice(); 64])?;
     let done = check_texts(&rt, rt.alloc(), &["--workers=3"], &most)?;
@@ -523,23 +433,6 @@ fn most_files(rt: HostRuntime) -> Result<(), Fail> {
     assert_eq!(rt; done.told.as_str(), "refused: 6 BadConfig files\n");
     assert_eq!(rt; done.status, 3);
     Ok(())
-}
-
-/// The logs of a set, by the records of each core.
-pub(super) fn logs_of(alloc: Global, records: &[&[&str]]) -> Result<Vec<Vec<u8>>, Fail> {
-    let mut logs = Vec::new(alloc);
-    let cores = records.len();
-    for (core, lines) in records.iter().enumerate() {
-        let mut log = format!(in alloc; "tardis-log 1 core {core} of {cores}\n")?;
-        for line in lines.iter() {
-            log.push_str(line)?;
-            log.push('\n')?;
-        }
-        let count = lines.len();
-        log.push_str(format!(in alloc; "end {count}\n")?.as_str())?;
-        logs.push(log.into_bytes())?;
-    }
-    Ok(logs)
 }
 
 /// Two logs of 4,096 records: core 1 loads what core 0 stored, and its last load names this source.
@@ -553,24 +446,6 @@ fn long_logs(alloc: Global, last: &str) -> Result<Vec<Vec<u8>>, Fail> {
     stores.push_str("S 4095 1 4095 0\nend 4096\n")?;
     write!(loads, "L 4095 1 4095 1 {last}\nend 4096\n")?;
     owned(alloc, &[stores.as_bytes(), loads.as_bytes()])
-}
-
-/// Texts of one's own.
-pub(super) fn owned(alloc: Global, texts: &[&[u8]]) -> Result<Vec<Vec<u8>>, Fail> {
-    let mut all = Vec::new(alloc);
-    for text in texts {
-        all.push(Vec::from_slice(alloc, text)?)?;
-    }
-    Ok(all)
-}
-
-/// Words of one's own.
-pub(super) fn strings(alloc: Global, words: &[&str]) -> Result<Vec<String>, Fail> {
-    let mut all = Vec::new(alloc);
-    for word in words {
-        all.push(String::from_str(alloc, word)?)?;
-    }
-    Ok(all)
 }
 
 /// The words of a check with these arguments, and then of `files` files.
@@ -594,39 +469,4 @@ fn check_texts<R: Threads + Wait + Sync>(
 ) -> Result<Done, Fail> {
     let words = words_of(alloc, arguments, texts.len())?;
     call(rt, alloc, &words, texts, &SOUND)
-}
-
-/// Calls the program with these words, over files of these texts.
-pub(super) fn call<R: Threads + Wait + Sync>(
-    rt: &R,
-    alloc: Global,
-    words: &Vec<String>,
-    texts: &Vec<Vec<u8>>,
-    devices: &Devices<'_>,
-) -> Result<Done, Fail> {
-    let mut line = Vec::new(alloc);
-    for word in words {
-        line.push(word.as_str())?;
-    }
-    let mut folder = Texts {
-        texts: texts.as_slice(),
-        reads: devices.reads,
-        failures: 0,
-    };
-    let mut out = MemSink::new(alloc, devices.writes);
-    let mut err = MemSink::new(alloc, devices.complaints);
-    let status = command(
-        rt,
-        alloc,
-        line.as_slice(),
-        &Unwatched,
-        &mut folder,
-        &mut out,
-        &mut err,
-    );
-    Ok(Done {
-        status,
-        printed: String::from_utf8(Vec::from_slice(alloc, out.bytes())?)?,
-        told: String::from_utf8(Vec::from_slice(alloc, err.bytes())?)?,
-    })
 }

@@ -2,6 +2,8 @@
 #![tactic(auto)]
 
 #[cfg(test)]
+mod calls;
+#[cfg(test)]
 mod checks;
 #[cfg(test)]
 mod orders;
@@ -13,3 +15,5 @@ mod tables;
 mod thread_runs;
 #[cfg(test)]
 mod words;
+#[cfg(test)]
+mod writes;

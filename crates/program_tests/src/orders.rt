@@ -1,7 +1,7 @@
 //! Orders of sets of logs, through the program.
 
-use super::checks::{Devices, Done, REFUSED, SOUND, VERDICTS, call, logs_of, owned, strings};
-use log_file::Step;
+use super::calls::{Done, SOUND, call, logs_of, owned, strings};
+use super::checks::{REFUSED, VERDICTS};
 use std::alloc::Global;
 use std::sync::Wait;
 use std::test::Fail;
@@ -41,39 +41,18 @@ const WITHOUT_ORDER: &[(&[&str], u8, &str)] = &[
     (&["3", "x"], 4, "refused: file 1: 28 Read\n"),
 ];
 
-/// What the two outputs do, the status, and what they took of the order of one store.
-const FAILING_WRITES: &[(&[Step], &[Step], u8, &str, &str)] = &[
-    (&[Step::Fail], &[], 4, "", "refused: output: 29 Write\n"),
-    (
-        &[Step::Move(3), Step::Fail],
-        &[],
-        4,
-        "0.0\n",
-        "refused: output: 29 Write\n",
-    ),
-    // A verdict that can't be told is passed over.
-    (
-        &[],
-        &[Step::Move(4), Step::Fail],
-        0,
-        "0.0\nend 1\n",
-        "yes: ",
-    ),
-];
-
 /// Has files of these texts judged by this command.
 fn judge_texts<R: Threads + Wait + Sync>(
     rt: &R,
     alloc: Global,
     command: &str,
     texts: &Vec<Vec<u8>>,
-    devices: &Devices<'_>,
 ) -> Result<Done, Fail> {
     let mut words = strings(alloc, &["tardis", command])?;
     for number in 0..texts.len() {
         words.push(format!(in alloc; "{number}")?)?;
     }
-    call(rt, alloc, &words, texts, devices)
+    call(rt, alloc, &words, texts, &SOUND)
 }
 
 /// The sets whose verdicts and refusals are known.
@@ -92,7 +71,7 @@ fn known_sets(alloc: Global) -> Result<Vec<Vec<Vec<u8>>>, Fail> {
 fn orders(rt: HostRuntime) -> Result<(), Fail> {
     for (records, order, told) in ORDERS {
         let logs = logs_of(rt.alloc(), records)?;
-        let done = judge_texts(&rt, rt.alloc(), "order", &logs, &SOUND)?;
+        let done = judge_texts(&rt, rt.alloc(), "order", &logs)?;
         assert_eq!(rt; done.printed.as_str(), *order);
         assert_eq!(rt; done.told.as_str(), *told, "at {order:?}");
         assert_eq!(rt; done.status, 0, "at {order:?}");
@@ -112,8 +91,8 @@ fn answer_of(checked: &Done) -> &str {
 #[test]
 fn orders_are_judged_as_checks(rt: HostRuntime) -> Result<(), Fail> {
     for texts in &known_sets(rt.alloc())? {
-        let checked = judge_texts(&rt, rt.alloc(), "check", texts, &SOUND)?;
-        let ordered = judge_texts(&rt, rt.alloc(), "order", texts, &SOUND)?;
+        let checked = judge_texts(&rt, rt.alloc(), "check", texts)?;
+        let ordered = judge_texts(&rt, rt.alloc(), "order", texts)?;
         assert_eq!(rt; ordered.status, checked.status, "at {texts:?}");
         assert_eq!(rt; ordered.told.as_str(), answer_of(&checked), "at {texts:?}");
         assert_eq!(rt;
@@ -147,25 +126,8 @@ fn sets_without_an_order(rt: HostRuntime) -> Result<(), Fail> {
         }
     }
     let more = logs_of(rt.alloc(), &[[].as_slice(); 65])?;
-    let done = judge_texts(&rt, rt.alloc(), "order", &more, &SOUND)?;
+    let done = judge_texts(&rt, rt.alloc(), "order", &more)?;
     assert_eq!(rt; done.told.as_str(), "refused: 6 BadConfig files\n");
     assert_eq!(rt; done.status, 3);
-    Ok(())
-}
-
-#[test]
-fn writes_of_orders_that_fail(rt: HostRuntime) -> Result<(), Fail> {
-    let logs = logs_of(rt.alloc(), &[&["S 0 1 1 0"]])?;
-    for (writes, complaints, status, printed, told) in FAILING_WRITES {
-        let devices = Devices {
-            reads: &[],
-            writes,
-            complaints,
-        };
-        let done = judge_texts(&rt, rt.alloc(), "order", &logs, &devices)?;
-        assert_eq!(rt; done.status, *status, "where {told}");
-        assert_eq!(rt; done.printed.as_str(), *printed, "where {told}");
-        assert_eq!(rt; done.told.as_str(), *told);
-    }
     Ok(())
 }

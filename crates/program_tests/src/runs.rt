@@ -1,12 +1,11 @@
-ghost use Rattle.std.specs.Prelude.{◌≡◌};
+//! Simulated runs, through the program.
 
-use super::checks::logs_of;
-use log_file::{MemSink, MemSource, ReadFailed, WriteFailed};
+use super::calls::{Done, SOUND, call_watched, logs_of};
 use std::alloc::Global;
 use std::sync::Wait;
 use std::test::Fail;
 use std::thread::Threads;
-use tardis_command::{Folder, Unwatched, Watch, command};
+use tardis_command::{Unwatched, Watch};
 
 /// Programs, the options of their run and its schedule, and what comes of it.
 struct Run {
@@ -235,72 +234,6 @@ core 2\nst 2 3\nld r0 2\nld r1 0\nld r2 1\nst 0 5\nld r3 0\n\
 core 3\nld r0 2\nld r1 1\nld r2 0\nai r3 r0 10\nsr 1 r3\nld r4 1\n\
 end\n";
 
-/// A folder in which the file named `k` is text `k`, and which takes `room` files.
-#[derive(Drop)]
-struct Shelf<'a> {
-    alloc: Global,
-    texts: &'a [Vec<u8>],
-    room: usize,
-    names: Vec<String>,
-    logs: Vec<Vec<u8>>,
-    failures: u64,
-}
-
-impl Shelf<'_> {
-    /// Puts a file, where there is room for it.
-    fn take(&mut self, name: &str, bytes: &[u8]) -> Result<(), WriteFailed>
-        ensures { self.new.failures ≡ self.old.failures }
-    {
-        if self.logs.len() >= self.room {
-            return Err(WriteFailed);
-        }
-        let (Ok(name), Ok(log)) = (
-            String::from_str(self.alloc, name),
-            Vec::from_slice(self.alloc, bytes),
-        ) else {
-            return Err(WriteFailed);
-        };
-        if self.names.push(name).is_err() || self.logs.push(log).is_err() {
-            return Err(WriteFailed);
-        }
-        Ok(())
-    }
-}
-
-impl<'a> Folder for Shelf<'a> {
-    ghost failed = { λ folder. folder.failures };
-
-    type Source = MemSource<'a>;
-
-    fn open_file(&self, name: &str) -> Result<MemSource<'a>, ReadFailed> {
-        let Ok(number) = name.parse::<usize>() else {
-            return Err(ReadFailed);
-        };
-        match self.texts.get(number) {
-            Some(text) => Ok(MemSource::new(text.as_slice(), &[])),
-            None => Err(ReadFailed),
-        }
-    }
-
-    fn put(&mut self, name: &str, bytes: &[u8]) -> Result<(), WriteFailed> {
-        let taken = self.take(name, bytes);
-        if taken.is_err() {
-            self.failures = self.failures.saturating_add(1);
-        }
-        taken
-    }
-}
-
-/// What a call did.
-#[derive(Drop)]
-pub(super) struct Done {
-    pub(super) status: u8,
-    pub(super) printed: String,
-    pub(super) told: String,
-    pub(super) names: Vec<String>,
-    pub(super) logs: Vec<Vec<u8>>,
-}
-
 #[test]
 fn runs(rt: HostRuntime) -> Result<(), Fail> {
     for run in RUNS {
@@ -356,17 +289,18 @@ fn a_core_gives_up(rt: HostRuntime) -> Result<(), Fail> {
     Ok(())
 }
 
+// The logs before the one that can't be written are whole.
 #[test]
 fn logs_that_cannot_be_written(rt: HostRuntime) -> Result<(), Fail> {
-    for (room, told) in [
-        (0, "refused: file 0: 29 Write\n"),
-        (3, "refused: file 3: 29 Write\n"),
-    ] {
+    let whole = sim(&rt, rt.alloc(), &[], &[FOUR_CORES], 64)?;
+    for room in 0..4usize {
         let done = sim(&rt, rt.alloc(), &[], &[FOUR_CORES], room)?;
-        assert_eq!(rt; done.told.as_str(), told);
+        let told = format!(in rt.alloc(); "refused: file {room}: 29 Write\n")?;
+        assert_eq!(rt; done.told.as_str(), told.as_str());
         assert_eq!(rt; done.status, 4);
         assert_eq!(rt; done.printed.as_str(), "");
         assert_eq!(rt; done.logs.len(), room);
+        assert!(rt; whole.logs.as_slice().starts_with(done.logs.as_slice()));
     }
     Ok(())
 }
@@ -455,7 +389,15 @@ fn performed<R: Threads + Wait + Sync, W: Watch + Sync>(
     for text in texts {
         files.push(Vec::from_slice(alloc, text.as_bytes())?)?;
     }
-    call(rt, alloc, words.as_slice(), watch, files.as_slice(), room)
+    call_watched(
+        rt,
+        alloc,
+        words.as_slice(),
+        watch,
+        files.as_slice(),
+        room,
+        &SOUND,
+    )
 }
 
 /// The verdict's line on these logs against these programs.
@@ -480,36 +422,14 @@ pub(super) fn judged<R: Threads + Wait + Sync>(
     for name in &names {
         words.push(name.as_str())?;
     }
-    let done = call(rt, alloc, words.as_slice(), &Unwatched, files.as_slice(), 0)?;
-    Ok(done.printed)
-}
-
-/// Calls the program with these words, over files of these texts.
-fn call<R: Threads + Wait + Sync, W: Watch + Sync>(
-    rt: &R,
-    alloc: Global,
-    words: &[&str],
-    watch: &W,
-    texts: &[Vec<u8>],
-    room: usize,
-) -> Result<Done, Fail> {
-    let mut folder = Shelf {
+    let done = call_watched(
+        rt,
         alloc,
-        texts,
-        room,
-        names: Vec::new(alloc),
-        logs: Vec::new(alloc),
-        failures: 0,
-    };
-    let mut out = MemSink::new(alloc, &[]);
-    let mut err = MemSink::new(alloc, &[]);
-    let status = command(rt, alloc, words, watch, &mut folder, &mut out, &mut err);
-    let Shelf { names, logs, .. } = folder;
-    Ok(Done {
-        status,
-        printed: String::from_utf8(Vec::from_slice(alloc, out.bytes())?)?,
-        told: String::from_utf8(Vec::from_slice(alloc, err.bytes())?)?,
-        names,
-        logs,
-    })
+        words.as_slice(),
+        &Unwatched,
+        files.as_slice(),
+        0,
+        &SOUND,
+    )?;
+    Ok(done.printed)
 }

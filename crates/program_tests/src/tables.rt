@@ -1,7 +1,6 @@
 //! Litmus tests, through the program.
 
-use super::checks::{Devices, SOUND, call, owned, strings};
-use log_file::Step;
+use super::calls::{SOUND, call, owned, strings};
 use std::alloc::Global;
 use std::test::Fail;
 
@@ -172,21 +171,5 @@ fn tables_of_the_examples(rt: HostRuntime) -> Result<(), Fail> {
             assert_eq!(rt; done.status, 0, "at {test} with {mode}");
         }
     }
-    Ok(())
-}
-
-#[test]
-fn tables_that_cannot_be_written(rt: HostRuntime) -> Result<(), Fail> {
-    let texts = owned(rt.alloc(), TESTS)?;
-    let words = words_of(rt.alloc(), &["--runs", "5", "0"])?;
-    let devices = Devices {
-        reads: &[],
-        writes: &[Step::Move(4), Step::Fail],
-        complaints: &[],
-    };
-    let done = call(&rt, rt.alloc(), &words, &texts, &devices)?;
-    assert_eq!(rt; done.told.as_str(), "refused: output: 29 Write\n");
-    assert_eq!(rt; done.printed.as_str(), "0.r0,");
-    assert_eq!(rt; done.status, 4);
     Ok(())
 }

@@ -1,7 +1,7 @@
 //! Runs in threads, through the program.
 
-use super::checks::logs_of;
-use super::runs::{Done, FOUR_CORES, judged, programs_of, run_in_threads};
+use super::calls::{Done, logs_of};
+use super::runs::{FOUR_CORES, judged, programs_of, run_in_threads};
 use mem_op::CoreId;
 use std::alloc::Global;
 use std::process::Abort;
@@ -111,11 +111,14 @@ fn calls_that_run_no_thread(rt: HostRuntime) -> Result<(), Fail> {
 
 #[test]
 fn logs_of_threads_that_cannot_be_written(rt: HostRuntime) -> Result<(), Fail> {
-    let done = run_in_threads(&rt, rt.alloc(), &Unwatched, &[], FOUR_CORES, 3)?;
-    assert_eq!(rt; done.told.as_str(), "refused: file 3: 29 Write\n");
-    assert_eq!(rt; done.status, 4);
-    assert_eq!(rt; done.printed.as_str(), "");
-    assert_eq!(rt; done.logs.len(), 3);
+    for room in 0..4usize {
+        let done = run_in_threads(&rt, rt.alloc(), &Unwatched, &[], FOUR_CORES, room)?;
+        let told = format!(in rt.alloc(); "refused: file {room}: 29 Write\n")?;
+        assert_eq!(rt; done.told.as_str(), told.as_str());
+        assert_eq!(rt; done.status, 4);
+        assert_eq!(rt; done.printed.as_str(), "");
+        assert_eq!(rt; done.logs.len(), room);
+    }
     Ok(())
 }
 
