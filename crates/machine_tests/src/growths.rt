@@ -9,9 +9,10 @@ use core_unit::Outcome;
 use line_stamps::{Message, Rank, Recall, RecallKind, Reply};
 use mem_op::{Addr, Source};
 use private_cache::{Evicted, FillFault, Load, PrivateCache, Store};
+use std::alloc::Global;
 use std::process::Abort;
 use std::test::Fail;
-use tardis_core::Event;
+use tardis_core::{Core, Event};
 
 /// Both operations of the row.
 const LOG: [&str; 2] = ["S 0 1 1 0", "L 1 0 1 1 init"];
@@ -107,16 +108,33 @@ fn lines_that_are_filled(rt: HostRuntime) -> Result<(), Fail> {
     Ok(())
 }
 
-#[test]
-fn runs(rt: HostRuntime) -> Result<(), Fail> {
+// The machine after the row.
+fn after_the_row(alloc: Global) -> Result<Core, Fail> {
     let text = b"tardis-programs 1 cores 1\ncore 0\nst 0 1\nld r0 1\nend\n";
-    let programs = ProgramSet::parse(rt.alloc(), text)?;
-    let [turn, serve, take] = [machine::turn(), machine::serve(), machine::take()];
-    let recalled = Event::Recall(core(0), own());
+    let programs = ProgramSet::parse(alloc, text)?;
     let events = [
-        turn, serve, take, turn, turn, serve, take, recalled, serve, take, turn, serve, take, turn,
+        machine::turn(),
+        machine::serve(),
+        machine::take(),
+        machine::turn(),
+        // the load finds no room
+        machine::turn(),
+        machine::serve(),
+        machine::take(),
+        Event::Recall(core(0), own()),
+        machine::serve(),
+        machine::take(),
+        machine::turn(),
+        machine::serve(),
+        machine::take(),
+        machine::turn(),
     ];
     let config = machine::config_of(10, 100, 64, 1)?;
-    let reached = machine::ran(rt.alloc(), &programs, &config, &events)?;
+    Ok(machine::ran(alloc, &programs, &config, &events)?)
+}
+
+#[test]
+fn runs(rt: HostRuntime) -> Result<(), Fail> {
+    let reached = after_the_row(rt.alloc())?;
     machine::logs(&rt, &reached, core(0), &LOG)
 }
