@@ -11,8 +11,13 @@ use core_unit::{CoreUnit, Outcome};
 use inbox::Inbox;
 use line_stamps::{Message, Recall, Reply};
 use slice_bank::Port;
+use std::hint::spin_loop;
 use std::sync::Wait;
 use std::thread;
+
+/// A core that is answered Busy looks into its inbox so often before it asks again, so that the owner of the line finds the lock of
+/// the slice free.
+const LOOKS: u32 = 16;
 
 /// After as many turns for an operation a core that is answered Busy lets other threads have its processor, since the owner of the
 /// line may wait for one.
@@ -118,11 +123,30 @@ fn perform<T: Port, P: Pace, R: Wait>(
         if before == Turned::Performed {
             return Ok(());
         }
-        if before == Turned::Refused && turn % PATIENCE == PATIENCE - 1 {
-            thread::yield_now();
+        if before == Turned::Refused {
+            stand_back(rt, unit, port, inboxes)?;
+            if turn % PATIENCE == PATIENCE - 1 {
+                thread::yield_now();
+            }
         }
     }
     Err(Cause::GaveUp)
+}
+
+// Asks nothing for a while. Recalls are answered meanwhile, since two cores may wait for each other's lines.
+fn stand_back<T: Port, R: Wait>(
+    rt: &R,
+    unit: &mut CoreUnit,
+    port: &mut T,
+    inboxes: &[Inbox],
+) -> Result<(), Cause>
+    ensures { SameUnit unit.old unit.new }
+{
+    for _ in 0..LOOKS {
+        spin_loop();
+        answer_recall(rt, unit, port, inboxes)?;
+    }
+    Ok(())
 }
 
 // Takes a recall from the core's inbox, if one waits there, and gives its line back.

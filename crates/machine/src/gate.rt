@@ -1,6 +1,11 @@
 //! What the threads of a run wait at until all of them are started.
 
+use std::hint::spin_loop;
+use std::sync::atomic::{AtomicBool, Ordering};
 use std::sync::{Condvar, Mutex, Wait};
+
+/// So often a thread looks whether the gate is open before it sleeps: to wake it takes as long as to start the next thread.
+const LOOKS: u32 = 2_000;
 
 // What those who wait are told.
 #[derive(Clone, Copy, Debug, PartialEq, Eq)]
@@ -18,6 +23,8 @@ enum Start {
 pub(crate) struct StartGate {
     start: Mutex<Start>,
     told: Condvar,
+    // Whether it is open.
+    is_open: AtomicBool,
 }
 
 impl StartGate {
@@ -26,6 +33,7 @@ impl StartGate {
         StartGate {
             start: Mutex::new(Start::Pending),
             told: Condvar::new(),
+            is_open: AtomicBool::new(false),
         }
     }
 
@@ -33,14 +41,26 @@ impl StartGate {
     pub(crate) fn open<R: Wait>(&self, rt: &R, goes: bool) {
         let mut start = self.start.lock(rt);
         *start = if goes { Start::Go } else { Start::Leave };
+        self.is_open.store(true, Ordering::SeqCst);
         self.told.notify_all();
     }
 
     /// Waits for the gate to open, and answers whether to go on.
     pub(crate) fn pass<R: Wait>(&self, rt: &R) -> bool {
+        self.look();
         let start = self
             .told
             .wait_while(rt, self.start.lock(rt), |start| *start == Start::Pending);
         *start == Start::Go
+    }
+
+    // Looks for a while whether the gate is open.
+    fn look(&self) {
+        for _ in 0..LOOKS {
+            if self.is_open.load(Ordering::SeqCst) {
+                break;
+            }
+            spin_loop();
+        }
     }
 }

@@ -6,20 +6,29 @@ ghost use Rattle.slice_bank.specs.Serving.{IsServedBySome};
 
 use super::port::Port;
 use super::slices::serve;
+use crossbeam_utils::CachePadded;
 use lease_rule::Config;
 use line_stamps::{Message, Reply};
 use manager_slice::{ManagerSlice, SliceFault, new_slices};
 use mem_op::CoreId;
 use std::alloc::Global;
+use std::hint::spin_loop;
 use std::marker::Model;
-use std::sync::{Mutex, Wait};
+use std::sync::{Mutex, MutexGuard, Wait};
+
+/// So often a thread tries the lock of a slice before it sleeps for it. A service takes less than a microsecond, and to wake a
+/// thread takes tens of them.
+const TRIES: u32 = 400;
+
+/// So many pauses of the processor come after a try that failed, since each try takes the lock's cache line from its holder.
+const PAUSES: u32 = 6;
 
 /// The slices of a machine, each under a lock of its own, for any number of threads. Contracts see the configuration alone: of a
 /// slice under its lock no more is known than its type keeps, which is that its state is the replay of its history.
 #[derive(Drop)]
 pub struct SliceBank {
     config: Config,
-    slices: Vec<Mutex<ManagerSlice>>,
+    slices: Vec<Mutex<CachePadded<ManagerSlice>>>,
     // Empty, with room for the slices, so that to give them back takes no memory.
     room: Vec<ManagerSlice>,
 }
@@ -46,7 +55,7 @@ impl SliceBank {
         let mut slices = Vec::new(alloc);
         for slice in new_slices(alloc, config)? {
             slices.reserve(1)?;
-            slices.push_reserved(Mutex::new(slice));
+            slices.push_reserved(Mutex::new(CachePadded::new(slice)));
         }
         let mut room = Vec::new(alloc);
         room.reserve(config.slices())?;
@@ -67,7 +76,7 @@ impl SliceBank {
         ensures { IsServedBySome from message.now result }
     {
         let number = self.config.slice_of(message.addr());
-        let mut slice = self.slices[number].lock(rt);
+        let mut slice = take_lock(rt, &self.slices[number]);
         serve(&mut slice, from, message)
     }
 
@@ -78,9 +87,30 @@ impl SliceBank {
         let SliceBank { slices, room, .. } = self;
         let mut given = room;
         for slice in slices {
-            given.push_reserved(slice.into_inner());
+            given.push_reserved(slice.into_inner().into_inner());
         }
         given
+    }
+}
+
+// Takes the lock of a slice. A thread sleeps for it only where many tries have failed.
+fn take_lock<'a, R: Wait>(
+    rt: &R,
+    slice: &'a Mutex<CachePadded<ManagerSlice>>,
+) -> MutexGuard<'a, CachePadded<ManagerSlice>> {
+    for _ in 0..TRIES {
+        if let Some(taken) = slice.try_lock() {
+            return taken;
+        }
+        pause();
+    }
+    slice.lock(rt)
+}
+
+// Lets the thread that holds a lock go on for a while.
+fn pause() {
+    for _ in 0..PAUSES {
+        spin_loop();
     }
 }
 
