@@ -17,11 +17,11 @@ use std::thread;
 
 /// A core that is answered Busy looks into its inbox so often before it asks again, so that the owner of the line finds the lock of
 /// the slice free.
-const LOOKS: u32 = 16;
+const LOOKS: u32 = 64;
 
 /// After as many turns for an operation a core that is answered Busy lets other threads have its processor, since the owner of the
 /// line may wait for one.
-const PATIENCE: u64 = 16;
+const PATIENCE: u64 = 2;
 
 // What a turn came to.
 #[derive(Clone, Copy, Debug, PartialEq, Eq)]
