@@ -1,6 +1,7 @@
 pub mod ByAddress
 pub mod Collecting
 pub mod GroupPass
+pub mod Meeting
 pub mod Pairs
 pub mod Pieces
 pub mod Sorting

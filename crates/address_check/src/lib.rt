@@ -2,11 +2,13 @@
 #![tactic(auto)]
 
 mod addresses;
+mod by_place;
 mod fault;
 mod gate;
 mod group;
 mod index;
 mod local_check;
+mod spread;
 mod workers;
 
 pub use fault::{AddressFault, AddressRule};
