@@ -11,7 +11,7 @@ use Rattle.line_stamps.specs.declared.message.RecallKind.{RecallKind}
 use Rattle.line_stamps.specs.declared.line.Line.{Line}
 use Rattle.private_cache.specs.Answers.{give_back}
 use Rattle.core_unit.proofs.Keeping.{request_addr, asked_request}
-use Rattle.tardis_core.proofs.Placed.{set_again}
+use Rattle.core_machine.proofs.Placed.{set_again}
 use Rattle.line_stamps.specs.declared.message.Reply.{Reply}
 use Rattle.line_stamps.specs.declared.message.Reply.TheVariants.{Taken}
 use Rattle.private_cache.specs.Table.{filled}
@@ -23,9 +23,9 @@ use Rattle.core_unit.specs.declared.entry.CoreEntry.{CoreEntry}
 use Rattle.core_unit.specs.declared.entry.CoreEntry.TheVariants.{Got}
 use Rattle.core_unit.specs.declared.outcome.Outcome.{Outcome}
 use Rattle.core_unit.specs.declared.outcome.Outcome.TheVariants.{Took}
-use Rattle.tardis_core.specs.Machine.{World, by_core, serves, Run, start, next, with_core, with_slice, slice_number, CoreLeads, turn_hits, turn_asks, takes, takes_nothing, recall_gives, evict_drops, evict_gives, increments}
-use Rattle.tardis_core.specs.declared.event.Event.{Event}
-use Rattle.tardis_core.specs.declared.event.Event.TheVariants as event
+use Rattle.core_machine.specs.Machine.{World, by_core, serves, Run, start, next, with_core, with_slice, slice_number, CoreLeads, turn_hits, turn_asks, takes, takes_nothing, recall_gives, evict_drops, evict_gives, increments}
+use Rattle.core_machine.specs.declared.event.Event.{Event}
+use Rattle.core_machine.specs.declared.event.Event.TheVariants as event
 use Rattle.audit.specs.Merges.{is_own, alone, passes}
 use Rattle.audit.specs.Events.{AreEvents}
 use Rattle.audit.specs.Events as read

@@ -27,11 +27,11 @@ use Rattle.core_unit.specs.Core.{Core, new_core}
 use Rattle.core_unit.specs.Parts.{UnitParts, core_of, give_back_in, replayed}
 use Rattle.core_unit.specs.Replay.{CoreStep, CoreLeads, CoreReplays}
 use Rattle.core_unit.specs.declared.entry.CoreEntry.TheVariants.{Got}
-use Rattle.tardis_core.specs.Machine.{World, Run, start, next, by_core, spills, with_core, slice_number, opening}
-use Rattle.tardis_core.specs.declared.event.Event.{Event}
-use Rattle.tardis_core.specs.declared.event.Event.TheVariants as event
+use Rattle.core_machine.specs.Machine.{World, Run, start, next, by_core, spills, with_core, slice_number, opening}
+use Rattle.core_machine.specs.declared.event.Event.{Event}
+use Rattle.core_machine.specs.declared.event.Event.TheVariants as event
 use Rattle.core_unit.specs.declared.outcome.Outcome.TheVariants.{Spilled}
-use Rattle.tardis_core.proofs.RoundRuns.{run-append}
+use Rattle.core_machine.proofs.Appended.{run-append}
 use Rattle.audit.specs.Lists.{put, transcripts, histories}
 use Rattle.audit.specs.Merges.{Move, alone, evicts, passes, AreMoves, IsMerge, of_core, of_slice}
 use Rattle.audit.specs.Events.{AreEvents, AreReadOff, none, more, IsRunOf, AreOneMachine, MergesAreRuns, WholeRunsAreRuns, world_of}

@@ -15,9 +15,9 @@ use Rattle.core_unit.specs.Core.{Core}
 use Rattle.core_unit.specs.Kept as kept
 use Rattle.core_unit.specs.Parts.{UnitParts, core_of, replayed}
 use Rattle.core_unit.specs.declared.entry.CoreEntry.TheVariants.{Performed, Dropped, Gave, Bumped}
-use Rattle.tardis_core.specs.Machine.{World, Run, opening}
-use Rattle.tardis_core.specs.declared.event.Event.{Event}
-use Rattle.tardis_core.specs.declared.event.Event.TheVariants.{Turn, Serve, Take, Recall as Recalls, Evict, Spill, Increment}
+use Rattle.core_machine.specs.Machine.{World, Run, opening}
+use Rattle.core_machine.specs.declared.event.Event.{Event}
+use Rattle.core_machine.specs.declared.event.Event.TheVariants.{Turn, Serve, Take, Recall as Recalls, Evict, Spill, Increment}
 use Rattle.audit.specs.Lists.{transcripts, histories}
 use Rattle.audit.specs.Merges.{Move, alone, evicts, passes, IsMerge}
 use Rattle.audit.specs.Runs.{IsRun}

@@ -4,8 +4,8 @@ use Rattle.std.specs.Prelude.{Some, slice_get}
 use Rattle.std.specs.Global.{Vec}
 use Rattle.std.proofs.lemmas.List.{map_push}
 use Rattle.lease_rule.specs.ConfigParts.{ConfigParts}
-use Rattle.tardis_core.specs.Machine.{World}
-use Rattle.tardis_core.specs.Parts.{CoreParts, world}
+use Rattle.core_machine.specs.Machine.{World}
+use Rattle.core_machine.specs.Parts.{CoreParts, world}
 use Rattle.litmus.specs.Collecting.{AreEndsOf, AreRowsOf, IsFirstWithout, IsRunCount, IsTableOf}
 use Rattle.litmus.specs.Parts.{LitmusParts}
 use Rattle.litmus.specs.Runs.{ThreadEnd, IsEndOf, IsSeededRun, IsThreadRun, left, outcome_of, seed_of}

@@ -10,14 +10,14 @@ use Rattle.log_file.specs.Log.{Spells, first_format, spelling}
 use Rattle.log_file.specs.Sets.{SpellFrom, SpellSet, TellEach}
 use Rattle.log_file.proofs.Once.{spelled_once}
 use Rattle.core_program.specs.declared.instruction.Instruction.{Instruction}
-use Rattle.tardis_core.specs.Machine.{World}
-use Rattle.tardis_core.specs.Works.{log_at}
+use Rattle.core_machine.specs.Machine.{World}
+use Rattle.core_machine.specs.Works.{log_at, logs_below}
 use Rattle.verdict.specs.Judgement.{IsRunAnswerTo, IsYes}
 use Rattle.verdict.specs.VerdictOf.{run_verdict_of}
 use Rattle.verdict.specs.declared.answer.Verdict.{Verdict}
 use Rattle.verdict.specs.declared.answer.Verdict.TheVariants.{Yes, No}
 use Rattle.litmus.specs.Parts.{LitmusParts}
-use Rattle.litmus.specs.Runs.{GetsYes, IsCauseOf, IsEndOf, IsJudgeCause, logs_below, logs_of, not_yes, outcome_of}
+use Rattle.litmus.specs.Runs.{GetsYes, IsCauseOf, IsEndOf, IsJudgeCause, logs_of, not_yes, outcome_of}
 use Rattle.litmus.specs.declared.run_fault.RunCause.{RunCause}
 use Rattle.litmus.specs.declared.judging.TextSource.{TextSource}
 use Rattle.litmus.specs.inner.Ending.{word_lists}

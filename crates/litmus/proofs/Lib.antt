@@ -10,3 +10,4 @@ pub mod Plain
 pub mod Tallied
 pub mod WordLines
 pub mod WordsRead
+pub mod NeverNo

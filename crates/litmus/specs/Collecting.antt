@@ -5,10 +5,10 @@ use Rattle.std.specs.List.{AllByRecursion, filter, list_any}
 use Rattle.std.specs.Ordering.{nat_cmp}
 use Rattle.std.specs.declared.cmp.Ordering.TheVariants.{Less}
 use Rattle.lease_rule.specs.ConfigParts.{ConfigParts}
-use Rattle.tardis_core.specs.Machine.{World}
-use Rattle.tardis_core.specs.Parts.{CoreParts, world}
+use Rattle.core_machine.specs.Machine.{World}
+use Rattle.core_machine.specs.Parts.{CoreParts, world}
 use Rattle.litmus.specs.Parts.{LitmusParts}
-use Rattle.litmus.specs.Runs.{ThreadEnd, GetsYes, IsRunCause, IsSeededRun, IsThreadCause, IsThreadRun, left, outcome_of, seed_of}
+use Rattle.litmus.specs.Runs.{ThreadEnd, GetsYes, IsRunCause, IsSeededRun, IsThreadCause, IsThreadRun, SaysNo, left, outcome_of, seed_of}
 use Rattle.litmus.specs.TableParts.{RowParts, TableParts}
 use Rattle.litmus.specs.declared.run_fault.RunCause.{RunCause}
 use Rattle.litmus.specs.declared.run_fault.CollectFault.{CollectFault}
@@ -84,6 +84,12 @@ abbrev pub IsFaultOf : (E : Type 0) → (ℕ → E → Type 0) → (ℕ → RunC
 IsFaultOf E Ran Why at t runs BadRuns = IsBadRunCount runs
 IsFaultOf E Ran Why at t runs (Run k cause) = IsFirstWithout E Ran at t runs k (Why k cause)
 IsFaultOf E Ran Why at t runs OutOfMemory = Unit {0}
+
+-- a run is told whose logs get No
+abbrev pub TellsNo : CollectFault → Type 0
+TellsNo BadRuns = ⊥
+TellsNo (Run k cause) = SaysNo cause
+TellsNo OutOfMemory = ⊥
 
 -- ---- tables of seeded runs, each by its own seed
 

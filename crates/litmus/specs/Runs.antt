@@ -1,5 +1,5 @@
 -- Runs of a test: how they come to their ends, their outcomes, and what the judge says of their logs.
-use Rattle.std.specs.Prelude.{◌≡◌, ◌⊎◌, ℕ, zero, suc, ◌+◌, ◌%◌, ◌^◌, List, [], ◌∷◌, ◌++◌, length, map, slice_get, Some, None, Err}
+use Rattle.std.specs.Prelude.{◌≡◌, ◌⊎◌, ℕ, ◌+◌, ◌%◌, ◌^◌, List, [], length, map, slice_get, Some, None, Err}
 use Rattle.std.specs.Option.{option_map_or}
 use Rattle.lease_rule.specs.ConfigParts.{ConfigParts}
 use Rattle.log_record.specs.declared.record.Record.{Record}
@@ -8,10 +8,10 @@ use Rattle.core_program.specs.declared.instruction.Instruction.{Instruction}
 use Rattle.core_program.specs.State.{reg}
 use Rattle.manager_slice.specs.Parts.{SliceParts}
 use Rattle.core_unit.specs.Parts.{UnitParts, core_of}
-use Rattle.tardis_core.specs.Machine.{World}
-use Rattle.tardis_core.specs.Opening.{opening_parts}
-use Rattle.tardis_core.specs.Parts.{CoreParts, world}
-use Rattle.tardis_core.specs.Works.{log_at}
+use Rattle.core_machine.specs.Machine.{World}
+use Rattle.core_machine.specs.Opening.{opening_parts}
+use Rattle.core_machine.specs.Parts.{CoreParts, world}
+use Rattle.core_machine.specs.Works.{logs_below}
 use Rattle.audit.specs.Events.{world_of}
 use Rattle.audit.specs.Runs.{IsRun, StoppedShort}
 use Rattle.audit.specs.declared.machine_fault.Cause.TheVariants.{GaveUp, Stopped}
@@ -28,11 +28,6 @@ use Rattle.litmus.specs.declared.run_fault.RunCause.{RunCause}
 use Rattle.litmus.specs.declared.run_fault.RunCause.TheVariants as cause
 
 -- ---- where a run has ended
-
--- the logs of core 0, of core 1, and so on, of so many
-abbrev pub logs_below : World → ℕ → List (List Record)
-logs_below w zero = []
-logs_below w (suc core) = logs_below w core ++ log_at w core ∷ []
 
 -- the logs of a test's cores
 abbrev pub logs_of : LitmusParts → World → List (List Record)
@@ -97,6 +92,14 @@ abbrev pub IsThreadEnd : LitmusParts → ConfigParts → List ℕ → Type 0
 IsThreadEnd t g outcome = IsEndOf ThreadEnd (IsThreadRun t g) left t outcome
 
 -- ---- why a run has no outcome that counts
+
+-- its logs get No
+abbrev pub SaysNo : RunCause → Type 0
+SaysNo (cause.No id rule) = Unit {0}
+SaysNo (cause.Simulation fault) = ⊥
+SaysNo (cause.Threads fault) = ⊥
+SaysNo (cause.Judge fault) = ⊥
+SaysNo cause.OutOfMemory = ⊥
 
 -- Why the logs where a run has ended don't get Yes. Lack of memory may come instead.
 abbrev pub IsJudgeCause : LitmusParts → World → RunCause → Type 0

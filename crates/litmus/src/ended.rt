@@ -2,8 +2,8 @@
 
 ghost use Rattle.std.specs.Prelude.{◌≡◌, ◌≤◌, IfOk, length, map, take};
 ghost use Rattle.mem_op.specs.Limits.{operation_limit};
-ghost use Rattle.tardis_core.specs.Machine.{World};
-ghost use Rattle.tardis_core.specs.Works.{log_at};
+ghost use Rattle.core_machine.specs.Machine.{World};
+ghost use Rattle.core_machine.specs.Works.{log_at};
 ghost use Rattle.litmus.specs.Runs.{outcome_of, word_in};
 
 use super::test::{Litmus, Shown};
@@ -29,7 +29,7 @@ pub(crate) trait Ended {
 }
 
 impl Ended for Core {
-    ghost use Rattle.tardis_core.specs.Parts.{world};
+    ghost use Rattle.core_machine.specs.Parts.{world};
 
     ghost at_end = { λ machine. world machine };
 

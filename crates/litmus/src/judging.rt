@@ -4,7 +4,8 @@ ghost use Rattle.std.specs.Prelude.{◌≡◌, ◌<◌, ◌≤◌, length, map, 
 ghost use Rattle.log_file.specs.Log.{Spells, first_format};
 ghost use Rattle.log_file.specs.Sets.{SpellSet};
 ghost use Rattle.mem_op.specs.Limits.{operation_limit};
-ghost use Rattle.litmus.specs.Runs.{GetsYes, IsJudgeCause, logs_below, outcome_of};
+ghost use Rattle.core_machine.specs.Works.{logs_below};
+ghost use Rattle.litmus.specs.Runs.{GetsYes, IsJudgeCause, outcome_of};
 ghost use Rattle.litmus.specs.declared.run_fault.RunCause.TheVariants as cause;
 ghost use Rattle.litmus.specs.inner.Ending.{word_lists};
 ghost use Rattle.litmus.specs.inner.Judged.{IsNo};

@@ -1,8 +1,8 @@
 //! Runs by the rounds that seeds draw, and their table.
 
-ghost use Rattle.std.specs.Prelude.{◌≡◌, ◌↔◌, IsErrOf, MatchResult};
-ghost use Rattle.litmus.specs.Collecting.{IsBadRunCount, IsCollectFault, IsSeededTable};
-ghost use Rattle.litmus.specs.Runs.{IsRunCause, IsSeededEnd, IsSeededRun, IsUnsimulated};
+ghost use Rattle.std.specs.Prelude.{◌≡◌, ◌↔◌, IsErrOf, IfErr, MatchResult};
+ghost use Rattle.litmus.specs.Collecting.{IsBadRunCount, IsCollectFault, IsSeededTable, TellsNo};
+ghost use Rattle.litmus.specs.Runs.{IsRunCause, IsSeededEnd, IsSeededRun, IsUnsimulated, SaysNo};
 ghost use Rattle.litmus.specs.declared.run_fault.CollectFault.TheVariants.{BadRuns};
 ghost use Rattle.litmus.specs.declared.run_fault.RunCause.TheVariants as cause;
 
@@ -40,18 +40,19 @@ fn run_seeded<R: Threads + Sync>(
     config: &Config,
     seed: u64,
 ) -> Result<Vec<u64>, RunCause>
-    ensures { MatchResult result
+    ensures run { MatchResult result
         (λ outcome. IsSeededEnd test.now config.now seed outcome.items)
         (λ cause. IsRunCause test.now config.now seed cause) }
+    ensures yes { IfErr result (λ cause. ¬ (SaysNo cause)) }
 {
+    test.has_few();
     let machine = simulate_run(alloc, test, config, seed)?;
     judged_outcome(rt, alloc, test, &machine)
 }
 
 /// Runs a test so many times, 1..100,000, and counts the outcomes. Run `k`, from 0, is by the rounds
-/// that the seed `seed + k`, wrapping, draws; its logs are judged against the test's programs, and have
-/// to get Yes. The first run that doesn't come to its end, or whose logs get No, is answered in place
-/// of the table.
+/// that the seed `seed + k`, wrapping, draws; its logs are judged against the test's programs, and get
+/// Yes. The first run that doesn't come to its end is answered in place of the table.
 pub fn collect_seeded<R: Threads + Sync>(
     rt: &R,
     alloc: Global,
@@ -64,6 +65,8 @@ pub fn collect_seeded<R: Threads + Sync>(
     ensures runs { MatchResult result
         (λ table. IsSeededTable test.now config.now runs seed table)
         (λ fault. IsCollectFault test.now config.now runs seed fault) }
+    // No run is told whose logs get No: those of every run get Yes.
+    ensures yes { IfErr result (λ fault. ¬ (TellsNo fault)) }
     // 6 comes exactly where the number of runs is out of range.
     ensures range { IsErrOf result BadRuns ↔ IsBadRunCount runs }
 {

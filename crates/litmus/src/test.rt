@@ -1,6 +1,6 @@
 //! Litmus tests.
 
-ghost use Rattle.std.specs.Prelude.{◌≡◌, map};
+ghost use Rattle.std.specs.Prelude.{◌≡◌, ◌≤◌, length, map};
 ghost use Rattle.litmus.specs.Collecting.{is_forbidden};
 
 use core_program::{ProgramSet, Register};
@@ -61,6 +61,13 @@ impl Litmus {
         ensures { result.now.programs ≡ self.now.programs }
     {
         &self.programs
+    }
+
+    /// Does nothing: it tells that there are at most 64 programs.
+    pub(crate) fn has_few(&self)
+        ensures { length self.now.programs ≤ 64 }
+    {
+        let _ = self.programs.len();
     }
 
     /// The registers that it shows.

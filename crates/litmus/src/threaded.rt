@@ -1,8 +1,8 @@
 //! Runs by threads, and their table.
 
-ghost use Rattle.std.specs.Prelude.{◌↔◌, IsErrOf, MatchResult};
-ghost use Rattle.litmus.specs.Collecting.{IsBadRunCount, IsThreadFault, IsThreadTable};
-ghost use Rattle.litmus.specs.Runs.{IsThreadCause, IsThreadEnd};
+ghost use Rattle.std.specs.Prelude.{◌↔◌, IsErrOf, IfErr, MatchResult};
+ghost use Rattle.litmus.specs.Collecting.{IsBadRunCount, IsThreadFault, IsThreadTable, TellsNo};
+ghost use Rattle.litmus.specs.Runs.{IsThreadCause, IsThreadEnd, SaysNo};
 ghost use Rattle.litmus.specs.declared.run_fault.CollectFault.TheVariants.{BadRuns};
 
 use super::collecting::{check_runs, table_of};
@@ -35,9 +35,10 @@ fn run_threaded<R: Threads + Wait + Sync>(
     test: &Litmus,
     config: &Config,
 ) -> Result<Vec<u64>, RunCause>
-    ensures { MatchResult result
+    ensures run { MatchResult result
         (λ outcome. IsThreadEnd test.now config.now outcome.items)
         (λ cause. IsThreadCause test.now config.now cause) }
+    ensures yes { IfErr result (λ cause. ¬ (SaysNo cause)) }
 {
     match run_threads(rt, alloc, test.programs(), config, &Unpaced) {
         Ok(end) => judged_outcome(rt, alloc, test, &end),
@@ -47,8 +48,7 @@ fn run_threaded<R: Threads + Wait + Sync>(
 
 /// Runs a test so many times, 1..100,000, and counts the outcomes. Each run has a thread for each
 /// core, and comes to its end by the order in which these happen to go on; its logs are judged against the test's
-/// programs, and have to get Yes. The first run that doesn't come to its end, or whose logs get No, is answered in place
-/// of the table. May wait for its threads.
+/// programs, and get Yes. The first run that doesn't come to its end is answered in place of the table. May wait for its threads.
 pub fn collect_threaded<R: Threads + Wait + Sync>(
     rt: &R,
     alloc: Global,
@@ -60,6 +60,8 @@ pub fn collect_threaded<R: Threads + Wait + Sync>(
     ensures runs { MatchResult result
         (λ table. IsThreadTable test.now config.now runs table)
         (λ fault. IsThreadFault test.now config.now runs fault) }
+    // No run is told whose logs get No: those of every run get Yes.
+    ensures yes { IfErr result (λ fault. ¬ (TellsNo fault)) }
     // 6 comes exactly where the number of runs is out of range.
     ensures range { IsErrOf result BadRuns ↔ IsBadRunCount runs }
 {

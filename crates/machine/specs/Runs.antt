@@ -4,7 +4,7 @@ use Rattle.lease_rule.specs.ConfigParts.{ConfigParts}
 use Rattle.core_program.specs.declared.instruction.Instruction.{Instruction}
 use Rattle.manager_slice.specs.Parts.{SliceParts}
 use Rattle.core_unit.specs.Parts.{UnitParts, core_of}
-use Rattle.tardis_core.specs.Machine.{opening}
+use Rattle.core_machine.specs.Machine.{opening}
 use Rattle.audit.specs.Events.{IsRunOf, world_of}
 use Rattle.audit.specs.Lists.{transcripts, histories}
 use Rattle.audit.specs.Merges.{Move, IsMerge}

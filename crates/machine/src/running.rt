@@ -5,6 +5,7 @@ ghost use Rattle.core_unit.specs.Kept.{Replays};
 ghost use Rattle.audit.specs.Runs.{IsRun, IsUnitLog, StoppedShort, kept_log};
 ghost use Rattle.audit.specs.declared.machine_fault.Cause.TheVariants.{GaveUp, Stopped};
 ghost use Rattle.machine.specs.Runs.{IsMachineRun};
+ghost use Rattle.machine_laws.specs.Laws.{GetYesBy, unit_logs};
 
 use super::core_thread::run_behind;
 use super::ends::Ends;
@@ -16,6 +17,7 @@ use core_program::ProgramSet;
 use core_unit::CoreUnit;
 use inbox::Inbox;
 use lease_rule::Config;
+use machine_laws::verdicts::merged_logs_get_yes;
 use manager_slice::ManagerSlice;
 use slice_bank::{BankPort, SliceBank};
 use std::alloc::{AllocError, Global};
@@ -26,7 +28,8 @@ use tardis_core::opening_units;
 
 /// Runs each program to its end in a thread of its own, which owns its core's unit and asks the pace before each turn.
 ///
-/// Ok has the units and slices of one whole run of the core machine, whatever the order in which its steps came. The fault is the least
+/// Ok has the units and slices of one whole run of the core machine, whatever the order in which its steps came, and the logs of its units
+/// get Yes against the programs: they are sequentially consistent. The fault is the least
 /// core's: 30 where as many turns as the configuration says brought no operation, 31 where the pace said so, 32 where its
 /// thread was refused, and then no core did anything, or what a call of its unit or a slice refused. 33 is where what
 /// the threads gave back isn't such a run, and 10 where a growth was refused beside the cores. May wait for its threads.
@@ -39,6 +42,7 @@ pub fn run_threads<P: Pace + Sync, R: Threads + Wait + Sync>(
 ) -> Result<RunEnd, MachineFault>
     ensures run { IfOk result (λ end. IsRun programs.now.programs config.now end.units.items end.slices.items) }
     ensures events { IfOk result (λ end. IsMachineRun programs.now.programs config.now end.units.items end.slices.items) }
+    ensures yes { IfOk result (λ end. GetYesBy programs.now.programs (unit_logs end.units.items)) }
     ensures short { IfErr result (λ f. (f.cause ≡ GaveUp ⊎ f.cause ≡ Stopped) →
         StoppedShort programs.now.programs f.units.items f.core) }
     // Each log that is left is that of a unit of its core whose transcript replays, or empty.
@@ -59,7 +63,8 @@ pub fn run_threads<P: Pace + Sync, R: Threads + Wait + Sync>(
     settled(programs, config, ends, bank.into_slices())
 }
 
-// What the threads gave back, settled: Ok names the events of a run, and of a fault each log that is left is a unit's own.
+// What the threads gave back, settled: Ok names the events of a run, whose logs get Yes, and of a fault each log that is left is a unit's
+// own.
 fn settled(
     programs: &ProgramSet,
     config: &Config,
@@ -68,12 +73,14 @@ fn settled(
 ) -> Result<RunEnd, MachineFault>
     ensures run { IfOk result (λ end. IsRun programs.now.programs config.now end.units.items end.slices.items) }
     ensures events { IfOk result (λ end. IsMachineRun programs.now.programs config.now end.units.items end.slices.items) }
+    ensures yes { IfOk result (λ end. GetYesBy programs.now.programs (unit_logs end.units.items)) }
     ensures short { IfErr result (λ f. (f.cause ≡ GaveUp ⊎ f.cause ≡ Stopped) →
         StoppedShort programs.now.programs f.units.items f.core) }
     ensures logs { IfErr result (λ f. (c : ℕ) → IsUnitLog c (kept_log f.units.items c) ⊎ (kept_log f.units.items c ≡ [])) }
 {
     let Ends { units, faults } = ends;
     merges_are_runs();
+    merged_logs_get_yes();
     each_replays(&units);
     settle(programs, config, units, &faults, slices)
 }

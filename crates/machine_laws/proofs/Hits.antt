@@ -20,8 +20,8 @@ use Rattle.manager_slice.specs.Table.{Slice, met_line, without_line, Evicts, evi
 use Rattle.manager_slice.specs.declared.managed.ManagedLine.{ManagedLine}
 use Rattle.manager_slice.specs.declared.managed.ManagedLine.TheVariants as managed
 use Rattle.core_unit.specs.Core.{Core, op_addr, op_hit, next_id, tries, record_of, after_hit}
-use Rattle.tardis_core.specs.Machine.{World, with_core, with_slice, slice_number}
-use Rattle.tardis_core.proofs.Works.{set_here}
+use Rattle.core_machine.specs.Machine.{World, with_core, with_slice, slice_number}
+use Rattle.core_machine.proofs.Placed.{set_here}
 use Rattle.address_check.specs.AddressFaults.{is_store}
 use Rattle.verdict.proofs.Lists.{set_elsewhere}
 use Rattle.machine_laws.specs.Views.{read_of}

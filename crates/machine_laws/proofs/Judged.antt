@@ -23,10 +23,10 @@ use Rattle.verdict.proofs.Lists.{set_elsewhere}
 use Rattle.core_unit.specs.Core.{Core, new_core, next_of}
 use Rattle.core_unit.specs.declared.outcome.Outcome.{Outcome}
 use Rattle.core_unit.proofs.Fronts.{Ran, ran_on}
-use Rattle.tardis_core.specs.Machine.{World, with_core, CoreLeads, turn_hits, turn_drops, turn_gives, turn_asks, turn_ends, takes, takes_nothing, takes_busy, recall_gives, evict_drops, evict_gives, increments, Leads, by_core, serves, spills, no_effect, Run, start, next, opening}
-use Rattle.tardis_core.specs.Works.{has_next}
-use Rattle.tardis_core.specs.declared.event.Event.{Event}
-use Rattle.tardis_core.proofs.Works.{set_here}
+use Rattle.core_machine.specs.Machine.{World, with_core, CoreLeads, turn_hits, turn_drops, turn_gives, turn_asks, turn_ends, takes, takes_nothing, takes_busy, recall_gives, evict_drops, evict_gives, increments, Leads, by_core, serves, spills, no_effect, Run, start, next, opening}
+use Rattle.core_machine.specs.Works.{has_next}
+use Rattle.core_machine.specs.declared.event.Event.{Event}
+use Rattle.core_machine.proofs.Placed.{set_here}
 use Rattle.machine_laws.specs.Settled.{settled, view, log_of}
 use Rattle.machine_laws.specs.Laws.{IsReachedFrom, logs_of, HaveEnded}
 use Rattle.machine_laws.proofs.Stamps.{which}
@@ -147,7 +147,7 @@ leads_length g w e o t (serves c u m x entries s s' at hand kept es step) = leng
 leads_length g w e o t (spills a s s' es gone) = refl
 leads_length g w e o t (no_effect e' barred) = refl
 
-run_length : (g : ConfigParts) (w : World) (events : List Event) (t : World) → Run g w events t → length t.cores ≡ length w.cores
+pub run_length : (g : ConfigParts) (w : World) (events : List Event) (t : World) → Run g w events t → length t.cores ≡ length w.cores
 run_length g w events t start = refl
 run_length g w events t (next es e o between t' run step) = leads_length g between e o t' step ∙ run_length g w es between run
 

@@ -25,10 +25,10 @@ use Rattle.manager_slice.specs.Table as slice
 use Rattle.manager_slice.specs.declared.managed.HistoryEntry.{HistoryEntry}
 use Rattle.core_unit.specs.Core.{Core, op_addr, record_of, next_request, request, after_hit, has_dropped, has_given, has_asked, has_taken, has_let_go, has_bumped}
 use Rattle.core_unit.specs.declared.outcome.Outcome.{Outcome}
-use Rattle.tardis_core.specs.Machine.{World, with_core, with_slice, slice_number, CoreLeads, turn_hits, turn_drops, turn_gives, turn_asks, turn_ends, takes, takes_nothing, takes_busy, recall_gives, evict_drops, evict_gives, increments, Leads, by_core, serves, spills, no_effect, Run, start, next}
-use Rattle.tardis_core.specs.declared.event.Event.{Event}
-use Rattle.tardis_core.proofs.Placed.{set_again}
-use Rattle.tardis_core.proofs.Works.{set_here}
+use Rattle.core_machine.specs.Machine.{World, with_core, with_slice, slice_number, CoreLeads, turn_hits, turn_drops, turn_gives, turn_asks, turn_ends, takes, takes_nothing, takes_busy, recall_gives, evict_drops, evict_gives, increments, Leads, by_core, serves, spills, no_effect, Run, start, next}
+use Rattle.core_machine.specs.declared.event.Event.{Event}
+use Rattle.core_machine.proofs.Placed.{set_again}
+use Rattle.core_machine.proofs.Placed.{set_here}
 use Rattle.verdict.proofs.Lists.{set_elsewhere}
 use Rattle.machine_laws.specs.Stamps.{HasStamps}
 use Rattle.machine_laws.specs.Versions.{HasVersions}

@@ -14,3 +14,4 @@ pub mod Replies
 pub mod Refusing
 pub mod Merged
 pub mod OneStore
+pub mod Below

@@ -22,7 +22,7 @@ use Rattle.machine_laws.specs.Laws.{unit_logs, HaveEnded}
 use Rattle.machine_laws.proofs.Judged.{runs_get_yes, ended_runs_get_yes}
 
 -- a unit has the same log as the core of the machine that it is
-same_logs : (f : UnitParts → Core) → ((u : UnitParts) → (f u).log ≡ u.log) → (us : List UnitParts) → map (λ (u : Core). u.log) (map f us) ≡ unit_logs us
+pub same_logs : (f : UnitParts → Core) → ((u : UnitParts) → (f u).log ≡ u.log) → (us : List UnitParts) → map (λ (u : Core). u.log) (map f us) ≡ unit_logs us
 same_logs f same [] = refl
 same_logs f same (u ∷ us) = rw (same u, same_logs f same us) refl
 

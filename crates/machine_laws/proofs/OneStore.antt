@@ -20,8 +20,8 @@ use Rattle.manager_slice.specs.declared.managed.HistoryEntry.TheVariants.{Served
 use Rattle.manager_slice.specs.declared.managed.ManagedLine.{ManagedLine}
 use Rattle.manager_slice.specs.declared.managed.ManagedLine.TheVariants as managed
 use Rattle.core_unit.specs.Core.{Core, new_core, next_request, has_asked, has_taken, after_hit}
-use Rattle.tardis_core.specs.Machine.{World, with_core, with_slice, turn_asks, turn_hits, takes, by_core, serves, Leads, start, next, opening}
-use Rattle.tardis_core.specs.declared.event.Event.TheVariants as event
+use Rattle.core_machine.specs.Machine.{World, with_core, with_slice, turn_asks, turn_hits, takes, by_core, serves, Leads, start, next, opening}
+use Rattle.core_machine.specs.declared.event.Event.TheVariants as event
 use Rattle.machine_laws.specs.Laws.{one_store, one_slice, OneStoreRuns}
 use Rattle.machine_laws.proofs.Maps.{get-insert_same}
 use Rattle.machine_laws.proofs.Replies.{own_fits}

@@ -12,8 +12,8 @@ use Rattle.manager_slice.specs.Table.{Slice, opening as new_slice}
 use Rattle.manager_slice.specs.declared.managed.ManagedLine.{ManagedLine}
 use Rattle.manager_slice.specs.declared.managed.ManagedLine.TheVariants as managed
 use Rattle.core_unit.specs.Core.{Core, new_core}
-use Rattle.tardis_core.specs.Machine.{World, Run, opening, slice_number}
-use Rattle.tardis_core.specs.declared.event.Event.{Event}
+use Rattle.core_machine.specs.Machine.{World, Run, opening, slice_number}
+use Rattle.core_machine.specs.declared.event.Event.{Event}
 use Rattle.machine_laws.specs.Views.{View, Did}
 use Rattle.machine_laws.specs.Stamps.{HasStamps}
 use Rattle.machine_laws.specs.Versions.{HasVersions}

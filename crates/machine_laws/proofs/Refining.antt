@@ -26,8 +26,8 @@ use Rattle.manager_slice.specs.Table.{Slice, met_line, with_managed, share_reply
 use Rattle.manager_slice.specs.declared.managed.ManagedLine.{ManagedLine}
 use Rattle.manager_slice.specs.declared.managed.ManagedLine.TheVariants as managed
 use Rattle.core_unit.specs.Core.{Core, request, has_dropped, has_given, has_asked, has_taken, has_let_go, has_bumped}
-use Rattle.tardis_core.specs.Machine.{World, with_core, with_slice, slice_number}
-use Rattle.tardis_core.proofs.Works.{set_here}
+use Rattle.core_machine.specs.Machine.{World, with_core, with_slice, slice_number}
+use Rattle.core_machine.proofs.Placed.{set_here}
 use Rattle.verdict.proofs.Lists.{set_elsewhere}
 use Rattle.machine_laws.specs.Stamps.{HasStamps}
 use Rattle.machine_laws.specs.Versions.{AtMost}

@@ -1,6 +1,6 @@
 -- No event is refused with 14 or with 11.
 use Rattle.std.proofs.Common.{◌≡◌, ◌++◌, ◌∷◌, [], ◌+◌, List, zero, suc, take, ap, sym, subst, ◌∙◌, ℕ, inl, inr, Bool, true, false, refl, length}
-use Rattle.std.specs.Prelude.{option_and_then, Option, Some, None, ◌||◌, nat_lt, nat_eq, is_some, if◌then◌else◌, slice_get, slice_set}
+use Rattle.std.specs.Prelude.{option_and_then, Option, Some, None, ◌||◌, nat_lt, nat_eq, is_some, if◌then◌else◌, slice_get, slice_set, Result, Ok, Err}
 use Rattle.std.specs.FinMap as map
 use Rattle.std.specs.Map.{lookup}
 use Rattle.mem_op.specs.declared.id.Op.{Op}
@@ -41,23 +41,23 @@ use Rattle.core_unit.specs.declared.fault.UnitFault.{UnitFault}
 use Rattle.core_unit.specs.declared.fault.UnitFault.TheVariants as unit_fault
 use Rattle.core_unit.specs.declared.outcome.Outcome.{Outcome}
 use Rattle.core_unit.specs.declared.outcome.Outcome.TheVariants.{Sent, Gave, Took, Busy as IsBusy}
-use Rattle.tardis_core.specs.Machine.{slice_number}
-use Rattle.tardis_core.specs.Parts.{CoreParts, world, IsPlaced, IsMachine, programs_of}
-use Rattle.tardis_core.specs.SeatParts.{SeatParts}
-use Rattle.tardis_core.specs.Seats.{SeatOutcome, asked_by, seat_outcome, seen}
-use Rattle.tardis_core.specs.Seats as seat
-use Rattle.tardis_core.specs.Steps.{StepOutcome, Refuses, Answers, Steps, with_seat, core_outcome, seated, at_slice, served_outcome, serve_outcome, spilled_outcome, alone, step_outcome}
-use Rattle.tardis_core.specs.Runs.{MayRefuse, IsRefusedAt, behind, run_from}
-use Rattle.tardis_core.specs.declared.event.Event.{Event}
-use Rattle.tardis_core.specs.declared.event.Event.TheVariants as event
-use Rattle.tardis_core.specs.declared.fault.CoreFault.{CoreFault}
-use Rattle.tardis_core.specs.Opening.{new_seat, new_seats, opening_parts}
-use Rattle.tardis_core.proofs.Opened.{opening_kept}
-use Rattle.tardis_core.proofs.Alone.{kept_machine}
-use Rattle.tardis_core.proofs.Placed.{found_in_set, found_in_map}
-use Rattle.tardis_core.proofs.Serving.{asked_facts, kept_slices}
+use Rattle.core_machine.specs.Machine.{slice_number}
+use Rattle.core_machine.specs.Parts.{CoreParts, world, IsPlaced, IsMachine, HaveRoom, programs_of}
+use Rattle.core_machine.specs.SeatParts.{SeatParts}
+use Rattle.core_machine.specs.Seats.{SeatOutcome, SeatMeets, asked_by, seat_outcome, seen}
+use Rattle.core_machine.specs.Seats as seat
+use Rattle.core_machine.specs.Steps.{StepOutcome, Refuses, Answers, Steps, with_seat, core_outcome, seated, at_slice, served_outcome, serve_outcome, spilled_outcome, alone, step_outcome}
+use Rattle.core_machine.specs.Runs.{MayRefuse, IsRefusedAt, behind, run_from}
+use Rattle.core_machine.specs.declared.event.Event.{Event}
+use Rattle.core_machine.specs.declared.event.Event.TheVariants as event
+use Rattle.core_machine.specs.declared.fault.CoreFault.{CoreFault}
+use Rattle.core_machine.specs.Opening.{opening_parts}
+use Rattle.core_machine.proofs.Opened.{opening_kept}
+use Rattle.core_machine.proofs.Alone.{kept_machine}
+use Rattle.core_machine.proofs.Placed.{found_in_set, found_in_map}
+use Rattle.core_machine.proofs.Serving.{asked_facts, kept_slices}
 use Rattle.machine_laws.specs.Hands.{ReplyFits, no_message, unserved, busy, taken, fills, RepliesFit}
-use Rattle.machine_laws.specs.Refusals.{is_protocol_fault, HaveRoom}
+use Rattle.machine_laws.specs.Refusals.{is_protocol_fault}
 use Rattle.machine_laws.proofs.Moves.{bool_cases}
 use Rattle.machine_laws.proofs.Keeping.{Keeps}
 use Rattle.machine_laws.proofs.Replies.{reached_ready, owner_gives}
@@ -357,6 +357,18 @@ module _ (told : Bool) where
   step_fine p (event.Spill a) b k r = spill_fine p.config p (slice_number p.config a) a b
   step_fine p (event.Increment c) b k r = alone_fine p.config p c (event.Increment c) b r
 
+-- ---- the room of a cache
+
+-- an event of a core leaves its cache the room that it has
+same_room : (s t : SeatParts) (r : Result Outcome UnitFault) (o : SeatOutcome) → FineSeat false s o → SeatMeets o r s t → t.unit.cache.capacity ≡ s.unit.cache.capacity
+same_room s t r (seat.Refuses fault) f m = ap (λ (x : SeatParts). x.unit.cache.capacity) m.1
+same_room s t r (seat.Answers o q) f m = ap (λ (x : SeatParts). x.unit.cache.capacity) m.1 ∙ f.capacity
+same_room s t (Ok o) (seat.Steps wanting q) f m = ap (λ (x : SeatParts). x.unit.cache.capacity) m.1 ∙ f.capacity
+same_room s t (Err fault) (seat.Steps wanting q) f m = ap (λ (x : SeatParts). x.unit.cache.capacity) m.1
+
+pub seat_room : (g : ConfigParts) (e : Event) (s t : SeatParts) (r : Result Outcome UnitFault) → SeatMeets (seat_outcome e s) r s t → s.unit.cache.capacity ≡ g.cache_lines → t.unit.cache.capacity ≡ g.cache_lines
+seat_room g e s t r met room = same_room s t r (seat_outcome e s) (seat_fine false g e s room (λ told. absurd cc)) met ∙ room
+
 -- ---- a machine that some events lead to
 
 refused_fine : (g : ConfigParts) (o : StepOutcome) (fault : CoreFault) → FineStep true g o → MayRefuse o fault → is_protocol_fault fault ≡ false
@@ -367,10 +379,10 @@ refused_fine g (Steps wanting o q) fault f m = ap is_protocol_fault m ∙ f.0
 built_fault : (p : CoreParts) (e : Event) (fault : CoreFault) → IsBuilt p.config p → Keeps p.config (world p) → RepliesFit p.config (world p) → MayRefuse (step_outcome p e) fault → is_protocol_fault fault ≡ false
 built_fault p e fault b k r refused = refused_fine p.config (step_outcome p e) fault (step_fine true p e b (λ _. k) (λ _. r)) refused
 
-pub no_fault : (p : CoreParts) (e : Event) (fault : CoreFault) → IsMachine p → HaveRoom p → MayRefuse (step_outcome p e) fault → is_protocol_fault fault ≡ false
-no_fault p e fault machine room refused =
+pub no_fault : (p : CoreParts) (e : Event) (fault : CoreFault) → IsMachine p → MayRefuse (step_outcome p e) fault → is_protocol_fault fault ≡ false
+no_fault p e fault machine refused =
     let fit = reached_ready (programs_of p) p.config (world p) machine.reached in
-    built_fault p e fault (record { config = refl; placed = machine.placed; room = room }) fit.0 fit.1 refused
+    built_fault p e fault (record { config = refl; placed = machine.placed; room = machine.room }) fit.0 fit.1 refused
 
 -- ---- lists of events
 
@@ -392,14 +404,10 @@ run_built g p (e ∷ events) q b h = go (λ t c. run_built g t events q c) (behi
     go later None at f = absurd cc
     go later (Some t) at f = later t (step_built g p e t b at) f
 
-new_room : (g : ConfigParts) (c : ℕ) (programs : List (List Instruction)) (i : ℕ) (seat : SeatParts) → slice_get (new_seats g c programs) i ≡ Some seat → seat.unit.cache.capacity ≡ g.cache_lines
-new_room g c [] i seat e = absurd cc
-new_room g c (p ∷ ps) zero seat e = let one : new_seat g c p ≡ seat = cc in ap (λ (x : SeatParts). x.unit.cache.capacity) (sym one)
-new_room g c (p ∷ ps) (suc i) seat e = new_room g (suc c) ps i seat e
-
 pub no_run_meets_one : (programs : List (List Instruction)) (g : ConfigParts) (events : List Event) (at : ℕ) (fault : CoreFault) → IsRefusedAt programs g events at fault → is_protocol_fault fault ≡ false
 no_run_meets_one programs g events at fault r =
-    let start : IsBuilt g (opening_parts programs g) = record { config = refl; placed = (opening_kept programs g).placed; room = new_room g 0 programs } in
+    let opened = opening_kept programs g in
+    let start : IsBuilt g (opening_parts programs g) = record { config = refl; placed = opened.placed; room = opened.room } in
     let b : IsBuilt g r.machine = run_built g (opening_parts programs g) (take at events) r.machine start r.reached in
     let fit = reached_ready programs g (world r.machine) (take at events, r.run) in
     built_fault r.machine r.event fault (record { config = refl; placed = b.placed; room = b.room })

@@ -27,9 +27,9 @@ use Rattle.manager_slice.specs.declared.managed.ManagedLine.{ManagedLine}
 use Rattle.manager_slice.specs.declared.managed.ManagedLine.TheVariants as managed
 use Rattle.core_unit.specs.Core.{Core, op_addr, request, next_request, has_place, has_given, fits}
 use Rattle.core_unit.specs.declared.outcome.Outcome.{Outcome}
-use Rattle.tardis_core.specs.Machine.{World, with_core, with_slice, slice_number, CoreLeads, turn_hits, turn_drops, turn_gives, turn_asks, turn_ends, takes, takes_nothing, takes_busy, recall_gives, evict_drops, evict_gives, increments, Leads, by_core, serves, spills, no_effect, Run, start, next, opening}
-use Rattle.tardis_core.specs.declared.event.Event.{Event}
-use Rattle.tardis_core.proofs.Works.{set_here}
+use Rattle.core_machine.specs.Machine.{World, with_core, with_slice, slice_number, CoreLeads, turn_hits, turn_drops, turn_gives, turn_asks, turn_ends, takes, takes_nothing, takes_busy, recall_gives, evict_drops, evict_gives, increments, Leads, by_core, serves, spills, no_effect, Run, start, next, opening}
+use Rattle.core_machine.specs.declared.event.Event.{Event}
+use Rattle.core_machine.proofs.Placed.{set_here}
 use Rattle.verdict.proofs.Lists.{set_elsewhere}
 use Rattle.machine_laws.specs.Settled.{settled}
 use Rattle.machine_laws.specs.Hands.{HandTells, ReplyFits, no_message, unserved, busy, taken, fills, RepliesFit}

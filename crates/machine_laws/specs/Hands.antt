@@ -17,7 +17,7 @@ use Rattle.private_cache.specs.declared.held.Held.TheVariants.{Exclusive}
 use Rattle.manager_slice.specs.Messages.{is_request}
 use Rattle.manager_slice.specs.declared.managed.ManagedLine.TheVariants as managed
 use Rattle.core_unit.specs.Core.{Core, has_place, fits}
-use Rattle.tardis_core.specs.Machine.{World}
+use Rattle.core_machine.specs.Machine.{World}
 use Rattle.machine_laws.specs.Settled.{Settled}
 
 -- a core has a line as Exclusive exactly where the line is managed as its own

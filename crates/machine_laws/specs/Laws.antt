@@ -14,10 +14,10 @@ use Rattle.verdict.specs.declared.answer.Verdict.TheVariants.{Yes}
 use Rattle.verdict.specs.VerdictOf.{verdict_of, run_verdict_of}
 use Rattle.manager_slice.specs.Parts.{SliceParts}
 use Rattle.core_unit.specs.Parts.{UnitParts}
-use Rattle.tardis_core.specs.Machine.{World, Run, opening}
-use Rattle.tardis_core.specs.Works.{has_next}
-use Rattle.tardis_core.specs.declared.event.Event.{Event}
-use Rattle.tardis_core.specs.declared.event.Event.TheVariants as event
+use Rattle.core_machine.specs.Machine.{World, Run, opening}
+use Rattle.core_machine.specs.Works.{has_next}
+use Rattle.core_machine.specs.declared.event.Event.{Event}
+use Rattle.core_machine.specs.declared.event.Event.TheVariants as event
 use Rattle.audit.specs.Events.{AreOneMachine}
 use Rattle.audit.specs.Lists.{transcripts, histories}
 use Rattle.audit.specs.Merges.{HasMerge}
@@ -50,6 +50,14 @@ VersionsHold = (programs : List (List Instruction)) (g : ConfigParts) (w : World
 
 -- ---- the verdict
 
+-- the logs get Yes, with the number of their records
+abbrev pub GetYes : List (List Record) → Type 0
+GetYes logs = verdict_of logs ≡ Yes (length (entries logs))
+
+-- they get it against these programs too
+abbrev pub GetYesBy : List (List Instruction) → List (List Record) → Type 0
+GetYesBy programs logs = run_verdict_of programs logs ≡ Yes (length (entries logs))
+
 -- the operations that each core has performed so far
 abbrev pub logs_of : World → List (List Record)
 logs_of w = map (λ u. u.log) w.cores
@@ -61,8 +69,7 @@ HaveEnded w = (c : ℕ) → has_next w c ≡ false
 -- the logs made so far get Yes
 abbrev pub RunsGetYes : Type 0
 RunsGetYes =
-    (programs : List (List Instruction)) (g : ConfigParts) (w : World) → IsReachedFrom programs g w →
-    verdict_of (logs_of w) ≡ Yes (length (entries (logs_of w)))
+    (programs : List (List Instruction)) (g : ConfigParts) (w : World) → IsReachedFrom programs g w → GetYes (logs_of w)
 
 -- so their operations are sequentially consistent, as textbooks have it
 abbrev pub RunsAreConsistent : Type 0
@@ -73,7 +80,7 @@ RunsAreConsistent =
 abbrev pub EndedRunsGetYes : Type 0
 EndedRunsGetYes =
     (programs : List (List Instruction)) (g : ConfigParts) (w : World) → IsReachedFrom programs g w → HaveEnded w →
-    run_verdict_of programs (logs_of w) ≡ Yes (length (entries (logs_of w)))
+    GetYesBy programs (logs_of w)
 
 -- so some whole run of the flat machine, one memory and a core at a time, performs just these operations
 abbrev pub EndedRunsAreFlat : Type 0
@@ -90,13 +97,13 @@ unit_logs us = map (λ u. u.log) us
 abbrev pub MergedLogsGetYes : Type 0
 MergedLogsGetYes =
     (g : ConfigParts) (us : List UnitParts) (ss : List SliceParts) → AreOneMachine g us ss → HasMerge (transcripts us) (histories ss) →
-    verdict_of (unit_logs us) ≡ Yes (length (entries (unit_logs us)))
+    GetYes (unit_logs us)
 
 -- those of a whole run of programs get Yes against the programs too
 abbrev pub WholeRunsGetYes : Type 0
 WholeRunsGetYes =
     (programs : List (List Instruction)) (g : ConfigParts) (us : List UnitParts) (ss : List SliceParts) → IsRun programs g us ss →
-    run_verdict_of programs (unit_logs us) ≡ Yes (length (entries (unit_logs us)))
+    GetYesBy programs (unit_logs us)
 
 -- ---- a run
 

@@ -18,7 +18,7 @@ use Rattle.manager_slice.specs.Table.{Slice, met_line}
 use Rattle.manager_slice.specs.declared.managed.ManagedLine.{ManagedLine}
 use Rattle.manager_slice.specs.declared.managed.ManagedLine.TheVariants as managed
 use Rattle.core_unit.specs.Core.{Core}
-use Rattle.tardis_core.specs.Machine.{World, slice_number}
+use Rattle.core_machine.specs.Machine.{World, slice_number}
 use Rattle.machine_laws.specs.Views.{View}
 
 -- what each core has of each address, and what is managed there; a line in memory counts as Shared

@@ -1,7 +1,7 @@
 -- The cores that haven't ended, and what a drawn round is refused for.
 use Rattle.std.proofs.Common.{◌≡◌, ◌⊎◌, ◌≤◌, ℕ, refl, ap, inl, inr}
-use Rattle.tardis_core.specs.Machine.{World}
-use Rattle.tardis_core.specs.Parts.{CoreParts, world}
+use Rattle.core_machine.specs.Machine.{World}
+use Rattle.core_machine.specs.Parts.{CoreParts, world}
 use Rattle.tardis_core.specs.Picks.{IsPick}
 use Rattle.tardis_core.specs.Rounds.{IsRefusedRound, IsRound}
 use Rattle.tardis_core.specs.declared.rounds.fault.RoundCause.TheVariants.{GaveUp}

@@ -1,10 +1,10 @@
 -- After a round of a core the list of the cores that haven't ended is the same, or has lost that core.
 use Rattle.std.proofs.Common.{◌≡◌, ◌≢◌, ℕ, zero, suc, ◌∷◌, ◌++◌, Bool, true, false, nat_eq, if◌then◌else◌, [], refl, sym, ap, ◌∙◌, arith}
 use Rattle.std.proofs.lemmas.List.Elements.{filter-append}
-use Rattle.tardis_core.specs.Machine.{World}
-use Rattle.tardis_core.specs.Parts.{CoreParts, world}
+use Rattle.core_machine.specs.Machine.{World}
+use Rattle.core_machine.specs.Parts.{CoreParts, world}
 use Rattle.tardis_core.specs.Rounds.{IsRound}
-use Rattle.tardis_core.specs.Works.{has_next}
+use Rattle.core_machine.specs.Works.{has_next}
 use Rattle.tardis_core.proofs.Nexts.{round_next}
 use Rattle.simulation.specs.Drawing.{cores_left, is_other, left_below, without}
 

@@ -2,4 +2,5 @@ mod Drawn
 mod Draws
 mod Left
 mod Progress
-mod SimulatedRuns
+pub mod SimulatedRuns
+pub mod Ended

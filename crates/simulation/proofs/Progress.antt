@@ -6,11 +6,11 @@ use Rattle.std.proofs.lemmas.List.{length-append}
 use Rattle.lease_rule.specs.ConfigParts.{ConfigParts}
 use Rattle.core_unit.specs.Core.{Core, next_of, record_of, word_of}
 use Rattle.core_unit.specs.declared.outcome.Outcome.{Outcome}
-use Rattle.tardis_core.specs.Machine.{World, CoreLeads, Leads, turn_hits, turn_drops, turn_gives, turn_asks, turn_ends, takes, takes_nothing, takes_busy, recall_gives, evict_drops, evict_gives, increments, by_core, serves, spills, no_effect}
-use Rattle.tardis_core.specs.Parts.{CoreParts, world}
+use Rattle.core_machine.specs.Machine.{World, CoreLeads, Leads, turn_hits, turn_drops, turn_gives, turn_asks, turn_ends, takes, takes_nothing, takes_busy, recall_gives, evict_drops, evict_gives, increments, by_core, serves, spills, no_effect}
+use Rattle.core_machine.specs.Parts.{CoreParts, world}
 use Rattle.tardis_core.specs.Rounds.{IsRound, Part, Stage, begins, makes, passes}
-use Rattle.tardis_core.specs.Works.{left_at, log_at}
-use Rattle.tardis_core.specs.declared.event.Event.{Event}
+use Rattle.core_machine.specs.Works.{left_at, log_at}
+use Rattle.core_machine.specs.declared.event.Event.{Event}
 use Rattle.tardis_core.proofs.Works.{answered_on}
 
 -- ---- one core

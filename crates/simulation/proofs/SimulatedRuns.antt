@@ -5,12 +5,12 @@ use Rattle.lease_rule.specs.ConfigParts.{ConfigParts}
 use Rattle.core_unit.specs.declared.outcome.Outcome.{Outcome}
 use Rattle.schedule.specs.declared.command.Command.{Command}
 use Rattle.schedule.specs.declared.command.Command.TheVariants as command
-use Rattle.tardis_core.specs.Machine.{Run, next, start}
-use Rattle.tardis_core.specs.Parts.{CoreParts, world}
+use Rattle.core_machine.specs.Machine.{Run, next, start}
+use Rattle.core_machine.specs.Parts.{CoreParts, world}
 use Rattle.tardis_core.specs.Rounds.{IsOpIfLeft, IsRun, IsRunTo, Makes, Ops, Rounds}
 use Rattle.tardis_core.specs.Rounds as rounds
-use Rattle.tardis_core.specs.Runs.{run_from}
-use Rattle.tardis_core.specs.declared.event.Event.{Event}
+use Rattle.core_machine.specs.Runs.{run_from}
+use Rattle.core_machine.specs.declared.event.Event.{Event}
 use Rattle.tardis_core.specs.declared.rounds.fault.RoundFault.{RoundFault}
 use Rattle.tardis_core.proofs.RoundRuns.{finish_fault_run, no_run, op_fault_run, part_runs, run_more, run_then, stays, stopped_run, then_run}
 use Rattle.simulation.specs.Commands.{Follows, IsRefusedCommand, IsUnfollowed, Obeys}
@@ -33,7 +33,7 @@ op_run : (c : ℕ) (p q : CoreParts) (x : IsOpIfLeft c p q) → IsRun p (op_even
 op_run c p q (rounds.performs op) = rounds_run c p op.count q op.rounds
 op_run c p q (rounds.none_left ended same) = subst (λ (t : CoreParts). IsRun p [] t) (sym same) (no_run p)
 
-ops_run : (c : ℕ) (p q : CoreParts) (x : Ops c p q) → IsRun p (ops_events c p q x) q
+pub ops_run : (c : ℕ) (p q : CoreParts) (x : Ops c p q) → IsRun p (ops_events c p q x) q
 ops_run c p q rounds.no_op = no_run p
 ops_run c p q (rounds.next_op r t x op) =
     run_then p r t (ops_events c p r x) (rounds_events c r op.count t op.rounds) (ops_run c p r x) (rounds_run c r op.count t op.rounds)

@@ -4,14 +4,14 @@ use Rattle.manager_slice.specs.declared.fault.SliceFault.{SliceFault}
 use Rattle.core_unit.specs.declared.outcome.Outcome.{Outcome}
 use Rattle.schedule.specs.declared.command.Command.{Command}
 use Rattle.schedule.specs.declared.command.Command.TheVariants as command
-use Rattle.tardis_core.specs.Machine.{slice_number}
-use Rattle.tardis_core.specs.Parts.{CoreParts}
+use Rattle.core_machine.specs.Machine.{slice_number}
+use Rattle.core_machine.specs.Parts.{CoreParts}
 use Rattle.tardis_core.specs.Rounds.{IsCauseOf, IsFinished, IsFinishFault, IsOpFault, IsOpIfLeft, IsRefusedRound, IsRound, Makes}
-use Rattle.tardis_core.specs.Runs.{MayRefuse}
-use Rattle.tardis_core.specs.Steps.{step_outcome}
-use Rattle.tardis_core.specs.declared.event.Event.{Event}
-use Rattle.tardis_core.specs.declared.event.Event.TheVariants as event
-use Rattle.tardis_core.specs.declared.fault.CoreFault.TheVariants as core_fault
+use Rattle.core_machine.specs.Runs.{MayRefuse}
+use Rattle.core_machine.specs.Steps.{step_outcome}
+use Rattle.core_machine.specs.declared.event.Event.{Event}
+use Rattle.core_machine.specs.declared.event.Event.TheVariants as event
+use Rattle.core_machine.specs.declared.fault.CoreFault.TheVariants as core_fault
 use Rattle.tardis_core.specs.declared.rounds.fault.RoundFault.{RoundFault}
 use Rattle.simulation.specs.declared.fault.SimulationFault.{SimulationFault}
 use Rattle.simulation.specs.declared.fault.SimulationFault.TheVariants.{Core, Slice}

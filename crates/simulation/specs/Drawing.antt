@@ -4,11 +4,11 @@ use Rattle.std.specs.List.{filter}
 use Rattle.rand_core.specs.Pcg32Seed.{pcg32_seed}
 use Rattle.rand_pcg.specs.Lcg.{Lcg}
 use Rattle.rand_pcg.specs.Pcg.{pcg32_of_seed}
-use Rattle.tardis_core.specs.Machine.{World}
-use Rattle.tardis_core.specs.Parts.{CoreParts, world}
+use Rattle.core_machine.specs.Machine.{World}
+use Rattle.core_machine.specs.Parts.{CoreParts, world}
 use Rattle.tardis_core.specs.Picks.{IsPick, one_word_on}
 use Rattle.tardis_core.specs.Rounds.{IsRefusedRound, IsRound}
-use Rattle.tardis_core.specs.Works.{has_next, log_at}
+use Rattle.core_machine.specs.Works.{has_next, log_at}
 use Rattle.tardis_core.specs.declared.rounds.fault.RoundCause.TheVariants as cause
 use Rattle.simulation.specs.Commands.{IsOfCore}
 use Rattle.simulation.specs.declared.fault.SimulationFault.{SimulationFault}

@@ -2,11 +2,11 @@
 use Rattle.std.specs.Prelude.{ℕ, List, [], ◌∷◌, ◌++◌, Option, None, Some}
 use Rattle.schedule.specs.declared.command.Command.{Command}
 use Rattle.schedule.specs.declared.command.Command.TheVariants as command
-use Rattle.tardis_core.specs.Parts.{CoreParts}
+use Rattle.core_machine.specs.Parts.{CoreParts}
 use Rattle.tardis_core.specs.Rounds.{IsOpIfLeft, IsRun, Ops, Rounds}
 use Rattle.tardis_core.specs.Rounds as rounds
-use Rattle.tardis_core.specs.declared.event.Event.{Event}
-use Rattle.tardis_core.specs.declared.event.Event.TheVariants as event
+use Rattle.core_machine.specs.declared.event.Event.{Event}
+use Rattle.core_machine.specs.declared.event.Event.TheVariants as event
 use Rattle.simulation.specs.Commands.{Follows, Obeys}
 use Rattle.simulation.specs.Commands as commands
 use Rattle.simulation.specs.Drawing.{Draws, Leads}

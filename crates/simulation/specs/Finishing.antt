@@ -1,6 +1,6 @@
 -- The cores finished in their order.
 use Rattle.std.specs.Prelude.{ℕ, ◌+◌, ◌<◌}
-use Rattle.tardis_core.specs.Parts.{CoreParts}
+use Rattle.core_machine.specs.Parts.{CoreParts}
 use Rattle.tardis_core.specs.Rounds.{IsFinished, IsFinishFault}
 use Rattle.simulation.specs.Commands.{IsOfCore}
 use Rattle.simulation.specs.declared.fault.SimulationFault.{SimulationFault}

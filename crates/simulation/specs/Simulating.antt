@@ -1,7 +1,9 @@
 -- A whole simulation.
-use Rattle.std.specs.Prelude.{◌⊎◌, ℕ, List, Option, None, Some}
+use Rattle.std.specs.Prelude.{◌≡◌, ◌<◌, ◌⊎◌, ℕ, false, List, Option, None, Some}
 use Rattle.schedule.specs.declared.command.Command.{Command}
-use Rattle.tardis_core.specs.Parts.{CoreParts}
+use Rattle.core_machine.specs.Machine.{World}
+use Rattle.core_machine.specs.Parts.{CoreParts}
+use Rattle.core_machine.specs.Works.{has_next}
 use Rattle.simulation.specs.Commands.{Follows, IsUnfollowed}
 use Rattle.simulation.specs.Drawing.{IsDrawFault, IsDrawnOut}
 use Rattle.simulation.specs.Finishing.{FinishesAll, IsUnfinished}
@@ -15,6 +17,10 @@ IsEnded (Some seed) p q = IsDrawnOut seed p q
 abbrev pub IsUnended : Option ℕ → CoreParts → CoreParts → SimulationFault → Type 0
 IsUnended None p q fault = IsUnfinished p q fault
 IsUnended (Some seed) p q fault = IsDrawFault seed p q fault
+
+-- no core has an operation left; there are 64 at most
+abbrev pub NoneIsLeft : World → Type 0
+NoneIsLeft w = (c : ℕ) → c < 64 → has_next w c ≡ false
 
 -- the schedule's commands and then the ends of all cores lead from p to q
 pub record IsSimulated (commands : List Command) (seed : Option ℕ) (p q : CoreParts) : Type 0 where

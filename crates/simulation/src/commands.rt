@@ -2,7 +2,7 @@
 
 ghost use Rattle.std.specs.Prelude.{◌≡◌, Some, MatchResult};
 ghost use Rattle.simulation.specs.Commands.{Follows, Happens, IsRefusedAt, IsRefusedCommand, IsRefusedSpill, IsUnfollowed, Obeys};
-ghost use Rattle.tardis_core.specs.Machine.{core_event};
+ghost use Rattle.core_machine.specs.Machine.{core_event};
 
 use super::fault::SimulationFault;
 use mem_op::{Addr, CoreId};

@@ -2,9 +2,9 @@
 
 ghost use Rattle.std.specs.Prelude.{◌≡◌, ◌<◌, ◌≤◌, ◌⊎◌, if◌then◌else◌, length, slice_set, IfOk, IfErr, OnOk, MatchResult};
 ghost use Rattle.simulation.specs.Drawing.{IsDrawFault, IsDrawnOut, cores_left, waited, without};
-ghost use Rattle.tardis_core.specs.Parts.{world};
+ghost use Rattle.core_machine.specs.Parts.{world};
 ghost use Rattle.tardis_core.specs.Rounds.{IsRefusedRound, IsRound};
-ghost use Rattle.tardis_core.specs.Works.{has_next, log_at};
+ghost use Rattle.core_machine.specs.Works.{has_next, log_at};
 ghost use Rattle.tardis_core.specs.declared.rounds.fault.RoundCause.TheVariants.{GaveUp};
 
 use super::fault::SimulationFault;

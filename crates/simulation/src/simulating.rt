@@ -2,7 +2,8 @@
 
 ghost use Rattle.std.specs.Prelude.{MatchResult, OnOk};
 ghost use Rattle.simulation.specs.Events.{IsSimulatedByRun};
-ghost use Rattle.simulation.specs.Simulating.{IsEnded, IsSimulated, IsSimulationFault, IsUnended};
+ghost use Rattle.core_machine.specs.Parts.{world};
+ghost use Rattle.simulation.specs.Simulating.{IsEnded, IsSimulated, IsSimulationFault, IsUnended, NoneIsLeft};
 ghost use Rattle.tardis_core.specs.Rounds.{IsRunTo};
 
 use super::commands::follow;
@@ -25,6 +26,7 @@ pub fn simulate(
     ensures simulated { MatchResult result
         (λ _. IsSimulated commands.now seed machine.old machine.new)
         (λ fault. IsSimulationFault commands.now seed machine.old machine.new fault) }
+    ensures ended { OnOk result (NoneIsLeft (world machine.new)) }
     // What was done is one run of the core machine: by just the events of the commands and the rounds.
     ensures events { OnOk result (IsSimulatedByRun commands.now seed machine.old machine.new) }
     // What was done before a refusal is one too.

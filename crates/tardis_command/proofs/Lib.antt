@@ -1,5 +1,6 @@
 mod Checks
 mod Ends
+mod Leaving
 mod Logs
 mod Orders
 mod Runs

@@ -6,7 +6,7 @@ use Rattle.std.proofs.lemmas.Fmt.{decimal_injective}
 use Rattle.std.proofs.lemmas.List.{append_cancel_left}
 use borrow.Author.Count.{below_more}
 use Rattle.log_file.specs.Devices.{Failed, Tells}
-use Rattle.log_file.specs.Log.{spelling, first_format}
+use Rattle.log_file.specs.Log.{Spells, first_format}
 use Rattle.log_record.specs.declared.record.Record.{Record}
 use Rattle.tardis_command.specs.Files.{Files}
 use Rattle.tardis_command.specs.inner.Putting.{IsUnput}
@@ -28,15 +28,15 @@ module _ (told told' told'' : List ℕ → Option (List ℕ)) (out : List ℕ) (
   tells_first : TellsFirst told'' out cores made n
   tells_first c below =
       let same : told'' (log_name out c) ≡ told' (log_name out c) = stays (log_name out c) (names_differ out c core (omega arith) (omega arith)) in
-      subst (λ (x : Option (List ℕ)). Tells x (spelling first_format c cores (made c))) (sym same) (so_far.logs c below)
+      subst (λ (x : Option (List ℕ)). (text : List ℕ) × Tells x text × Spells first_format c cores text (made c)) (sym same) (so_far.logs c below)
 
   keeps_others : KeepsOthers told told'' out (n + 1)
   keeps_others name none = stays name (none core (omega arith)) ∙ so_far.others name (λ c below. none c (omega arith))
 
   -- the next log was put too
-  pub put_next : (records : List Record) → records ≡ made core → Tells (told'' (log_name out core)) (spelling first_format core cores records) → ArePutFirst told told'' out cores made (n + 1)
+  pub put_next : (records : List Record) → records ≡ made core → ((text : List ℕ) × Tells (told'' (log_name out core)) text × Spells first_format core cores text records) → ArePutFirst told told'' out cores made (n + 1)
   put_next records logged next =
-      let here : TellsLog told'' out cores made core = subst (λ (x : List Record). Tells (told'' (log_name out core)) (spelling first_format core cores x)) logged next in record {
+      let here : TellsLog told'' out cores made core = subst (λ (x : List Record). (text : List ℕ) × Tells (told'' (log_name out core)) text × Spells first_format core cores text x) logged next in record {
         logs = below_more (TellsLog told'' out cores made) n tells_first (subst (λ (c : ℕ). TellsLog told'' out cores made c) is here);
         others = keeps_others;
       }

@@ -7,9 +7,9 @@ use Rattle.core_program.specs.declared.instruction.Instruction.{Instruction}
 use Rattle.schedule.specs.declared.command.Command.{Command}
 use Rattle.simulation.specs.Simulating.{IsSimulated, IsSimulationFault}
 use Rattle.simulation.specs.declared.fault.SimulationFault.{SimulationFault}
-use Rattle.tardis_core.specs.Opening.{opening_parts}
-use Rattle.tardis_core.specs.Parts.{CoreParts, world}
-use Rattle.tardis_core.specs.Works.{log_at}
+use Rattle.core_machine.specs.Opening.{opening_parts}
+use Rattle.core_machine.specs.Parts.{CoreParts, world}
+use Rattle.core_machine.specs.Works.{log_at}
 use Rattle.tardis_command.specs.Files.{Files}
 use Rattle.tardis_command.specs.Logs.{ArePut, ArePutAsFar, ArePutUpTo, IsUnwritten, performed_below}
 use Rattle.tardis_command.specs.Programmed.{AreProgramsIn, config_of}

@@ -10,6 +10,7 @@ use Rattle.tardis_command.specs.Answers.{answer_status, answer_text, told_text}
 use Rattle.tardis_command.specs.Checking.{FilesAreConsistent, FilesRunFlat, IsChecked, TextsAreConsistent}
 use Rattle.tardis_command.specs.Files.{Files}
 use Rattle.tardis_command.specs.Faults.{command_fault_text, fault_status}
+use Rattle.tardis_command.specs.Leaving.{LeavesYes}
 use Rattle.tardis_command.specs.Logs.{log_name}
 use Rattle.tardis_command.specs.Ordering.{IsOrdered, TakesOrder}
 use Rattle.tardis_command.specs.Running.{IsThreadRun}
@@ -105,6 +106,14 @@ RunFlat told (Order asked) = ⊤
 RunFlat told (Sim asked) = ⊤
 RunFlat told (Run asked) = ⊤
 RunFlat told (Litmus asked) = ⊤
+
+-- where a run was asked for, the judge answers Yes to the logs that it leaves, against its programs
+abbrev pub LeaveYes : (List ℕ → Option (List ℕ)) → (List ℕ → Option (List ℕ)) → Request → Type 0
+LeaveYes told told' (Check asked) = ⊤
+LeaveYes told told' (Order asked) = ⊤
+LeaveYes told told' (Sim asked) = LeavesYes told told' asked.programs.now asked.out.now
+LeaveYes told told' (Run asked) = LeavesYes told told' asked.programs.now asked.out.now
+LeaveYes told told' (Litmus asked) = ⊤
 
 -- the name of a log that was asked for
 abbrev pub IsLogName : Request → List ℕ → Type 0

@@ -3,6 +3,7 @@ pub mod Checking
 pub mod Endings
 pub mod Faults
 pub mod Files
+pub mod Leaving
 pub mod Logs
 pub mod Ordering
 pub mod Programmed

@@ -2,7 +2,7 @@
 use Rattle.std.specs.Prelude.{◌≡◌, ◌≢◌, ◌⊎◌, ⊤, ℕ, zero, suc, ◌+◌, ◌<◌, List, ◌++◌, length, Option, codes}
 use Rattle.std.specs.Fmt.{decimal}
 use Rattle.log_file.specs.Devices.{Failed, Tells}
-use Rattle.log_file.specs.Log.{spelling, first_format}
+use Rattle.log_file.specs.Log.{Spells, first_format}
 use Rattle.log_record.specs.declared.record.Record.{Record}
 use Rattle.tardis_command.specs.Files.{Files}
 use Rattle.tardis_command.specs.declared.fault.CommandFault.{CommandFault}
@@ -14,7 +14,7 @@ log_name out c = out ++ (codes "." ++ decimal c)
 
 -- core c's log, of `cores`, is told under its name, in its one spelling
 abbrev pub TellsLog : (List ℕ → Option (List ℕ)) → List ℕ → ℕ → (ℕ → List Record) → ℕ → Type 0
-TellsLog told out cores made c = Tells (told (log_name out c)) (spelling first_format c cores (made c))
+TellsLog told out cores made c = (text : List ℕ) × Tells (told (log_name out c)) text × Spells first_format c cores text (made c)
 
 -- so are the logs of the first n cores
 abbrev pub TellsFirst : (List ℕ → Option (List ℕ)) → List ℕ → ℕ → (ℕ → List Record) → ℕ → Type 0

@@ -8,9 +8,9 @@ use Rattle.log_file.specs.Devices.{Tells}
 use Rattle.schedule.specs.Answers.{IsFault as IsScheduleFault, Spells as SpellsSchedule}
 use Rattle.schedule.specs.declared.command.Command.{Command}
 use Rattle.schedule.specs.declared.fault.ScheduleFault.{ScheduleFault}
-use Rattle.tardis_core.specs.Opening.{opening_parts}
-use Rattle.tardis_core.specs.Parts.{CoreParts, world}
-use Rattle.tardis_core.specs.Works.{log_at}
+use Rattle.core_machine.specs.Opening.{opening_parts}
+use Rattle.core_machine.specs.Parts.{CoreParts, world}
+use Rattle.core_machine.specs.Works.{log_at}
 use Rattle.simulation.specs.Simulating.{IsSimulated, IsSimulationFault}
 use Rattle.tardis_command.specs.Checking.{IsTextFault}
 use Rattle.tardis_command.specs.Files.{Files}

@@ -55,6 +55,8 @@ pub fn command<R: Threads + Wait + Sync, W: Watch + Sync, F: Folder, O: ByteSink
         (endings.sink_of O.contents O.failed out.new)) }
     ensures flat { result ≡ 0 → endings.AskFor (texts words.entry.now)
         (endings.RunFlat (F.told folder.old)) }
+    ensures yes { result ≡ 0 → endings.AskFor (texts words.entry.now)
+        (endings.LeaveYes (F.told folder.old) (F.told folder.new)) }
 {
     let request = match read(alloc, words) {
         Ok(request) => request,
@@ -95,6 +97,8 @@ fn perform<R: Threads + Wait + Sync, W: Watch + Sync, F: Folder, O: ByteSink>(
         (endings.sink_of O.contents O.failed out.new) request.now) }
     ensures flat { IfOk result (λ answer. answer_status answer ≡ 0
         → endings.RunFlat (F.told folder.old) request.now) }
+    ensures yes { IfOk result (λ answer. answer_status answer ≡ 0
+        → endings.LeaveYes (F.told folder.old) (F.told folder.new) request.now) }
 {
     match request {
         Request::Check(asked) => {

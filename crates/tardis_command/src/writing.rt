@@ -4,7 +4,7 @@ ghost use Rattle.std.specs.Prelude.{◌≡◌, ◌≢◌, ◌≤◌, ◌<◌, �
 ghost use Rattle.mem_op.specs.Limits.{operation_limit};
 ghost use Rattle.log_record.specs.declared.record.Record.{Record};
 ghost use Rattle.log_file.specs.Devices.{Tells};
-ghost use Rattle.log_file.specs.Log.{spelling, first_format};
+ghost use Rattle.log_file.specs.Log.{Spells, first_format};
 ghost use Rattle.tardis_command.specs.Files.{files_of};
 ghost use Rattle.tardis_command.specs.Logs as logs;
 ghost use Rattle.tardis_command.specs.inner.Putting.{IsUnput};
@@ -30,8 +30,8 @@ pub(crate) trait Logs {
 }
 
 impl Logs for Core {
-    ghost use Rattle.tardis_core.specs.Parts.{world};
-    ghost use Rattle.tardis_core.specs.Works.{log_at};
+    ghost use Rattle.core_machine.specs.Parts.{world};
+    ghost use Rattle.core_machine.specs.Works.{log_at};
 
     ghost made = { λ machine. log_at (world machine) };
 
@@ -107,8 +107,8 @@ fn write_log_of<F: Folder>(
     requires core { core < cores }
     requires cores { cores ≤ 64 }
     requires few { length records.now ≤ operation_limit }
-    ensures ok { OnOk result (Tells (F.told folder.new (logs.log_name out.now core))
-        (spelling first_format core cores records.now)) }
+    ensures ok { OnOk result ((text : List ℕ) × Tells (F.told folder.new (logs.log_name out.now core)) text
+        × Spells first_format core cores text records.now) }
     ensures others { (name : List ℕ) → name ≢ logs.log_name out.now core
         → F.told folder.new name ≡ F.told folder.old name }
     ensures quiet { OnOk result (F.failed folder.new ≡ F.failed folder.old) }

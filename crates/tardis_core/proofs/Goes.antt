@@ -25,11 +25,11 @@ use Rattle.core_unit.specs.declared.fault.UnitFault.{UnitFault}
 use Rattle.core_unit.specs.declared.fault.UnitFault.TheVariants.{TranscriptFull}
 use Rattle.core_unit.specs.declared.outcome.Outcome.{Outcome}
 use Rattle.core_unit.specs.declared.outcome.Outcome.TheVariants as outcome
-use Rattle.tardis_core.specs.Machine.{CoreLeads, turn_hits, turn_drops, turn_gives, turn_asks, turn_ends, recall_gives, evict_drops, evict_gives, increments, bars}
-use Rattle.tardis_core.specs.SeatParts.{SeatParts}
-use Rattle.tardis_core.specs.Seats.{SeatGoes, seen}
-use Rattle.tardis_core.specs.declared.event.Event.{Event}
-use Rattle.tardis_core.specs.declared.event.Event.TheVariants as event
+use Rattle.core_machine.specs.Machine.{CoreLeads, turn_hits, turn_drops, turn_gives, turn_asks, turn_ends, recall_gives, evict_drops, evict_gives, increments, bars}
+use Rattle.core_machine.specs.SeatParts.{SeatParts}
+use Rattle.core_machine.specs.Seats.{SeatGoes, seen}
+use Rattle.core_machine.specs.declared.event.Event.{Event}
+use Rattle.core_machine.specs.declared.event.Event.TheVariants as event
 
 abbrev pub UnitResult : Type 0
 UnitResult = Result Outcome UnitFault

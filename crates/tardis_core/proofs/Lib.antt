@@ -1,12 +1,7 @@
-pub mod Alone
 pub mod Goes
-pub mod Leading
+pub mod Judged
 pub mod Nexts
-pub mod Opened
-pub mod Placed
-pub mod Reached
-pub mod Serving
-pub mod Takes
 pub mod RoundRuns
 pub mod Stages
+pub mod Takes
 pub mod Works

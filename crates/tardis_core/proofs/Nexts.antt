@@ -5,15 +5,16 @@ use Rattle.std.specs.Option.{option_map_or}
 use Rattle.lease_rule.specs.ConfigParts.{ConfigParts}
 use Rattle.core_unit.specs.Core.{Core, next_of}
 use Rattle.core_unit.specs.declared.outcome.Outcome.{Outcome}
-use Rattle.tardis_core.specs.Machine.{World, CoreLeads, Leads, turn_hits, turn_drops, turn_gives, turn_asks, turn_ends, takes, takes_nothing, takes_busy, recall_gives, evict_drops, evict_gives, increments, by_core, serves, spills, no_effect}
-use Rattle.tardis_core.specs.Parts.{CoreParts, world}
+use Rattle.core_machine.specs.Machine.{World, CoreLeads, Leads, turn_hits, turn_drops, turn_gives, turn_asks, turn_ends, takes, takes_nothing, takes_busy, recall_gives, evict_drops, evict_gives, increments, by_core, serves, spills, no_effect}
+use Rattle.core_machine.specs.Parts.{CoreParts, world}
 use Rattle.tardis_core.specs.Rounds.{IsRound, Part, Stage, ToTurn, ToServe, ToTake, ToRecall, OwnerToServe, OwnerToTake, Over, begins, makes, passes, due, turn_due, serve_due, take_due}
-use Rattle.tardis_core.specs.Works.{has_next, hand_at}
-use Rattle.tardis_core.specs.declared.event.Event.{Event}
-use Rattle.tardis_core.specs.declared.event.Event.TheVariants as event
+use Rattle.core_machine.specs.Works.{has_next}
+use Rattle.tardis_core.specs.Hands.{hand_at}
+use Rattle.core_machine.specs.declared.event.Event.{Event}
+use Rattle.core_machine.specs.declared.event.Event.TheVariants as event
 use Rattle.tardis_core.specs.declared.rounds.hand.Hand.{Hand}
 use Rattle.tardis_core.specs.declared.rounds.hand.Hand.TheVariants as hand
-use Rattle.tardis_core.proofs.Works.{stays_in_set}
+use Rattle.core_machine.proofs.Placed.{stays_in_set}
 
 -- ---- one core
 

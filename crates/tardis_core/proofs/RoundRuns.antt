@@ -3,15 +3,17 @@ use Rattle.std.proofs.Common.{arith, true, ◌≡◌, ℕ, List, [], ◌∷◌, 
 use Rattle.std.specs.Prelude.{Option, Some, None, option_and_then}
 use Rattle.log_record.specs.declared.record.Record.{Record}
 use Rattle.lease_rule.specs.ConfigParts.{ConfigParts}
-use Rattle.tardis_core.specs.Machine.{World, Leads, Run, start, next}
-use Rattle.tardis_core.specs.Parts.{CoreParts, world}
+use Rattle.core_machine.specs.Machine.{World, Leads, Run, start, next}
+use Rattle.core_machine.specs.Parts.{CoreParts, world}
 use Rattle.tardis_core.specs.Rounds.{Makes, IsRun, IsRunTo, Stage, Part, begins, makes, passes, IsPart, IsStopped, Rounds, no_round, one_more, StillWaits, IsOp, IsOpFault, gave_up, stopped, Ops, no_op, next_op, IsFinishFault}
-use Rattle.tardis_core.specs.Runs.{behind, run_from}
-use Rattle.tardis_core.specs.Steps.{step_outcome}
-use Rattle.tardis_core.specs.Works.{HasPerformed, SameWork, has_next}
-use Rattle.tardis_core.specs.declared.event.Event.{Event}
+use Rattle.core_machine.specs.Runs.{behind, run_from}
+use Rattle.core_machine.specs.Steps.{step_outcome}
+use Rattle.core_machine.specs.Works.{has_next}
+use Rattle.tardis_core.specs.Hands.{HasPerformed, SameWork}
+use Rattle.core_machine.specs.declared.event.Event.{Event}
 use Rattle.tardis_core.specs.declared.rounds.fault.RoundFault.{RoundFault}
-use Rattle.tardis_core.proofs.Reached.{behind_met, run_from-push}
+use Rattle.core_machine.proofs.Appended.{run-append}
+use Rattle.core_machine.proofs.Reached.{behind_met, run_from-push}
 
 -- ---- runs, one after the other
 
@@ -23,12 +25,6 @@ run_from-append p (e ∷ es) fs = by_first (λ q. run_from-append q es fs) (behi
         → option_and_then (λ q. run_from q (es ++ fs)) o ≡ option_and_then (λ q. run_from q fs) (option_and_then (λ q. run_from q es) o)
     by_first later None = refl
     by_first later (Some q) = later q
-
-pub run-append : (g : ConfigParts) (w : World) (es : List Event) (m : World) → Run g w es m → (fs : List Event) (t : World) → Run g m fs t → Run g w (es ++ fs) t
-run-append g w es m x fs t start = subst (λ (all : List Event). Run g w all m) (sym (append-nil es)) x
-run-append g w es m x fs t (next gs e o between s y leads) =
-    subst (λ (all : List Event). Run g w all s) (append_assoc es gs (e ∷ []))
-    (next (es ++ gs) e o between s (run-append g w es m x gs between y) leads)
 
 pub no_run : (p : CoreParts) → IsRun p [] p
 no_run p = record { reached = refl; run = start; config = refl }

@@ -4,13 +4,13 @@ use Rattle.std.specs.Prelude.{Some, None}
 use Rattle.core_unit.specs.declared.outcome.Outcome.{Outcome}
 use Rattle.core_unit.specs.declared.outcome.Outcome.TheVariants as outcome
 use Rattle.line_stamps.specs.declared.message.Recall.{Recall}
-use Rattle.tardis_core.specs.Machine.{World, core_event}
-use Rattle.tardis_core.specs.Parts.{CoreParts, world}
+use Rattle.core_machine.specs.Machine.{World, core_event}
+use Rattle.core_machine.specs.Parts.{CoreParts, world}
 use Rattle.tardis_core.specs.Rounds.{IsMade, told_by, Stage, ToTurn, ToServe, ToTake, ToRecall, OwnerToServe, OwnerToTake, Over, turn_due, serve_due, take_due, due, stage_of, stage_of_recall, stage_after, stage_without, Part, begins, makes, passes, IsPart, IsCauseOf, IsStopped}
-use Rattle.tardis_core.specs.Steps.{step_outcome}
-use Rattle.tardis_core.specs.Works.{hand_at, SameWork, HasPerformed}
-use Rattle.tardis_core.specs.declared.event.Event.{Event}
-use Rattle.tardis_core.specs.declared.event.Event.TheVariants as event
+use Rattle.core_machine.specs.Steps.{step_outcome}
+use Rattle.tardis_core.specs.Hands.{hand_at, SameWork, HasPerformed}
+use Rattle.core_machine.specs.declared.event.Event.{Event}
+use Rattle.core_machine.specs.declared.event.Event.TheVariants as event
 use Rattle.tardis_core.specs.declared.rounds.fault.RoundFault.{RoundFault}
 use Rattle.tardis_core.specs.declared.rounds.hand.Hand.{Hand}
 use Rattle.tardis_core.specs.declared.rounds.hand.Hand.TheVariants as hand

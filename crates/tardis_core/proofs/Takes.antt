@@ -19,10 +19,10 @@ use Rattle.core_unit.specs.declared.entry.CoreEntry.TheVariants as entry
 use Rattle.core_unit.specs.declared.fault.UnitFault.TheVariants.{BadReply}
 use Rattle.core_unit.specs.declared.outcome.Outcome.{Outcome}
 use Rattle.core_unit.specs.declared.outcome.Outcome.TheVariants as outcome
-use Rattle.tardis_core.specs.Machine.{CoreLeads, takes, takes_nothing, takes_busy}
-use Rattle.tardis_core.specs.SeatParts.{SeatParts}
-use Rattle.tardis_core.specs.Seats.{SeatGoes, seen}
-use Rattle.tardis_core.specs.declared.event.Event.TheVariants as event
+use Rattle.core_machine.specs.Machine.{CoreLeads, takes, takes_nothing, takes_busy}
+use Rattle.core_machine.specs.SeatParts.{SeatParts}
+use Rattle.core_machine.specs.Seats.{SeatGoes, seen}
+use Rattle.core_machine.specs.declared.event.Event.TheVariants as event
 use Rattle.tardis_core.proofs.Goes.{UnitResult, goes_on, made_or_refused}
 
 if_some : (b : Bool) (o : Option Held) (held : Held) → (if b then o else None) ≡ Some held → (b ≡ true) × (o ≡ Some held)

@@ -12,10 +12,12 @@ use Rattle.core_program.proofs.Rests.{leads_on}
 use Rattle.core_unit.specs.Core.{Core, next_of, record_of, word_of}
 use Rattle.core_unit.specs.declared.outcome.Outcome.{Outcome}
 use Rattle.core_unit.specs.declared.outcome.Outcome.TheVariants as outcome
-use Rattle.tardis_core.specs.Machine.{World, CoreLeads, Leads, turn_hits, turn_drops, turn_gives, turn_asks, turn_ends, takes, takes_nothing, takes_busy, recall_gives, evict_drops, evict_gives, increments, by_core, serves, spills, no_effect, with_core}
-use Rattle.tardis_core.specs.Works.{hand_of, left_at, HasPerformed, SameWork}
-use Rattle.tardis_core.specs.declared.event.Event.{Event}
-use Rattle.tardis_core.specs.declared.event.Event.TheVariants as event
+use Rattle.core_machine.specs.Machine.{World, CoreLeads, Leads, turn_hits, turn_drops, turn_gives, turn_asks, turn_ends, takes, takes_nothing, takes_busy, recall_gives, evict_drops, evict_gives, increments, by_core, serves, spills, no_effect, with_core}
+use Rattle.core_machine.specs.Works.{left_at}
+use Rattle.core_machine.proofs.Placed.{stays_in_set, set_here}
+use Rattle.tardis_core.specs.Hands.{hand_of, HasPerformed, SameWork}
+use Rattle.core_machine.specs.declared.event.Event.{Event}
+use Rattle.core_machine.specs.declared.event.Event.TheVariants as event
 use Rattle.tardis_core.specs.declared.rounds.hand.Hand.TheVariants as hand
 
 abbrev pub is_performed : Outcome → Bool
@@ -25,22 +27,6 @@ is_performed o = false
 abbrev pub is_turn : Event → Bool
 is_turn (event.Turn c) = true
 is_turn e = false
-
--- ---- cores that are replaced
-
-pub set_here : {X : Type 0} (xs : List X) (i : ℕ) (u v : X) → slice_get xs i ≡ Some u → slice_get (slice_set xs i v) i ≡ Some v
-set_here [] i u v e = absurd (cc)
-set_here (x ∷ xs) zero u v e = refl
-set_here (x ∷ xs) (suc i) u v e = set_here xs i u v e
-
--- what doesn't differ between the old item and the new one stays everywhere
-pub stays_in_set : {X A : Type 0} (f : X → A) (d : A) (xs : List X) (i j : ℕ) (u v : X) → slice_get xs i ≡ Some u → f v ≡ f u
-    → option_map_or f (slice_get (slice_set xs i v) j) d ≡ option_map_or f (slice_get xs j) d
-stays_in_set f d [] i j u v e same = refl
-stays_in_set f d (x ∷ xs) zero zero u v e same = let is : x ≡ u = cc in same ∙ ap f (sym is)
-stays_in_set f d (x ∷ xs) zero (suc j) u v e same = refl
-stays_in_set f d (x ∷ xs) (suc i) zero u v e same = refl
-stays_in_set f d (x ∷ xs) (suc i) (suc j) u v e same = stays_in_set f d xs i j u v e same
 
 -- ---- events by which nothing is performed
 

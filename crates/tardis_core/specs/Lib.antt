@@ -1,12 +1,5 @@
-pub mod Faults
-pub mod Machine
-pub mod Opening
-pub mod Parts
+pub mod Hands
 pub mod Picks
 pub mod RoundFaults
 pub mod Rounds
-pub mod Runs
-pub mod SeatParts
-pub mod Seats
-pub mod Steps
-pub mod Works
+pub mod RunFaults

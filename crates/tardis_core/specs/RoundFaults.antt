@@ -1,6 +1,6 @@
 -- The texts of the faults of rounds: a number and a name.
 use Rattle.std.specs.Prelude.{ℕ, List, codes}
-use Rattle.tardis_core.specs.Faults as core
+use Rattle.core_machine.specs.Faults as core
 use Rattle.tardis_core.specs.declared.rounds.fault.RoundCause.{RoundCause}
 use Rattle.tardis_core.specs.declared.rounds.fault.RoundCause.TheVariants as cause
 

@@ -3,13 +3,14 @@ use Rattle.std.specs.Prelude.{◌≡◌, ℕ, ◌+◌, ◌<◌, ◌≤◌, true,
 use Rattle.line_stamps.specs.declared.message.Recall.{Recall}
 use Rattle.core_unit.specs.declared.outcome.Outcome.{Outcome}
 use Rattle.core_unit.specs.declared.outcome.Outcome.TheVariants.{Performed, Busy, Gave}
-use Rattle.tardis_core.specs.Machine.{World, Leads, Run, core_event}
-use Rattle.tardis_core.specs.Parts.{CoreParts, world}
-use Rattle.tardis_core.specs.Runs.{MayRefuse, run_from}
-use Rattle.tardis_core.specs.Steps.{StepOutcome, Meets, step_outcome}
-use Rattle.tardis_core.specs.Works.{HasPerformed, hand_at, has_next, log_at}
-use Rattle.tardis_core.specs.declared.event.Event.{Event}
-use Rattle.tardis_core.specs.declared.event.Event.TheVariants as event
+use Rattle.core_machine.specs.Machine.{World, Leads, Run, core_event}
+use Rattle.core_machine.specs.Parts.{CoreParts, world}
+use Rattle.core_machine.specs.Runs.{MayRefuse, run_from}
+use Rattle.core_machine.specs.Steps.{StepOutcome, Meets, step_outcome}
+use Rattle.core_machine.specs.Works.{has_next, log_at}
+use Rattle.tardis_core.specs.Hands.{HasPerformed, hand_at}
+use Rattle.core_machine.specs.declared.event.Event.{Event}
+use Rattle.core_machine.specs.declared.event.Event.TheVariants as event
 use Rattle.tardis_core.specs.declared.rounds.fault.RoundCause.{RoundCause}
 use Rattle.tardis_core.specs.declared.rounds.fault.RoundCause.TheVariants as cause
 use Rattle.tardis_core.specs.declared.rounds.fault.RoundFault.{RoundFault}

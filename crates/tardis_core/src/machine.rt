@@ -2,7 +2,7 @@
 
 ghost use Rattle.std.specs.Prelude.{◌≡◌, option_and_then, option_map, slice_get};
 ghost use Rattle.std.specs.Option.{option_copied};
-ghost use Rattle.tardis_core.specs.Parts.{IsReached};
+ghost use Rattle.core_machine.specs.Parts.{IsMachine, IsReached};
 
 use super::seat::Seat;
 use core_unit::CoreUnit;
@@ -25,7 +25,7 @@ impl Model for Core {
     ghost use Rattle.std.specs.Coded.{codes};
     ghost use Rattle.tardis_core.specs.contracts.seat.Seat as seat;
     ghost use Rattle.manager_slice.specs.contracts.slice.ManagerSlice as slice;
-    ghost use Rattle.tardis_core.specs.Parts.{CoreParts, IsMachine};
+    ghost use Rattle.core_machine.specs.Parts.{CoreParts, IsMachine};
 
     ghost Value = { CoreParts };
 
@@ -63,6 +63,13 @@ impl Core {
     /// programs.
     pub fn replays(&self)
         ensures { IsReached self.now }
+    {
+        let _ = &self.config;
+    }
+
+    /// Does nothing: it tells what the type keeps.
+    pub(crate) fn keeps(&self)
+        ensures { IsMachine self.now }
     {
         let _ = &self.config;
     }

@@ -1,14 +1,14 @@
 //! The machine as it starts.
 
 ghost use Rattle.std.specs.Prelude.{◌≡◌, true, IfOk, IfErr, vec_len};
-ghost use Rattle.tardis_core.specs.Machine.{opening};
-ghost use Rattle.tardis_core.specs.Opening.{new_seats, new_units, opening_parts};
-ghost use Rattle.tardis_core.specs.Parts.{world};
-ghost use Rattle.tardis_core.specs.Steps.{is_memory};
+ghost use Rattle.core_machine.specs.Machine.{opening};
+ghost use Rattle.core_machine.specs.Opening.{new_seats, new_units, opening_parts};
+ghost use Rattle.core_machine.specs.Parts.{world};
+ghost use Rattle.core_machine.specs.Steps.{is_memory};
 
-use super::fault::CoreFault;
 use super::machine::Core;
 use super::seat::Seat;
+use core_machine::CoreFault;
 use core_program::ProgramSet;
 use core_unit::CoreUnit;
 use lease_rule::Config;

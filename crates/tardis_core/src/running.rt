@@ -1,16 +1,19 @@
 //! Runs.
 
-ghost use Rattle.std.specs.Prelude.{◌≡◌, Some, IfOk, IfErr};
-ghost use Rattle.tardis_core.specs.Machine.{Run, opening};
-ghost use Rattle.tardis_core.specs.Opening.{opening_parts};
-ghost use Rattle.tardis_core.specs.Parts.{world};
-ghost use Rattle.tardis_core.specs.Runs.{IsRunFault, run_from};
+ghost use Rattle.std.specs.Prelude.{◌≡◌, false, Some, IfOk, IfErr};
+ghost use Rattle.core_machine.specs.Machine.{Run, opening};
+ghost use Rattle.core_machine.specs.Opening.{opening_parts};
+ghost use Rattle.core_machine.specs.Parts.{world};
+ghost use Rattle.core_machine.specs.Runs.{run_from};
+ghost use Rattle.machine_laws.specs.Laws.{GetYes, GetYesBy, HaveEnded, logs_of};
+ghost use Rattle.machine_laws.specs.Refusals.{is_protocol_fault};
+ghost use Rattle.tardis_core.specs.RunFaults.{IsRunFault};
 
-use super::event::Event;
-use super::fault::CoreFault;
 use super::machine::Core;
+use core_machine::{CoreFault, Event};
 use core_program::ProgramSet;
 use lease_rule::Config;
+use machine_laws::verdicts::{ended_runs_get_yes, runs_get_yes};
 use std::alloc::Global;
 
 /// Which event of a run is refused, counted from 0, and why.
@@ -23,7 +26,8 @@ pub struct RunFault {
 }
 
 /// Runs the machine from its start over these events. Where one of them is refused, its index and the
-/// cause are told; 0 and 10 OutOfMemory where there is no memory for the machine itself.
+/// cause are told; 0 and 10 OutOfMemory where there is no memory for the machine itself. The logs that
+/// it has made get Yes, whatever the events were: their operations are sequentially consistent.
 pub fn run(
     alloc: Global,
     programs: &ProgramSet,
@@ -35,7 +39,14 @@ pub fn run(
     ensures reached { IfOk result
         (λ m. run_from (opening_parts programs.now.programs config.now) events.now ≡ Some m) }
     ensures refused { IfErr result (λ r. IsRunFault programs.now.programs config.now events.now r) }
+    // The logs get Yes, and where all programs have ended against these too.
+    ensures yes { IfOk result (λ m. GetYes (logs_of (world m))) }
+    ensures ended { IfOk result (λ m. HaveEnded (world m) → GetYesBy programs.now.programs (logs_of (world m))) }
+    // No event is refused with 14 BadReply or 11 NotOwner.
+    ensures passes { IfErr result (λ r. is_protocol_fault r.fault ≡ false) }
 {
+    runs_get_yes();
+    ended_runs_get_yes();
     let mut machine = match Core::new(alloc, programs, config) {
         Ok(machine) => machine,
         Err(fault) => return Err(RunFault { at: 0, fault }),

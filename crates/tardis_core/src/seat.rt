@@ -3,10 +3,10 @@
 ghost use Rattle.std.specs.Prelude.{◌≡◌, true, Some};
 ghost use Rattle.std.specs.Option.{option_copied};
 ghost use Rattle.core_unit.specs.Parts.{SameUnit};
-ghost use Rattle.tardis_core.specs.Machine.{core_event, is_alone};
-ghost use Rattle.tardis_core.specs.Seats.{SeatMeets, SeatGoes, asked_by, seat_outcome};
+ghost use Rattle.core_machine.specs.Machine.{core_event, is_alone};
+ghost use Rattle.core_machine.specs.Seats.{SeatMeets, SeatGoes, asked_by, seat_outcome};
 
-use super::event::Event;
+use core_machine::Event;
 use core_unit::{CoreUnit, Outcome, UnitFault};
 use line_stamps::{Message, Recall, Reply};
 use mem_op::Addr;
@@ -25,7 +25,7 @@ impl Model for Seat {
     ghost use Rattle.std.specs.Prelude.{◌≡◌, None};
     ghost use Rattle.std.specs.Coded.{codes};
     ghost use Rattle.core_unit.specs.contracts.unit.CoreUnit as core;
-    ghost use Rattle.tardis_core.specs.SeatParts.{SeatParts};
+    ghost use Rattle.core_machine.specs.SeatParts.{SeatParts};
 
     ghost Value = { SeatParts };
 

@@ -1,13 +1,17 @@
 //! One event. Where it is known which, little is left of a step: so it and what it calls for a core are inlined.
 
-ghost use Rattle.std.specs.Prelude.{◌≡◌, true, Some};
-ghost use Rattle.tardis_core.specs.Machine.{core_event, is_alone};
-ghost use Rattle.tardis_core.specs.Steps.{Meets, MachineGoes, alone, spill_told, step_outcome};
+ghost use Rattle.std.specs.Prelude.{◌≡◌, true, false, Some, IfErr};
+ghost use Rattle.core_machine.specs.Machine.{core_event, is_alone};
+ghost use Rattle.core_machine.specs.Parts.{world};
+ghost use Rattle.core_machine.specs.Steps.{Meets, MachineGoes, alone, spill_told, step_outcome};
+ghost use Rattle.machine_laws.specs.Laws.{GetYes, logs_of};
+ghost use Rattle.machine_laws.specs.Refusals.{is_protocol_fault};
 
-use super::event::Event;
-use super::fault::CoreFault;
 use super::machine::Core;
+use core_machine::{CoreFault, Event};
 use core_unit::Outcome;
+use machine_laws::refusals::never_refused;
+use machine_laws::verdicts::runs_get_yes;
 use mem_op::{Addr, CoreId};
 
 impl Core {
@@ -16,10 +20,12 @@ impl Core {
     /// message without a reply, Take no reply, Recall no Exclusive line, Evict no line or Spill no
     /// Shared line.
     ///
-    /// The refusals, in this order: of a core 14 BadReply, 13 TranscriptFull where an entry is due and
-    /// doesn't fit, 4 StampLimit or 5 RankLimit of the operation or the recall, 4 StampLimit of the
-    /// self-increment, 10 OutOfMemory; of a slice 11 NotOwner, 4 StampLimit, 12 HistoryFull,
-    /// 10 OutOfMemory. They change nothing.
+    /// The refusals, in this order: of a core 13 TranscriptFull where an entry is due and doesn't fit,
+    /// 4 StampLimit or 5 RankLimit of the operation or the recall, 4 StampLimit of the self-increment,
+    /// 10 OutOfMemory; of a slice 4 StampLimit, 12 HistoryFull, 10 OutOfMemory. They change nothing.
+    ///
+    /// Before and after each event the logs that the cores have made get Yes: their operations are
+    /// sequentially consistent.
     #[inline(always)]
     pub fn step(&mut self, event: Event) -> Result<Outcome, CoreFault>
         // The event leads there by the relation of the machine, and NoEffect comes exactly where it
@@ -29,6 +35,25 @@ impl Core {
         // Which line goes follows from the order of use and of service. Each refusal comes exactly
         // where it is due; 10 comes only instead of a step, and for Serve and Spill it is the
         // slice's, else the core's.
+        ensures outcome { Meets (step_outcome self.old event) result self.old self.new }
+
+        // The logs so far get Yes.
+        ensures before { GetYes (logs_of (world self.old)) }
+        ensures after { GetYes (logs_of (world self.new)) }
+
+        // No event is refused with 14 BadReply or 11 NotOwner.
+        ensures passes { IfErr result (λ fault. is_protocol_fault fault ≡ false) }
+    {
+        runs_get_yes();
+        never_refused();
+        self.keeps();
+        self.make(event)
+    }
+
+    // Makes an event.
+    #[inline(always)]
+    fn make(&mut self, event: Event) -> Result<Outcome, CoreFault>
+        ensures goes { MachineGoes event self.old result self.new }
         ensures outcome { Meets (step_outcome self.old event) result self.old self.new }
     {
         match &event {

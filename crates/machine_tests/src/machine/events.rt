@@ -2,6 +2,7 @@
 
 use super::*;
 use core_unit::CoreEntry;
+use line_stamps::StampFault;
 
 // A store by core 0, whose line a recall then writes back; core 1 increments its stamp and reads that; core 0 drops its copy, the line
 // goes to memory, and core 0 reads another address.
@@ -67,4 +68,44 @@ fn every_event_has_its_effect(rt: HostRuntime) -> Result<(), Fail> {
     ];
     did(&rt, &machine, core(1), other)?;
     memory_is_at(&rt, &machine, 20)
+}
+
+// A store, whose line is then written back with the greatest lease that there is, so the next store has no stamp left.
+fn events_to_the_last_stamp() -> [Event; 11] {
+    let greatest = Recall {
+        rts: Stamp::new(281_474_976_710_656).unwrap(),
+        ..recall(0, 0, RecallKind::WriteBack, 0)
+    };
+    [
+        turn(),
+        serve(),
+        take(),
+        turn(),
+        Event::Recall(core(0), greatest),
+        serve(),
+        take(),
+        turn(),
+        serve(),
+        take(),
+        turn(),
+    ]
+}
+
+#[test]
+fn a_store_after_the_greatest_lease(rt: HostRuntime) -> Result<(), Fail> {
+    let text = b"tardis-programs 1 cores 1\ncore 0\nst 0 1\nst 0 2\nend\n";
+    let programs = &ProgramSet::parse(rt.alloc(), text)?;
+    let config = &config_of(10, 100, 64, 64)?;
+    let events = events_to_the_last_stamp();
+    let machine = ran(rt.alloc(), programs, config, &events[..10])?;
+    logs(&rt, &machine, core(0), &["S 0 1 1 0"])?;
+    let refused = RunFault {
+        at: 10,
+        fault: CoreFault::Unit(UnitFault::Stamp(StampFault::StampLimit)),
+    };
+    match ran(rt.alloc(), programs, config, &events) {
+        Ok(_) => assert!(rt; false, "the last store has no stamp"),
+        Err(fault) => assert_eq!(rt; fault, refused),
+    }
+    Ok(())
 }

@@ -1,6 +1,6 @@
 //! Why a round, an operation or a program isn't ended.
 
-use crate::fault::CoreFault;
+use core_machine::CoreFault;
 use mem_op::CoreId;
 use std::fmt;
 use std::fmt::Display;

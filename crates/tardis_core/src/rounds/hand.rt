@@ -1,8 +1,9 @@
 //! What a core has in hand and before it.
 
 ghost use Rattle.std.specs.Prelude.{◌≡◌};
-ghost use Rattle.tardis_core.specs.Parts.{world};
-ghost use Rattle.tardis_core.specs.Works.{hand_at, has_next};
+ghost use Rattle.core_machine.specs.Parts.{world};
+ghost use Rattle.core_machine.specs.Works.{has_next};
+ghost use Rattle.tardis_core.specs.Hands.{hand_at};
 
 use crate::machine::Core;
 use mem_op::CoreId;

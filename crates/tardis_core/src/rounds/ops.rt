@@ -1,9 +1,9 @@
 //! Rounds until an operation is performed, or all are.
 
 ghost use Rattle.std.specs.Prelude.{◌≡◌, true, MatchResult};
-ghost use Rattle.tardis_core.specs.Parts.{world};
+ghost use Rattle.core_machine.specs.Parts.{world};
 ghost use Rattle.tardis_core.specs.Rounds.{IsFinishFault, IsFinished, IsOp, IsOpFault, IsOpIfLeft, IsRefusedRound, IsRound, IsRunTo};
-ghost use Rattle.tardis_core.specs.Works.{has_next};
+ghost use Rattle.core_machine.specs.Works.{has_next};
 
 use super::fault::{RoundCause, RoundFault};
 use super::hand::has_next;

@@ -1,16 +1,16 @@
 //! The stages of a round.
 
 ghost use Rattle.std.specs.Prelude.{◌≡◌, ℕ, Some, MatchResult};
-ghost use Rattle.tardis_core.specs.Machine.{core_event};
-ghost use Rattle.tardis_core.specs.Parts.{world};
+ghost use Rattle.core_machine.specs.Machine.{core_event};
+ghost use Rattle.core_machine.specs.Parts.{world};
 ghost use Rattle.tardis_core.specs.Rounds.{IsCauseOf, IsMade, IsPart, IsRefusedRound, IsRound, IsStopped, Over, ToRecall, ToServe, ToTake, ToTurn, stage_of, told_by};
-ghost use Rattle.tardis_core.specs.Steps.{step_outcome};
-ghost use Rattle.tardis_core.specs.Works.{Worked};
+ghost use Rattle.core_machine.specs.Steps.{step_outcome};
+ghost use Rattle.tardis_core.specs.Hands.{Worked};
 
 use super::fault::{RoundCause, RoundFault};
 use super::hand::{Hand, hand_at};
-use crate::event::Event;
 use crate::machine::Core;
+use core_machine::Event;
 use core_unit::Outcome;
 use line_stamps::Recall;
 use mem_op::CoreId;

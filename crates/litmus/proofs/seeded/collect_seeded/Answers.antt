@@ -1,6 +1,6 @@
 -- One more run, and its outcome counted.
 use Rattle.std.proofs.Common.{rules, ◌≡◌, []}
-use Rattle.tardis_core.specs.Parts.{CoreParts, world}
+use Rattle.core_machine.specs.Parts.{CoreParts, world}
 use Rattle.litmus.specs.Runs.{IsSeededRun, seed_of}
 use Rattle.litmus.proofs.CollectedRuns.{none_so_far, one_more_run}
 use Rattle.litmus.proofs.seeded.collect_seeded.Goals as goal
@@ -8,7 +8,7 @@ use Rattle.litmus.proofs.seeded.collect_seeded.Goals as goal
 pub loop-run-preserved : goal.loop-run-preserved
 loop-run-preserved g c =
     one_more_run CoreParts (λ n. IsSeededRun c.args.test.now c.args.config.now (seed_of c.args.seed n)) world c.args.test.now c.loop-run.run
-    c.loop-run.tally.entries c.count_outcome.new.tally.entries c.in-Ok.outcome.items c.loop-run.invariant c.in-Ok.ensures
+    c.loop-run.tally.entries c.count_outcome.new.tally.entries c.in-Ok.outcome.items c.loop-run.invariant c.in-Ok.ensures.run
     c.in_ok-count_outcome-in-Ok.ensures
 
 pub loop-run-init : goal.loop-run-init

@@ -1,5 +1,5 @@
 use Rattle.std.proofs.Common.{rules, ◌≡◌, ◌∙◌, Err, refl, ap}
-use Rattle.tardis_core.specs.Opening.{opening_parts}
+use Rattle.core_machine.specs.Opening.{opening_parts}
 use Rattle.litmus.specs.Runs.{not_ended}
 use Rattle.litmus.specs.declared.run_fault.RunCause.TheVariants.{Simulation}
 use Rattle.litmus.proofs.seeded.simulate_run.Goals as goal

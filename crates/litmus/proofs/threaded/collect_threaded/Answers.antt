@@ -7,7 +7,7 @@ use Rattle.litmus.proofs.threaded.collect_threaded.Goals as goal
 pub loop-run-preserved : goal.loop-run-preserved
 loop-run-preserved g c =
     one_more_run ThreadEnd (λ n. IsThreadRun c.args.test.now c.args.config.now) left c.args.test.now c.loop-run.run c.loop-run.tally.entries
-    c.count_outcome.new.tally.entries c.in-Ok.outcome.items c.loop-run.invariant c.in-Ok.ensures c.in_ok-count_outcome-in-Ok.ensures
+    c.count_outcome.new.tally.entries c.in-Ok.outcome.items c.loop-run.invariant c.in-Ok.ensures.run c.in_ok-count_outcome-in-Ok.ensures
 
 pub loop-run-init : goal.loop-run-init
 loop-run-init g c =

@@ -1,13 +1,14 @@
 use Rattle.std.proofs.Common.{subst, List}
 use Rattle.core_program.specs.declared.instruction.Instruction.{Instruction}
 use Rattle.audit.specs.Runs.{IsRun}
-use Rattle.litmus.specs.Runs.{ThreadEnd, IsThreadRun, IsUnthreaded, left}
+use Rattle.litmus.specs.Runs.{ThreadEnd, IsThreadEnd, IsThreadRun, IsUnthreaded, left}
 use Rattle.machine.specs.Runs.{IsMachineRun}
 use Rattle.litmus.proofs.Judged.{judged_end}
+use Rattle.litmus.proofs.NeverNo.{threaded_never_no}
 use Rattle.litmus.proofs.threaded.run_threaded.Goals as goal
 
-pub returns-in-Ok : goal.returns-in-Ok
-returns-in-Ok g c =
+pub returns-in-Ok-clause-run : goal.returns-in-Ok-clause-run
+returns-in-Ok-clause-run g c =
     let t = c.args.test.now in
     let g = c.args.config.now in
     let end : ThreadEnd = record { units = c.in-Ok.end.units.items; slices = c.in-Ok.end.slices.items } in
@@ -16,3 +17,15 @@ returns-in-Ok g c =
       subst (λ (ps : List (List Instruction)). IsMachineRun ps g end.units end.slices) c.programs.ensures c.in-Ok.ensures.events,
     )
     c.judged_outcome.ensures
+
+pub returns-in-Ok-clause-yes : goal.returns-in-Ok-clause-yes
+returns-in-Ok-clause-yes g c =
+    let t = c.args.test.now in
+    let g = c.args.config.now in
+    let end : ThreadEnd = record { units = c.in-Ok.end.units.items; slices = c.in-Ok.end.slices.items } in
+    threaded_never_no t g c.judged_outcome.result (λ o. IsThreadEnd t g o.items)
+    (judged_end ThreadEnd (IsThreadRun t g) (IsUnthreaded t) left t end c.judged_outcome.result (
+      subst (λ (ps : List (List Instruction)). IsRun ps g end.units end.slices) c.programs.ensures c.in-Ok.ensures.run,
+      subst (λ (ps : List (List Instruction)). IsMachineRun ps g end.units end.slices) c.programs.ensures c.in-Ok.ensures.events,
+    )
+    c.judged_outcome.ensures)

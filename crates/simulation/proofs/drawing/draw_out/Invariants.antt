@@ -1,6 +1,6 @@
 -- The draws so far lead to the machine, and the list has its cores that haven't ended.
 use Rattle.std.proofs.Common.{◌≡◌, length}
-use Rattle.tardis_core.specs.Parts.{world}
+use Rattle.core_machine.specs.Parts.{world}
 use Rattle.simulation.specs.Drawing.{Leads, cores_left, draws_of}
 use Rattle.simulation.proofs.Draws.{patience}
 use Rattle.simulation.proofs.drawing.draw_out.Given as goal

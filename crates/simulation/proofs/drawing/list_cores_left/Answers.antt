@@ -1,5 +1,5 @@
 use Rattle.std.proofs.Common.{◌≡◌, ap, ◌∙◌, arith}
-use Rattle.tardis_core.specs.Parts.{world}
+use Rattle.core_machine.specs.Parts.{world}
 use Rattle.simulation.specs.Drawing.{left_below}
 use Rattle.simulation.proofs.Drawn.{all_left}
 use Rattle.simulation.proofs.drawing.list_cores_left.Goals as goal

@@ -1,6 +1,6 @@
 -- The list has the cores so far that haven't ended.
 use Rattle.std.proofs.Common.{◌≡◌}
-use Rattle.tardis_core.specs.Parts.{world}
+use Rattle.core_machine.specs.Parts.{world}
 use Rattle.simulation.specs.Drawing.{left_below}
 use Rattle.simulation.proofs.drawing.list_cores_left.Given as goal
 

@@ -1,7 +1,7 @@
 use Rattle.std.proofs.Common.{◌≡◌, rules, false}
 use Rattle.std.proofs.lemmas.Fn.{filter_same}
-use Rattle.tardis_core.specs.Parts.{world}
-use Rattle.tardis_core.specs.Works.{has_next}
+use Rattle.core_machine.specs.Parts.{world}
+use Rattle.core_machine.specs.Works.{has_next}
 use Rattle.simulation.specs.Drawing.{is_other}
 use Rattle.simulation.proofs.drawing.strike_if_ended.Goals as goal
 

@@ -35,6 +35,10 @@ pub returns-in-Ok-perform-clause-flat : goal.returns-in-Ok-perform-clause-flat
 returns-in-Ok-perform-clause-flat g c zero =
     (c.in-Ok.request, c.in-Ok.ensures.request, c.in-Ok-perform.ensures.flat (sym c.tell_answer.ensures.status ∙ zero))
 
+pub returns-in-Ok-perform-clause-yes : goal.returns-in-Ok-perform-clause-yes
+returns-in-Ok-perform-clause-yes g c zero =
+    (c.in-Ok.request, c.in-Ok.ensures.request, c.in-Ok-perform.ensures.yes (sym c.tell_answer.ensures.status ∙ zero))
+
 pub returns-clause-ends : goal.returns-clause-ends
 returns-clause-ends g c =
     let (told, which, takes, status) = c.refuse-in-Err.ensures in

@@ -1,5 +1,7 @@
 use Rattle.std.proofs.Common.{rules, ◌≡◌, refl, Ok, Err}
 use Rattle.command_line.specs.declared.request.Request.TheVariants as request
+use Rattle.tardis_command.specs.Answers.{answer_status}
+use Rattle.tardis_command.proofs.Leaving.{run_leaves, sim_leaves, whatever}
 use Rattle.tardis_command.proofs.Ends.{printed, printed_yes, refused_at_once}
 use Rattle.tardis_command.specs.Endings.{Answered, Refused, sink_of}
 use Rattle.tardis_command.specs.Files.{files_of}
@@ -69,3 +71,15 @@ returns-in_err-count_outcomes-in-Litmus-clause-exact g c =
 pub returns-in_ok-count_outcomes-in-Litmus-clause-exact : goal.returns-in_ok-count_outcomes-in-Litmus-clause-exact
 returns-in_ok-count_outcomes-in-Litmus-clause-exact g c =
     rw c.in-Litmus.is (Answered (Counted c.in_ok-count_outcomes-in-Litmus.field-0), refl, c.in_ok-count_outcomes-in-Litmus.ensures)
+
+pub returns-in_ok-operations-in-Sim-clause-yes : goal.returns-in_ok-operations-in-Sim-clause-yes
+returns-in_ok-operations-in-Sim-clause-yes g c =
+    let files = files_of g.F.Folder.told g.F.Folder.failed in
+    rw c.in-Sim.is (whatever (λ answer. answer_status answer ≡ 0) _ c.print_answer-in-Sim.result
+    (sim_leaves (files c.args.folder.now) (files c.sim.new.folder) c.in-Sim.asked c.in_ok-operations-in-Sim.operations c.in_ok-operations-in-Sim.ensures.exact))
+
+pub returns-in_ok-operations-in-Run-clause-yes : goal.returns-in_ok-operations-in-Run-clause-yes
+returns-in_ok-operations-in-Run-clause-yes g c =
+    let files = files_of g.F.Folder.told g.F.Folder.failed in
+    rw c.in-Run.is (whatever (λ answer. answer_status answer ≡ 0) _ c.print_answer-in-Run.result
+    (run_leaves (files c.args.folder.now) (files c.run.new.folder) c.in-Run.asked c.in_ok-operations-in-Run.operations c.in_ok-operations-in-Run.ensures.exact))

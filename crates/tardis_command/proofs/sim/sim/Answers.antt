@@ -1,9 +1,9 @@
 use Rattle.std.proofs.Common.{◌≡◌, ◌≤◌, length, None, Err, subst, rules}
 use Rattle.lease_rule.specs.Ranges.{first_bad}
 use Rattle.simulation.specs.Simulating.{IsSimulated, IsSimulationFault}
-use Rattle.tardis_core.specs.Opening.{opening_parts}
-use Rattle.tardis_core.specs.Parts.{world}
-use Rattle.tardis_core.specs.Works.{log_at}
+use Rattle.core_machine.specs.Opening.{opening_parts}
+use Rattle.core_machine.specs.Parts.{world}
+use Rattle.core_machine.specs.Works.{log_at}
 use Rattle.tardis_command.proofs.Logs.{keeps_files}
 use Rattle.tardis_command.proofs.Runs.{ended, faulted}
 use Rattle.tardis_command.specs.Files.{files_of}

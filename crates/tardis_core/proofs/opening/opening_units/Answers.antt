@@ -1,6 +1,6 @@
 use Rattle.std.proofs.Common.{◌≡◌, Some, slice_get, sym, rules}
-use Rattle.tardis_core.specs.Opening.{new_unit}
-use Rattle.tardis_core.proofs.Opened.{units_next}
+use Rattle.core_machine.specs.Opening.{new_unit}
+use Rattle.core_machine.proofs.Opened.{units_next}
 use Rattle.tardis_core.proofs.opening.opening_units.Goals as goal
 
 pub loop-number-preserved : goal.loop-number-preserved

@@ -1,6 +1,6 @@
 -- The units of the cores so far.
 use Rattle.std.proofs.Common.{◌≡◌, take}
-use Rattle.tardis_core.specs.Opening.{new_units}
+use Rattle.core_machine.specs.Opening.{new_units}
 use Rattle.tardis_core.proofs.opening.opening_units.Given as goal
 
 abbrev pub invariant-loop-number : goal.invariant-loop-number

@@ -1,6 +1,6 @@
 use Rattle.std.proofs.Common.{◌≡◌, Some, slice_get, sym, rules}
-use Rattle.tardis_core.specs.Opening.{new_seat}
-use Rattle.tardis_core.proofs.Opened.{seats_next}
+use Rattle.core_machine.specs.Opening.{new_seat}
+use Rattle.core_machine.proofs.Opened.{seats_next}
 use Rattle.tardis_core.proofs.opening.seats_of.Goals as goal
 
 pub loop-number-preserved : goal.loop-number-preserved

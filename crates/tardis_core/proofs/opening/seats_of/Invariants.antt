@@ -1,6 +1,6 @@
 -- The seats of the cores so far.
 use Rattle.std.proofs.Common.{◌≡◌, take}
-use Rattle.tardis_core.specs.Opening.{new_seats}
+use Rattle.core_machine.specs.Opening.{new_seats}
 use Rattle.tardis_core.proofs.opening.seats_of.Given as goal
 
 abbrev pub invariant-loop-number : goal.invariant-loop-number

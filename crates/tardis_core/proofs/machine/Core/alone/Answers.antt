@@ -1,8 +1,9 @@
 use Rattle.std.proofs.lemmas.Result.{err_from_is_err_and}
-use Rattle.tardis_core.specs.Parts.{CoreParts}
-use Rattle.tardis_core.proofs.Alone.{goes_nowhere, own_event, alone_ok, alone_err, goes_ok, goes_err}
-use Rattle.tardis_core.proofs.Leading.{seat_kept}
-use Rattle.tardis_core.proofs.Placed.{stands, stands_none}
+use Rattle.core_machine.specs.Parts.{CoreParts}
+use Rattle.core_machine.proofs.Alone.{goes_nowhere, own_event, alone_ok, alone_err, goes_ok, goes_err}
+use Rattle.core_machine.proofs.Leading.{seat_kept}
+use Rattle.core_machine.proofs.Placed.{stands, stands_none}
+use Rattle.machine_laws.proofs.Refusing.{seat_room}
 use Rattle.tardis_core.proofs.machine.Core.alone.Goals as goal
 
 pub returns-in_default-clause-goes : goal.returns-in_default-clause-goes
@@ -22,7 +23,9 @@ invariant_of-self-in_err-step c =
     let was : CoreParts = record { config = c.self.inside.config; seats = c.self.inside.seats.items; slices = c.self.inside.slices.items } in
     let there = stands was.seats c.args.core c.get.result c.in-Some.seat.now c.get.ensures.value c.in-Some.ensures.item.3.0 c.in-Some.ensures.value in
     let goes = goes_err was c.args.core c.self.invariant.placed c.in-Some.seat.now there c.args.event.now c.requires.own c.in_err-step.field-0.0 c.step.new.self c.in_err-step.ensures.outcome c.in_err-step.ensures.goes in
-    rw c.get.ensures.value (seat_kept was c.args.core c.self.invariant c.in-Some.seat.now there c.step.new.self c.in_err-step.ensures.same c.args.event.now _ goes)
+    let room = c.self.invariant.room c.args.core c.in-Some.seat.now there in
+    let fits = seat_room was.config c.args.event.now c.in-Some.seat.now c.step.new.self _ c.in_err-step.ensures.outcome room in
+    rw c.get.ensures.value (seat_kept was c.args.core c.self.invariant c.in-Some.seat.now there c.step.new.self c.in_err-step.ensures.same fits c.args.event.now _ goes)
 
 pub returns-in_err-step-clause-outcome : goal.returns-in_err-step-clause-outcome
 returns-in_err-step-clause-outcome c =
@@ -43,7 +46,9 @@ invariant_of-self-2 c =
     let was : CoreParts = record { config = c.self.inside.config; seats = c.self.inside.seats.items; slices = c.self.inside.slices.items } in
     let there = stands was.seats c.args.core c.get.result c.in-Some.seat.now c.get.ensures.value c.in-Some.ensures.item.3.0 c.in-Some.ensures.value in
     let goes = goes_ok was c.args.core c.self.invariant.placed c.in-Some.seat.now there c.args.event.now c.requires.own c.in_ok-step.field-0 c.step.new.self c.in_ok-step.ensures.goes in
-    rw c.get.ensures.value (seat_kept was c.args.core c.self.invariant c.in-Some.seat.now there c.step.new.self c.in_ok-step.ensures.same c.args.event.now _ goes)
+    let room = c.self.invariant.room c.args.core c.in-Some.seat.now there in
+    let fits = seat_room was.config c.args.event.now c.in-Some.seat.now c.step.new.self _ c.in_ok-step.ensures.outcome room in
+    rw c.get.ensures.value (seat_kept was c.args.core c.self.invariant c.in-Some.seat.now there c.step.new.self c.in_ok-step.ensures.same fits c.args.event.now _ goes)
 
 pub returns-clause-outcome : goal.returns-clause-outcome
 returns-clause-outcome c =

@@ -1,4 +1,4 @@
-use Rattle.tardis_core.proofs.Opened.{opening_kept, opening_world}
+use Rattle.core_machine.proofs.Opened.{opening_kept, opening_world}
 use Rattle.tardis_core.proofs.machine.Core.new.Goals as goal
 
 pub invariant_of-result : goal.invariant_of-result

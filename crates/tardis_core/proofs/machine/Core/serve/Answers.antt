@@ -1,15 +1,15 @@
 use Rattle.std.proofs.Common.{◌≡◌, ℕ, ◌<◌, Some, length, slice_get, refl, sym, ap, ◌∙◌, arith}
 use Rattle.std.specs.Option.{option_copied}
 use Rattle.std.proofs.lemmas.Result.{err_from_is_err_and}
-use Rattle.tardis_core.specs.Machine.{slice_number}
-use Rattle.tardis_core.specs.Parts.{CoreParts}
-use Rattle.tardis_core.specs.SeatParts.{SeatParts}
-use Rattle.tardis_core.specs.Seats.{asked_by}
-use Rattle.tardis_core.proofs.Alone.{goes_nowhere}
-use Rattle.tardis_core.proofs.Leading.{reached_on}
-use Rattle.tardis_core.proofs.Placed.{stands, stands_none, map-set_same}
-use Rattle.tardis_core.proofs.Serving.{idle_outcome, goes_idle, served_ok, served_err, goes_refused_serve, goes_served, kept_served}
-use Rattle.tardis_core.specs.declared.event.Event.TheVariants as event
+use Rattle.core_machine.specs.Machine.{slice_number}
+use Rattle.core_machine.specs.Parts.{CoreParts}
+use Rattle.core_machine.specs.SeatParts.{SeatParts}
+use Rattle.core_machine.specs.Seats.{asked_by}
+use Rattle.core_machine.proofs.Alone.{goes_nowhere}
+use Rattle.core_machine.proofs.Leading.{reached_on, room_kept}
+use Rattle.core_machine.proofs.Placed.{stands, stands_none, map-set_same}
+use Rattle.core_machine.proofs.Serving.{idle_outcome, goes_idle, served_ok, served_err, goes_refused_serve, goes_served, kept_served}
+use Rattle.core_machine.specs.declared.event.Event.TheVariants as event
 use Rattle.tardis_core.proofs.machine.Core.serve.Goals as goal
 
 pub returns-in_default-clause-goes : goal.returns-in_default-clause-goes
@@ -69,6 +69,7 @@ invariant_of-self-2 c =
     rw c.get.ensures.value (record {
       placed = kept_served was c.self.invariant.placed c.args.core seat there_so c.in-Some-asking.message.now asked_so c.slice_of.result number c.index_mut-slice.result.now at c.in_ok-reply.field-0 c.handle.new.self handled.number handled.config;
       reached = reached_on (event.Serve c.args.core) was _ _ goes (map-set_same (λ (x : SeatParts). x.unit.program) was.seats c.args.core seat answered there_so refl) c.self.invariant.reached;
+      room = room_kept was c.args.core answered c.self.invariant.room (c.self.invariant.room c.args.core seat there_so);
     })
 
 pub returns-clause-outcome : goal.returns-clause-outcome

@@ -1,10 +1,10 @@
 use Rattle.std.proofs.Common.{◌<◌, length, refl, arith}
 use Rattle.std.proofs.lemmas.Result.{err_from_is_err_and}
-use Rattle.tardis_core.specs.Parts.{CoreParts}
-use Rattle.tardis_core.specs.declared.event.Event.TheVariants as event
-use Rattle.tardis_core.proofs.Leading.{reached_on}
-use Rattle.tardis_core.proofs.Placed.{stands}
-use Rattle.tardis_core.proofs.Serving.{kept_spilled, spilled_ok, spilled_err, goes_spill, goes_refused_spill}
+use Rattle.core_machine.specs.Parts.{CoreParts}
+use Rattle.core_machine.specs.declared.event.Event.TheVariants as event
+use Rattle.core_machine.proofs.Leading.{reached_on}
+use Rattle.core_machine.proofs.Placed.{stands}
+use Rattle.core_machine.proofs.Serving.{kept_spilled, spilled_ok, spilled_err, goes_spill, goes_refused_spill}
 use Rattle.tardis_core.proofs.machine.Core.spill.Goals as goal
 
 pub returns-in_err-went-clause-outcome : goal.returns-in_err-went-clause-outcome
@@ -32,6 +32,7 @@ invariant_of-self-2 c =
     record {
       placed = kept_spilled was c.self.invariant.placed c.args.addr c.slice_of.result c.slice_of.ensures.value c.index_mut-slice.result.now at c.in_ok-went.went c.evict.new.self c.in_ok-went.ensures.outcome;
       reached = reached_on (event.Spill c.args.addr) was _ _ goes refl c.self.invariant.reached;
+      room = c.self.invariant.room;
     }
 
 pub returns-clause-outcome : goal.returns-clause-outcome

@@ -1,7 +1,7 @@
 -- The operations so far; after each fewer instructions are left.
-use Rattle.tardis_core.specs.Parts.{world}
+use Rattle.core_machine.specs.Parts.{world}
 use Rattle.tardis_core.specs.Rounds.{Ops}
-use Rattle.tardis_core.specs.Works.{left_at}
+use Rattle.core_machine.specs.Works.{left_at}
 use Rattle.tardis_core.proofs.rounds.ops.finish.Given as goal
 
 abbrev pub invariant-loop-core : goal.invariant-loop-core

@@ -1,6 +1,6 @@
 use Rattle.std.proofs.Common.{◌+◌, arith}
 use Rattle.std.proofs.lemmas.Result.{err_from_is_err_and}
-use Rattle.tardis_core.specs.Parts.{world}
+use Rattle.core_machine.specs.Parts.{world}
 use Rattle.tardis_core.specs.Rounds.{ToTurn, no_round, one_more, stopped}
 use Rattle.tardis_core.proofs.RoundRuns.{rounds_run, stopped_run, then_run, performed_later, still_waits}
 use Rattle.tardis_core.proofs.Stages.{then_same}

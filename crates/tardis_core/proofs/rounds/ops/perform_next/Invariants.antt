@@ -1,7 +1,7 @@
 -- The rounds so far; none of them performed an operation.
-use Rattle.tardis_core.specs.Parts.{world}
+use Rattle.core_machine.specs.Parts.{world}
 use Rattle.tardis_core.specs.Rounds.{Rounds}
-use Rattle.tardis_core.specs.Works.{SameWork}
+use Rattle.tardis_core.specs.Hands.{SameWork}
 use Rattle.tardis_core.proofs.rounds.ops.perform_next.Given as goal
 
 abbrev pub invariant-loop : goal.invariant-loop

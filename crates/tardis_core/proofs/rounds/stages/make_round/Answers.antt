@@ -1,6 +1,6 @@
 use Rattle.std.proofs.Common.{subst}
 use Rattle.std.proofs.lemmas.Result.{err_from_is_err_and}
-use Rattle.tardis_core.specs.Parts.{world}
+use Rattle.core_machine.specs.Parts.{world}
 use Rattle.tardis_core.specs.Rounds.{IsPart, ToTurn, ToServe, ToTake, ToRecall, Over, stage_of}
 use Rattle.tardis_core.specs.declared.rounds.stages.Told.{Told}
 use Rattle.tardis_core.proofs.Stages.{then_part, then_stopped, over_when_empty, over_unless_busy, part_same, then_same}

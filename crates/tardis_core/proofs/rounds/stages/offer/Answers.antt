@@ -2,7 +2,7 @@ use Rattle.std.proofs.Common.{refl}
 use Rattle.std.proofs.lemmas.Result.{err_from_is_err_and}
 use Rattle.line_stamps.specs.declared.message.Recall.{Recall}
 use Rattle.tardis_core.specs.Rounds.{ToRecall, OwnerToServe, OwnerToTake, Over}
-use Rattle.tardis_core.specs.declared.event.Event.TheVariants as event
+use Rattle.core_machine.specs.declared.event.Event.TheVariants as event
 use Rattle.tardis_core.proofs.Stages.{part_makes, stopped_at, then_part, then_stopped, recalled, not_recalled}
 use Rattle.tardis_core.proofs.rounds.stages.offer.Goals as goal
 

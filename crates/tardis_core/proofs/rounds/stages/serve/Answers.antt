@@ -1,9 +1,9 @@
 use Rattle.std.proofs.Common.{refl, sym, ap, ◌∙◌}
 use Rattle.std.proofs.lemmas.Result.{err_from_is_err_and}
-use Rattle.tardis_core.specs.Parts.{world}
+use Rattle.core_machine.specs.Parts.{world}
 use Rattle.tardis_core.specs.Rounds.{ToServe, serve_due}
-use Rattle.tardis_core.specs.Works.{hand_at}
-use Rattle.tardis_core.specs.declared.event.Event.TheVariants as event
+use Rattle.tardis_core.specs.Hands.{hand_at}
+use Rattle.core_machine.specs.declared.event.Event.TheVariants as event
 use Rattle.tardis_core.proofs.Stages.{part_passes, part_makes, stopped_at, no_serve}
 use Rattle.tardis_core.proofs.rounds.stages.serve.Goals as goal
 

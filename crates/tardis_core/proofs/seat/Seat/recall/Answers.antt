@@ -1,4 +1,4 @@
-use Rattle.tardis_core.specs.SeatParts.{SeatParts}
+use Rattle.core_machine.specs.SeatParts.{SeatParts}
 use Rattle.tardis_core.proofs.Goes.{goes_recall}
 use Rattle.tardis_core.proofs.seat.Seat.recall.Goals as goal
 

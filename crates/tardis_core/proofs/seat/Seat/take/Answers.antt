@@ -1,5 +1,5 @@
 use Rattle.std.proofs.Common.{◌≡◌, Some, rules}
-use Rattle.tardis_core.specs.SeatParts.{SeatParts}
+use Rattle.core_machine.specs.SeatParts.{SeatParts}
 use Rattle.tardis_core.proofs.Takes.{goes_take}
 use Rattle.tardis_core.proofs.seat.Seat.take.Goals as goal
 

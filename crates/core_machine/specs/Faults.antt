@@ -2,8 +2,8 @@
 use Rattle.std.specs.Prelude.{ℕ, List}
 use Rattle.core_unit.specs.Faults as unit
 use Rattle.manager_slice.specs.Faults as slice
-use Rattle.tardis_core.specs.declared.fault.CoreFault.{CoreFault}
-use Rattle.tardis_core.specs.declared.fault.CoreFault.TheVariants.{Unit, Slice}
+use Rattle.core_machine.specs.declared.fault.CoreFault.{CoreFault}
+use Rattle.core_machine.specs.declared.fault.CoreFault.TheVariants.{Unit, Slice}
 
 abbrev pub fault_text : CoreFault → List ℕ
 fault_text (Unit fault) = unit.fault_text fault

@@ -1,7 +1,7 @@
 //! Why an event is refused.
 
 ghost use Rattle.std.specs.Prelude.{◌≡◌};
-ghost use Rattle.tardis_core.specs.declared.fault.CoreFault.TheVariants.{Unit, Slice};
+ghost use Rattle.core_machine.specs.declared.fault.CoreFault.TheVariants.{Unit, Slice};
 ghost use Rattle.core_unit.specs.declared.fault.UnitFault.TheVariants.{OutOfMemory};
 
 use core_unit::UnitFault;
@@ -22,7 +22,7 @@ pub enum CoreFault {
 
 impl Display for CoreFault {
     ghost use Rattle.std.specs.Prelude.{Some};
-    ghost use Rattle.tardis_core.specs.Faults.{fault_text};
+    ghost use Rattle.core_machine.specs.Faults.{fault_text};
 
     ghost output = { λ fault. Some (fault_text fault) };
 

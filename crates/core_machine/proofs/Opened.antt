@@ -9,13 +9,13 @@ use Rattle.manager_slice.specs.Changes.{slice_of}
 use Rattle.manager_slice.specs.Parts.{SliceParts}
 use Rattle.manager_slice.specs.Table.{Slice, opening as empty_slice}
 use Rattle.core_unit.specs.Core.{Core, new_core}
-use Rattle.tardis_core.specs.Machine.{opening}
+use Rattle.core_machine.specs.Machine.{opening}
 use Rattle.manager_slice.specs.Opening.{new_slice, new_slices}
-use Rattle.tardis_core.specs.Opening.{new_seat, new_seats, new_unit, new_units, opening_parts}
-use Rattle.tardis_core.specs.Parts.{world, IsMachine, IsPlaced}
-use Rattle.tardis_core.specs.SeatParts.{SeatParts}
-use Rattle.tardis_core.specs.Seats.{seen}
-use Rattle.tardis_core.proofs.Leading.{reached_start}
+use Rattle.core_machine.specs.Opening.{new_seat, new_seats, new_unit, new_units, opening_parts}
+use Rattle.core_machine.specs.Parts.{world, IsMachine, IsPlaced}
+use Rattle.core_machine.specs.SeatParts.{SeatParts}
+use Rattle.core_machine.specs.Seats.{seen}
+use Rattle.core_machine.proofs.Leading.{reached_start}
 
 -- ---- the cores
 
@@ -71,7 +71,7 @@ length-new_slices : (g : ConfigParts) (k : ℕ) → length (new_slices g k) ≡ 
 length-new_slices g zero = refl
 length-new_slices g (suc k) = omega (arith, length-append (new_slices g k) (new_slice g k ∷ []), length-new_slices g k)
 
-found_in_push : {X : Type 0} (xs : List X) (x : X) (n : ℕ) (y : X) → slice_get (xs ++ x ∷ []) n ≡ Some y
+pub found_in_push : {X : Type 0} (xs : List X) (x : X) (n : ℕ) (y : X) → slice_get (xs ++ x ∷ []) n ≡ Some y
     → (slice_get xs n ≡ Some y) ⊎ ((n ≡ length xs) × (y ≡ x))
 found_in_push [] x zero y e = inr (refl, cc)
 found_in_push [] x (suc n) y e = absurd (cc)
@@ -118,8 +118,14 @@ programs_opening : (g : ConfigParts) (c : ℕ) (programs : List (List Instructio
 programs_opening g c [] = refl
 programs_opening g c (x ∷ xs) = ap (λ ps. x ∷ ps) (programs_opening g (suc c) xs)
 
+new_room : (g : ConfigParts) (c : ℕ) (programs : List (List Instruction)) (i : ℕ) (seat : SeatParts) → slice_get (new_seats g c programs) i ≡ Some seat → seat.unit.cache.capacity ≡ g.cache_lines
+new_room g c [] i seat e = absurd cc
+new_room g c (p ∷ ps) zero seat e = let one : new_seat g c p ≡ seat = cc in ap (λ (x : SeatParts). x.unit.cache.capacity) (sym one)
+new_room g c (p ∷ ps) (suc i) seat e = new_room g (suc c) ps i seat e
+
 pub opening_kept : (programs : List (List Instruction)) (g : ConfigParts) → IsMachine (opening_parts programs g)
 opening_kept programs g = record {
   placed = opening_placed programs g;
   reached = reached_start (opening_parts programs g) (opening_world programs g ∙ ap (λ ps. opening ps g.slices) (sym (programs_opening g 0 programs)));
+  room = new_room g 0 programs;
 }

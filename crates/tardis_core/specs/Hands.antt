@@ -1,11 +1,11 @@
--- How far each core of the machine has come, as those see it who make its events.
-use Rattle.std.specs.Prelude.{◌≡◌, ℕ, ◌-◌, ◌<◌, Bool, true, false, List, [], ◌∷◌, ◌++◌, length, Option, Some, None, is_some, slice_get}
+-- What each core of the machine has in hand and has performed, as those see it who make its events.
+use Rattle.std.specs.Prelude.{◌≡◌, ℕ, ◌<◌, Bool, true, false, [], ◌∷◌, ◌++◌, Option, Some, None, slice_get}
 use Rattle.std.specs.Option.{option_map_or}
 use Rattle.line_stamps.specs.declared.message.Message.{Message}
 use Rattle.line_stamps.specs.declared.message.Reply.{Reply}
 use Rattle.log_record.specs.declared.record.Record.{Record}
-use Rattle.core_unit.specs.Core.{next_of}
-use Rattle.tardis_core.specs.Machine.{World}
+use Rattle.core_machine.specs.Machine.{World}
+use Rattle.core_machine.specs.Works.{has_next, log_at, left_at}
 use Rattle.tardis_core.specs.declared.rounds.hand.Hand.{Hand}
 use Rattle.tardis_core.specs.declared.rounds.hand.Hand.TheVariants as hand
 
@@ -20,18 +20,6 @@ abbrev pub hand_at : World → ℕ → Hand
 hand_at w c = option_map_or (λ u. hand_of u.hand u.kept) (slice_get w.cores c) hand.Absent
 
 -- ---- its operations
-
--- an operation of core c is left; none is where its program has ended or the core isn't there
-abbrev pub has_next : World → ℕ → Bool
-has_next w c = option_map_or (λ u. is_some (next_of u)) (slice_get w.cores c) false
-
--- the operations that core c has performed; none where it isn't there
-abbrev pub log_at : World → ℕ → List Record
-log_at w c = option_map_or (λ u. u.log) (slice_get w.cores c) []
-
--- how many instructions of core c are left
-abbrev pub left_at : World → ℕ → ℕ
-left_at w c = option_map_or (λ u. length u.program - u.state.position) (slice_get w.cores c) 0
 
 -- from w to t core c performed one operation; then it has no message in hand
 pub record HasPerformed (c : ℕ) (w t : World) : Type 0 where

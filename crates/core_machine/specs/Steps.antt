@@ -11,15 +11,15 @@ use Rattle.manager_slice.specs.declared.state.SliceState.{SliceState}
 use Rattle.core_unit.specs.declared.fault.UnitFault.TheVariants as unit_fault
 use Rattle.core_unit.specs.declared.outcome.Outcome.{Outcome}
 use Rattle.core_unit.specs.declared.outcome.Outcome.TheVariants.{Served, Spilled, NoEffect}
-use Rattle.tardis_core.specs.Machine.{Leads, is_barred, slice_number}
-use Rattle.tardis_core.specs.Parts.{CoreParts, world}
-use Rattle.tardis_core.specs.SeatParts.{SeatParts}
-use Rattle.tardis_core.specs.Seats.{SeatOutcome, asked_by, seat_outcome}
-use Rattle.tardis_core.specs.Seats as seat
-use Rattle.tardis_core.specs.declared.event.Event.{Event}
-use Rattle.tardis_core.specs.declared.event.Event.TheVariants as event
-use Rattle.tardis_core.specs.declared.fault.CoreFault.{CoreFault}
-use Rattle.tardis_core.specs.declared.fault.CoreFault.TheVariants.{Unit, Slice}
+use Rattle.core_machine.specs.Machine.{Leads, is_barred, slice_number}
+use Rattle.core_machine.specs.Parts.{CoreParts, world}
+use Rattle.core_machine.specs.SeatParts.{SeatParts}
+use Rattle.core_machine.specs.Seats.{SeatOutcome, asked_by, seat_outcome}
+use Rattle.core_machine.specs.Seats as seat
+use Rattle.core_machine.specs.declared.event.Event.{Event}
+use Rattle.core_machine.specs.declared.event.Event.TheVariants as event
+use Rattle.core_machine.specs.declared.fault.CoreFault.{CoreFault}
+use Rattle.core_machine.specs.declared.fault.CoreFault.TheVariants.{Unit, Slice}
 
 pub data StepOutcome : Type 0 where
   -- a refusal that is due

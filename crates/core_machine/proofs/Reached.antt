@@ -6,13 +6,13 @@ use Rattle.std.proofs.lemmas.Option.{slice_get-get_or}
 use Rattle.lease_rule.specs.ConfigParts.{ConfigParts}
 use Rattle.core_program.specs.declared.instruction.Instruction.{Instruction}
 use Rattle.core_unit.specs.declared.outcome.Outcome.{Outcome}
-use Rattle.tardis_core.specs.Machine.{World, Leads, Run, start, next, opening}
-use Rattle.tardis_core.specs.Opening.{opening_parts}
-use Rattle.tardis_core.specs.Parts.{CoreParts, world}
-use Rattle.tardis_core.specs.Runs.{behind, run_from, MayRefuse, IsRefusedAt}
-use Rattle.tardis_core.specs.Steps.{StepOutcome, Refuses, Answers, Steps, Meets, MachineGoes, step_outcome}
-use Rattle.tardis_core.specs.declared.event.Event.{Event}
-use Rattle.tardis_core.specs.declared.fault.CoreFault.{CoreFault}
+use Rattle.core_machine.specs.Machine.{World, Leads, Run, start, next, opening}
+use Rattle.core_machine.specs.Opening.{opening_parts}
+use Rattle.core_machine.specs.Parts.{CoreParts, world}
+use Rattle.core_machine.specs.Runs.{behind, run_from, MayRefuse, IsRefusedAt}
+use Rattle.core_machine.specs.Steps.{StepOutcome, Refuses, Answers, Steps, Meets, MachineGoes, step_outcome}
+use Rattle.core_machine.specs.declared.event.Event.{Event}
+use Rattle.core_machine.specs.declared.fault.CoreFault.{CoreFault}
 
 pub behind_met : (x : StepOutcome) (o : Outcome) (p q : CoreParts) → Meets x (Ok o) p q → behind x ≡ Some q
 behind_met (Refuses f) o p q m = let e = m.0 in absurd (cc)

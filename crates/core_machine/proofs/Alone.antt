@@ -8,17 +8,17 @@ use Rattle.core_unit.specs.Parts.{SameUnit}
 use Rattle.core_unit.specs.declared.fault.UnitFault.{UnitFault}
 use Rattle.core_unit.specs.declared.outcome.Outcome.{Outcome}
 use Rattle.core_unit.specs.declared.outcome.Outcome.TheVariants as outcome
-use Rattle.tardis_core.specs.Machine.{World, CoreLeads, Leads, by_core, no_effect, core_event, bars, bars_at, is_barred, with_core}
-use Rattle.tardis_core.specs.Parts.{CoreParts, world, IsPlaced}
-use Rattle.tardis_core.specs.SeatParts.{SeatParts}
-use Rattle.tardis_core.specs.Seats.{SeatGoes, SeatMeets, SeatOutcome, seat_outcome, seen}
-use Rattle.tardis_core.specs.Seats as seat
-use Rattle.tardis_core.specs.Steps.{Meets, MachineGoes, alone, core_outcome, with_seat}
-use Rattle.tardis_core.specs.declared.event.Event.{Event}
-use Rattle.tardis_core.specs.declared.event.Event.TheVariants as event
-use Rattle.tardis_core.specs.declared.fault.CoreFault.{CoreFault}
-use Rattle.tardis_core.specs.declared.fault.CoreFault.TheVariants.{Unit}
-use Rattle.tardis_core.proofs.Placed.{set_again, found_in_set, found_in_map, none_in_map}
+use Rattle.core_machine.specs.Machine.{World, CoreLeads, Leads, by_core, no_effect, core_event, bars, bars_at, is_barred, with_core}
+use Rattle.core_machine.specs.Parts.{CoreParts, world, IsPlaced}
+use Rattle.core_machine.specs.SeatParts.{SeatParts}
+use Rattle.core_machine.specs.Seats.{SeatGoes, SeatMeets, SeatOutcome, seat_outcome, seen}
+use Rattle.core_machine.specs.Seats as seat
+use Rattle.core_machine.specs.Steps.{Meets, MachineGoes, alone, core_outcome, with_seat}
+use Rattle.core_machine.specs.declared.event.Event.{Event}
+use Rattle.core_machine.specs.declared.event.Event.TheVariants as event
+use Rattle.core_machine.specs.declared.fault.CoreFault.{CoreFault}
+use Rattle.core_machine.specs.declared.fault.CoreFault.TheVariants.{Unit}
+use Rattle.core_machine.proofs.Placed.{set_again, found_in_set, found_in_map, none_in_map}
 
 abbrev pub StepResult : Type 0
 StepResult = Result Outcome CoreFault

@@ -5,9 +5,9 @@ use Rattle.core_program.specs.declared.instruction.Instruction.{Instruction}
 use Rattle.manager_slice.specs.Changes.{slice_of}
 use Rattle.manager_slice.specs.Parts.{SliceParts}
 use Rattle.core_unit.specs.Parts.{core_of}
-use Rattle.tardis_core.specs.Machine.{World, Run, opening}
-use Rattle.tardis_core.specs.SeatParts.{SeatParts}
-use Rattle.tardis_core.specs.declared.event.Event.{Event}
+use Rattle.core_machine.specs.Machine.{World, Run, opening}
+use Rattle.core_machine.specs.SeatParts.{SeatParts}
+use Rattle.core_machine.specs.declared.event.Event.{Event}
 
 pub record CoreParts : Type 0 where
   pub config : ConfigParts
@@ -42,7 +42,12 @@ programs_of p = map (λ seat. seat.unit.program) p.seats
 abbrev pub IsReached : CoreParts → Type 0
 IsReached p = (events : List Event) × Run p.config (opening (programs_of p) p.config.slices) events (world p)
 
+-- each cache has the room that the configuration tells
+abbrev pub HaveRoom : CoreParts → Type 0
+HaveRoom p = (c : ℕ) (seat : SeatParts) → slice_get p.seats c ≡ Some seat → seat.unit.cache.capacity ≡ p.config.cache_lines
+
 -- what the type of the machine keeps
 pub record IsMachine (p : CoreParts) : Type 0 where
   pub placed : IsPlaced p
   pub reached : IsReached p
+  pub room : HaveRoom p

@@ -1,16 +1,16 @@
 -- Machines to which events lead.
-use Rattle.std.proofs.Common.{◌≡◌, ℕ, List, [], ◌∷◌, ◌++◌, sym, subst}
+use Rattle.std.proofs.Common.{◌≡◌, ℕ, List, [], ◌∷◌, ◌++◌, inl, inr, sym, ap, subst, ◌∙◌}
 use Rattle.std.specs.Prelude.{Some, Ok, Err, IfOk, OnErr, slice_get}
 use Rattle.lease_rule.specs.ConfigParts.{ConfigParts}
 use Rattle.core_program.specs.declared.instruction.Instruction.{Instruction}
 use Rattle.core_unit.specs.Parts.{SameUnit}
-use Rattle.tardis_core.specs.Machine.{World, Leads, Run, start, next, opening}
-use Rattle.tardis_core.specs.Parts.{CoreParts, world, programs_of, IsReached, IsMachine}
-use Rattle.tardis_core.specs.SeatParts.{SeatParts}
-use Rattle.tardis_core.specs.Steps.{MachineGoes, with_seat}
-use Rattle.tardis_core.specs.declared.event.Event.{Event}
-use Rattle.tardis_core.proofs.Alone.{StepResult, kept_machine}
-use Rattle.tardis_core.proofs.Placed.{map-set_same}
+use Rattle.core_machine.specs.Machine.{World, Leads, Run, start, next, opening}
+use Rattle.core_machine.specs.Parts.{CoreParts, world, programs_of, IsReached, IsMachine, HaveRoom}
+use Rattle.core_machine.specs.SeatParts.{SeatParts}
+use Rattle.core_machine.specs.Steps.{MachineGoes, with_seat}
+use Rattle.core_machine.specs.declared.event.Event.{Event}
+use Rattle.core_machine.proofs.Alone.{StepResult, kept_machine}
+use Rattle.core_machine.proofs.Placed.{map-set_same, found_in_set}
 
 -- the machine as it starts
 pub reached_start : (p : CoreParts) → world p ≡ opening (programs_of p) p.config.slices → IsReached p
@@ -27,10 +27,18 @@ reached_on e p r q goes programs reached = by_result r goes.leads goes.refused
         (reached.0 ++ e ∷ [], subst (λ (programs : List (List Instruction)). Run q.config (opening programs q.config.slices) (reached.0 ++ e ∷ []) (world q)) (sym programs) at_config)
     by_result (Err fault) leads refused = subst IsReached (sym refused) reached
 
+-- a seat is replaced by one whose cache has its room
+pub room_kept : (p : CoreParts) (c : ℕ) (t : SeatParts) → HaveRoom p → t.unit.cache.capacity ≡ p.config.cache_lines → HaveRoom (with_seat p c t)
+room_kept p c t room fits d x found = elim (found_in_set p.seats c t d x found) [
+  | inl new ↦ ap (λ (y : SeatParts). y.unit.cache.capacity) new.1 ∙ fits
+  | inr old ↦ room d x old
+]
+
 -- an event leads on by what it makes of core c
 pub seat_kept : (p : CoreParts) (c : ℕ) (k : IsMachine p) (s : SeatParts) (there : slice_get p.seats c ≡ Some s) (t : SeatParts) (same : SameUnit s.unit t.unit)
-    (e : Event) (r : StepResult) → MachineGoes e p r (with_seat p c t) → IsMachine (with_seat p c t)
-seat_kept p c k s there t same e r goes = record {
+    (fits : t.unit.cache.capacity ≡ p.config.cache_lines) (e : Event) (r : StepResult) → MachineGoes e p r (with_seat p c t) → IsMachine (with_seat p c t)
+seat_kept p c k s there t same fits e r goes = record {
   placed = kept_machine p c k.placed s there t same;
   reached = reached_on e p r (with_seat p c t) goes (map-set_same (λ (x : SeatParts). x.unit.program) p.seats c s t there same.program) k.reached;
+  room = room_kept p c t k.room fits;
 }

@@ -13,21 +13,21 @@ use Rattle.manager_slice.specs.Table.{Slice, Handles}
 use Rattle.manager_slice.specs.declared.fault.SliceFault.{SliceFault}
 use Rattle.core_unit.specs.Core.{Core}
 use Rattle.core_unit.specs.declared.outcome.Outcome.TheVariants as outcome
-use Rattle.tardis_core.specs.Machine.{World, Leads, serves, spills, no_effect, is_barred, bars_at, bars_spill, slice_number, with_core, with_slice}
-use Rattle.tardis_core.specs.Parts.{CoreParts, world, IsPlaced}
-use Rattle.tardis_core.specs.SeatParts.{SeatParts}
-use Rattle.tardis_core.specs.Seats.{asked_by, seen}
-use Rattle.tardis_core.specs.Steps.{Meets, MachineGoes, served_outcome, spill_told, spilled_outcome, step_outcome, with_seat}
-use Rattle.tardis_core.specs.declared.event.Event.TheVariants as event
-use Rattle.tardis_core.specs.declared.fault.CoreFault.TheVariants.{Slice as FromSlice}
+use Rattle.core_machine.specs.Machine.{World, Leads, serves, spills, no_effect, is_barred, bars_at, bars_spill, slice_number, with_core, with_slice}
+use Rattle.core_machine.specs.Parts.{CoreParts, world, IsPlaced}
+use Rattle.core_machine.specs.SeatParts.{SeatParts}
+use Rattle.core_machine.specs.Seats.{asked_by, seen}
+use Rattle.core_machine.specs.Steps.{Meets, MachineGoes, served_outcome, spill_told, spilled_outcome, step_outcome, with_seat}
+use Rattle.core_machine.specs.declared.event.Event.TheVariants as event
+use Rattle.core_machine.specs.declared.fault.CoreFault.TheVariants.{Slice as FromSlice}
 use Rattle.std.specs.Bool.{OnTrue}
 use Rattle.std.specs.Map.{lookup}
 use Rattle.memory_stamp.proofs.Maps.{get-lookup}
 use Rattle.manager_slice.specs.Lines.{is_some_shared}
 use Rattle.manager_slice.specs.declared.managed.ManagedLine.{ManagedLine}
 use Rattle.manager_slice.specs.declared.managed.ManagedLine.TheVariants.{Shared, Exclusive}
-use Rattle.tardis_core.proofs.Alone.{kept_machine}
-use Rattle.tardis_core.proofs.Placed.{set_again, found_in_set, found_in_map}
+use Rattle.core_machine.proofs.Alone.{kept_machine}
+use Rattle.core_machine.proofs.Placed.{set_again, found_in_set, found_in_map}
 
 abbrev seen_slice : SliceParts → Slice
 seen_slice s = slice_of s.state

@@ -2,13 +2,12 @@
 use Rattle.std.specs.Prelude.{◌≡◌, ◌⊎◌, ℕ, true, List, [], ◌∷◌, Option, Some, None, option_and_then, slice_get, take}
 use Rattle.lease_rule.specs.ConfigParts.{ConfigParts}
 use Rattle.core_program.specs.declared.instruction.Instruction.{Instruction}
-use Rattle.tardis_core.specs.Machine.{Run, opening}
-use Rattle.tardis_core.specs.Opening.{opening_parts}
-use Rattle.tardis_core.specs.Parts.{CoreParts, world}
-use Rattle.tardis_core.specs.Steps.{StepOutcome, Refuses, Answers, Steps, is_memory, step_outcome}
-use Rattle.tardis_core.specs.declared.event.Event.{Event}
-use Rattle.tardis_core.specs.declared.fault.CoreFault.{CoreFault}
-use Rattle.tardis_core.specs.declared.running.RunFault.{RunFault}
+use Rattle.core_machine.specs.Machine.{Run, opening}
+use Rattle.core_machine.specs.Opening.{opening_parts}
+use Rattle.core_machine.specs.Parts.{CoreParts, world}
+use Rattle.core_machine.specs.Steps.{StepOutcome, Refuses, Answers, Steps, is_memory, step_outcome}
+use Rattle.core_machine.specs.declared.event.Event.{Event}
+use Rattle.core_machine.specs.declared.fault.CoreFault.{CoreFault}
 
 -- the machine after an event, and None where the event is refused
 abbrev pub behind : StepOutcome → Option CoreParts
@@ -35,8 +34,3 @@ pub record IsRefusedAt (programs : List (List Instruction)) (g : ConfigParts) (e
   pub event : Event
   pub stands : slice_get events at ≡ Some event
   pub refused : MayRefuse (step_outcome machine event) fault
-
--- an event is refused, or there was no memory to begin with
-abbrev pub IsRunFault : List (List Instruction) → ConfigParts → List Event → RunFault → Type 0
-IsRunFault programs g events r =
-    ((r.at ≡ 0) × (is_memory r.fault ≡ true)) ⊎ IsRefusedAt programs g events r.at r.fault

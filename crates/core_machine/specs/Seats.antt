@@ -9,10 +9,10 @@ use Rattle.core_unit.specs.declared.fault.UnitFault.{UnitFault}
 use Rattle.core_unit.specs.declared.fault.UnitFault.TheVariants.{OutOfMemory}
 use Rattle.core_unit.specs.declared.outcome.Outcome.{Outcome}
 use Rattle.core_unit.specs.declared.outcome.Outcome.TheVariants.{NoEffect}
-use Rattle.tardis_core.specs.Machine.{CoreLeads, bars}
-use Rattle.tardis_core.specs.SeatParts.{SeatParts}
-use Rattle.tardis_core.specs.declared.event.Event.{Event}
-use Rattle.tardis_core.specs.declared.event.Event.TheVariants as event
+use Rattle.core_machine.specs.Machine.{CoreLeads, bars}
+use Rattle.core_machine.specs.SeatParts.{SeatParts}
+use Rattle.core_machine.specs.declared.event.Event.{Event}
+use Rattle.core_machine.specs.declared.event.Event.TheVariants as event
 
 pub data SeatOutcome : Type 0 where
   -- a refusal that is due

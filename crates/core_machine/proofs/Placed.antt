@@ -1,6 +1,7 @@
 -- Items of a list that are replaced.
 use Rattle.std.proofs.Common.{◌≡◌, ℕ, zero, suc, ◌<◌, ◌≤◌, List, length, get_or, [], ◌∷◌, inl, inr, refl, sym, ap, ◌∙◌}
 use Rattle.std.specs.Prelude.{◌⊎◌, Some, None, option_map, map, slice_get, slice_set}
+use Rattle.std.specs.Option.{option_map_or}
 use Rattle.std.proofs.lemmas.List.{map-set}
 use Rattle.std.proofs.lemmas.Option.{slice_get-get_or, slice_get-map, slice_get_past}
 
@@ -37,3 +38,17 @@ stands_none xs i j same past = ap (slice_get xs) (sym same) ∙ slice_get_past x
 pub map-set_same : {A B : Type 0} (f : A → B) (xs : List A) (i : ℕ) (x t : A) → slice_get xs i ≡ Some x → f t ≡ f x → map f (slice_set xs i t) ≡ map f xs
 map-set_same f xs i x t there same =
     map-set f xs i t ∙ ap (slice_set (map f xs) i) same ∙ set_again (map f xs) i (f x) (found_in_map f xs i x there)
+
+pub set_here : {X : Type 0} (xs : List X) (i : ℕ) (u v : X) → slice_get xs i ≡ Some u → slice_get (slice_set xs i v) i ≡ Some v
+set_here [] i u v e = absurd (cc)
+set_here (x ∷ xs) zero u v e = refl
+set_here (x ∷ xs) (suc i) u v e = set_here xs i u v e
+
+-- what doesn't differ between the old item and the new one stays everywhere
+pub stays_in_set : {X A : Type 0} (f : X → A) (d : A) (xs : List X) (i j : ℕ) (u v : X) → slice_get xs i ≡ Some u → f v ≡ f u
+    → option_map_or f (slice_get (slice_set xs i v) j) d ≡ option_map_or f (slice_get xs j) d
+stays_in_set f d [] i j u v e same = refl
+stays_in_set f d (x ∷ xs) zero zero u v e same = let is : x ≡ u = cc in same ∙ ap f (sym is)
+stays_in_set f d (x ∷ xs) zero (suc j) u v e same = refl
+stays_in_set f d (x ∷ xs) (suc i) zero u v e same = refl
+stays_in_set f d (x ∷ xs) (suc i) (suc j) u v e same = stays_in_set f d xs i j u v e same

@@ -25,8 +25,8 @@ use Rattle.manager_slice.specs.declared.managed.HistoryEntry.{HistoryEntry}
 use Rattle.core_unit.specs.Core.{Core, new_core, next_of, op_addr, next_id, tries, next_request, after_hit, has_place, has_dropped, has_given, has_asked, has_taken, has_let_go, has_bumped, fits}
 use Rattle.core_unit.specs.declared.outcome.Outcome.{Outcome}
 use Rattle.core_unit.specs.declared.outcome.Outcome.TheVariants.{Performed, Dropped, Sent, Ended, Took, Busy, Gave, Bumped, Served, Spilled, NoEffect}
-use Rattle.tardis_core.specs.declared.event.Event.{Event}
-use Rattle.tardis_core.specs.declared.event.Event.TheVariants as event
+use Rattle.core_machine.specs.declared.event.Event.{Event}
+use Rattle.core_machine.specs.declared.event.Event.TheVariants as event
 
 pub record World : Type 0 where
   pub cores : List Core

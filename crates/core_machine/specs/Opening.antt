@@ -6,8 +6,8 @@ use Rattle.core_program.specs.Running.{start_of}
 use Rattle.private_cache.specs.Steps.{empty_cache}
 use Rattle.manager_slice.specs.Opening.{new_slices}
 use Rattle.core_unit.specs.Parts.{UnitParts}
-use Rattle.tardis_core.specs.Parts.{CoreParts}
-use Rattle.tardis_core.specs.SeatParts.{SeatParts}
+use Rattle.core_machine.specs.Parts.{CoreParts}
+use Rattle.core_machine.specs.SeatParts.{SeatParts}
 
 -- core c at the start of its program
 abbrev pub new_unit : ConfigParts → ℕ → List Instruction → UnitParts

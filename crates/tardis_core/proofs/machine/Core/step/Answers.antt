@@ -1,0 +1,11 @@
+use Rattle.tardis_core.proofs.Judged.{yes_before, yes_after, passes}
+use Rattle.tardis_core.proofs.machine.Core.step.Goals as goal
+
+pub returns-clause-before : goal.returns-clause-before
+returns-clause-before c = yes_before c.runs_get_yes.ensures.yes c.args.self.now c.keeps.ensures.reached
+
+pub returns-clause-after : goal.returns-clause-after
+returns-clause-after c = yes_after c.runs_get_yes.ensures.yes c.args.event c.args.self.now c.make.result c.make.new.self c.keeps.ensures.reached c.make.ensures.goes
+
+pub returns-clause-passes : goal.returns-clause-passes
+returns-clause-passes c = passes c.never_refused.ensures.passes c.args.event c.args.self.now c.make.result c.make.new.self c.keeps.ensures c.make.ensures.outcome
