@@ -73,10 +73,10 @@ texts_below told out cores w (suc n) first =
 -- logs that get Yes against the programs are left
 leaves : (told told' : List ℕ → Option (List ℕ)) (name out : List ℕ) (programs : List (List Instruction)) (w : World) → AreProgramsIn told name programs
     → TellsFirst told' out (length programs) (log_at w) (length programs) → GetYesBy programs (logs_below w (length programs)) → LeavesYes told told' name out
-leaves told told' name out programs w read first yes =
+leaves told told' name out programs w read first gets_yes =
     let below = texts_below told' out (length programs) w (length programs) first in
     let spell = subst (λ n. SpellFrom 0 n below.texts (logs_below w (length programs))) (sym below.count) below.spell in
-    (programs, read, (below.texts, below.count, below.told_each, (length (entries (logs_below w (length programs))), (logs_below w (length programs), spell, sym yes))))
+    (programs, read, below.texts, below.count, below.told_each, length (entries (logs_below w (length programs))), (logs_below w (length programs), spell, sym gets_yes))
 
 -- ---- a simulation
 
@@ -114,5 +114,5 @@ run_leaves old new asked count (sound, programs, read, (us, ss, run, events, (co
 -- ---- whatever is answered
 
 pub whatever : (Said : Answer → Type 0) (X : Type 0) (r : Result Answer CommandFault) → X → IfOk r (λ answer. Said answer → X)
-whatever Said X (Ok answer) x said = x
+whatever Said X (Ok answer) x = λ said. x
 whatever Said X (Err fault) x = tt
