@@ -6,17 +6,19 @@ use Rattle.std.proofs.lemmas.Fmt.{length-decimal-le}
 use Rattle.mem_op.specs.declared.id.Source.{Source}
 use Rattle.mem_op.specs.declared.id.Source.TheVariants as source
 use Rattle.mem_op.specs.Limits.{operation_limit}
+use Rattle.log_record.specs.declared.format.Format.{Format}
+use Rattle.log_record.specs.declared.format.Format.TheVariants.{One, Two}
 use Rattle.log_record.specs.declared.record.Act.{Act}
 use Rattle.log_record.specs.declared.record.Act.TheVariants as act
 use Rattle.log_record.specs.declared.record.Record.{Record}
 use Rattle.decimal_text.specs.Numbers.{numeral}
-use Rattle.log_record.specs.Line.{source_text, record_text, header_text, end_text, line_limit, Fits, ActFits, SourceFits}
+use Rattle.log_record.specs.Line.{format_number, source_text, record_text, header_text, end_text, line_limit, limit_of, Fits, ActFits, SourceFits}
 use Rattle.log_record.specs.inner.Reading.{Fields, record_of, header_of, end_of}
 pub use Rattle.decimal_text.proofs.Lines.{NoLf, NoLf-append, NoLf-all, numeral_no_lf}
 use Rattle.decimal_text.proofs.Lines.{const_no_lf}
 use Rattle.log_record.proofs.Records.{fields_text, fields_in, tagged_text, record_text_is, record_again}
 use Rattle.decimal_text.proofs.Reading.{some_is}
-use Rattle.log_record.proofs.Ends.{header_text_is, header_again, end_again}
+use Rattle.log_record.proofs.Ends.{words_of, header_text_is, header_again, end_again}
 use Rattle.decimal_text.proofs.Printing.{numeral_decimal}
 
 -- ---- no line feed
@@ -88,15 +90,27 @@ tagged_short (act.Load src) f rank fits a v t k =
 pub record_short : (r : Record) → Fits r → length (record_text r) ≤ line_limit
 record_short r fits = subst (λ (xs : List ℕ). length xs ≤ 80) (sym (record_text_is r)) (tagged_short r.act (fields_in r) r.rank fits.act fits.addr fits.value fits.ts fits.rank)
 
-pub header_short : (core cores : ℕ) → core < cores → cores < 65 → length (header_text 1 core cores) ≤ line_limit
-header_short core cores lt few =
-    subst (λ (xs : List ℕ). length xs ≤ 80) (sym (header_text_is core cores))
-    (omega (
+pub header_short : (format : Format) (core cores : ℕ) → core < cores → cores < 65
+    → length (header_text (format_number format) core cores) ≤ line_limit
+header_short format core cores lt few =
+    subst (λ (xs : List ℕ). length xs ≤ 80) (sym (header_text_is format core cores)) (short format)
+  where
+    behind : length (numeral core ++ (codes " of " ++ numeral cores)) ≤ 8
+    behind = omega (
       arith,
       length-append (numeral core) (codes " of " ++ numeral cores),
       numeral_short 2 core (omega arith) (omega arith) (omega arith),
       numeral_short 2 cores (omega arith) (omega arith) (omega arith),
-    ))
+    )
+
+    short : (format : Format) → length (words_of format ++ (numeral core ++ (codes " of " ++ numeral cores))) ≤ 80
+    short One = omega (arith, behind, length-append (codes "tardis-log 1 core ") (numeral core ++ (codes " of " ++ numeral cores)))
+    short Two = omega (arith, behind, length-append (codes "tardis-log 2 core ") (numeral core ++ (codes " of " ++ numeral cores)))
+
+-- a line that is short in either format
+pub within_limit : (format : Format) (line : List ℕ) → length line ≤ line_limit → length line ≤ limit_of format
+within_limit One line short = short
+within_limit Two line short = omega arith
 
 pub end_short : (count : ℕ) → count ≤ operation_limit → length (end_text count) ≤ line_limit
 unfolding end_text
@@ -107,10 +121,14 @@ end_short count le = omega (arith, numeral_short 7 count (omega arith) (omega ar
 pub record_once : (q r : Record) → record_text q ≡ record_text r → q ≡ r
 record_once q r e = some_is q r (sym (record_again q) ∙ ap record_of e ∙ record_again r)
 
-pub header_once : (a b c d : ℕ) → header_text 1 a b ≡ header_text 1 c d → (a ≡ c) × (b ≡ d)
-header_once a b c d e =
-    let joined = some_is (a, b) (c, d) (sym (header_again a b) ∙ ap header_of e ∙ header_again c d) in
-    (ap (λ (p : ℕ × ℕ). p.0) joined, ap (λ (p : ℕ × ℕ). p.1) joined)
+pub header_once : (f g : Format) (a b c d : ℕ) → header_text (format_number f) a b ≡ header_text (format_number g) c d
+    → (f ≡ g) × (a ≡ c) × (b ≡ d)
+header_once f g a b c d e =
+    let joined = some_is (f, (a, b)) (g, (c, d)) (sym (header_again f a b) ∙ ap header_of e ∙ header_again g c d) in (
+      ap (λ (p : Format × (ℕ × ℕ)). p.0) joined,
+      ap (λ (p : Format × (ℕ × ℕ)). p.1.0) joined,
+      ap (λ (p : Format × (ℕ × ℕ)). p.1.1) joined,
+    )
 
 pub end_once : (m n : ℕ) → end_text m ≡ end_text n → m ≡ n
 end_once m n e = some_is m n (sym (end_again m) ∙ ap end_of e ∙ end_again n)

@@ -3,6 +3,7 @@ use Rattle.std.proofs.Common.{◌≡◌, ℕ, ◌<◌, ◌^◌, List, Option, So
 use Rattle.std.proofs.lemmas.Bool.{cases_lt}
 use Rattle.mem_op.specs.declared.id.Source.{Source}
 use Rattle.mem_op.specs.declared.id.Source.TheVariants as source
+use Rattle.log_record.specs.declared.format.Format.{Format}
 use Rattle.log_record.specs.declared.record.Act.{Act}
 use Rattle.log_record.specs.declared.record.Act.TheVariants as act
 use Rattle.log_record.specs.declared.record.Record.{Record}
@@ -56,8 +57,8 @@ raw_back q r e fits =
     joined q.act r.act q.addr r.addr q.value r.value q.ts r.ts q.rank r.rank act-same addr-same value-same ts-same rank-same
 
 -- nothing was read
-pub none_is_bad : (line : List ℕ) → None ≡ option_map raw_of (record_of line) → IsRecordShape line → ⊥
-none_is_bad line e shape =
+pub none_is_bad : (line : List ℕ) → None ≡ option_map raw_of (record_of line) → (format : Format) → IsRecordShape format line → ⊥
+none_is_bad line e format shape =
     let there : record_of line ≡ Some shape.0 = ap record_of shape.1 ∙ record_again shape.0 in
     let joined : None ≡ Some (raw_of shape.0) = e ∙ ap (option_map raw_of) there in
     cc
@@ -67,8 +68,8 @@ some_is_raw : (o : Option Record) (raw : RawRecord) → Some raw ≡ option_map 
 some_is_raw None raw e = absurd cc
 some_is_raw (Some r) raw e = (r, refl, cc)
 
-pub is_shape : (line : List ℕ) (raw : RawRecord) → Some raw ≡ option_map raw_of (record_of line) → IsRecordShape line
-is_shape line raw e = let p = some_is_raw (record_of line) raw e in (p.0, record_takes line p.0 p.1)
+pub is_shape : (format : Format) (line : List ℕ) (raw : RawRecord) → Some raw ≡ option_map raw_of (record_of line) → IsRecordShape format line
+is_shape format line raw e = let p = some_is_raw (record_of line) raw e in (p.0, record_takes line p.0 p.1)
 
 pub raw_is : (line : List ℕ) (raw : RawRecord) (r : Record) → Some raw ≡ option_map raw_of (record_of line) → line ≡ record_text r → raw ≡ raw_of r
 raw_is line raw r e line-is =

@@ -5,9 +5,16 @@ use Rattle.decimal_text.specs.Numbers.{numeral}
 use Rattle.mem_op.specs.declared.id.Source.{Source}
 use Rattle.mem_op.specs.declared.id.Source.TheVariants as source
 use Rattle.mem_op.specs.Limits.{operation_limit}
+use Rattle.log_record.specs.declared.format.Format.{Format}
+use Rattle.log_record.specs.declared.format.Format.TheVariants.{One, Two}
 use Rattle.log_record.specs.declared.record.Act.{Act}
 use Rattle.log_record.specs.declared.record.Act.TheVariants as act
 use Rattle.log_record.specs.declared.record.Record.{Record}
+
+-- the number of a format
+abbrev pub format_number : Format → ℕ
+format_number One = 1
+format_number Two = 2
 
 -- ---- the texts
 
@@ -46,11 +53,16 @@ end_text count = codes "end " ++ numeral count
 -- A number of a line may have any size. So a line has a record's shape where it is the text of some record,
 -- of numbers of any size; the same below.
 
-abbrev pub IsRecordShape : List ℕ → Type 0
-IsRecordShape line = (r : Record) × (line ≡ record_text r)
+-- of a record of this format: the records of both are the same
+abbrev pub IsRecordShape : Format → List ℕ → Type 0
+IsRecordShape format line = (r : Record) × (line ≡ record_text r)
 
 abbrev pub IsHeaderShape : ℕ → List ℕ → Type 0
 IsHeaderShape format line = (core : ℕ) × ((cores : ℕ) × (line ≡ header_text format core cores))
+
+-- of a header of either format
+abbrev pub IsSomeHeader : List ℕ → Type 0
+IsSomeHeader line = (format : Format) × IsHeaderShape (format_number format) line
 
 abbrev pub IsEndShape : List ℕ → Type 0
 IsEndShape line = (count : ℕ) × (line ≡ end_text count)
@@ -73,6 +85,13 @@ pub record Fits (r : Record) : Type 0 where
   pub addr : r.addr < 65536
   pub act : ActFits r.act
 
--- The most bytes of a line of a log, its line feed not counted. No line of numbers in range has more.
+-- ---- the lengths
+
+-- The most bytes of the header of a log, its line feed not counted. No line of numbers in range has more.
 abbrev pub line_limit : ℕ
 line_limit = 80
+
+-- the most bytes of a later line, by the log's format
+abbrev pub limit_of : Format → ℕ
+limit_of One = line_limit
+limit_of Two = 96

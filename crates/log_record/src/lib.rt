@@ -3,6 +3,7 @@
 
 mod end;
 mod fault;
+mod format;
 mod header;
 mod laws;
 mod line;
@@ -13,6 +14,7 @@ mod record;
 
 pub use end::{End, print_end, read_end};
 pub use fault::LineFault;
+pub use format::Format;
 pub use header::{Header, print_header, read_header};
 pub use laws::{no_line_is_anothers, no_record_is_long, one_record_a_line};
 pub use line::{print_line, read_line};

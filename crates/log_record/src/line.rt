@@ -5,6 +5,7 @@ ghost use Rattle.log_record.specs.Line.{record_text, IsRecordShape, Fits};
 ghost use Rattle.log_record.specs.declared.record.Record.{Record};
 
 use super::fault::LineFault;
+use super::format::Format;
 use super::range::in_range;
 use super::reading::raw_record;
 use super::record::{Act, Record};
@@ -40,12 +41,12 @@ pub fn print_line(alloc: Global, logged: &Record) -> Result<String, AllocError>
     logged.to_string(alloc)
 }
 
-/// The record whose line this is, without its line feed. BadLine where it isn't a record's line, whatever the
-/// size of its numbers; OutOfRange where it is the line of a record with a number out of range.
-#[tactic(auto, using(crate::proofs::Raws::none_is_bad, crate::proofs::Raws::out_of_range, crate::proofs::Raws::found))]
-pub fn read_line(line: &[u8]) -> Result<Record, LineFault>
+/// The record whose line this is in a log of this format, without its line feed. BadLine where it isn't a
+/// record's line there, whatever the size of its numbers; OutOfRange where it is the line of a record with a number out of range.
+#[tactic(auto, using(crate::proofs::Raws::out_of_range, crate::proofs::Raws::found))]
+pub fn read_line(_format: Format, line: &[u8]) -> Result<Record, LineFault>
     ensures found { IfOk result (λ r. (line.now ≡ record_text r) × Fits r) }
-    ensures bad { IsErrOf result LineFault.BadLine → ¬ IsRecordShape line.now }
+    ensures bad { IsErrOf result LineFault.BadLine → ¬ IsRecordShape _format line.now }
     ensures range { IsErrOf result LineFault.OutOfRange →
         (r : Record) × (line.now ≡ record_text r) × (¬ Fits r) }
 {

@@ -11,6 +11,7 @@ use Rattle.log_record.specs.declared.raw.RawAct.{RawAct}
 use Rattle.log_record.specs.declared.raw.RawAct.TheVariants as raw_act
 use Rattle.log_record.specs.declared.raw.RawFields.{RawFields}
 use Rattle.log_record.specs.declared.raw.RawRecord.{RawRecord}
+use Rattle.log_record.specs.declared.format.Format.{Format}
 use Rattle.log_record.specs.declared.header.Header.{Header}
 use Rattle.log_record.specs.declared.end.End.{End}
 use Rattle.decimal_text.specs.Numbers.{as_u64}
@@ -30,8 +31,8 @@ raw_fields_of f = record { addr = as_u64 f.addr; value = as_u64 f.value; ts = as
 abbrev pub raw_of : Record → RawRecord
 raw_of r = record { act = raw_act_of r.act; fields = record { addr = as_u64 r.addr; value = as_u64 r.value; ts = as_u64 r.ts }; rank = as_u64 r.rank }
 
-abbrev pub header_parts : ℕ × ℕ → Header
-header_parts x = record { core = as_u64 x.0; cores = as_u64 x.1 }
+abbrev pub header_parts : Format × (ℕ × ℕ) → Header
+header_parts x = record { format = x.0; core = as_u64 x.1.0; cores = as_u64 x.1.1 }
 
 abbrev pub end_parts : ℕ → End
 end_parts n = record { count = as_u64 n }

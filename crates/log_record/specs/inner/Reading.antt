@@ -4,6 +4,8 @@ use Rattle.std.specs.Prelude.{ℕ, if◌then◌else◌, List, Option, Some, is_s
 use Rattle.decimal_text.specs.Reading.{◌>>=◌, whole, number_at, after, field_at, last_number}
 use Rattle.mem_op.specs.declared.id.Source.{Source}
 use Rattle.mem_op.specs.declared.id.Source.TheVariants as source
+use Rattle.log_record.specs.declared.format.Format.{Format}
+use Rattle.log_record.specs.declared.format.Format.TheVariants.{One, Two}
 use Rattle.log_record.specs.declared.record.Act.{Act}
 use Rattle.log_record.specs.declared.record.Act.TheVariants as act
 use Rattle.log_record.specs.declared.record.Record.{Record}
@@ -52,8 +54,13 @@ record_of line = whole (tagged_at line)
 unfoldable pub header_numbers : List ℕ → Option (ℕ × ℕ)
 header_numbers bytes = number_at bytes >>= λ core. after (codes " of ") core.1 >>= λ rest. last_number rest >>= λ cores. Some (core.0, cores)
 
-unfoldable pub header_of : List ℕ → Option (ℕ × ℕ)
-header_of line = after (codes "tardis-log 1 core ") line >>= λ rest. header_numbers rest
+-- the format that the first words of a header say, and the bytes after them
+unfoldable pub first_words : List ℕ → Option (Format × List ℕ)
+first_words line =
+    if is_some (after (codes "tardis-log 1 core ") line) then (after (codes "tardis-log 1 core ") line >>= λ rest. Some (One, rest)) else (after (codes "tardis-log 2 core ") line >>= λ rest. Some (Two, rest))
+
+unfoldable pub header_of : List ℕ → Option (Format × (ℕ × ℕ))
+header_of line = first_words line >>= λ front. header_numbers front.1 >>= λ x. Some (front.0, x)
 
 -- the number of an end line
 unfoldable pub end_of : List ℕ → Option ℕ
