@@ -1,11 +1,13 @@
 -- What a reader of records was fed without a fault.
 use Rattle.std.proofs.Common.{◌≡◌, ℕ, ◌<◌, ◌^◌, List, length, Option, None, Some, Result, Ok, Err, refl, ap, subst, sym, arith}
 use Rattle.std.specs.Prelude.{MatchResult, OnOk, IfSome}
+use Rattle.std.specs.Global.{Vec}
 use Rattle.log_record.specs.declared.record.Record.{Record}
 use Rattle.log_file.specs.declared.fault.LogFault.{LogFault}
+use Rattle.log_file.specs.Log.{Spells}
 use Rattle.log_file.specs.Answering.{Answering, HasAnswered, fed_text}
-use Rattle.log_file.specs.Feeding.{IsOpen, IsSettled, fed_len}
-use Rattle.log_file.specs.Keeping.{fed_of}
+use Rattle.log_file.specs.Feeding.{Finishes, IsOpen, IsSettled, fed_len}
+use Rattle.log_file.specs.Keeping.{KeepsRecords, fed_of}
 use Rattle.log_file.proofs.Bounded.{read_long}
 use Rattle.log_file.proofs.OnlyCut.{only_cut}
 
@@ -37,3 +39,13 @@ module _ (old new : Answering) (records : List Record) (bytes : List ℕ) where
       let h = answered x fed again in
       subst (λ o. fed_len (fed_of o (fed_text new records)) < 2 ^ 27) (sym h.faultless)
       (let few = read_long new bytes records h in omega (arith, few, ap length h.text))
+
+-- what finishing answers where the log is whole
+pub finishes : (s : Answering) (log : Vec Record) → KeepsRecords s log.items
+    → ((bytes : List ℕ) (records : List Record) → HasAnswered s bytes records → Spells s.core s.cores bytes records)
+    → IfSome s.fault (λ fault. ⊥) → Finishes s.core s.cores (fed_of s.fault (fed_text s log.items)) (Ok log)
+finishes s log keeps ends again = go s.fault refl again
+  where
+    go : (o : Option LogFault) → s.fault ≡ o → IfSome o (λ fault. ⊥) → Finishes s.core s.cores (fed_of o (fed_text s log.items)) (Ok log)
+    go None is h = ends (fed_text s log.items) log.items (keeps is)
+    go (Some f) is h = absurd h

@@ -3,18 +3,18 @@ use Rattle.std.proofs.Common.{◌≡◌, ℕ, zero, suc, ◌<◌, ◌≤◌, ◌
 use Rattle.log_record.specs.Line.{line_limit}
 use Rattle.log_file.specs.declared.fault.FormatFault.{FormatFault}
 use Rattle.log_file.specs.declared.fault.FormatFault.TheVariants.{BadHeader, BadLine, OutOfRange, TooMany, CountDiffers, TrailingBytes, Truncated, WrongCore}
-use Rattle.log_file.specs.Log.{IsWhole, FaultAt, number, first_format}
+use Rattle.log_file.specs.Log.{IsWhole, FaultAt, number}
 use Rattle.log_file.specs.OneLine.{HeaderHolds, LeastHeader}
 
 pub header_first : (core cores : ℕ) (l : List ℕ) (ls : List (List ℕ)) (f : FormatFault) → 0 < length ls
-    → LeastHeader first_format core cores l f
-    → FaultAt first_format core cores (l ∷ ls) 1 f × ((g : FormatFault) → FaultAt first_format core cores (l ∷ ls) 1 g → number f ≤ number g)
+    → LeastHeader core cores l f
+    → FaultAt core cores (l ∷ ls) 1 f × ((g : FormatFault) → FaultAt core cores (l ∷ ls) 1 g → number f ≤ number g)
 header_first core cores l ls f whole found = (holds f found.0, λ g p. least g p)
   where
     is-whole : IsWhole (l ∷ ls) 1
     is-whole = (omega arith, omega arith)
 
-    holds : (f : FormatFault) → HeaderHolds first_format core cores l f → FaultAt first_format core cores (l ∷ ls) 1 f
+    holds : (f : FormatFault) → HeaderHolds core cores l f → FaultAt core cores (l ∷ ls) 1 f
     holds BadHeader (inl long) = (refl, inl long)
     holds BadHeader (inr bad) = (refl, inr (is-whole, bad))
     holds OutOfRange p = inl (refl, is-whole, p)
@@ -25,7 +25,7 @@ header_first core cores l ls f whole found = (holds f found.0, λ g p. least g p
     holds TrailingBytes p = absurd p
     holds Truncated p = absurd p
 
-    least : (g : FormatFault) → FaultAt first_format core cores (l ∷ ls) 1 g → number f ≤ number g
+    least : (g : FormatFault) → FaultAt core cores (l ∷ ls) 1 g → number f ≤ number g
     least BadHeader (at, inl long) = found.1 BadHeader (inl long)
     least BadHeader (at, inr bad) = found.1 BadHeader (inr bad.1)
     least BadLine p = let b = p.0.later in absurd (omega arith)
@@ -38,7 +38,7 @@ header_first core cores l ls f whole found = (holds f found.0, λ g p. least g p
     least WrongCore p = found.1 WrongCore p.2
 
 pub header_long : (core cores : ℕ) (l : List ℕ) (ls : List (List ℕ)) → line_limit < length l
-    → FaultAt first_format core cores (l ∷ ls) 1 BadHeader × ((g : FormatFault) → FaultAt first_format core cores (l ∷ ls) 1 g → 20 ≤ number g)
+    → FaultAt core cores (l ∷ ls) 1 BadHeader × ((g : FormatFault) → FaultAt core cores (l ∷ ls) 1 g → 20 ≤ number g)
 header_long core cores l ls long = ((refl, inl long), λ g p. least g)
   where
     least : (g : FormatFault) → 20 ≤ number g
@@ -52,13 +52,13 @@ header_long core cores l ls long = ((refl, inl long), λ g p. least g)
     least WrongCore = omega arith
 
 pub header_cut : (core cores : ℕ) (l : List ℕ) → length l ≤ line_limit
-    → FaultAt first_format core cores (l ∷ []) 1 Truncated × ((g : FormatFault) → FaultAt first_format core cores (l ∷ []) 1 g → 26 ≤ number g)
+    → FaultAt core cores (l ∷ []) 1 Truncated × ((g : FormatFault) → FaultAt core cores (l ∷ []) 1 g → 26 ≤ number g)
 header_cut core cores l short = ((refl, λ j lo hi shape. omega arith), λ g p. least g p)
   where
     not-whole : IsWhole (l ∷ []) 1 → ⊥
     not-whole w = let x = w.1 in omega arith
 
-    least : (g : FormatFault) → FaultAt first_format core cores (l ∷ []) 1 g → 26 ≤ number g
+    least : (g : FormatFault) → FaultAt core cores (l ∷ []) 1 g → 26 ≤ number g
     least BadHeader (at, inl long) = absurd (omega arith)
     least BadHeader (at, inr bad) = absurd (not-whole bad.0)
     least BadLine p = let b = p.0.later in absurd (omega arith)
@@ -72,7 +72,7 @@ header_cut core cores l short = ((refl, λ j lo hi shape. omega arith), λ g p. 
 
 -- no fault stands at line 0
 pub none_at_zero : (core cores : ℕ) (lines : List (List ℕ)) (g : FormatFault) → 0 < length lines
-    → FaultAt first_format core cores lines 0 g → ⊥
+    → FaultAt core cores lines 0 g → ⊥
 none_at_zero core cores lines BadHeader more p = omega (arith, p.0)
 none_at_zero core cores lines BadLine more p = let b = p.0.later in omega arith
 none_at_zero core cores lines OutOfRange more (inl p) = omega (arith, p.0)
@@ -84,8 +84,8 @@ none_at_zero core cores lines Truncated more p = omega (arith, p.0)
 none_at_zero core cores lines WrongCore more p = omega (arith, p.0)
 
 pub first_at_one : (core cores : ℕ) (l : List ℕ) (ls : List (List ℕ)) (f : FormatFault)
-    → ((g : FormatFault) → FaultAt first_format core cores (l ∷ ls) 1 g → number f ≤ number g) → (j : ℕ) (g : FormatFault)
-    → FaultAt first_format core cores (l ∷ ls) j g → (1 < j) ⊎ ((1 ≡ j) × (number f ≤ number g))
+    → ((g : FormatFault) → FaultAt core cores (l ∷ ls) 1 g → number f ≤ number g) → (j : ℕ) (g : FormatFault)
+    → FaultAt core cores (l ∷ ls) j g → (1 < j) ⊎ ((1 ≡ j) × (number f ≤ number g))
 first_at_one core cores l ls f least zero g p = absurd (none_at_zero core cores (l ∷ ls) g (omega arith) p)
 first_at_one core cores l ls f least (suc zero) g p = inr (refl, least g p)
 first_at_one core cores l ls f least (suc (suc j)) g p = inl (omega arith)

@@ -3,10 +3,11 @@ use Rattle.std.proofs.Common.{◌≡◌, ℕ, List, [], ◌∷◌, ◌++◌, len
 use Rattle.std.proofs.lemmas.List.{append-nil}
 use Rattle.std.specs.List.{All, AllByRecursion}
 use Rattle.std.proofs.lemmas.List.Splits.{slice_split_at, slice_split_none}
+use Rattle.log_record.specs.declared.format.Format.{Format}
 use Rattle.log_record.specs.declared.record.Record.{Record}
-use Rattle.log_record.specs.Line.{record_text, end_text}
+use Rattle.log_record.specs.Line.{format_number, record_text, end_text}
 use Rattle.log_record.proofs.Lines.{NoLf, NoLf-all, record_no_lf, header_no_lf}
-use Rattle.log_file.specs.Log.{with_lf, begun, text_of, spelling, lines_of, first_format}
+use Rattle.log_file.specs.Log.{with_lf, begun, text_of, spelling, lines_of}
 
 pub lines_of_line : (xs ys : List ℕ) → All (λ b. eqb b 10 ≡ false) xs → lines_of (xs ++ 10 ∷ ys) ≡ xs ∷ lines_of ys
 lines_of_line xs ys p = slice_split_at (λ b. eqb b 10) xs 10 ys p refl
@@ -30,8 +31,8 @@ records_no_lf : (records : List Record) → AllByRecursion NoLf (map record_text
 records_no_lf [] = tt
 records_no_lf (r ∷ records) = (record_no_lf r, records_no_lf records)
 
-pub begun_no_lf : (core cores : ℕ) (records : List Record) → AllByRecursion NoLf (begun first_format core cores records)
-begun_no_lf core cores records = (header_no_lf 1 core cores, records_no_lf records)
+pub begun_no_lf : (format : Format) (core cores : ℕ) (records : List Record) → AllByRecursion NoLf (begun format core cores records)
+begun_no_lf format core cores records = (header_no_lf (format_number format) core cores, records_no_lf records)
 
 pub flat_map_push : (done : List (List ℕ)) (l rest : List ℕ)
     → text_of (done ++ l ∷ []) ++ rest ≡ text_of done ++ (l ++ 10 ∷ rest)
@@ -40,7 +41,7 @@ flat_map_push (d ∷ done) l rest =
     text_front d (done ++ l ∷ []) rest ∙ ap (λ (x : List ℕ). d ++ (10 ∷ x)) (flat_map_push done l rest)
     ∙ sym (text_front d done (l ++ 10 ∷ rest))
 
-pub spelling_text : (core cores : ℕ) (records : List Record) (rest : List ℕ)
-    → spelling first_format core cores records ++ rest ≡ text_of (begun first_format core cores records) ++
+pub spelling_text : (format : Format) (core cores : ℕ) (records : List Record) (rest : List ℕ)
+    → spelling format core cores records ++ rest ≡ text_of (begun format core cores records) ++
     (end_text (length records) ++ 10 ∷ rest)
-spelling_text core cores records rest = flat_map_push (begun first_format core cores records) (end_text (length records)) rest
+spelling_text format core cores records rest = flat_map_push (begun format core cores records) (end_text (length records)) rest

@@ -1,19 +1,20 @@
 -- No spelling begins another.
-use Rattle.std.proofs.Common.{◌≡◌, ℕ, List, [], ◌∷◌, ◌++◌, length, map, refl, sym, ap, ◌∙◌}
+use Rattle.std.proofs.Common.{◌≡◌, ℕ, List, [], ◌∷◌, ◌++◌, length, map, refl, sym, ap, ◌∙◌, append_assoc}
+use Rattle.log_record.specs.declared.format.Format.{Format}
 use Rattle.log_record.specs.declared.record.Record.{Record}
-use Rattle.log_record.specs.Line.{record_text, header_text, end_text}
-use Rattle.log_record.proofs.Lines.{NoLf-all, end_no_lf, record_once, header_once, record_no_end}
-use Rattle.log_file.specs.Log.{Spells, begun, spelling, lines_of, first_format}
+use Rattle.log_record.specs.Line.{format_number, record_text, header_text, end_text}
+use Rattle.log_record.proofs.Lines.{NoLf-all, header_no_lf, end_no_lf, record_once, header_once, record_no_end}
+use Rattle.log_file.specs.Log.{Spells, begun, spelling, lines_of, with_lf}
 use Rattle.log_file.proofs.Lines.{lines_of_line, lines_of_text, begun_no_lf, spelling_text}
 
-spelled_lines : (core cores : ℕ) (records : List Record) (x : List ℕ)
-    → lines_of (spelling first_format core cores records ++ x) ≡ begun first_format core cores records ++
+spelled_lines : (format : Format) (core cores : ℕ) (records : List Record) (x : List ℕ)
+    → lines_of (spelling format core cores records ++ x) ≡ begun format core cores records ++
     (end_text (length records) ∷ lines_of x)
-spelled_lines core cores records x =
-    ap lines_of (spelling_text core cores records x)
-    ∙ lines_of_text (begun first_format core cores records) (end_text (length records) ++ 10 ∷ x)
-    (begun_no_lf core cores records)
-    ∙ ap (λ (ls : List (List ℕ)). begun first_format core cores records ++ ls)
+spelled_lines format core cores records x =
+    ap lines_of (spelling_text format core cores records x)
+    ∙ lines_of_text (begun format core cores records) (end_text (length records) ++ 10 ∷ x)
+    (begun_no_lf format core cores records)
+    ∙ ap (λ (ls : List (List ℕ)). begun format core cores records ++ ls)
     (lines_of_line (end_text (length records)) x (NoLf-all (end_text (length records)) (end_no_lf (length records))))
 
 same_records : (m n : ℕ) (rs qs : List Record) (xs ys : List (List ℕ))
@@ -28,26 +29,38 @@ same_records m n (r ∷ rs) (q ∷ qs) xs ys e =
     ap (λ (x : Record). x ∷ rs) (record_once r q first)
     ∙ ap (λ (l : List Record). q ∷ l) (same_records m n rs qs xs ys rest)
 
-pub spelled_once : (a b c d : ℕ) (rs qs : List Record) (x y : List ℕ) → spelling first_format a b rs ++ x ≡ spelling first_format c d qs ++ y
-    → (a ≡ c) × (b ≡ d) × (rs ≡ qs)
-spelled_once a b c d rs qs x y e =
-    let lines = sym (spelled_lines a b rs x) ∙ ap lines_of e ∙ spelled_lines c d qs y in
-    let first : header_text 1 a b ≡ header_text 1 c d = heads lines in
+heads : {A : Type 0} {p q : A} {ps qs : List A} → p ∷ ps ≡ q ∷ qs → p ≡ q
+heads e = cc
+
+tails : {A : Type 0} {p q : A} {ps qs : List A} → p ∷ ps ≡ q ∷ qs → ps ≡ qs
+tails e = cc
+
+pub spelled_once : (f g : Format) (a b c d : ℕ) (rs qs : List Record) (x y : List ℕ) → spelling f a b rs ++ x ≡ spelling g c d qs ++ y
+    → (f ≡ g) × (a ≡ c) × (b ≡ d) × (rs ≡ qs)
+spelled_once f g a b c d rs qs x y e =
+    let lines = sym (spelled_lines f a b rs x) ∙ ap lines_of e ∙ spelled_lines g c d qs y in
+    let first : header_text (format_number f) a b ≡ header_text (format_number g) c d = heads lines in
     let rest : map record_text rs ++ (end_text (length rs) ∷ lines_of x) ≡ map record_text qs ++
     (end_text (length qs) ∷ lines_of y) = tails lines in
-    let h = header_once a b c d first in
-    (h.0, h.1, same_records (length rs) (length qs) rs qs (lines_of x) (lines_of y) rest)
-  where
-    heads : {A : Type 0} {p q : A} {ps qs : List A} → p ∷ ps ≡ q ∷ qs → p ≡ q
-    heads e = cc
+    let h = header_once f g a b c d first in
+    (h.0, h.1, h.2, same_records (length rs) (length qs) rs qs (lines_of x) (lines_of y) rest)
 
-    tails : {A : Type 0} {p q : A} {ps qs : List A} → p ∷ ps ≡ q ∷ qs → ps ≡ qs
-    tails e = cc
+-- bytes that begin with the headers of two formats
+pub one_format : (f g : Format) (a b c d : ℕ) (x y : List ℕ)
+    → with_lf (header_text (format_number f) a b) ++ x ≡ with_lf (header_text (format_number g) c d) ++ y → f ≡ g
+one_format f g a b c d x y e =
+    let lines = sym (header_lines f a b x) ∙ ap lines_of e ∙ header_lines g c d y in
+    let first : header_text (format_number f) a b ≡ header_text (format_number g) c d = heads lines in
+    (header_once f g a b c d first).0
+  where
+    header_lines : (f : Format) (a b : ℕ) (x : List ℕ) → lines_of (with_lf (header_text (format_number f) a b) ++ x) ≡ header_text (format_number f) a b ∷ lines_of x
+    header_lines f a b x =
+        ap lines_of (append_assoc (header_text (format_number f) a b) (10 ∷ []) x)
+        ∙ lines_of_line (header_text (format_number f) a b) x (NoLf-all (header_text (format_number f) a b) (header_no_lf (format_number f) a b))
 
 -- bytes spell one log at most
-pub one_log : (core cores : ℕ) (bytes : List ℕ) (rs qs : List Record) → Spells first_format core cores bytes rs
-    → Spells first_format core cores bytes qs → rs ≡ qs
-one_log core cores bytes rs qs p q =
-    let e : spelling first_format core cores rs ++ [] ≡ spelling first_format core cores qs ++ [] = ap (λ (xs : List ℕ). xs ++ [])
-    (sym p.1 ∙ q.1) in
-    (spelled_once core cores core cores rs qs [] [] e).2
+pub one_log : (core cores : ℕ) (bytes : List ℕ) (rs qs : List Record) → Spells core cores bytes rs
+    → Spells core cores bytes qs → rs ≡ qs
+one_log core cores bytes rs qs (f, p) (g, q) =
+    let e : spelling f core cores rs ++ [] ≡ spelling g core cores qs ++ [] = ap (λ (xs : List ℕ). xs ++ []) (sym p.1 ∙ q.1) in
+    (spelled_once f g core cores core cores rs qs [] [] e).3

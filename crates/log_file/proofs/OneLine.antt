@@ -2,13 +2,14 @@
 use Rattle.std.proofs.Common.{◌≡◌, ◌≢◌, ℕ, ◌^◌, ◌<◌, ◌≤◌, ◌⊎◌, Bool, true, false, cond, List, length, Some, None, sym, subst, ◌∙◌, arith, inl, inr}
 use Rattle.std.specs.Prelude.{nat_lt}
 use Rattle.mem_op.specs.Limits.{operation_limit}
+use Rattle.log_record.specs.declared.format.Format.{Format}
 use Rattle.log_record.specs.declared.record.Record.{Record}
-use Rattle.log_record.specs.Line.{record_text, header_text, Fits, line_limit}
+use Rattle.log_record.specs.Line.{format_number, record_text, header_text, Fits, line_limit, limit_of}
 use Rattle.log_record.specs.Numbers.{as_u64}
 use Rattle.log_record.proofs.Lines.{record_once, header_once}
 use Rattle.log_file.specs.declared.fault.FormatFault.{FormatFault}
 use Rattle.log_file.specs.declared.fault.FormatFault.TheVariants.{BadHeader, BadLine, OutOfRange, TooMany, CountDiffers, TrailingBytes, Truncated, WrongCore}
-use Rattle.log_file.specs.Log.{number, first_format}
+use Rattle.log_file.specs.Log.{number}
 use Rattle.log_file.specs.OneLine.{HeaderHolds, BodyHolds, LeastHeader, LeastBody}
 
 -- a number that 64 bits hold is kept as it is
@@ -19,31 +20,31 @@ as_u64_is n a e = kept (nat_lt n (2 ^ 64)) e
     kept true same = cc
     kept false same = absurd cc
 
-abbrev Header : List ℕ → ℕ → ℕ → Type 0
-Header line a b = (c : ℕ) × ((n : ℕ) × (line ≡ header_text 1 c n) × (Some a ≡ as_u64 c) × (Some b ≡ as_u64 n))
+abbrev Header : Format → List ℕ → ℕ → ℕ → Type 0
+Header format line a b = (c : ℕ) × ((n : ℕ) × (line ≡ header_text (format_number format) c n) × (Some a ≡ as_u64 c) × (Some b ≡ as_u64 n))
 
-pub wrong_core : (line : List ℕ) (core cores a b : ℕ) → length line ≤ line_limit → Header line a b → a < b → b ≤ 64
-    → (a ≢ core) ⊎ (b ≢ cores) → LeastHeader first_format core cores line WrongCore
-wrong_core line core cores a b short h lt few other =
+pub wrong_core : (format : Format) (line : List ℕ) (core cores a b : ℕ) → length line ≤ line_limit → Header format line a b → a < b → b ≤ 64
+    → (a ≢ core) ⊎ (b ≢ cores) → LeastHeader core cores line WrongCore
+wrong_core format line core cores a b short h lt few other =
     let a-is = as_u64_is h.0 a h.1.2 in
     let b-is = as_u64_is h.1.0 b h.1.3 in
-    ((h.0, (h.1.0, h.1.1, differs h.0 h.1.0 a-is b-is other)), least)
+    ((format, (h.0, (h.1.0, h.1.1, differs h.0 h.1.0 a-is b-is other))), least)
   where
     differs : (c n : ℕ) → a ≡ c → b ≡ n → (a ≢ core) ⊎ (b ≢ cores) → (c ≢ core) ⊎ (n ≢ cores)
     differs c n p q (inl ne) = inl (λ e. ne (p ∙ e))
     differs c n p q (inr ne) = inr (λ e. ne (q ∙ e))
 
-    in-range : (c n : ℕ) → line ≡ header_text 1 c n → (c < n) × (n ≤ 64)
-    in-range c n e =
-        let same = header_once c n h.0 h.1.0 (sym e ∙ h.1.1) in
+    in-range : (f : Format) (c n : ℕ) → line ≡ header_text (format_number f) c n → (c < n) × (n ≤ 64)
+    in-range f c n e =
+        let same = header_once f format c n h.0 h.1.0 (sym e ∙ h.1.1) in
         let a-is = as_u64_is h.0 a h.1.2 in
         let b-is = as_u64_is h.1.0 b h.1.3 in
-        (omega (arith, same.0, same.1), omega (arith, same.1))
+        (omega (arith, same.1, same.2), omega (arith, same.2))
 
-    least : (g : FormatFault) → HeaderHolds first_format core cores line g → 27 ≤ number g
+    least : (g : FormatFault) → HeaderHolds core cores line g → 27 ≤ number g
     least BadHeader (inl long) = absurd (omega arith)
-    least BadHeader (inr bad) = absurd (bad (h.0, (h.1.0, h.1.1)))
-    least OutOfRange p = absurd (p.1.2 (in-range p.0 p.1.0 p.1.1))
+    least BadHeader (inr bad) = absurd (bad (format, (h.0, (h.1.0, h.1.1))))
+    least OutOfRange p = absurd (p.1.1.2 (in-range p.0 p.1.0 p.1.1.0 p.1.1.1))
     least WrongCore p = omega arith
     least BadLine p = absurd p
     least TooMany p = absurd p
@@ -51,11 +52,11 @@ wrong_core line core cores a b short h lt few other =
     least TrailingBytes p = absurd p
     least Truncated p = absurd p
 
-pub too_many : (line : List ℕ) (count : ℕ) (r : Record) → length line ≤ line_limit → line ≡ record_text r → Fits r
-    → operation_limit ≤ count → LeastBody count line TooMany
-too_many line count r short e fits many = (((r, e), many), least)
+pub too_many : (format : Format) (line : List ℕ) (count : ℕ) (r : Record) → length line ≤ limit_of format → line ≡ record_text r → Fits r
+    → operation_limit ≤ count → LeastBody format count line TooMany
+too_many format line count r short e fits many = (((r, e), many), least)
   where
-    least : (g : FormatFault) → BodyHolds count line g → 23 ≤ number g
+    least : (g : FormatFault) → BodyHolds format count line g → 23 ≤ number g
     least BadLine (inl long) = absurd (omega arith)
     least BadLine (inr bad) = absurd (bad.0 (r, e))
     least OutOfRange p = absurd (p.2 (subst Fits (record_once r p.0 (sym e ∙ p.1)) fits))

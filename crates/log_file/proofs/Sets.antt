@@ -12,7 +12,7 @@ use Rattle.log_record.specs.declared.record.Record.{Record}
 use Rattle.log_file.specs.declared.fault.LogFault.{LogFault}
 use Rattle.log_file.specs.declared.fault.LogFault.TheVariants.{At, OutOfMemory, Read}
 use Rattle.log_record.specs.Entries.{record_lists}
-use Rattle.log_file.specs.Log.{Spells, first_format}
+use Rattle.log_file.specs.Log.{Spells}
 use Rattle.log_file.specs.Devices.{Tells, Failed}
 use Rattle.log_file.specs.Answers.{IsFaultOrDevice}
 use Rattle.log_file.specs.Sets.{SpellFrom, SpellSet, SpellBefore, IsSetFault, ReaderFailed, TellEach, text_at}
@@ -70,24 +70,24 @@ same_behind xs ys i x e =
     drop-set-lt (i + 1) xs i x (omega arith) ∙ sym (drop-drop 1 i xs) ∙ ap (drop 1) e ∙ drop-drop 1 i ys
 
 spelled_at : (k n : ℕ) (ts : List (List ℕ)) (logs : List (List Record)) (j : ℕ) → SpellFrom k n ts logs
-    → j < length ts → (log : List Record) × Spells first_format (k + j) n (get_or ts j []) log
+    → j < length ts → (log : List Record) × Spells (k + j) n (get_or ts j []) log
 spelled_at k n [] logs j p lt = absurd (omega arith)
 spelled_at k n (t ∷ ts) [] j p lt = absurd p
 spelled_at k n (t ∷ ts) (l ∷ logs) zero p lt =
-    (l, subst (λ (c : ℕ). Spells first_format c n t l) (let e : k ≡ k + 0 = omega arith in e) p.0)
+    (l, subst (λ (c : ℕ). Spells c n t l) (let e : k ≡ k + 0 = omega arith in e) p.0)
 spelled_at k n (t ∷ ts) (l ∷ logs) (suc j) p lt =
     let q = spelled_at (k + 1) n ts logs j p.1 (omega arith) in
-    (q.0, subst (λ (c : ℕ). Spells first_format c n (get_or ts j []) q.0) (let e : k + 1 + j ≡ k + suc j = omega arith in e) q.1)
+    (q.0, subst (λ (c : ℕ). Spells c n (get_or ts j []) q.0) (let e : k + 1 + j ≡ k + suc j = omega arith in e) q.1)
 
 spell_push : (k n : ℕ) (ts : List (List ℕ)) (logs : List (List Record)) (t : List ℕ) (l : List Record)
-    → SpellFrom k n ts logs → Spells first_format (k + length ts) n t l → SpellFrom k n (ts ++ t ∷ []) (logs ++ l ∷ [])
-spell_push k n [] [] t l p q = (subst (λ (c : ℕ). Spells first_format c n t l) (let e : k + 0 ≡ k = omega arith in e) q, tt)
+    → SpellFrom k n ts logs → Spells (k + length ts) n t l → SpellFrom k n (ts ++ t ∷ []) (logs ++ l ∷ [])
+spell_push k n [] [] t l p q = (subst (λ (c : ℕ). Spells c n t l) (let e : k + 0 ≡ k = omega arith in e) q, tt)
 spell_push k n [] (m ∷ logs) t l p q = absurd p
 spell_push k n (u ∷ ts) [] t l p q = absurd p
 spell_push k n (u ∷ ts) (m ∷ logs) t l p q = (
   p.0,
   spell_push (k + 1) n ts logs t l p.1
-      (subst (λ (c : ℕ). Spells first_format c n t l) (let e : k + suc (length ts) ≡ k + 1 + length ts = omega arith in e) q),
+      (subst (λ (c : ℕ). Spells c n t l) (let e : k + suc (length ts) ≡ k + 1 + length ts = omega arith in e) q),
 )
 
 -- the texts so far, and their logs
@@ -96,7 +96,7 @@ LogsSoFar rem xs i n logs = (texts : List (List ℕ)) × TellEach rem (take i xs
 
 pub set_more : {A : Type 0} (rem : A → Option (List ℕ)) (xs : List A) (i n : ℕ) (d : A) (vs ws : List (Vec Record))
     (v : Vec Record) (t : List ℕ) → i < length xs → LogsSoFar rem xs i n (record_lists vs)
-    → Tells (rem (get_or xs i d)) t → Spells first_format i n t v.items → ws ≡ vs ++ v ∷ []
+    → Tells (rem (get_or xs i d)) t → Spells i n t v.items → ws ≡ vs ++ v ∷ []
     → LogsSoFar rem xs (i + 1) n (record_lists ws)
 set_more {A} rem xs i n d vs ws v t lt far tells spells e =
     let len : length far.0 ≡ i = sym (tell_length rem (take i xs) far.0 far.1) ∙ omega (arith, length-take i xs) in
@@ -107,7 +107,7 @@ set_more {A} rem xs i n d vs ws v t lt far tells spells e =
       tell_one rem xs i d far.0 t lt far.1 tells,
       subst (λ ls. SpellFrom 0 n (far.0 ++ t ∷ []) ls)
           (sym logs-is) (spell_push 0 n far.0 (record_lists vs) t v.items far.2
-          (subst (λ (c : ℕ). Spells first_format c n t v.items) at spells)),
+          (subst (λ (c : ℕ). Spells c n t v.items) at spells)),
     )
 
 pub set_refused : {A : Type 0} (rem : A → Option (List ℕ)) (xs : List A) (i n : ℕ) (d : A) (vs : List (Vec Record))
@@ -137,9 +137,9 @@ set_refused {A} rem xs i n d vs t f lt n-is far tells holds = (whole, all, fault
         (get_or_append_left far.0 (t ∷ map (λ (s : A). told (rem s)) (drop (i + 1) xs)) [] k
         (omega (arith, len))) in (
           q.0,
-          subst (λ (m : ℕ). Spells first_format k m (text_at whole k) q.0) n-whole
-              (subst (λ (x : List ℕ). Spells first_format k n x q.0) text-is
-              (subst (λ (c : ℕ). Spells first_format c n (get_or far.0 k []) q.0) zero-add q.1)),
+          subst (λ (m : ℕ). Spells k m (text_at whole k) q.0) n-whole
+              (subst (λ (x : List ℕ). Spells k n x q.0) text-is
+              (subst (λ (c : ℕ). Spells c n (get_or far.0 k []) q.0) zero-add q.1)),
         )
 
     there : (g : LogFault) → IsFaultOrDevice i n t g → IsFaultOrDevice i (length whole) (text_at whole i) g
@@ -183,7 +183,7 @@ spelled_short k n [] [] p = All-nil (λ (v : Vec Record). vec_len v ≤ operatio
 spelled_short k n [] (v ∷ vs) p = absurd p
 spelled_short k n (t ∷ ts) [] p = absurd p
 spelled_short k n (t ∷ ts) (v ∷ vs) p =
-    All-cons (λ (w : Vec Record). vec_len w ≤ operation_limit) v vs (omega (arith, v.ok.0, p.0.0.few))
+    All-cons (λ (w : Vec Record). vec_len w ≤ operation_limit) v vs (omega (arith, v.ok.0, p.0.1.0.few))
     (spelled_short (k + 1) n ts vs p.1)
 
 -- the reader at i failed

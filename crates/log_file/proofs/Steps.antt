@@ -5,11 +5,12 @@ use Rattle.std.proofs.lemmas.List.{map_push}
 use Rattle.std.proofs.lemmas.List.Splits.{length-slice_split, slice_split-cons_yes, slice_split-cons_no}
 use Rattle.std.proofs.lemmas.Bool.{cases_Bool}
 use Rattle.mem_op.specs.Limits.{operation_limit}
+use Rattle.log_record.specs.declared.format.Format.{Format}
 use Rattle.log_record.specs.declared.record.Record.{Record}
-use Rattle.log_record.specs.Line.{record_text, header_text, end_text, Fits, line_limit}
+use Rattle.log_record.specs.Line.{format_number, record_text, header_text, end_text, Fits, line_limit, limit_of}
 use Rattle.log_file.specs.declared.fault.FormatFault.{FormatFault}
 use Rattle.log_file.specs.declared.fault.FormatFault.TheVariants.{BadHeader, BadLine, TrailingBytes, Truncated}
-use Rattle.log_file.specs.Log.{with_lf, begun, text_of, spelling, IsLog, Spells, lines_of, FaultAt, IsFirstFault, number, first_format}
+use Rattle.log_file.specs.Log.{with_lf, begun, text_of, spelling, IsLog, Spells, lines_of, FaultAt, IsFirstFault, number}
 use Rattle.log_file.specs.OneLine.{IsOneLine, LeastHeader, LeastBody}
 use Rattle.log_file.proofs.Front.{Front, front_from, first_there}
 use Rattle.log_file.proofs.FirstLine.{first_at_one, header_first, header_long, header_cut}
@@ -21,99 +22,99 @@ lines_more bytes = omega (arith, length-slice_split (λ b. eqb b 10) bytes)
 
 -- first among the faults of these lines
 record IsFirst (core cores : ℕ) (lines : List (List ℕ)) (k : ℕ) (f : FormatFault) : Type 0 where
-  holds : FaultAt first_format core cores lines k f
-  least : (j : ℕ) (g : FormatFault) → FaultAt first_format core cores lines j g → (k < j) ⊎ ((k ≡ j) × (number f ≤ number g))
+  holds : FaultAt core cores lines k f
+  least : (j : ℕ) (g : FormatFault) → FaultAt core cores lines j g → (k < j) ⊎ ((k ≡ j) × (number f ≤ number g))
 
 first_of : (core cores : ℕ) (bytes : List ℕ) (k : ℕ) (f : FormatFault) → IsFirst core cores (lines_of bytes) k f
-    → IsFirstFault first_format core cores bytes k f
+    → IsFirstFault core cores bytes k f
 first_of core cores bytes k f h = record { holds = h.holds; least = h.least }
 
 -- ---- the first line
 
 pub at_one : (core cores : ℕ) (bytes l : List ℕ) (ls : List (List ℕ)) (f : FormatFault) → lines_of bytes ≡ l ∷ ls
-    → FaultAt first_format core cores (l ∷ ls) 1 f × ((g : FormatFault) → FaultAt first_format core cores (l ∷ ls) 1 g → number f ≤ number g)
-    → IsFirstFault first_format core cores bytes 1 f
+    → FaultAt core cores (l ∷ ls) 1 f × ((g : FormatFault) → FaultAt core cores (l ∷ ls) 1 g → number f ≤ number g)
+    → IsFirstFault core cores bytes 1 f
 at_one core cores bytes l ls f e p =
     first_of core cores bytes 1 f
     (subst (λ (lines : List (List ℕ)). IsFirst core cores lines 1 f) (sym e)
     (record { holds = p.0; least = first_at_one core cores l ls f p.1 }))
 
 pub header_cut_off : (core cores : ℕ) (bytes : List ℕ) → IsOneLine bytes → length bytes ≤ line_limit
-    → IsFirstFault first_format core cores bytes 1 Truncated
+    → IsFirstFault core cores bytes 1 Truncated
 header_cut_off core cores bytes one short =
     at_one core cores bytes bytes [] Truncated (lines_of_last bytes one) (header_cut core cores bytes short)
 
 pub header_too_long : (core cores : ℕ) (bytes : List ℕ) → IsOneLine bytes → line_limit < length bytes
-    → IsFirstFault first_format core cores bytes 1 BadHeader
+    → IsFirstFault core cores bytes 1 BadHeader
 header_too_long core cores bytes one long =
     at_one core cores bytes bytes [] BadHeader (lines_of_last bytes one) (header_long core cores bytes [] long)
 
 pub header_refused : (core cores : ℕ) (bytes l rest : List ℕ) (f : FormatFault) → bytes ≡ l ++ 10 ∷ rest → IsOneLine l
-    → LeastHeader first_format core cores l f → IsFirstFault first_format core cores bytes 1 f
+    → LeastHeader core cores l f → IsFirstFault core cores bytes 1 f
 header_refused core cores bytes l rest f e one found =
     at_one core cores bytes l (lines_of rest) f (ap lines_of e ∙ lines_of_line l rest one)
     (header_first core cores l (lines_of rest) f (lines_more rest) found)
 
-pub header_taken : (core cores : ℕ) (bytes l rest : List ℕ) → bytes ≡ l ++ 10 ∷ rest → l ≡ header_text 1 core cores
-    → bytes ≡ text_of (begun first_format core cores []) ++ rest
-header_taken core cores bytes l rest e is =
+pub header_taken : (format : Format) (core cores : ℕ) (bytes l rest : List ℕ) → bytes ≡ l ++ 10 ∷ rest → l ≡ header_text (format_number format) core cores
+    → bytes ≡ text_of (begun format core cores []) ++ rest
+header_taken format core cores bytes l rest e is =
     e ∙ ap (λ (x : List ℕ). x ++ 10 ∷ rest) is
-    ∙ sym (ap (λ (x : List ℕ). x ++ rest) (append-nil (with_lf (header_text 1 core cores)))
-    ∙ append_assoc (header_text 1 core cores) (10 ∷ []) rest)
+    ∙ sym (ap (λ (x : List ℕ). x ++ rest) (append-nil (with_lf (header_text (format_number format) core cores)))
+    ∙ append_assoc (header_text (format_number format) core cores) (10 ∷ []) rest)
 
 -- ---- a later line
 
 -- the records so far, and what is left
-abbrev pub SoFar : ℕ → ℕ → List Record → List ℕ → List ℕ → Type 0
-SoFar core cores records bytes rest = IsLog core cores records × (bytes ≡ text_of (begun first_format core cores records) ++ rest)
+abbrev pub SoFar : Format → ℕ → ℕ → List Record → List ℕ → List ℕ → Type 0
+SoFar format core cores records bytes rest = IsLog core cores records × (bytes ≡ text_of (begun format core cores records) ++ rest)
 
-pub none_so_far : (core cores : ℕ) (bytes rest : List ℕ) → core < cores → cores ≤ 64
-    → bytes ≡ text_of (begun first_format core cores []) ++ rest → SoFar core cores [] bytes rest
-none_so_far core cores bytes rest lt few e =
+pub none_so_far : (format : Format) (core cores : ℕ) (bytes rest : List ℕ) → core < cores → cores ≤ 64
+    → bytes ≡ text_of (begun format core cores []) ++ rest → SoFar format core cores [] bytes rest
+none_so_far format core cores bytes rest lt few e =
     (record { core_fits = lt; cores_fit = few; few = omega arith; each_fits = tt }, e)
 
-pub there : (core cores : ℕ) (records : List Record) (bytes rest l : List ℕ) (ls : List (List ℕ)) (f : FormatFault)
-    → SoFar core cores records bytes rest → lines_of rest ≡ l ∷ ls
-    → (Front core cores records (lines_of bytes) (l ∷ ls) → FaultAt first_format core cores (lines_of bytes) (length records + 2) f
-    × ((g : FormatFault) → FaultAt first_format core cores (lines_of bytes) (length records + 2) g → number f ≤ number g))
-    → IsFirstFault first_format core cores bytes (length records + 2) f
-there core cores records bytes rest l ls f far e found =
-    let front : Front core cores records (lines_of bytes) (l ∷ ls) = subst
-    (λ (x : List (List ℕ)). Front core cores records (lines_of bytes) x) e
-    (front_from core cores records bytes rest far.0 far.1) in
+pub there : (format : Format) (core cores : ℕ) (records : List Record) (bytes rest l : List ℕ) (ls : List (List ℕ)) (f : FormatFault)
+    → SoFar format core cores records bytes rest → lines_of rest ≡ l ∷ ls
+    → (Front format core cores records (lines_of bytes) (l ∷ ls) → FaultAt core cores (lines_of bytes) (length records + 2) f
+    × ((g : FormatFault) → FaultAt core cores (lines_of bytes) (length records + 2) g → number f ≤ number g))
+    → IsFirstFault core cores bytes (length records + 2) f
+there format core cores records bytes rest l ls f far e found =
+    let front : Front format core cores records (lines_of bytes) (l ∷ ls) = subst
+    (λ (x : List (List ℕ)). Front format core cores records (lines_of bytes) x) e
+    (front_from format core cores records bytes rest far.0 far.1) in
     let p = found front in
-    record { holds = p.0; least = first_there core cores records (lines_of bytes) (l ∷ ls) front f p.1 }
+    record { holds = p.0; least = first_there format core cores records (lines_of bytes) (l ∷ ls) front f p.1 }
 
-pub body_refused : (core cores : ℕ) (records : List Record) (bytes rest l after : List ℕ) (f : FormatFault)
-    → SoFar core cores records bytes rest → rest ≡ l ++ 10 ∷ after → IsOneLine l → LeastBody (length records) l f
-    → IsFirstFault first_format core cores bytes (length records + 2) f
-body_refused core cores records bytes rest l after f far e one found =
-    there core cores records bytes rest l (lines_of after) f far (ap lines_of e ∙ lines_of_line l after one)
-    (λ front. body_first core cores records (lines_of bytes) l (lines_of after) f front (lines_more after) found)
+pub body_refused : (format : Format) (core cores : ℕ) (records : List Record) (bytes rest l after : List ℕ) (f : FormatFault)
+    → SoFar format core cores records bytes rest → rest ≡ l ++ 10 ∷ after → IsOneLine l → LeastBody format (length records) l f
+    → IsFirstFault core cores bytes (length records + 2) f
+body_refused format core cores records bytes rest l after f far e one found =
+    there format core cores records bytes rest l (lines_of after) f far (ap lines_of e ∙ lines_of_line l after one)
+    (λ front. body_first format core cores records (lines_of bytes) l (lines_of after) f front (lines_more after) found)
 
-pub body_cut_off : (core cores : ℕ) (records : List Record) (bytes rest : List ℕ)
-    → SoFar core cores records bytes rest → IsOneLine rest → length rest ≤ line_limit
-    → IsFirstFault first_format core cores bytes (length records + 2) Truncated
-body_cut_off core cores records bytes rest far one short =
-    there core cores records bytes rest rest [] Truncated far (lines_of_last rest one)
-    (λ front. cut_first core cores records (lines_of bytes) rest front short)
+pub body_cut_off : (format : Format) (core cores : ℕ) (records : List Record) (bytes rest : List ℕ)
+    → SoFar format core cores records bytes rest → IsOneLine rest → length rest ≤ limit_of format
+    → IsFirstFault core cores bytes (length records + 2) Truncated
+body_cut_off format core cores records bytes rest far one short =
+    there format core cores records bytes rest rest [] Truncated far (lines_of_last rest one)
+    (λ front. cut_first format core cores records (lines_of bytes) rest front short)
 
-pub body_too_long : (core cores : ℕ) (records : List Record) (bytes rest : List ℕ)
-    → SoFar core cores records bytes rest → IsOneLine rest → line_limit < length rest
-    → IsFirstFault first_format core cores bytes (length records + 2) BadLine
-body_too_long core cores records bytes rest far one long =
-    there core cores records bytes rest rest [] BadLine far (lines_of_last rest one)
-    (λ front. long_first core cores records (lines_of bytes) rest [] front long)
+pub body_too_long : (format : Format) (core cores : ℕ) (records : List Record) (bytes rest : List ℕ)
+    → SoFar format core cores records bytes rest → IsOneLine rest → limit_of format < length rest
+    → IsFirstFault core cores bytes (length records + 2) BadLine
+body_too_long format core cores records bytes rest far one long =
+    there format core cores records bytes rest rest [] BadLine far (lines_of_last rest one)
+    (λ front. long_first format core cores records (lines_of bytes) rest [] front long)
 
 fits_push : (records : List Record) (r : Record) → AllByRecursion Fits records → Fits r
     → AllByRecursion Fits (records ++ r ∷ [])
 fits_push [] r all h = (h, tt)
 fits_push (q ∷ records) r all h = (all.0, fits_push records r all.1 h)
 
-pub body_taken : (core cores : ℕ) (records : List Record) (bytes rest l after : List ℕ) (r : Record)
-    → SoFar core cores records bytes rest → rest ≡ l ++ 10 ∷ after → l ≡ record_text r → Fits r
-    → length records < operation_limit → SoFar core cores (records ++ r ∷ []) bytes after
-body_taken core cores records bytes rest l after r far e is fits few = (
+pub body_taken : (format : Format) (core cores : ℕ) (records : List Record) (bytes rest l after : List ℕ) (r : Record)
+    → SoFar format core cores records bytes rest → rest ≡ l ++ 10 ∷ after → l ≡ record_text r → Fits r
+    → length records < operation_limit → SoFar format core cores (records ++ r ∷ []) bytes after
+body_taken format core cores records bytes rest l after r far e is fits few = (
   record {
     core_fits = far.0.core_fits;
     cores_fit = far.0.cores_fit;
@@ -121,19 +122,22 @@ body_taken core cores records bytes rest l after r far e is fits few = (
         (arith, length-append records (r ∷ []));
     each_fits = fits_push records r far.0.each_fits fits;
   },
-  far.1 ∙ ap (λ (x : List ℕ). text_of (begun first_format core cores records) ++ x) (e ∙ ap (λ (x : List ℕ). x ++ 10 ∷ after) is)
-      ∙ sym (ap (λ (ls : List (List ℕ)). text_of (header_text 1 core cores ∷ ls) ++ after)
-      (map_push record_text records r) ∙ flat_map_push (begun first_format core cores records) (record_text r) after),
+  far.1 ∙ ap (λ (x : List ℕ). text_of (begun format core cores records) ++ x) (e ∙ ap (λ (x : List ℕ). x ++ 10 ∷ after) is)
+      ∙ sym (ap (λ (ls : List (List ℕ)). text_of (header_text (format_number format) core cores ∷ ls) ++ after)
+      (map_push record_text records r) ∙ flat_map_push (begun format core cores records) (record_text r) after),
 )
 
-pub end_taken : (core cores : ℕ) (records : List Record) (bytes rest l after : List ℕ)
-    → SoFar core cores records bytes rest → rest ≡ l ++ 10 ∷ after → l ≡ end_text (length records) → after ≡ []
-    → Spells first_format core cores bytes records
-end_taken core cores records bytes rest l after far e is none = (
-  far.0,
-  far.1 ∙ ap (λ (x : List ℕ). text_of (begun first_format core cores records) ++ x)
-      (e ∙ ap (λ (x : List ℕ). x ++ 10 ∷ after) is ∙ ap (λ (x : List ℕ). end_text (length records) ++ 10 ∷ x) none)
-      ∙ sym (spelling_text core cores records []) ∙ append-nil (spelling first_format core cores records),
+pub end_taken : (format : Format) (core cores : ℕ) (records : List Record) (bytes rest l after : List ℕ)
+    → SoFar format core cores records bytes rest → rest ≡ l ++ 10 ∷ after → l ≡ end_text (length records) → after ≡ []
+    → Spells core cores bytes records
+end_taken format core cores records bytes rest l after far e is none = (
+  format,
+  (
+    far.0,
+    far.1 ∙ ap (λ (x : List ℕ). text_of (begun format core cores records) ++ x)
+        (e ∙ ap (λ (x : List ℕ). x ++ 10 ∷ after) is ∙ ap (λ (x : List ℕ). end_text (length records) ++ 10 ∷ x) none)
+        ∙ sym (spelling_text format core cores records []) ∙ append-nil (spelling format core cores records),
+  ),
 )
 
 onto_some : (b : ℕ) (ls : List (List ℕ)) (x : List ℕ) (xs : List (List ℕ)) → onto_first b ls ≡ x ∷ xs → 0 < length x
@@ -155,19 +159,19 @@ some_more (b ∷ bytes) x xs more e =
           (sym (slice_split-cons_no (λ (c : ℕ). eqb c 10) b bytes other) ∙ e))
     ]
 
-pub end_followed : (core cores : ℕ) (records : List Record) (bytes rest l after : List ℕ)
-    → SoFar core cores records bytes rest → rest ≡ l ++ 10 ∷ after → IsOneLine l → l ≡ end_text (length records)
-    → 0 < length after → IsFirstFault first_format core cores bytes (length records + 3) TrailingBytes
-end_followed core cores records bytes rest l after far e one is more = go (lines_of after) refl
+pub end_followed : (format : Format) (core cores : ℕ) (records : List Record) (bytes rest l after : List ℕ)
+    → SoFar format core cores records bytes rest → rest ≡ l ++ 10 ∷ after → IsOneLine l → l ≡ end_text (length records)
+    → 0 < length after → IsFirstFault core cores bytes (length records + 3) TrailingBytes
+end_followed format core cores records bytes rest l after far e one is more = go (lines_of after) refl
   where
-    go : (ls : List (List ℕ)) → lines_of after ≡ ls → IsFirstFault first_format core cores bytes (length records + 3) TrailingBytes
+    go : (ls : List (List ℕ)) → lines_of after ≡ ls → IsFirstFault core cores bytes (length records + 3) TrailingBytes
     go [] q = absurd (omega (arith, ap length q, lines_more after))
     go (x ∷ xs) q =
         let split : lines_of rest ≡ end_text (length records) ∷ (x ∷ xs) = ap lines_of e ∙ lines_of_line l after one
         ∙ ap (λ (y : List ℕ). y ∷ lines_of after) is
         ∙ ap (λ (ys : List (List ℕ)). end_text (length records) ∷ ys) q in
-        let front : Front core cores records (lines_of bytes) (end_text (length records) ∷ (x ∷ xs)) = subst
-        (λ (y : List (List ℕ)). Front core cores records (lines_of bytes) y) split
-        (front_from core cores records bytes rest far.0 far.1) in
-        let p = trailing_first core cores records (lines_of bytes) x xs front (some_more after x xs more q) in
+        let front : Front format core cores records (lines_of bytes) (end_text (length records) ∷ (x ∷ xs)) = subst
+        (λ (y : List (List ℕ)). Front format core cores records (lines_of bytes) y) split
+        (front_from format core cores records bytes rest far.0 far.1) in
+        let p = trailing_first format core cores records (lines_of bytes) x xs front (some_more after x xs more q) in
         record { holds = p.0; least = p.1 }

@@ -5,17 +5,21 @@ use Rattle.std.specs.List.{AllByRecursion}
 use Rattle.std.proofs.lemmas.List.{append_cancel_left, map-append}
 use Rattle.std.proofs.Math.Seq.{take-append_seam}
 use Rattle.std.proofs.lemmas.Grind.{flat_map-append}
+use Rattle.log_record.specs.declared.format.Format.{Format}
+use Rattle.log_record.specs.declared.format.Format.TheVariants.{Two}
 use Rattle.log_record.specs.declared.record.Record.{Record}
-use Rattle.log_record.specs.Line.{record_text, header_text, Fits, line_limit}
+use Rattle.log_record.specs.Line.{format_number, record_text, header_text, Fits}
 use Rattle.log_file.specs.declared.fault.LogFault.{LogFault}
+use Rattle.log_file.specs.declared.progress.Stage.{Stage}
 use Rattle.log_file.specs.declared.progress.Stage.TheVariants as stage
 use Rattle.log_file.specs.declared.progress.Progress.{Progress}
 use Rattle.log_file.specs.declared.line_reader.LineReader.{LineReader}
 use Rattle.log_file.specs.declared.chunks.Front.{Front}
 use Rattle.log_file.specs.inner.Chunks.{HasFront, records_text}
 use Rattle.log_file.specs.Feeding.{IsSettled}
-use Rattle.log_file.specs.Log.{IsLog, begun, text_of, with_lf, first_format}
-use Rattle.log_file.specs.Standing.{IsPassed, IsSettledWith, IsSound, SameLog, Stands, Takes, read_text}
+use Rattle.log_file.specs.Log.{IsLog, begun, text_of, with_lf}
+use Rattle.log_file.specs.Standing.{IsInRecords, IsPassed, IsSettledWith, IsSound, SameLog, Stands, Takes, read_text}
+use Rattle.log_file.proofs.Once.{one_format}
 use Rattle.log_file.proofs.Settled.{settled_front}
 
 -- ---- one part after another
@@ -55,26 +59,31 @@ all_append : (xs ys : List Record) → AllByRecursion Fits xs → AllByRecursion
 all_append [] ys p q = q
 all_append (x ∷ xs) ys p q = (p.0, all_append xs ys p.1 q)
 
-begun_more : (core cores : ℕ) (rs found : List Record) → text_of (begun first_format core cores (rs ++ found)) ≡ text_of (begun first_format core cores rs) ++ records_text found
-begun_more core cores rs found =
-    ap (λ (ls : List (List ℕ)). with_lf (header_text 1 core cores) ++ text_of ls) (map-append record_text rs found)
-    ∙ ap (λ (xs : List ℕ). with_lf (header_text 1 core cores) ++ xs) (flat_map-append with_lf (map record_text rs) (map record_text found))
-    ∙ sym (append_assoc (with_lf (header_text 1 core cores)) (text_of (map record_text rs)) (records_text found))
+begun_more : (format : Format) (core cores : ℕ) (rs found : List Record) → text_of (begun format core cores (rs ++ found)) ≡ text_of (begun format core cores rs) ++ records_text found
+begun_more format core cores rs found =
+    ap (λ (ls : List (List ℕ)). with_lf (header_text (format_number format) core cores) ++ text_of ls) (map-append record_text rs found)
+    ∙ ap (λ (xs : List ℕ). with_lf (header_text (format_number format) core cores) ++ xs) (flat_map-append with_lf (map record_text rs) (map record_text found))
+    ∙ sym (append_assoc (with_lf (header_text (format_number format) core cores)) (text_of (map record_text rs)) (records_text found))
 
--- passing over the lines of records takes them
-pub passed_takes : (old new : LineReader) (rs found : List Record) → Stands old rs → IsPassed old (length found) new → AllByRecursion Fits found
-    → Takes old rs (records_text found) new (rs ++ found)
-passed_takes old new rs found stands passed fit =
+-- the format of a log whose header was read
+pub records_of : (q : Stage) → IsInRecords q → (format : Format) × (q ≡ stage.Records format)
+records_of stage.Header h = absurd h
+records_of (stage.Records format) h = (format, refl)
+records_of (stage.Ended format) h = absurd h
+
+passed_by : (format : Format) (old new : LineReader) (rs found : List Record) → old.progress.stage ≡ stage.Records format → Stands old rs
+    → IsPassed old (length found) new → AllByRecursion Fits found → Takes old rs (records_text found) new (rs ++ found)
+passed_by format old new rs found at stands passed fit =
     let room = passed.had_room in
     let p = old.progress in
-    let log : IsLog p.core p.cores rs = subst (λ q. IsSound q p.core p.cores rs old.begun.items) room.stage stands.sound in
+    let log : IsLog p.core p.cores rs = subst (λ q. IsSound q p.core p.cores rs old.begun.items) at stands.sound in
     let more : IsLog p.core p.cores (rs ++ found) = record {
       core_fits = log.core_fits;
       cores_fit = log.cores_fit;
       few = omega (arith, length-append rs found, room.room, stands.count);
       each_fits = all_append rs found log.each_fits fit;
     } in
-    let stage_is : new.progress.stage ≡ stage.Records = ap (λ (n : Progress). n.stage) passed.progress ∙ room.stage in
+    let stage_is : new.progress.stage ≡ stage.Records format = ap (λ (n : Progress). n.stage) passed.progress ∙ at in
     let core_is : new.progress.core ≡ p.core = ap (λ (n : Progress). n.core) passed.progress in
     let cores_is : new.progress.cores ≡ p.cores = ap (λ (n : Progress). n.cores) passed.progress in
     record {
@@ -85,10 +94,17 @@ passed_takes old new rs found stands passed fit =
         short = rw passed.between (omega arith);
       };
       text =
-          rw (stage_is, core_is, cores_is, passed.between, room.stage, room.between)
-          (append-nil (text_of (begun first_format p.core p.cores (rs ++ found))) ∙ begun_more p.core p.cores rs found
-          ∙ ap (λ (xs : List ℕ). xs ++ records_text found) (sym (append-nil (text_of (begun first_format p.core p.cores rs)))));
+          rw (stage_is, core_is, cores_is, passed.between, at, room.between)
+          (append-nil (text_of (begun format p.core p.cores (rs ++ found))) ∙ begun_more format p.core p.cores rs found
+          ∙ ap (λ (xs : List ℕ). xs ++ records_text found) (sym (append-nil (text_of (begun format p.core p.cores rs)))));
     }
+
+-- passing over the lines of records takes them
+pub passed_takes : (old new : LineReader) (rs found : List Record) → Stands old rs → IsPassed old (length found) new → AllByRecursion Fits found
+    → Takes old rs (records_text found) new (rs ++ found)
+passed_takes old new rs found stands passed fit =
+    let at = records_of old.progress.stage passed.had_room.stage in
+    passed_by at.0 old new rs found at.1 stands passed fit
 
 pub front_takes : (old new : LineReader) (rs : List Record) (chunk : List ℕ) (front : Front) → Stands old rs → HasFront chunk front
     → IsPassed old (length front.records.items) new → Takes old rs (take front.taken chunk) new (rs ++ front.records.items)
@@ -99,19 +115,27 @@ front_takes old new rs chunk front stands has passed =
 -- ---- what a worker reads of a chunk
 
 -- the records that were read after a header, and the line that was begun
-pub read_front : (old new : LineReader) (chunk : List ℕ) (records : List Record) → old.progress ≡ record { core = 0; cores = 1; stage = stage.Records; count = 0; limit = line_limit }
-    → old.begun.items ≡ [] → SameLog old.progress new.progress → new.progress.stage ≡ stage.Records → Takes old [] chunk new records
+pub read_front : (old new : LineReader) (chunk : List ℕ) (records : List Record)
+    → old.progress ≡ record { core = 0; cores = 1; stage = stage.Records Two; count = 0 }
+    → old.begun.items ≡ [] → SameLog old.progress new.progress → IsInRecords new.progress.stage → Takes old [] chunk new records
     → (chunk ≡ records_text records ++ new.begun.items) × AllByRecursion Fits records
-read_front old new chunk records progress none same stage_is takes =
+read_front old new chunk records progress none same in_records takes =
+    let at = records_of new.progress.stage in_records in
+    let stage_is : new.progress.stage ≡ stage.Records at.0 = at.1 in
     let core_is : new.progress.core ≡ 0 = same.core ∙ ap (λ (n : Progress). n.core) progress in
     let cores_is : new.progress.cores ≡ 1 = same.cores ∙ ap (λ (n : Progress). n.cores) progress in
     let log : IsLog new.progress.core new.progress.cores records = subst (λ q. IsSound q new.progress.core new.progress.cores records new.begun.items) stage_is takes.stands.sound in
-    let header = with_lf (header_text 1 0 1) in
-    let text : ((header ++ records_text records) ++ new.begun.items) ≡ (((header ++ []) ++ []) ++ chunk) = rw (stage_is, core_is, cores_is, progress, none) at takes.text in
-    let behind : header ++ (records_text records ++ new.begun.items) ≡ header ++ chunk =
+    let header = with_lf (header_text (format_number at.0) 0 1) in
+    let wanted = with_lf (header_text 2 0 1) in
+    let text : ((header ++ records_text records) ++ new.begun.items) ≡ (((wanted ++ []) ++ []) ++ chunk) = rw (stage_is, core_is, cores_is, progress, none) at takes.text in
+    let behind : header ++ (records_text records ++ new.begun.items) ≡ wanted ++ chunk =
     sym (append_assoc header (records_text records) new.begun.items) ∙ text
-    ∙ ap (λ (xs : List ℕ). xs ++ chunk) (append-nil (header ++ []) ∙ append-nil header) in
-    (sym (append_cancel_left header (records_text records ++ new.begun.items) chunk behind), log.each_fits)
+    ∙ ap (λ (xs : List ℕ). xs ++ chunk) (append-nil (wanted ++ []) ∙ append-nil wanted) in
+    let second : at.0 ≡ Two = one_format at.0 Two 0 1 0 1 (records_text records ++ new.begun.items) chunk behind in
+    let same_header : header ≡ wanted = ap (λ (f : Format). with_lf (header_text (format_number f) 0 1)) second in
+    let joined : wanted ++ (records_text records ++ new.begun.items) ≡ wanted ++ chunk =
+    ap (λ (xs : List ℕ). xs ++ (records_text records ++ new.begun.items)) (sym same_header) ∙ behind in
+    (sym (append_cancel_left wanted (records_text records ++ new.begun.items) chunk joined), log.each_fits)
 
 pub has_front : (chunk begun : List ℕ) (records : List Record) (front : Front) → chunk ≡ records_text records ++ begun → AllByRecursion Fits records
     → front.records.items ≡ records → front.taken ≡ length chunk - length begun → HasFront chunk front

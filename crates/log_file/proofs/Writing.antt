@@ -5,9 +5,10 @@ use Rattle.std.proofs.lemmas.List.{append-nil, length-append, map-append, take-a
 use Rattle.std.proofs.lemmas.Grind.{flat_map-append}
 use Rattle.std.specs.Io.KnownBytes.{Appends}
 use Rattle.std.specs.List.{AllByRecursion}
+use Rattle.log_record.specs.declared.format.Format.{Format}
 use Rattle.log_record.specs.declared.record.Record.{Record}
 use Rattle.log_record.specs.Line.{record_text, end_text, Fits}
-use Rattle.log_file.specs.Log.{with_lf, begun, text_of, spelling, first_format}
+use Rattle.log_file.specs.Log.{with_lf, begun, text_of, spelling}
 use Rattle.log_file.proofs.Devices.{appends_more}
 use Rattle.log_file.proofs.Lines.{flat_map_push}
 
@@ -45,56 +46,56 @@ line_taken old mid new front line whole f p q =
     front_taken old new (front ++ take q.0 line) whole (front_part front line q.0 whole f)
     (appends_more old mid new front (take q.0 line) p q.2)
 
-pub begun_push : (core cores : ℕ) (records : List Record) (r : Record)
-    → text_of (begun first_format core cores (records ++ r ∷ [])) ≡ text_of (begun first_format core cores records) ++ with_lf (record_text r)
-begun_push core cores records r =
-    ap (λ (ls : List (List ℕ)). text_of (begun first_format core cores [] ++ ls)) (map-append record_text records (r ∷ []))
-    ∙ sym (append-nil (text_of (begun first_format core cores records ++ record_text r ∷ [])))
-    ∙ flat_map_push (begun first_format core cores records) (record_text r) []
+pub begun_push : (format : Format) (core cores : ℕ) (records : List Record) (r : Record)
+    → text_of (begun format core cores (records ++ r ∷ [])) ≡ text_of (begun format core cores records) ++ with_lf (record_text r)
+begun_push format core cores records r =
+    ap (λ (ls : List (List ℕ)). text_of (begun format core cores [] ++ ls)) (map-append record_text records (r ∷ []))
+    ∙ sym (append-nil (text_of (begun format core cores records ++ record_text r ∷ [])))
+    ∙ flat_map_push (begun format core cores records) (record_text r) []
 
 -- the text begins with that of its first records
-records_front : (core cores : ℕ) (some more : List Record)
-    → IsFront (text_of (begun first_format core cores some)) (spelling first_format core cores (some ++ more))
-records_front core cores some more =
+records_front : (format : Format) (core cores : ℕ) (some more : List Record)
+    → IsFront (text_of (begun format core cores some)) (spelling format core cores (some ++ more))
+records_front format core cores some more =
     let behind : List (List ℕ) = end_text (length (some ++ more)) ∷ [] in
     record {
       rest = text_of (map record_text more ++ behind);
       joined =
-          sym (flat_map-append with_lf (begun first_format core cores some) (map record_text more ++ behind))
-          ∙ ap text_of (sym (append_assoc (begun first_format core cores some) (map record_text more) behind))
-          ∙ ap (λ (ls : List (List ℕ)). text_of ((begun first_format core cores [] ++ ls) ++ behind)) (sym (map-append record_text some more));
+          sym (flat_map-append with_lf (begun format core cores some) (map record_text more ++ behind))
+          ∙ ap text_of (sym (append_assoc (begun format core cores some) (map record_text more) behind))
+          ∙ ap (λ (ls : List (List ℕ)). text_of ((begun format core cores [] ++ ls) ++ behind)) (sym (map-append record_text some more));
     }
 
-pub begun_front : (core cores : ℕ) (records : List Record) (i : ℕ)
-    → IsFront (text_of (begun first_format core cores (take i records))) (spelling first_format core cores records)
-begun_front core cores records i =
-    subst (λ (all : List Record). IsFront (text_of (begun first_format core cores (take i records))) (spelling first_format core cores all))
-    (take-append-drop i records) (records_front core cores (take i records) (drop i records))
+pub begun_front : (format : Format) (core cores : ℕ) (records : List Record) (i : ℕ)
+    → IsFront (text_of (begun format core cores (take i records))) (spelling format core cores records)
+begun_front format core cores records i =
+    subst (λ (all : List Record). IsFront (text_of (begun format core cores (take i records))) (spelling format core cores all))
+    (take-append-drop i records) (records_front format core cores (take i records) (drop i records))
 
 -- one record more
 pub take_next : (records : List Record) (i : ℕ) (r : Record) → i < length records → r ≡ get_or records i r
     → take (i + 1) records ≡ take i records ++ r ∷ []
 take_next records i r below at = take_more records i r below ∙ ap (λ (x : Record). take i records ++ x ∷ []) (sym at)
 
-pub text_next : (core cores : ℕ) (records : List Record) (i : ℕ) (r : Record) → i < length records → r ≡ get_or records i r
-    → text_of (begun first_format core cores (take (i + 1) records)) ≡ text_of (begun first_format core cores (take i records)) ++ with_lf (record_text r)
-text_next core cores records i r below at =
-    ap (λ (some : List Record). text_of (begun first_format core cores some)) (take_next records i r below at)
-    ∙ begun_push core cores (take i records) r
+pub text_next : (format : Format) (core cores : ℕ) (records : List Record) (i : ℕ) (r : Record) → i < length records → r ≡ get_or records i r
+    → text_of (begun format core cores (take (i + 1) records)) ≡ text_of (begun format core cores (take i records)) ++ with_lf (record_text r)
+text_next format core cores records i r below at =
+    ap (λ (some : List Record). text_of (begun format core cores some)) (take_next records i r below at)
+    ∙ begun_push format core cores (take i records) r
 
-pub next_front : (core cores : ℕ) (records : List Record) (i : ℕ) (r : Record) → i < length records → r ≡ get_or records i r
-    → IsFront (text_of (begun first_format core cores (take i records)) ++ with_lf (record_text r)) (spelling first_format core cores records)
-next_front core cores records i r below at =
-    subst (λ (x : List ℕ). IsFront x (spelling first_format core cores records)) (text_next core cores records i r below at)
-    (begun_front core cores records (i + 1))
+pub next_front : (format : Format) (core cores : ℕ) (records : List Record) (i : ℕ) (r : Record) → i < length records → r ≡ get_or records i r
+    → IsFront (text_of (begun format core cores (take i records)) ++ with_lf (record_text r)) (spelling format core cores records)
+next_front format core cores records i r below at =
+    subst (λ (x : List ℕ). IsFront x (spelling format core cores records)) (text_next format core cores records i r below at)
+    (begun_front format core cores records (i + 1))
 
 -- the end line completes the text
-pub end_joined : (core cores : ℕ) (records : List Record) (i : ℕ) → length records ≤ i
-    → text_of (begun first_format core cores (take i records)) ++ with_lf (end_text (length records)) ≡ spelling first_format core cores records
-end_joined core cores records i all =
-    ap (λ (some : List Record). text_of (begun first_format core cores some) ++ with_lf (end_text (length records))) (take_all i records all)
-    ∙ sym (flat_map_push (begun first_format core cores records) (end_text (length records)) [])
-    ∙ append-nil (spelling first_format core cores records)
+pub end_joined : (format : Format) (core cores : ℕ) (records : List Record) (i : ℕ) → length records ≤ i
+    → text_of (begun format core cores (take i records)) ++ with_lf (end_text (length records)) ≡ spelling format core cores records
+end_joined format core cores records i all =
+    ap (λ (some : List Record). text_of (begun format core cores some) ++ with_lf (end_text (length records))) (take_all i records all)
+    ∙ sym (flat_map_push (begun format core cores records) (end_text (length records)) [])
+    ∙ append-nil (spelling format core cores records)
 
 -- ---- the numbers of each record
 

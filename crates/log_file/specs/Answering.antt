@@ -1,11 +1,10 @@
 -- What a reader of records was fed, and what it has answered.
 use Rattle.std.specs.Prelude.{◌≡◌, ℕ, ◌<◌, ◌≤◌, List, [], ◌∷◌, ◌++◌, length, take, Option, None, Some}
 use Rattle.log_record.specs.declared.record.Record.{Record}
-use Rattle.log_record.specs.Line.{line_limit}
 use Rattle.log_file.specs.declared.fault.LogFault.{LogFault}
 use Rattle.log_file.specs.declared.progress.Stage.{Stage}
 use Rattle.log_file.specs.OneLine.{IsOneLine}
-use Rattle.log_file.specs.Standing.{IsSound, whole_text}
+use Rattle.log_file.specs.Standing.{IsSound, limit_at, whole_text}
 
 -- A reader of the log of one core: what it read last in whole lines, how many records these were, the bytes of the line that
 -- isn't whole yet, and the fault that it answers from then on.
@@ -28,7 +27,7 @@ pub record HasAnswered (s : Answering) (bytes : List ℕ) (records : List Record
   pub sound : IsSound s.stage s.core s.cores records s.begun
   pub count : s.count ≡ length records
   pub one : IsOneLine s.begun
-  pub short : length s.begun ≤ line_limit
+  pub short : length s.begun ≤ limit_at s.stage
 
 -- no fault came yet
 abbrev pub IsFaultless : Answering → Type 0

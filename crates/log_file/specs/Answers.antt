@@ -4,32 +4,32 @@ use Rattle.std.specs.Global.{Vec}
 use Rattle.log_record.specs.declared.record.Record.{Record}
 use Rattle.log_file.specs.declared.fault.LogFault.{LogFault}
 use Rattle.log_file.specs.declared.fault.LogFault.TheVariants.{At, OutOfMemory, Read}
-use Rattle.log_file.specs.Log.{Spells, IsFirstFault, first_format}
+use Rattle.log_file.specs.Log.{Spells, IsFirstFault}
 
 -- the first fault of the bytes
 abbrev pub IsFaultOf : ℕ → ℕ → List ℕ → LogFault → Type 0
-IsFaultOf core cores bytes (At k f) = IsFirstFault first_format core cores bytes k f
+IsFaultOf core cores bytes (At k f) = IsFirstFault core cores bytes k f
 IsFaultOf core cores bytes OutOfMemory = ⊥
 IsFaultOf core cores bytes Read = ⊥
 
 -- the first fault of the bytes, or lack of memory instead
 abbrev pub IsFaultOrMemory : ℕ → ℕ → List ℕ → LogFault → Type 0
-IsFaultOrMemory core cores bytes (At k f) = IsFirstFault first_format core cores bytes k f
+IsFaultOrMemory core cores bytes (At k f) = IsFirstFault core cores bytes k f
 IsFaultOrMemory core cores bytes OutOfMemory = Unit {0}
 IsFaultOrMemory core cores bytes Read = ⊥
 
 -- the first fault of the bytes, or lack of memory or a failed read instead
 abbrev pub IsFaultOrDevice : ℕ → ℕ → List ℕ → LogFault → Type 0
-IsFaultOrDevice core cores bytes (At k f) = IsFirstFault first_format core cores bytes k f
+IsFaultOrDevice core cores bytes (At k f) = IsFirstFault core cores bytes k f
 IsFaultOrDevice core cores bytes OutOfMemory = Unit {0}
 IsFaultOrDevice core cores bytes Read = Unit {0}
 
 -- the log that the bytes spell, or their first fault; lack of memory may come instead of either
 abbrev pub IsAnswer : ℕ → ℕ → List ℕ → Result (Vec Record) LogFault → Type 0
-IsAnswer core cores bytes (Ok log) = Spells first_format core cores bytes log.items
+IsAnswer core cores bytes (Ok log) = Spells core cores bytes log.items
 IsAnswer core cores bytes (Err fault) = IsFaultOrMemory core cores bytes fault
 
 -- the same of the bytes of a source, where a failed read may come too
 abbrev pub IsReadAnswer : ℕ → ℕ → List ℕ → Result (Vec Record) LogFault → Type 0
-IsReadAnswer core cores bytes (Ok log) = Spells first_format core cores bytes log.items
+IsReadAnswer core cores bytes (Ok log) = Spells core cores bytes log.items
 IsReadAnswer core cores bytes (Err fault) = IsFaultOrDevice core cores bytes fault

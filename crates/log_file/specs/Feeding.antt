@@ -7,7 +7,7 @@ use Rattle.log_file.specs.declared.fault.FormatFault.TheVariants.{Truncated}
 use Rattle.log_file.specs.declared.fault.LogFault.{LogFault}
 use Rattle.log_file.specs.declared.fault.LogFault.TheVariants.{At, OutOfMemory, Read}
 use Rattle.log_file.specs.Answers.{IsFaultOf}
-use Rattle.log_file.specs.Log.{Spells, lines_of, FaultAt, IsFirstFault, first_format}
+use Rattle.log_file.specs.Log.{Spells, lines_of, FaultAt, IsFirstFault}
 
 -- a reader of the log of one core: the bytes it was fed, or the fault that it answers from then on
 pub record Feeding : Type 0 where
@@ -17,7 +17,7 @@ pub record Feeding : Type 0 where
 
 -- the first fault of the bytes, however they go on; lack of memory may come instead
 abbrev pub IsSettled : ℕ → ℕ → List ℕ → LogFault → Type 0
-IsSettled core cores bytes (At k f) = (more : List ℕ) → IsFirstFault first_format core cores (bytes ++ more) k f
+IsSettled core cores bytes (At k f) = (more : List ℕ) → IsFirstFault core cores (bytes ++ more) k f
 IsSettled core cores bytes OutOfMemory = Unit {0}
 IsSettled core cores bytes Read = ⊥
 
@@ -29,13 +29,13 @@ Feeds core cores (Ok bytes) piece (Err f) new = (new ≡ Err f) × IsSettled cor
 
 -- where no fault came, none but Truncated holds of the bytes that were fed
 abbrev pub IsOpen : ℕ → ℕ → Result (List ℕ) LogFault → Type 0
-IsOpen core cores (Ok bytes) = (k : ℕ) (f : FormatFault) → FaultAt first_format core cores (lines_of bytes) k f → f ≡ Truncated
+IsOpen core cores (Ok bytes) = (k : ℕ) (f : FormatFault) → FaultAt core cores (lines_of bytes) k f → f ≡ Truncated
 IsOpen core cores (Err f) = Unit {0}
 
 -- what finishing answers: the log that the bytes spell, or their first fault; or the fault that came before
 abbrev pub Finishes : ℕ → ℕ → Result (List ℕ) LogFault → Result (Vec Record) LogFault → Type 0
 Finishes core cores (Err f) r = r ≡ Err f
-Finishes core cores (Ok bytes) (Ok log) = Spells first_format core cores bytes log.items
+Finishes core cores (Ok bytes) (Ok log) = Spells core cores bytes log.items
 Finishes core cores (Ok bytes) (Err fault) = IsFaultOf core cores bytes fault
 
 -- how many bytes were fed, where no fault came

@@ -1,46 +1,47 @@
 -- The faults of one whole line, as far as that line decides them.
 use Rattle.std.specs.Prelude.{◌≡◌, ◌≢◌, ℕ, ◌<◌, ◌≤◌, ◌⊎◌, ◌==◌, false, All, List, Option, Some, None}
 use Rattle.mem_op.specs.Limits.{operation_limit}
+use Rattle.log_record.specs.declared.format.Format.{Format}
 use Rattle.log_record.specs.declared.record.Record.{Record}
-use Rattle.log_record.specs.Line.{record_text, end_text, IsRecordShape, IsHeaderShape, IsEndShape, Fits}
+use Rattle.log_record.specs.Line.{record_text, end_text, IsRecordShape, IsSomeHeader, IsEndShape, Fits, line_limit, limit_of}
 use Rattle.log_file.specs.declared.fault.FormatFault.{FormatFault}
 use Rattle.log_file.specs.declared.fault.FormatFault.TheVariants.{BadHeader, BadLine, OutOfRange, TooMany, CountDiffers, TrailingBytes, Truncated, WrongCore}
-use Rattle.log_file.specs.Log.{IsLong, IsHeaderOutOfRange, IsRecordOutOfRange, IsOtherHeader, number}
+use Rattle.log_file.specs.Log.{IsLonger, IsHeaderOutOfRange, IsRecordOutOfRange, IsOtherHeader, number}
 
 -- it has no line feed
 abbrev pub IsOneLine : List ℕ → Type 0
 IsOneLine line = All (λ b. (b == 10) ≡ false) line
 
 -- of a whole first line
-abbrev pub HeaderHolds : ℕ → ℕ → ℕ → List ℕ → FormatFault → Type 0
-HeaderHolds format core cores line BadHeader = IsLong line ⊎ (¬ (IsHeaderShape format line))
-HeaderHolds format core cores line OutOfRange = IsHeaderOutOfRange format line
-HeaderHolds format core cores line WrongCore = IsOtherHeader format core cores line
-HeaderHolds format core cores line BadLine = ⊥
-HeaderHolds format core cores line TooMany = ⊥
-HeaderHolds format core cores line CountDiffers = ⊥
-HeaderHolds format core cores line TrailingBytes = ⊥
-HeaderHolds format core cores line Truncated = ⊥
+abbrev pub HeaderHolds : ℕ → ℕ → List ℕ → FormatFault → Type 0
+HeaderHolds core cores line BadHeader = IsLonger line_limit line ⊎ (¬ (IsSomeHeader line))
+HeaderHolds core cores line OutOfRange = IsHeaderOutOfRange line
+HeaderHolds core cores line WrongCore = IsOtherHeader core cores line
+HeaderHolds core cores line BadLine = ⊥
+HeaderHolds core cores line TooMany = ⊥
+HeaderHolds core cores line CountDiffers = ⊥
+HeaderHolds core cores line TrailingBytes = ⊥
+HeaderHolds core cores line Truncated = ⊥
 
--- of a whole later line, up to the end line, after `count` records
-abbrev pub BodyHolds : ℕ → List ℕ → FormatFault → Type 0
-BodyHolds count line BadLine = IsLong line ⊎ ((¬ (IsRecordShape line)) × (¬ (IsEndShape line)))
-BodyHolds count line OutOfRange = IsRecordOutOfRange line
-BodyHolds count line TooMany = IsRecordShape line × (operation_limit ≤ count)
-BodyHolds count line CountDiffers = (n : ℕ) × (line ≡ end_text n) × (n ≢ count)
-BodyHolds count line BadHeader = ⊥
-BodyHolds count line TrailingBytes = ⊥
-BodyHolds count line Truncated = ⊥
-BodyHolds count line WrongCore = ⊥
+-- of a whole later line of a log of this format, up to the end line, after `count` records
+abbrev pub BodyHolds : Format → ℕ → List ℕ → FormatFault → Type 0
+BodyHolds format count line BadLine = IsLonger (limit_of format) line ⊎ ((¬ (IsRecordShape format line)) × (¬ (IsEndShape line)))
+BodyHolds format count line OutOfRange = IsRecordOutOfRange line
+BodyHolds format count line TooMany = IsRecordShape format line × (operation_limit ≤ count)
+BodyHolds format count line CountDiffers = (n : ℕ) × (line ≡ end_text n) × (n ≢ count)
+BodyHolds format count line BadHeader = ⊥
+BodyHolds format count line TrailingBytes = ⊥
+BodyHolds format count line Truncated = ⊥
+BodyHolds format count line WrongCore = ⊥
 
 abbrev pub Least : (FormatFault → Type 0) → FormatFault → Type 0
 Least Holds f = Holds f × ((g : FormatFault) → Holds g → number f ≤ number g)
 
-abbrev pub LeastHeader : ℕ → ℕ → ℕ → List ℕ → FormatFault → Type 0
-LeastHeader format core cores line f = Least (HeaderHolds format core cores line) f
+abbrev pub LeastHeader : ℕ → ℕ → List ℕ → FormatFault → Type 0
+LeastHeader core cores line f = Least (HeaderHolds core cores line) f
 
-abbrev pub LeastBody : ℕ → List ℕ → FormatFault → Type 0
-LeastBody count line f = Least (BodyHolds count line) f
+abbrev pub LeastBody : Format → ℕ → List ℕ → FormatFault → Type 0
+LeastBody format count line f = Least (BodyHolds format count line) f
 
 -- the record that a whole later line is, where it has no fault; else it is the end line
 abbrev pub BodyIs : ℕ → List ℕ → Option Record → Type 0

@@ -9,14 +9,14 @@ use Rattle.log_file.specs.declared.fault.LogFault.{LogFault}
 use Rattle.log_file.specs.declared.fault.LogFault.TheVariants.{At, OutOfMemory, Read}
 use Rattle.log_file.specs.declared.fault.SetFault.{SetFault}
 use Rattle.log_file.specs.Devices.{Failed, Tells}
-use Rattle.log_file.specs.Log.{Spells, IsFirstFault, first_format}
+use Rattle.log_file.specs.Log.{Spells, IsFirstFault}
 
 -- the texts spell the logs of cores core, core + 1, .. of `cores`
 abbrev pub SpellFrom : ℕ → ℕ → List (List ℕ) → List (List Record) → Type 0
 SpellFrom core cores [] [] = Unit {0}
 SpellFrom core cores [] (log ∷ logs) = ⊥
 SpellFrom core cores (text ∷ texts) [] = ⊥
-SpellFrom core cores (text ∷ texts) (log ∷ logs) = Spells first_format core cores text log × SpellFrom (core + 1) cores texts logs
+SpellFrom core cores (text ∷ texts) (log ∷ logs) = Spells core cores text log × SpellFrom (core + 1) cores texts logs
 
 -- text k spells log k, the log of core k
 abbrev pub SpellSet : List (List ℕ) → List (List Record) → Type 0
@@ -27,13 +27,13 @@ text_at texts k = slice_index_or texts k []
 
 -- the texts before this one spell their logs
 abbrev pub SpellBefore : List (List ℕ) → ℕ → Type 0
-SpellBefore texts file = (k : ℕ) → k < file → (log : List Record) × Spells first_format k (length texts) (text_at texts k) log
+SpellBefore texts file = (k : ℕ) → k < file → (log : List Record) × Spells k (length texts) (text_at texts k) log
 
 -- the fault of the least file that has one
 pub record IsFirstOfSet (texts : List (List ℕ)) (file line : ℕ) (f : FormatFault) : Type 0 where
   pub there : file < length texts
   pub before : SpellBefore texts file
-  pub first : IsFirstFault first_format file (length texts) (text_at texts file) line f
+  pub first : IsFirstFault file (length texts) (text_at texts file) line f
 
 -- the first fault of the set; at its file, lack of memory or a failed read may come instead
 abbrev pub IsSetFault : List (List ℕ) → ℕ → LogFault → Type 0

@@ -1,8 +1,9 @@
 -- Where a reader of lines stands in a log. Clauses of private functions cite these.
-use Rattle.std.specs.Prelude.{◌≡◌, ℕ, ◌+◌, ◌<◌, ◌≤◌, ◌⊎◌, List, [], ◌∷◌, ◌++◌, length, take, Option, None, Some}
+use Rattle.std.specs.Prelude.{◌≡◌, ⊤, ℕ, ◌+◌, ◌<◌, ◌≤◌, ◌⊎◌, List, [], ◌∷◌, ◌++◌, length, take, Option, None, Some}
 use Rattle.mem_op.specs.Limits.{operation_limit}
+use Rattle.log_record.specs.declared.format.Format.{Format}
 use Rattle.log_record.specs.declared.record.Record.{Record}
-use Rattle.log_record.specs.Line.{record_text, header_text, end_text, Fits, line_limit}
+use Rattle.log_record.specs.Line.{format_number, record_text, header_text, end_text, Fits, line_limit, limit_of}
 use Rattle.log_file.specs.declared.fault.FormatFault.TheVariants.{BadHeader, BadLine, TrailingBytes}
 use Rattle.log_file.specs.declared.fault.LogFault.{LogFault}
 use Rattle.log_file.specs.declared.fault.LogFault.TheVariants.{At, OutOfMemory, Read}
@@ -12,43 +13,59 @@ use Rattle.log_file.specs.declared.progress.Progress.{Progress}
 use Rattle.log_file.specs.declared.line_reader.LineReader.{LineReader}
 use Rattle.log_file.specs.declared.line_reader.TakenLine.{TakenLine}
 use Rattle.log_file.specs.Feeding.{IsSettled}
-use Rattle.log_file.specs.Log.{IsLog, begun, text_of, spelling, first_format}
+use Rattle.log_file.specs.Log.{IsLog, begun, text_of, spelling}
 use Rattle.log_file.specs.OneLine.{IsOneLine, LeastHeader, LeastBody}
 
 -- ---- one line
+
+-- the most bytes of the next line
+abbrev pub limit_at : Stage → ℕ
+limit_at stage.Header = line_limit
+limit_at (stage.Records format) = limit_of format
+limit_at (stage.Ended format) = limit_of format
+
+-- the header or a record was read last
+abbrev pub IsInRecords : Stage → Type 0
+IsInRecords stage.Header = ⊥
+IsInRecords (stage.Records format) = ⊤
+IsInRecords (stage.Ended format) = ⊥
+
+-- the end line was
+abbrev pub IsEnded : Stage → Type 0
+IsEnded stage.Header = ⊥
+IsEnded (stage.Records format) = ⊥
+IsEnded (stage.Ended format) = ⊤
 
 -- numbers as those of a log are
 pub record IsInRange (p : Progress) : Type 0 where
   pub core : p.core < p.cores
   pub cores : p.cores ≤ 64
   pub count : p.count ≤ operation_limit
-  pub limit : p.limit ≡ line_limit
 
 -- of the same log
 pub record SameLog (old new : Progress) : Type 0 where
   pub core : new.core ≡ old.core
   pub cores : new.cores ≡ old.cores
-  pub limit : new.limit ≡ old.limit
 
 -- what a whole line is that isn't refused, and the progress after it
 abbrev pub BehindAt : Stage → Progress → List ℕ → Option Record → Progress → Type 0
 BehindAt stage.Header old line None new =
-    (line ≡ header_text first_format old.core old.cores) × (new ≡ record old { stage = stage.Records })
+    (format : Format) × (line ≡ header_text (format_number format) old.core old.cores) × (new ≡ record old { stage = stage.Records format })
 BehindAt stage.Header old line (Some r) new = ⊥
-BehindAt stage.Records old line None new =
-    (line ≡ end_text old.count) × (new ≡ record old { stage = stage.Ended })
-BehindAt stage.Records old line (Some r) new =
+BehindAt (stage.Records format) old line None new =
+    (line ≡ end_text old.count) × (new ≡ record old { stage = stage.Ended format })
+BehindAt (stage.Records format) old line (Some r) new =
     (line ≡ record_text r) × Fits r × (old.count < operation_limit) × (new ≡ record old { count = old.count + 1 })
-BehindAt stage.Ended old line r new = ⊥
+BehindAt (stage.Ended format) old line r new = ⊥
 
 abbrev pub IsBehind : Progress → List ℕ → Option Record → Progress → Type 0
 IsBehind old line r new = BehindAt old.stage old line r new
 
 -- why a whole line is refused
 abbrev pub RefusedAt : Stage → Progress → List ℕ → LogFault → Type 0
-RefusedAt stage.Header p line (At k f) = (k ≡ 1) × LeastHeader first_format p.core p.cores line f
-RefusedAt stage.Records p line (At k f) = (k ≡ p.count + 2) × LeastBody p.count line f
-RefusedAt stage.Ended p line (At k f) = (k ≡ p.count + 3) × (f ≡ TrailingBytes)
+RefusedAt stage.Header p line (At k f) = (k ≡ 1) × LeastHeader p.core p.cores line f
+RefusedAt (stage.Records format) p line (At k f) = (k ≡ p.count + 2) × LeastBody format p.count line f
+RefusedAt (stage.Ended format) p line (At k f) = (k ≡ p.count + 3) × (f ≡ TrailingBytes)
 RefusedAt q p line OutOfMemory = ⊥
 RefusedAt q p line Read = ⊥
 
@@ -58,12 +75,13 @@ IsRefused p line fault = RefusedAt p.stage p line fault
 -- the fault of a line that goes on too far
 abbrev pub fault_of_more : Stage → ℕ → LogFault
 fault_of_more stage.Header count = At 1 BadHeader
-fault_of_more stage.Records count = At (count + 2) BadLine
-fault_of_more stage.Ended count = At (count + 3) TrailingBytes
+fault_of_more (stage.Records format) count = At (count + 2) BadLine
+fault_of_more (stage.Ended format) count = At (count + 3) TrailingBytes
 
 -- the line goes too far with this part: it is longer than a line may be, or comes after the end line
 abbrev pub IsTooFar : LineReader → List ℕ → Type 0
-IsTooFar s part = (s.progress.limit < length (s.begun.items ++ part)) ⊎ ((s.progress.stage ≡ stage.Ended) × (0 < length part))
+IsTooFar s part =
+    (limit_at s.progress.stage < length (s.begun.items ++ part)) ⊎ (IsEnded s.progress.stage × (0 < length part))
 
 abbrev pub IsPartRefused : LineReader → List ℕ → LogFault → Type 0
 IsPartRefused s part fault = IsTooFar s part × (fault ≡ fault_of_more s.progress.stage s.progress.count)
@@ -77,8 +95,8 @@ IsLineRefused s part fault = IsRefused s.progress (s.begun.items ++ part) fault 
 -- the whole lines, after which the records are these
 abbrev pub whole_text : Stage → ℕ → ℕ → List Record → List ℕ
 whole_text stage.Header core cores records = []
-whole_text stage.Records core cores records = text_of (begun first_format core cores records)
-whole_text stage.Ended core cores records = spelling first_format core cores records
+whole_text (stage.Records format) core cores records = text_of (begun format core cores records)
+whole_text (stage.Ended format) core cores records = spelling format core cores records
 
 -- the bytes that were read: whole lines, and the beginning of one more
 abbrev pub read_text : LineReader → List Record → List ℕ
@@ -86,15 +104,15 @@ read_text s records = whole_text s.progress.stage s.progress.core s.progress.cor
 
 abbrev pub IsSound : Stage → ℕ → ℕ → List Record → List ℕ → Type 0
 IsSound stage.Header core cores records line = (core < cores) × (cores ≤ 64) × (records ≡ [])
-IsSound stage.Records core cores records line = IsLog core cores records
-IsSound stage.Ended core cores records line = IsLog core cores records × (line ≡ [])
+IsSound (stage.Records format) core cores records line = IsLog core cores records
+IsSound (stage.Ended format) core cores records line = IsLog core cores records × (line ≡ [])
 
 -- the reader stands after these records
 pub record Stands (s : LineReader) (records : List Record) : Type 0 where
   pub sound : IsSound s.progress.stage s.progress.core s.progress.cores records s.begun.items
   pub count : s.progress.count ≡ length records
   pub one : IsOneLine s.begun.items
-  pub short : length s.begun.items ≤ line_limit
+  pub short : length s.begun.items ≤ limit_at s.progress.stage
 
 -- the records so far and the one that a line was, if it was one
 abbrev pub with_read : List Record → Option Record → List Record
@@ -108,7 +126,7 @@ pub record Takes (old : LineReader) (records : List Record) (bytes : List ℕ) (
 
 -- the reader stands between the records of a log that has room for `many` more
 pub record HasRoom (s : LineReader) (many : ℕ) : Type 0 where
-  pub stage : s.progress.stage ≡ stage.Records
+  pub stage : IsInRecords s.progress.stage
   pub between : s.begun.items ≡ []
   pub room : s.progress.count + many ≤ operation_limit
 

@@ -1,19 +1,19 @@
 //! A log read line by line.
 
-ghost use Rattle.std.specs.Prelude.{◌≡◌, ◌≢◌, ◌<◌, ◌≤◌, true, false, [], ◌++◌, List, IfOk, IfErr, IfSome, IsNone, OnOk, MatchResult, length};
+ghost use Rattle.std.specs.Prelude.{◌≡◌, ◌<◌, ◌≤◌, true, false, [], ◌++◌, List, IfOk, IfErr, IfSome, IsNone, OnOk, MatchResult, length};
 ghost use Rattle.log_record.specs.declared.record.Record.{Record};
-ghost use Rattle.log_record.specs.Line.{line_limit};
+ghost use Rattle.log_record.specs.declared.format.Format.TheVariants as format;
 ghost use Rattle.log_file.specs.declared.progress.Stage.TheVariants as stage;
 ghost use Rattle.log_file.specs.Answers.{IsFaultOf};
-ghost use Rattle.log_file.specs.Log.{Spells, first_format};
-ghost use Rattle.log_file.specs.Standing.{IsInRange, SameLog, IsBehind, IsTooFar, IsPartRefused, IsLineRefused};
+ghost use Rattle.log_file.specs.Log.{Spells};
+ghost use Rattle.log_file.specs.Standing.{IsInRange, IsInRecords, SameLog, IsBehind, IsTooFar, IsPartRefused, IsLineRefused};
 ghost use Rattle.log_file.specs.Standing.{HasRoom, IsPassed, Stands, IsSettledWith, TakesNext, read_text};
 
 use super::fault::{FormatFault, LogFault};
-use super::one_line::{LINE_LIMIT, RECORD_LIMIT};
+use super::one_line::{LONGEST_LINE, RECORD_LIMIT};
 use super::progress::{Progress, Stage};
 use arrayvec::ArrayVec;
-use log_record::Record;
+use log_record::{Format, Record};
 use memchr::memchr;
 
 /// A whole line that was taken.
@@ -30,8 +30,8 @@ pub(crate) struct TakenLine {
 pub(crate) struct LineReader {
     /// What the whole lines were.
     progress: Progress,
-    /// The bytes of the line that isn't whole yet. The array has room for a line of any limit.
-    begun: ArrayVec<u8, LINE_LIMIT>,
+    /// The bytes of the line that isn't whole yet. The array has room for a line of any format.
+    begun: ArrayVec<u8, LONGEST_LINE>,
 }
 
 /// The bytes that were begun, or else the line.
@@ -49,7 +49,6 @@ impl LineReader {
         requires cores { cores ≤ 64 }
         ensures core { result.progress.core ≡ core }
         ensures cores { result.progress.cores ≡ cores }
-        ensures limit { result.progress.limit ≡ line_limit }
         ensures stands { Stands result [] }
         ensures empty { read_text result [] ≡ [] }
     {
@@ -59,24 +58,23 @@ impl LineReader {
                 cores,
                 stage: Stage::Header,
                 count: 0,
-                limit: LINE_LIMIT,
             },
             begun: ArrayVec::new(),
         }
     }
 
-    /// A reader of some log, after its header. What a header says has no part in records.
+    /// A reader of some log of format 2, after its header. What a header says has no part in records: a
+    /// record's line is one in either format.
     pub(crate) fn behind_a_header() -> LineReader
-        ensures progress { result.progress ≡ record { core = 0; cores = 1; stage = stage.Records; count = 0; limit = line_limit } }
+        ensures progress { result.progress ≡ record { core = 0; cores = 1; stage = stage.Records format.Two; count = 0 } }
         ensures none_begun { result.begun.items ≡ [] }
     {
         LineReader {
             progress: Progress {
                 core: 0,
                 cores: 1,
-                stage: Stage::Records,
+                stage: Stage::Records(Format::Two),
                 count: 0,
-                limit: LINE_LIMIT,
             },
             begun: ArrayVec::new(),
         }
@@ -85,10 +83,10 @@ impl LineReader {
     /// The bytes of the line that isn't whole yet, where the header or a record was read last.
     pub(crate) fn begun_line(&self) -> Option<&[u8]>
         ensures some { IfSome result (λ begun. (begun.now ≡ self.now.begun.items)
-            × (self.now.progress.stage ≡ stage.Records)) }
-        ensures none { IsNone result → self.now.progress.stage ≢ stage.Records }
+            × IsInRecords self.now.progress.stage) }
+        ensures none { IsNone result → ¬ IsInRecords self.now.progress.stage }
     {
-        if self.progress.stage == Stage::Records {
+        if self.progress.stage.is_in_records() {
             Some(self.begun.as_slice())
         } else {
             None
@@ -103,10 +101,10 @@ impl LineReader {
         ensures fits { OnOk result (¬ IsTooFar self.old part.now) }
         ensures refused { IfErr result (IsPartRefused self.old part.now) }
     {
-        if self.progress.stage == Stage::Ended && !part.is_empty() {
+        if self.progress.stage.is_ended() && !part.is_empty() {
             return Err(self.progress.fault_of_more());
         }
-        if self.begun.len() + part.len() > self.progress.limit {
+        if self.begun.len() + part.len() > self.progress.stage.line_limit() {
             return Err(self.progress.fault_of_more());
         }
         let Ok(()) = self.begun.try_extend_from_slice(part) else {
@@ -170,7 +168,7 @@ impl LineReader {
     {
         let progress = &mut self.progress;
         let room = RECORD_LIMIT - progress.count;
-        if progress.stage != Stage::Records || !self.begun.is_empty() || records as u64 > room {
+        if !progress.stage.is_in_records() || !self.begun.is_empty() || records as u64 > room {
             return false;
         }
         progress.count += records as u64;
@@ -181,15 +179,15 @@ impl LineReader {
     pub(crate) fn finish(&self) -> Result<(), LogFault>
         requires { IsInRange self.now.progress }
         ensures { (records : List Record) → Stands self.now records → MatchResult result
-            (λ _. Spells first_format self.now.progress.core self.now.progress.cores
+            (λ _. Spells self.now.progress.core self.now.progress.cores
             (read_text self.now records) records)
             (IsFaultOf self.now.progress.core self.now.progress.cores
             (read_text self.now records)) }
     {
         match self.progress.stage {
             Stage::Header => Err(LogFault::At(1, FormatFault::Truncated)),
-            Stage::Records => Err(LogFault::At(self.progress.count + 2, FormatFault::Truncated)),
-            Stage::Ended => Ok(()),
+            Stage::Records(_) => Err(LogFault::At(self.progress.count + 2, FormatFault::Truncated)),
+            Stage::Ended(_) => Ok(()),
         }
     }
 }

@@ -2,15 +2,17 @@
 
 ghost use Rattle.std.specs.Prelude.{◌≡◌, ◌<◌, ◌≤◌, MatchResult};
 ghost use Rattle.mem_op.specs.Limits.{operation_limit};
-ghost use Rattle.log_record.specs.Line.{header_text};
-ghost use Rattle.log_file.specs.Log.{first_format};
+ghost use Rattle.log_record.specs.Line.{format_number, header_text};
 ghost use Rattle.log_file.specs.OneLine.{LeastHeader, LeastBody, BodyIs};
 
 use super::fault::FormatFault;
-use log_record::{LineFault, Record, read_end, read_header, read_line};
+use log_record::{Format, LineFault, Record, read_end, read_header, read_line};
 
-/// The most bytes of a line, without its line feed.
-pub(crate) const LINE_LIMIT: usize = 80;
+/// The most bytes of the header, without its line feed.
+pub(crate) const HEADER_LIMIT: usize = 80;
+
+/// The most bytes of a line of any format, without its line feed.
+pub(crate) const LONGEST_LINE: usize = 96;
 
 /// The most records of a log.
 pub(crate) const RECORD_LIMIT: u64 = 1_048_576;
@@ -18,15 +20,15 @@ pub(crate) const RECORD_LIMIT: u64 = 1_048_576;
 /// The most cores, and so the most logs of a set.
 const CORE_LIMIT: u64 = 64;
 
-/// Looks at a whole first line: whether it is the header of core `core` of `cores`.
-pub(crate) fn check_header(line: &[u8], core: u64, cores: u64) -> Result<(), FormatFault>
+/// Looks at a whole first line: whether it is the header of core `core` of `cores`, and of which format.
+pub(crate) fn check_header(line: &[u8], core: u64, cores: u64) -> Result<Format, FormatFault>
     requires core { core < cores }
     requires cores { cores ≤ 64 }
     ensures { MatchResult result
-        (λ _. line.now ≡ header_text first_format core cores)
-        (λ fault. LeastHeader first_format core cores line.now fault) }
+        (λ format. line.now ≡ header_text (format_number format) core cores)
+        (λ fault. LeastHeader core cores line.now fault) }
 {
-    if line.len() > LINE_LIMIT {
+    if line.len() > HEADER_LIMIT {
         return Err(FormatFault::BadHeader);
     }
     let Some(header) = read_header(line) else {
@@ -41,21 +43,25 @@ pub(crate) fn check_header(line: &[u8], core: u64, cores: u64) -> Result<(), For
     if said_core != core || said_cores != cores {
         return Err(FormatFault::WrongCore);
     }
-    Ok(())
+    Ok(header.format)
 }
 
-/// The record that a whole line is, after the header and `count` records; None where it is the
-/// end line.
-pub(crate) fn check_body(line: &[u8], count: u64) -> Result<Option<Record>, FormatFault>
+/// The record that a whole line of a log of this format is, after the header and `count` records;
+/// None where it is the end line.
+pub(crate) fn check_body(
+    format: Format,
+    line: &[u8],
+    count: u64,
+) -> Result<Option<Record>, FormatFault>
     requires { count ≤ operation_limit }
     ensures { MatchResult result
         (λ logged. BodyIs count line.now logged)
-        (λ fault. LeastBody count line.now fault) }
+        (λ fault. LeastBody format count line.now fault) }
 {
-    if line.len() > LINE_LIMIT {
+    if line.len() > format.line_limit() {
         return Err(FormatFault::BadLine);
     }
-    match read_line(line) {
+    match read_line(format, line) {
         Ok(logged) if count < RECORD_LIMIT => Ok(Some(logged)),
         Ok(_) => Err(FormatFault::TooMany),
         Err(LineFault::OutOfRange) => Err(FormatFault::OutOfRange),

@@ -1,21 +1,55 @@
 //! How far a log was read, in whole lines.
 
-ghost use Rattle.std.specs.Prelude.{◌≡◌, MatchResult};
-ghost use Rattle.log_file.specs.Standing.{IsInRange, IsBehind, IsRefused, SameLog, fault_of_more};
+ghost use Rattle.std.specs.Prelude.{◌≡◌, ◌≤◌, ◌↔◌, IsTrue, MatchResult};
+ghost use Rattle.log_file.specs.Standing.{IsEnded, IsInRange, IsInRecords, IsBehind, IsRefused, SameLog, fault_of_more, limit_at};
 
 use super::fault::{FormatFault, LogFault};
-use super::one_line::{check_body, check_header};
-use log_record::Record;
+use super::one_line::{HEADER_LIMIT, check_body, check_header};
+use log_record::{Format, Record};
 
 /// What was read last of a log.
 #[derive(Clone, Copy, Debug, PartialEq, Eq)]
 pub(crate) enum Stage {
     /// No whole line.
     Header,
-    /// The header, or a record.
-    Records,
+    /// The header of a log of this format, or a record.
+    Records(Format),
     /// The end line.
-    Ended,
+    Ended(Format),
+}
+
+impl Stage {
+    /// The most bytes of the next line, without its line feed.
+    pub(crate) fn line_limit(self) -> usize
+        ensures limit { result ≡ limit_at self }
+        ensures short { result ≤ 96 }
+    {
+        match self {
+            Stage::Header => HEADER_LIMIT,
+            Stage::Records(format) => format.line_limit(),
+            Stage::Ended(format) => format.line_limit(),
+        }
+    }
+
+    /// Whether the header or a record was read last.
+    pub(crate) fn is_in_records(self) -> bool
+        ensures { IsTrue result ↔ IsInRecords self }
+    {
+        match self {
+            Stage::Records(_) => true,
+            _ => false,
+        }
+    }
+
+    /// Whether the end line was read.
+    pub(crate) fn is_ended(self) -> bool
+        ensures { IsTrue result ↔ IsEnded self }
+    {
+        match self {
+            Stage::Ended(_) => true,
+            _ => false,
+        }
+    }
 }
 
 /// How far the log of a core was read, in whole lines.
@@ -29,8 +63,6 @@ pub(crate) struct Progress {
     pub(crate) stage: Stage,
     /// How many records were read.
     pub(crate) count: u64,
-    /// The most bytes of a line, without its line feed.
-    pub(crate) limit: usize,
 }
 
 impl Progress {
@@ -45,24 +77,24 @@ impl Progress {
     {
         match self.stage {
             Stage::Header => match check_header(line, self.core, self.cores) {
-                Ok(()) => {
-                    self.stage = Stage::Records;
+                Ok(format) => {
+                    self.stage = Stage::Records(format);
                     Ok(None)
                 }
                 Err(fault) => Err(LogFault::At(1, fault)),
             },
-            Stage::Records => match check_body(line, self.count) {
+            Stage::Records(format) => match check_body(format, line, self.count) {
                 Ok(Some(logged)) => {
                     self.count += 1;
                     Ok(Some(logged))
                 }
                 Ok(None) => {
-                    self.stage = Stage::Ended;
+                    self.stage = Stage::Ended(format);
                     Ok(None)
                 }
                 Err(fault) => Err(LogFault::At(self.count + 2, fault)),
             },
-            Stage::Ended => Err(self.fault_of_more()),
+            Stage::Ended(_) => Err(self.fault_of_more()),
         }
     }
 
@@ -73,8 +105,8 @@ impl Progress {
     {
         match self.stage {
             Stage::Header => LogFault::At(1, FormatFault::BadHeader),
-            Stage::Records => LogFault::At(self.count + 2, FormatFault::BadLine),
-            Stage::Ended => LogFault::At(self.count + 3, FormatFault::TrailingBytes),
+            Stage::Records(_) => LogFault::At(self.count + 2, FormatFault::BadLine),
+            Stage::Ended(_) => LogFault::At(self.count + 3, FormatFault::TrailingBytes),
         }
     }
 }

@@ -6,7 +6,7 @@ ghost use Rattle.log_file.specs.Answering.{AnswersOne, HasAnswered, fed_text};
 ghost use Rattle.log_file.specs.Answers.{IsFaultOf};
 ghost use Rattle.log_file.specs.Feeding.{IsSettled};
 ghost use Rattle.log_file.specs.Keeping.{KeepsRecords};
-ghost use Rattle.log_file.specs.Log.{Spells, first_format};
+ghost use Rattle.log_file.specs.Log.{Spells};
 ghost use Rattle.log_file.specs.Standing.{IsInRange, IsSettledWith, SameLog, Stands, TakesRecord};
 
 use super::fault::LogFault;
@@ -162,7 +162,7 @@ impl RecordReader {
     pub fn check_end(&self) -> Result<(), LogFault>
         ensures ends { (bytes : List ℕ) (records : List Record) → HasAnswered self.now bytes records
             → MatchResult result
-            (λ _. Spells first_format self.now.core self.now.cores bytes records)
+            (λ _. Spells self.now.core self.now.cores bytes records)
             (IsFaultOf self.now.core self.now.cores bytes) }
         ensures again { IfSome self.now.fault (λ fault. MatchResult result (λ _. ⊥) (λ f. f ≡ fault)) }
     {
@@ -176,7 +176,7 @@ impl RecordReader {
     pub fn finish(self) -> Result<(), LogFault>
         ensures ends { (bytes : List ℕ) (records : List Record) → HasAnswered self bytes records
             → MatchResult result
-            (λ _. Spells first_format self.core self.cores bytes records)
+            (λ _. Spells self.core self.cores bytes records)
             (IsFaultOf self.core self.cores bytes) }
         ensures again { IfSome self.fault (λ fault. MatchResult result (λ _. ⊥) (λ f. f ≡ fault)) }
     {

@@ -5,19 +5,20 @@ ghost use Rattle.std.specs.Io.KnownBytes.{Appends};
 ghost use Rattle.mem_op.specs.Limits.{operation_limit};
 ghost use Rattle.log_record.specs.Line.{Fits, record_text};
 ghost use Rattle.log_file.specs.Devices.{Failed};
-ghost use Rattle.log_file.specs.Log.{IsLog, spelling, with_lf, first_format};
+ghost use Rattle.log_file.specs.Log.{IsLog, spelling, with_lf};
 
 use super::byte_sink::{ByteSink, write_all};
 use super::device_fault::WriteFault;
-use log_record::{Act, Record, print_end, print_header};
+use log_record::{Act, Format, Record, print_end, print_header};
 use mem_op::{CoreId, Source};
 use std::alloc::Global;
 
-/// Writes the log of this core of `cores`. 10 comes where a growth was refused, 29 where a write
+/// Writes the log of this core of `cores` in this format. 10 comes where a growth was refused, 29 where a write
 /// failed; what the sink took by then is a beginning of the log's text.
 pub fn write_log<W: ByteSink>(
     alloc: Global,
     sink: &mut W,
+    format: Format,
     core: CoreId,
     cores: u64,
     records: &[Record],
@@ -28,17 +29,17 @@ pub fn write_log<W: ByteSink>(
     // What is written spells a log, the one of these records.
     ensures log { OnOk result (IsLog core cores records.now) }
     ensures written { OnOk result
-        (Appends (W.contents sink.old) (W.contents sink.new) (spelling first_format core cores records.now)) }
-    ensures begun { (n : ℕ) × (n ≤ length (spelling first_format core cores records.now))
+        (Appends (W.contents sink.old) (W.contents sink.new) (spelling format core cores records.now)) }
+    ensures begun { (n : ℕ) × (n ≤ length (spelling format core cores records.now))
         × Appends (W.contents sink.old) (W.contents sink.new)
-        (take n (spelling first_format core cores records.now)) }
+        (take n (spelling format core cores records.now)) }
     // A failed write is answered only where the sink failed in this call.
     ensures failed { IsErrOf result WriteFault.Write →
         Failed (W.failed sink.old) (W.failed sink.new) }
     // And no failed write is passed over.
     ensures quiet { ¬ IsErrOf result WriteFault.Write → W.failed sink.new ≡ W.failed sink.old }
 {
-    write_line(sink, print_header(alloc, core, cores)?)?;
+    write_line(sink, print_header(alloc, format, core, cores)?)?;
     let mut line = String::new(alloc);
     for logged in records {
         in_range(logged);

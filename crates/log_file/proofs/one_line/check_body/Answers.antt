@@ -6,4 +6,4 @@ use Rattle.log_file.proofs.one_line.check_body.Goals as goal
 pub returns-in-Ok-2 : goal.returns-in-Ok-2
 returns-in-Ok-2 c =
     let found = c.in-Ok-2.ensures.found in
-    too_many c.args.line.now c.args.count c.in-Ok-2.field-0 (omega arith) found.0 found.1 (omega arith)
+    too_many c.args.format c.args.line.now c.args.count c.in-Ok-2.field-0 (omega arith) found.0 found.1 (omega arith)

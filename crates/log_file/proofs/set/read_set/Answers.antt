@@ -3,7 +3,7 @@ use Rattle.std.proofs.Common.{◌≡◌, ℕ, length, arith, ap, subst, ◌∙�
 use Rattle.log_file.specs.declared.fault.LogFault.TheVariants.{OutOfMemory}
 use Rattle.log_file.specs.Devices.{Tells}
 use Rattle.log_file.specs.Answers.{IsFaultOrDevice}
-use Rattle.log_file.specs.Log.{Spells, first_format}
+use Rattle.log_file.specs.Log.{Spells}
 use Rattle.log_file.proofs.Sets.{same_reader, same_behind, set_more, set_refused, set_done, set_failed, set_count, spelled_short}
 use Rattle.log_file.proofs.set.read_set.Goals as goal
 
@@ -46,8 +46,8 @@ loop-file-preserved g c =
     let a = c.in-Ok.ensures.answer in
     let same = same_reader loop.readers c.args.readers.now loop.file x loop.invariant.1 in
     let tells = subst (λ s. Tells (rem s) a.0) same a.1 in
-    let spells : Spells first_format loop.file (length c.args.readers.now) a.0 log.items = subst
-    (λ (k : ℕ). Spells first_format k (length c.args.readers.now) a.0 log.items) c.at-core.ensures a.2 in
+    let spells : Spells loop.file (length c.args.readers.now) a.0 log.items = subst
+    (λ (k : ℕ). Spells k (length c.args.readers.now) a.0 log.items) c.at-core.ensures a.2 in
     let pushed : c.push.new.self.items ≡ loop.logs.items ++ log ∷ [] = search rules in (
       set_more rem c.args.readers.now loop.file
           (length c.args.readers.now) x loop.logs.items c.push.new.self.items log a.0

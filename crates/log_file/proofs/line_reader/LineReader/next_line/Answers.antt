@@ -10,13 +10,13 @@ pub returns-in_err-begin-clause-taken : goal.returns-in_err-begin-clause-taken
 returns-in_err-begin-clause-taken c = λ records stands.
     let p = err_from_is_err_and c.from_residual.result c.from_residual.ensures.1 in
     let one = none_is_one_line c.args.piece.now c.in_default.ensures in
-    rw (p.1, p.2) (part_refused c.args.self.now records c.args.piece.now c.in_err-begin.field-0.0 stands one c.requires.limit c.in_err-begin.ensures.refused)
+    rw (p.1, p.2) (part_refused c.args.self.now records c.args.piece.now c.in_err-begin.field-0.0 stands one c.in_err-begin.ensures.refused)
 
 pub returns-in_default-clause-taken : goal.returns-in_default-clause-taken
 returns-in_default-clause-taken c = λ records stands.
     let e = c.in_ok-begin.ensures in
     takes_part c.args.self.now c.begin.new.self records c.args.piece.now stands e.progress e.kept
-    (none_is_one_line c.args.piece.now c.in_default.ensures) c.requires.limit e.fits
+    (none_is_one_line c.args.piece.now c.in_default.ensures) e.fits
 
 pub returns-in_err-logged-clause-taken : goal.returns-in_err-logged-clause-taken
 returns-in_err-logged-clause-taken c = λ records stands.
@@ -28,7 +28,7 @@ returns-in_err-logged-clause-taken c = λ records stands.
     ∙ ap (λ (xs : List ℕ). xs ++ drop (at + 1) piece) (taken_with_feed piece at first.0 first.1) in
     rw (p.1, p.2) (line_of_piece_refused c.args.self.now records piece (take at piece)
     (drop (at + 1) piece) c.in_err-logged.field-0.0 stands
-    whole (front_is_one_line piece at first.0) c.requires.limit c.in_err-logged.ensures.refused)
+    whole (front_is_one_line piece at first.0) c.in_err-logged.ensures.refused)
 
 pub returns-clause-taken : goal.returns-clause-taken
 returns-clause-taken c = λ records stands.
