@@ -5,7 +5,7 @@ use Rattle.std.proofs.lemmas.Bool.{cases_lt}
 use Rattle.log_record.specs.declared.record.Record.{Record}
 use Rattle.log_file.specs.declared.fault.FormatFault.{FormatFault}
 use Rattle.log_file.specs.declared.fault.FormatFault.TheVariants.{BadHeader, BadLine, OutOfRange, TooMany, CountDiffers, TrailingBytes, Truncated, WrongCore}
-use Rattle.log_file.specs.Log.{Spells, IsFirstFault, number, first_format}
+use Rattle.log_file.specs.Log.{Spells, IsFirstFault, number}
 use Rattle.log_file.specs.Sets.{SpellFrom, SpellSet, text_at, IsFirstOfSet}
 use Rattle.log_file.proofs.Once.{one_log}
 use Rattle.log_file.proofs.Spelled.{spelled_quiet}
@@ -27,19 +27,19 @@ one_set core cores (text ∷ texts) (log ∷ logs) (other ∷ others) h k =
     cc
 
 -- the text of each file of a set that is spelled spells a log
-spelled_at : (core cores : ℕ) (texts : List (List ℕ)) (logs : List (List Record)) (file : ℕ) → SpellFrom core cores texts logs → file < length texts → (log : List Record) × Spells first_format (core + file) cores (text_at texts file) log
+spelled_at : (core cores : ℕ) (texts : List (List ℕ)) (logs : List (List Record)) (file : ℕ) → SpellFrom core cores texts logs → file < length texts → (log : List Record) × Spells (core + file) cores (text_at texts file) log
 spelled_at core cores [] logs file h l = absurd (omega arith)
 spelled_at core cores (text ∷ texts) [] file h l = absurd h
-spelled_at core cores (text ∷ texts) (log ∷ logs) zero h l = (log, subst (λ c. Spells first_format c cores text log) (let z : core ≡ core + 0 = omega arith in z) h.0)
+spelled_at core cores (text ∷ texts) (log ∷ logs) zero h l = (log, subst (λ c. Spells c cores text log) (let z : core ≡ core + 0 = omega arith in z) h.0)
 spelled_at core cores (text ∷ texts) (log ∷ logs) (suc file) h l =
     let found = spelled_at (core + 1) cores texts logs file h.1 (omega arith) in
-    (found.0, subst (λ c. Spells first_format c cores (text_at texts file) found.0) (let z : core + 1 + file ≡ core + suc file = omega arith in z) found.1)
+    (found.0, subst (λ c. Spells c cores (text_at texts file) found.0) (let z : core + 1 + file ≡ core + suc file = omega arith in z) found.1)
 
 -- a set that is spelled has no fault
 spelled_or_faulty : (texts : List (List ℕ)) (logs : List (List Record)) (file line : ℕ) (fault : FormatFault) → SpellSet texts logs → IsFirstOfSet texts file line fault → ⊥
 spelled_or_faulty texts logs file line fault h k =
     let found = spelled_at 0 (length texts) texts logs file h k.there in
-    let spelled : Spells first_format file (length texts) (text_at texts file) found.0 = subst (λ c. Spells first_format c (length texts) (text_at texts file) found.0) (let z : 0 + file ≡ file = omega arith in z) found.1 in
+    let spelled : Spells file (length texts) (text_at texts file) found.0 = subst (λ c. Spells c (length texts) (text_at texts file) found.0) (let z : 0 + file ≡ file = omega arith in z) found.1 in
     spelled_quiet file (length texts) (text_at texts file) found.0 spelled line fault k.first.holds
 
 fault_of : ℕ → FormatFault
@@ -59,7 +59,7 @@ numbered Truncated = refl
 numbered WrongCore = refl
 
 -- a text has one first fault
-one_first : (core cores : ℕ) (text : List ℕ) (k j : ℕ) (f g : FormatFault) → IsFirstFault first_format core cores text k f → IsFirstFault first_format core cores text j g → (k ≡ j) × (f ≡ g)
+one_first : (core cores : ℕ) (text : List ℕ) (k j : ℕ) (f g : FormatFault) → IsFirstFault core cores text k f → IsFirstFault core cores text j g → (k ≡ j) × (f ≡ g)
 one_first core cores text k j f g h i = go (h.least j g i.holds) (i.least k f h.holds)
   where
     go : (k < j) ⊎ ((k ≡ j) × (number f ≤ number g)) → (j < k) ⊎ ((j ≡ k) × (number g ≤ number f)) → (k ≡ j) × (f ≡ g)
@@ -85,7 +85,7 @@ same_fault texts file line other_file other_line fault other h k = elim (cases_l
   where
     at_one_file : file ≡ other_file → ◌≡◌ {A = JudgeFault} (Log file line fault) (Log other_file other_line other)
     at_one_file e =
-        let there : IsFirstFault first_format file (length texts) (text_at texts file) other_line other = subst (λ n. IsFirstFault first_format n (length texts) (text_at texts n) other_line other) (sym e) k.first in
+        let there : IsFirstFault file (length texts) (text_at texts file) other_line other = subst (λ n. IsFirstFault n (length texts) (text_at texts n) other_line other) (sym e) k.first in
         let one = one_first file (length texts) (text_at texts file) line other_line fault other h.first there in
         let lines : line ≡ other_line = one.0 in
         let faults : fault ≡ other = one.1 in
