@@ -10,7 +10,7 @@ use Rattle.log_file.specs.Answering.{Answering, AnswersOne, HasAnswered, IsFault
 use Rattle.log_file.specs.Answers.{IsFaultOf, IsFaultOrDevice}
 use Rattle.log_file.specs.Devices.{Tells}
 use Rattle.log_file.specs.Feeding.{IsSettled}
-use Rattle.log_file.specs.Log.{Spells, first_format}
+use Rattle.log_file.specs.Log.{Spells}
 use Rattle.log_file.proofs.Bounded.{read_long}
 use Rattle.log_file.proofs.Devices.{told, tells_told, consumes_more, consumes_told, consumes_end}
 use Rattle.merge_judge.specs.OpenedLog.{OpenedLog}
@@ -116,12 +116,12 @@ module _ (core cores : ℕ) (first still : Option (List ℕ)) (log : OpenedLog) 
   tells_bytes : Tells first h.bytes
   tells_bytes = consumes_end first still h.bytes (subst (λ xs. Consumes first still xs) (ap (λ xs. h.bytes ++ xs) none ∙ append-nil h.bytes) h.given) at_end
 
-  pub ends_whole : ((bytes : List ℕ) (rs : List Record) → HasAnswered log.reader bytes rs → Spells first_format log.reader.core log.reader.cores bytes rs) → EndsWhole core cores first records
+  pub ends_whole : ((bytes : List ℕ) (rs : List Record) → HasAnswered log.reader bytes rs → Spells log.reader.core log.reader.cores bytes rs) → EndsWhole core cores first records
   ends_whole spells = record {
     text = h.bytes;
     tells = tells_bytes;
-    spells = subst (λ k. Spells first_format core k h.bytes records) h.cores_is
-        (subst (λ k. Spells first_format k log.reader.cores h.bytes records) h.core_is (spells h.bytes records h.answered));
+    spells = subst (λ k. Spells core k h.bytes records) h.cores_is
+        (subst (λ k. Spells k log.reader.cores h.bytes records) h.core_is (spells h.bytes records h.answered));
   }
 
   pub ends_at : (f : LogFault) → ((bytes : List ℕ) (rs : List Record) → HasAnswered log.reader bytes rs → IsFaultOf log.reader.core log.reader.cores bytes f) → EndsAt core cores first f

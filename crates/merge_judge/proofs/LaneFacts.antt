@@ -23,8 +23,8 @@ use Rattle.merge_judge.proofs.Falls.{fall_past, fall_stays, falls_never, first_f
 
 few_sound : (q : Stage) (core cores : ℕ) (records : List Record) (line : List ℕ) → IsSound q core cores records line → length records ≤ operation_limit
 few_sound last_read.Header core cores records line h = omega (arith, ap length h.2)
-few_sound last_read.Records core cores records line h = h.few
-few_sound last_read.Ended core cores records line h = h.0.few
+few_sound (last_read.Records format) core cores records line h = h.few
+few_sound (last_read.Ended format) core cores records line h = h.0.few
 
 pub few_answered : (s : Answering) (bytes : List ℕ) (records : List Record) → HasAnswered s bytes records → length records ≤ operation_limit
 few_answered s bytes records h = few_sound s.stage s.core s.cores records s.begun h.sound

@@ -24,7 +24,7 @@ use Rattle.log_file.specs.declared.fault.LogFault.{LogFault}
 use Rattle.log_file.specs.declared.fault.LogFault.TheVariants.{At, OutOfMemory, Read}
 use Rattle.log_file.specs.Answers.{IsFaultOrDevice}
 use Rattle.log_file.specs.Devices.{Tells}
-use Rattle.log_file.specs.Log.{IsFirstFault, Spells, first_format}
+use Rattle.log_file.specs.Log.{IsFirstFault, Spells}
 use Rattle.log_file.specs.Sets.{SpellBefore, SpellFrom, SpellSet, TellEach, text_at}
 use Rattle.verdict.proofs.ProgramOrder.{less_index}
 use Rattle.verdict.specs.Counts.{IsBadCount}
@@ -65,13 +65,13 @@ tell_each remaining [] (text ∷ texts) long h = absurd (omega (arith, long))
 tell_each remaining (x ∷ xs) [] long h = absurd (omega (arith, long))
 tell_each remaining (x ∷ xs) (text ∷ texts) long h = (h 0 x refl, tell_each remaining xs texts (omega (arith, long)) (λ k y q. h (suc k) y q))
 
-spell_from : (core cores : ℕ) (texts : List (List ℕ)) (logs : List (List Record)) → length logs ≡ length texts → ((k : ℕ) → k < length texts → Spells first_format (core + k) cores (text_at texts k) (log_at logs k)) → SpellFrom core cores texts logs
+spell_from : (core cores : ℕ) (texts : List (List ℕ)) (logs : List (List Record)) → length logs ≡ length texts → ((k : ℕ) → k < length texts → Spells (core + k) cores (text_at texts k) (log_at logs k)) → SpellFrom core cores texts logs
 spell_from core cores [] [] long h = tt
 spell_from core cores [] (log ∷ logs) long h = absurd (omega (arith, long))
 spell_from core cores (text ∷ texts) [] long h = absurd (omega (arith, long))
 spell_from core cores (text ∷ texts) (log ∷ logs) long h = (
-  subst (λ c. Spells first_format c cores text log) (let e : core + 0 ≡ core = omega arith in e) (h 0 (omega arith)),
-  spell_from (core + 1) cores texts logs (omega (arith, long)) (λ k l. subst (λ c. Spells first_format c cores (text_at texts k) (log_at logs k)) (let e : core + suc k ≡ core + 1 + k = omega arith in e) (h (suc k) (omega arith))),
+  subst (λ c. Spells c cores text log) (let e : core + 0 ≡ core = omega arith in e) (h 0 (omega arith)),
+  spell_from (core + 1) cores texts logs (omega (arith, long)) (λ k l. subst (λ c. Spells c cores (text_at texts k) (log_at logs k)) (let e : core + suc k ≡ core + 1 + k = omega arith in e) (h (suc k) (omega arith))),
 )
 
 there : {X : Type 0} (xs : List X) (n : ℕ) → n < length xs → (x : X) × (slice_get xs n ≡ Some x)
@@ -98,7 +98,7 @@ module _ {S : Type 0} (remaining : S → Option (List ℕ)) (failed : S → ℕ)
   abbrev IsTextOf : ℕ → S → List ℕ → Type 0
   IsTextOf k b text =
       Tells (remaining b) text × ((l : Lane) → slice_get lanes k ≡ Some l →
-      (l.fault ≡ None → Spells first_format k (length before) text (log_at merged k)) × ((f : LogFault) → l.fault ≡ Some f → IsFaultOrDevice k (length before) text f))
+      (l.fault ≡ None → Spells k (length before) text (log_at merged k)) × ((f : LogFault) → l.fault ≡ Some f → IsFaultOrDevice k (length before) text f))
 
   text_of : (k : ℕ) (b : S) → slice_get before k ≡ Some b → (text : List ℕ) × IsTextOf k b text
   text_of k b hb =
@@ -139,11 +139,11 @@ module _ {S : Type 0} (remaining : S → Option (List ℕ)) (failed : S → ℕ)
   pub tells : TellEach remaining before texts
   tells = tell_each remaining before texts long (λ k b h. (is_text k b h).0)
 
-  spelled : (k : ℕ) → k < length before → ((l : Lane) → slice_get lanes k ≡ Some l → l.fault ≡ None) → Spells first_format k (length texts) (text_at texts k) (log_at merged k)
+  spelled : (k : ℕ) → k < length before → ((l : Lane) → slice_get lanes k ≡ Some l → l.fault ≡ None) → Spells k (length texts) (text_at texts k) (log_at merged k)
   spelled k w none =
       let b = there before k w in
       let l = there lanes k (let a = m.many in omega (arith, w, a)) in
-      subst (λ n. Spells first_format k n (text_at texts k) (log_at merged k)) (sym long) (((is_text k b.0 b.1).1 l.0 l.1).0 (none l.0 l.1))
+      subst (λ n. Spells k n (text_at texts k) (log_at merged k)) (sym long) (((is_text k b.0 b.1).1 l.0 l.1).0 (none l.0 l.1))
 
   spelled_before : (file : ℕ) → file < length before → NoneFaulty lanes file → SpellBefore texts file
   spelled_before file w none k low = (log_at merged k, spelled k (omega (arith, w, low)) (λ l hl. none k l low hl))
@@ -162,14 +162,14 @@ module _ {S : Type 0} (remaining : S → Option (List ℕ)) (failed : S → ℕ)
       go (At line f) holds e = record {
         there = omega (arith, w, long);
         before = spelled_before file w none;
-        first = subst (λ n. IsFirstFault first_format file n (text_at texts file) line f) (sym long) (holds (At line f) e);
+        first = subst (λ n. IsFirstFault file n (text_at texts file) line f) (sym long) (holds (At line f) e);
       }
       go OutOfMemory holds e = tt
       go Read holds e = (omega (arith, w, long), spelled_before file w none)
 
   pub spell_set : NoneFaulty lanes (length lanes) → SpellSet texts merged
   spell_set none = spell_from 0 (length texts) texts merged (m.logs ∙ sym long)
-      (λ k w. subst (λ c. Spells first_format c (length texts) (text_at texts k) (log_at merged k)) (let e : k ≡ 0 + k = omega arith in e)
+      (λ k w. subst (λ c. Spells c (length texts) (text_at texts k) (log_at merged k)) (let e : k ≡ 0 + k = omega arith in e)
       (spelled k (omega (arith, w, long)) (λ l hl. none k l (let a = slice_get_within lanes k l hl in a) hl)))
 
   -- ---- faults of core order

@@ -7,7 +7,7 @@ use Rattle.log_file.specs.Answering.{HasAnswered}
 use Rattle.log_file.specs.Answers.{IsFaultOrDevice}
 use Rattle.log_file.specs.Devices.{Tells}
 use Rattle.log_file.specs.Feeding.{IsSettled}
-use Rattle.log_file.specs.Log.{Spells, first_format}
+use Rattle.log_file.specs.Log.{Spells}
 use Rattle.merge_judge.specs.OpenedLog.{OpenedLog}
 
 -- what taking a record from the bytes that were read answers
@@ -29,7 +29,7 @@ pub record Follows (core cores : ℕ) (first still : Option (List ℕ)) (log : O
 pub record EndsWhole (core cores : ℕ) (first : Option (List ℕ)) (records : List Record) : Type 0 where
   pub text : List ℕ
   pub tells : Tells first text
-  pub spells : Spells first_format core cores text records
+  pub spells : Spells core cores text records
 
 pub record EndsAt (core cores : ℕ) (first : Option (List ℕ)) (fault : LogFault) : Type 0 where
   pub text : List ℕ
