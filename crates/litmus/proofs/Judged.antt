@@ -6,9 +6,9 @@ use Rattle.std.specs.Prelude.{Result, Ok, Err, MatchResult}
 use Rattle.std.proofs.lemmas.List.{map_push}
 use Rattle.log_record.specs.declared.record.Record.{Record}
 use Rattle.log_file.specs.Devices.{Tells}
-use Rattle.log_file.specs.Log.{Spells, first_format, spelling}
+use Rattle.log_file.specs.Log.{Spells}
 use Rattle.log_file.specs.Sets.{SpellFrom, SpellSet, TellEach}
-use Rattle.log_file.proofs.Once.{spelled_once}
+use Rattle.log_file.proofs.Once.{one_log}
 use Rattle.core_program.specs.declared.instruction.Instruction.{Instruction}
 use Rattle.core_machine.specs.Machine.{World}
 use Rattle.core_machine.specs.Works.{log_at, logs_below}
@@ -26,12 +26,12 @@ use Rattle.litmus.specs.inner.Judged.{IsNo}
 -- ---- texts of logs
 
 pub spell_push : (core cores m : ℕ) (texts : List (List ℕ)) (logs : List (List Record)) (text : List ℕ) (log : List Record) → SpellFrom core cores texts logs
-    → length texts ≡ m → Spells first_format (core + m) cores text log → SpellFrom core cores (texts ++ text ∷ []) (logs ++ log ∷ [])
-spell_push core cores m [] [] text log all count spells = (subst (λ (c : ℕ). Spells first_format c cores text log) (omega (arith, count)) spells, tt)
+    → length texts ≡ m → Spells (core + m) cores text log → SpellFrom core cores (texts ++ text ∷ []) (logs ++ log ∷ [])
+spell_push core cores m [] [] text log all count spells = (subst (λ (c : ℕ). Spells c cores text log) (omega (arith, count)) spells, tt)
 spell_push core cores m [] (l ∷ logs) text log all count spells = absurd all
 spell_push core cores m (t ∷ texts) [] text log all count spells = absurd all
 spell_push core cores m (t ∷ texts) (l ∷ logs) text log all count spells =
-    (all.0, spell_push (core + 1) cores (length texts) texts logs text log all.1 refl (subst (λ (c : ℕ). Spells first_format c cores text log) (omega (arith, count)) spells))
+    (all.0, spell_push (core + 1) cores (length texts) texts logs text log all.1 refl (subst (λ (c : ℕ). Spells c cores text log) (omega (arith, count)) spells))
 
 -- the texts of the logs of the cores so far
 pub record TextsSoFar (w : World) (cores : ℕ) (texts : List (Vec ℕ)) (number : ℕ) : Type 0 where
@@ -42,14 +42,14 @@ pub no_texts : (w : World) (cores : ℕ) → TextsSoFar w cores [] 0
 no_texts w cores = record { spell = tt; count = refl }
 
 pub one_more_text : (w : World) (cores number core : ℕ) (old new : List (Vec ℕ)) (text : Vec ℕ) (log : List Record) → TextsSoFar w cores old number → new ≡ old ++ text ∷ []
-    → core ≡ number → log ≡ log_at w core → Spells first_format core cores text.items log → TextsSoFar w cores new (number + 1)
+    → core ≡ number → log ≡ log_at w core → Spells core cores text.items log → TextsSoFar w cores new (number + 1)
 one_more_text w cores number core old new text log far is core-is log-is spells =
     let lists : word_lists new ≡ word_lists old ++ text.items ∷ [] = ap word_lists is ∙ map_push (λ (v : Vec ℕ). v.items) old text in
     let next : logs_below w (suc number) ≡ logs_below w number ++ log ∷ [] = ap (λ (l : List Record). logs_below w number ++ l ∷ []) (ap (log_at w) (sym core-is) ∙ sym log-is) in
     let more : suc number ≡ number + 1 = omega arith in
     let at : number ≡ 0 + number = omega arith in
     let spelled : SpellFrom 0 cores (word_lists old ++ text.items ∷ []) (logs_below w number ++ log ∷ []) =
-    spell_push 0 cores number (word_lists old) (logs_below w number) text.items log far.spell far.count (subst (λ (c : ℕ). Spells first_format c cores text.items log) (core-is ∙ at) spells) in
+    spell_push 0 cores number (word_lists old) (logs_below w number) text.items log far.spell far.count (subst (λ (c : ℕ). Spells c cores text.items log) (core-is ∙ at) spells) in
     record {
       spell = subst (λ (ts : List (List ℕ)). SpellFrom 0 cores ts (logs_below w (number + 1))) (sym lists)
           (subst (λ (ls : List (List Record)). SpellFrom 0 cores (word_lists old ++ text.items ∷ []) ls) (sym next ∙ ap (logs_below w) more) spelled);
@@ -84,8 +84,7 @@ logs_once core cores [] (l ∷ a) b p q = absurd p
 logs_once core cores (t ∷ texts) [] b p q = absurd p
 logs_once core cores (t ∷ texts) (l ∷ a) [] p q = absurd q
 logs_once core cores (t ∷ texts) (l ∷ a) (m ∷ b) p q =
-    let both : spelling first_format core cores l ++ [] ≡ spelling first_format core cores m ++ [] = ap (λ (xs : List ℕ). xs ++ []) (sym p.0.1 ∙ q.0.1) in
-    let first : l ≡ m = (spelled_once core cores core cores l m [] [] both).2 in
+    let first : l ≡ m = one_log core cores t l m p.0 q.0 in
     let rest : a ≡ b = logs_once (core + 1) cores texts a b p.1 q.1 in
     cc
 

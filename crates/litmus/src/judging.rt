@@ -1,7 +1,7 @@
 //! The verdict on the logs of a run that has ended.
 
 ghost use Rattle.std.specs.Prelude.{◌≡◌, ◌<◌, ◌≤◌, length, map, take, IfErr, IfOk, MatchResult};
-ghost use Rattle.log_file.specs.Log.{Spells, first_format};
+ghost use Rattle.log_file.specs.Log.{SpellsIn};
 ghost use Rattle.log_file.specs.Sets.{SpellSet};
 ghost use Rattle.mem_op.specs.Limits.{operation_limit};
 ghost use Rattle.core_machine.specs.Works.{logs_below};
@@ -16,7 +16,7 @@ use super::run_fault::RunCause;
 use super::test::Litmus;
 use core_program::ProgramSet;
 use log_file::{ByteSource, MemSink, ReadFailed, write_log};
-use log_record::Record;
+use log_record::{Format, Record};
 use mem_op::CoreId;
 use std::alloc::Global;
 use std::thread::Threads;
@@ -75,11 +75,11 @@ fn log_text(
     requires core { core < cores }
     requires cores { cores ≤ 64 }
     requires few { length records.now ≤ operation_limit }
-    ensures text { IfOk result (λ text. Spells first_format core cores text.items records.now) }
+    ensures text { IfOk result (λ text. SpellsIn Format.One core cores text.items records.now) }
     ensures refused { IfErr result (λ cause. cause ≡ RunCause.OutOfMemory) }
 {
     let mut sink = MemSink::new(alloc, &[]);
-    if write_log(alloc, &mut sink, core, cores as u64, records).is_err() {
+    if write_log(alloc, &mut sink, Format::One, core, cores as u64, records).is_err() {
         return Err(RunCause::OutOfMemory);
     }
     Ok(sink.bytes().to_vec(alloc)?)
