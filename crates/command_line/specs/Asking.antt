@@ -15,6 +15,7 @@ use Rattle.command_line.specs.declared.request.Request.{Request}
 use Rattle.command_line.specs.declared.request.Request.TheVariants as request
 use Rattle.command_line.specs.declared.request.Run.{Run}
 use Rattle.command_line.specs.declared.request.Sim.{Sim}
+use Rattle.command_line.specs.declared.request.Upgrade.{Upgrade}
 
 -- the texts of words
 abbrev pub texts : List (Bor Text) → List Text
@@ -53,6 +54,11 @@ pub record IsCheck (rows : List Row) (check : Check) : Type 0 where
 pub record IsOrder (rows : List Row) (order : Order) : Type 0 where
   pub files : texts order.files.items ≡ unwrap_or (all_of (codes "FILE") rows) []
 
+-- the files that were given, anew in format 2, under the name that was given
+pub record IsUpgrade (rows : List Row) (upgrade : Upgrade) : Type 0 where
+  pub out : upgrade.out.now ≡ unwrap_or (first_of (codes "OUT") rows) []
+  pub files : texts upgrade.files.items ≡ unwrap_or (all_of (codes "FILE") rows) []
+
 -- the numbers of the machine that were given, or the default of each that wasn't
 pub record AreLimits (rows : List Row) (limits : Limits) : Type 0 where
   pub slices : IsCountOr 1 (one_of (codes "slices") rows) limits.slices
@@ -88,6 +94,7 @@ pub record IsLitmus (rows : List Row) (litmus : Litmus) : Type 0 where
 abbrev pub IsAskedBy : Text × List Row → Request → Type 0
 IsAskedBy named (request.Check check) = (named.0 ≡ codes "check") × IsCheck named.1 check
 IsAskedBy named (request.Order order) = (named.0 ≡ codes "order") × IsOrder named.1 order
+IsAskedBy named (request.Upgrade upgrade) = (named.0 ≡ codes "upgrade") × IsUpgrade named.1 upgrade
 IsAskedBy named (request.Sim sim) = (named.0 ≡ codes "sim") × IsSim named.1 sim
 IsAskedBy named (request.Run run) = (named.0 ≡ codes "run") × IsThreaded named.1 run
 IsAskedBy named (request.Litmus litmus) = (named.0 ≡ codes "litmus") × IsLitmus named.1 litmus

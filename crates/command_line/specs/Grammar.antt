@@ -47,6 +47,14 @@ order = with_rule (new_app (codes "order")) files
 abbrev pub name : Text → Rule
 name place = record (new_rule place) { required = true; action = Some Set }
 
+-- OUT FILE..
+abbrev pub with_sets : App → App
+with_sets app = with_rule (with_rule app (name (codes "OUT"))) files
+
+-- tardis upgrade OUT FILE..
+abbrev pub upgrade : App
+upgrade = with_sets (new_app (codes "upgrade"))
+
 abbrev pub with_number : App → Text → App
 with_number app option = with_rule app (number_option option)
 
@@ -89,6 +97,10 @@ judging =
 abbrev pub with_machine : App → App
 with_machine app = with_subcommand (with_subcommand (with_subcommand app sim.top) run.top) litmus.top
 
+-- upgrade
+abbrev pub with_logs : App → App
+with_logs app = with_subcommand app upgrade.top
+
 -- the program
 abbrev pub tardis : App
-tardis = with_machine judging
+tardis = with_logs (with_machine judging)

@@ -13,7 +13,7 @@ pub(crate) fn tardis<'a>(alloc: Global) -> Result<Command<'a>, AllocError>
     ensures app { IfOk result (λ command. app_of command ≡ grammar.tardis) }
     ensures local { IfOk result (λ command. (fields_of command).has_globals ≡ false) }
 {
-    with_machine(alloc, judging(alloc)?)
+    with_logs(alloc, with_machine(alloc, judging(alloc)?)?)
 }
 
 /// The command line with the subcommands that judge.
@@ -40,6 +40,15 @@ fn with_machine<'a>(alloc: Global, command: Command<'a>) -> Result<Command<'a>, 
         .subcommand(sim(alloc)?)?
         .subcommand(run(alloc)?)?
         .subcommand(litmus(alloc)?)
+}
+
+/// A command line with the subcommand that writes logs anew.
+fn with_logs<'a>(alloc: Global, command: Command<'a>) -> Result<Command<'a>, AllocError>
+    ensures app { IfOk result (λ made. app_of made ≡ grammar.with_logs (app_of command.entry)) }
+    ensures local { (fields_of command.entry).has_globals ≡ false
+        → IfOk result (λ made. (fields_of made).has_globals ≡ false) }
+{
+    command.subcommand(upgrade(alloc)?)
 }
 
 /// The subcommand that judges a set of logs.
@@ -97,6 +106,30 @@ fn run<'a>(alloc: Global) -> Result<Command<'a>, AllocError>
         .about("Runs programs at once, each core in a thread, and writes a log of each core")
         .after_help("Example: tardis run examples/read_across.programs log");
     with_names(alloc, with_limits(alloc, command)?)
+}
+
+/// The subcommand that writes a set of logs in format 2.
+fn upgrade<'a>(alloc: Global) -> Result<Command<'a>, AllocError>
+    ensures app { IfOk result (λ command. app_of command ≡ grammar.upgrade) }
+    ensures local { IfOk result (λ command. (fields_of command).has_globals ≡ false) }
+{
+    let command = Command::new(alloc, "upgrade")
+        .about("Reads logs, one of each core, and writes them in format 2")
+        .after_help("Example: tardis upgrade new log.0 log.1");
+    with_sets(alloc, command)
+}
+
+/// A command with the names of the logs that are written and of those that are read.
+fn with_sets<'a>(alloc: Global, command: Command<'a>) -> Result<Command<'a>, AllocError>
+    ensures app { IfOk result (λ made. app_of made ≡ grammar.with_sets (app_of command.entry)) }
+    ensures local { (fields_of command.entry).has_globals ≡ false
+        → IfOk result (λ made. (fields_of made).has_globals ≡ false) }
+{
+    command
+        .arg(name(alloc, "OUT").help(
+            "What the names of the new logs begin with: new for new.0, new.1 and so on",
+        ))?
+        .arg(files(alloc).help("The logs, that of core 0 first"))
 }
 
 /// The subcommand that runs a litmus test again and again, and counts its outcomes.

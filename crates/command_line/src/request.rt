@@ -7,6 +7,8 @@ pub enum Request<'a> {
     Check(Check<'a>),
     /// The verdict on a set of logs, and its order.
     Order(Order<'a>),
+    /// A set of logs, written anew in format 2.
+    Upgrade(Upgrade<'a>),
     /// A run of the machine, one event after the other.
     Sim(Sim<'a>),
     /// A run of the machine, each core in a thread of its own.
@@ -30,6 +32,15 @@ pub struct Check<'a> {
 #[derive(Debug, Drop)]
 pub struct Order<'a> {
     /// The names of its files, that of core 0 first.
+    pub files: Vec<&'a str>,
+}
+
+/// Asks for a set of logs in format 2.
+#[derive(Debug, Drop)]
+pub struct Upgrade<'a> {
+    /// What the names of the logs that are written begin with.
+    pub out: &'a str,
+    /// The names of the files that are read, that of core 0 first.
     pub files: Vec<&'a str>,
 }
 

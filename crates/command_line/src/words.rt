@@ -7,7 +7,7 @@ ghost use Rattle.command_line.specs.Asking as asking;
 
 use super::grammar::tardis;
 use super::refusal::Refusal;
-use super::request::{Check, Limits, Litmus, Order, Request, Run, Sim};
+use super::request::{Check, Limits, Litmus, Order, Request, Run, Sim, Upgrade};
 use clap::error::ErrorKind;
 use clap::{ArgMatches, Error};
 use std::alloc::{AllocError, Global};
@@ -39,6 +39,9 @@ pub fn read<'a>(alloc: Global, words: &'a [&'a str]) -> Result<Request<'a>, Refu
     if name == "litmus" {
         return Ok(Request::Litmus(litmus_of(asked)));
     }
+    if name == "upgrade" {
+        return Ok(Request::Upgrade(upgrade_of(alloc, asked)?));
+    }
     Ok(Request::Check(check_of(alloc, asked)?))
 }
 
@@ -58,6 +61,16 @@ fn order_of<'a>(alloc: Global, matches: &ArgMatches<'a>) -> Result<Order<'a>, Al
     ensures { IfOk result (asking.IsOrder (rows_of (found_of matches.now))) }
 {
     Ok(Order {
+        files: files_of(alloc, matches)?,
+    })
+}
+
+/// What the words after `upgrade` ask for.
+fn upgrade_of<'a>(alloc: Global, matches: &ArgMatches<'a>) -> Result<Upgrade<'a>, AllocError>
+    ensures { IfOk result (asking.IsUpgrade (rows_of (found_of matches.now))) }
+{
+    Ok(Upgrade {
+        out: word_of(matches, "OUT"),
         files: files_of(alloc, matches)?,
     })
 }

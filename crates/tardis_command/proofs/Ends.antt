@@ -56,6 +56,7 @@ uncounted told asked old new (LogUnwritten file) done = inl done.1
 memory_instead : (before after : Files) (asked : Request) (out out' : Sink) (fault : CommandFault) (ending : Ending) → IsAnswered ending (Err fault)
     → IsDoneBy before after asked out out' ending → IsDoneBy before after asked out out' (Refused OutOfMemory)
 memory_instead before after (request.Check check) out out' fault ending answered done = (tt, unless_failed out out' fault ending answered done.1)
+memory_instead before after (request.Upgrade upgrade) out out' fault ending answered done = (tt, unless_failed out out' fault ending answered done.1)
 memory_instead before after (request.Sim sim) out out' fault ending answered done = (tt, unless_failed out out' fault ending answered done.1)
 memory_instead before after (request.Run run) out out' fault ending answered done = (tt, unless_failed out out' fault ending answered done.1)
 memory_instead before after (request.Litmus litmus) out out' fault (Answered answer) answered done = cc

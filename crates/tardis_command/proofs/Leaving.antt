@@ -8,7 +8,8 @@ use Rattle.lease_rule.specs.ConfigParts.{ConfigParts}
 use Rattle.log_record.specs.declared.record.Record.{Record}
 use Rattle.log_record.specs.Entries.{entries}
 use Rattle.log_file.specs.Devices.{Tells}
-use Rattle.log_file.specs.Log.{Spells, first_format}
+use Rattle.log_file.specs.Log.{Spells, SpellsIn}
+use Rattle.log_record.specs.declared.format.Format.TheVariants.{One}
 use Rattle.log_file.specs.Sets.{SpellFrom}
 use Rattle.core_program.specs.declared.instruction.Instruction.{Instruction}
 use Rattle.schedule.specs.declared.command.Command.{Command}
@@ -57,7 +58,7 @@ one_more_told told out texts text n count each tells c t at = elim (found_in_pus
   | inr new ↦ subst (λ (x : List ℕ). Tells (told (log_name out c)) x) (sym new.1) (subst (λ m. Tells (told (log_name out m)) text) (sym (new.0 ∙ count)) tells)
 ]
 
-texts_below : (told : List ℕ → Option (List ℕ)) (out : List ℕ) (cores : ℕ) (w : World) (n : ℕ) → TellsFirst told out cores (log_at w) n → TextsBelow told out cores w n
+texts_below : (told : List ℕ → Option (List ℕ)) (out : List ℕ) (cores : ℕ) (w : World) (n : ℕ) → TellsFirst One told out cores (log_at w) n → TextsBelow told out cores w n
 texts_below told out cores w zero first = record { texts = []; spell = tt; count = refl; told_each = λ c text at. absurd cc }
 texts_below told out cores w (suc n) first =
     let before = texts_below told out cores w n (λ c below. first c (omega arith)) in
@@ -65,14 +66,14 @@ texts_below told out cores w (suc n) first =
     let at : n ≡ 0 + n = omega arith in
     record {
       texts = before.texts ++ text ∷ [];
-      spell = spell_push 0 cores n before.texts (logs_below w n) text (log_at w n) before.spell before.count (subst (λ (c : ℕ). Spells first_format c cores text (log_at w n)) at spells);
+      spell = spell_push 0 cores n before.texts (logs_below w n) text (log_at w n) before.spell before.count (subst (λ (c : ℕ). Spells c cores text (log_at w n)) at (One, spells));
       count = omega (arith, length-append before.texts (text ∷ []), before.count);
       told_each = one_more_told told out before.texts text n before.count before.told_each tells;
     }
 
 -- logs that get Yes against the programs are left
 leaves : (told told' : List ℕ → Option (List ℕ)) (name out : List ℕ) (programs : List (List Instruction)) (w : World) → AreProgramsIn told name programs
-    → TellsFirst told' out (length programs) (log_at w) (length programs) → GetYesBy programs (logs_below w (length programs)) → LeavesYes told told' name out
+    → TellsFirst One told' out (length programs) (log_at w) (length programs) → GetYesBy programs (logs_below w (length programs)) → LeavesYes told told' name out
 leaves told told' name out programs w read first gets_yes =
     let below = texts_below told' out (length programs) w (length programs) first in
     let spell = subst (λ n. SpellFrom 0 n below.texts (logs_below w (length programs))) (sym below.count) below.spell in
@@ -108,7 +109,7 @@ run_leaves old new asked count (sound, programs, read, (us, ss, run, events, (co
     let g = config_of asked.limits in
     let w : World = world_of (map (λ u. core_of u None) us) ss in
     leaves old.told new.told asked.programs.now asked.out.now programs w read
-    (λ c below. subst (λ (log : List Record). (text : List ℕ) × Tells (new.told (log_name asked.out.now c)) text × Spells first_format c (length programs) text log) (kept_is programs g us ss run c) (put.0.logs c below))
+    (λ c below. subst (λ (log : List Record). (text : List ℕ) × Tells (new.told (log_name asked.out.now c)) text × SpellsIn One c (length programs) text log) (kept_is programs g us ss run c) (put.0.logs c below))
     (whole_below_get_yes programs g us ss run)
 
 -- ---- whatever is answered

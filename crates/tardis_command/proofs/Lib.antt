@@ -6,3 +6,4 @@ mod Orders
 mod Runs
 mod Tables
 mod ThreadRuns
+mod Upgrades

@@ -32,13 +32,13 @@ nothing : (sink : Sink) → Took sink sink LacksEnd
 nothing sink = ([], Appends-nil sink.contents, ([], (0, some_text, refl)))
 
 -- a number that isn't out of range is in it
-in_range : (n : ℕ) → ¬ (IsOutOfRange n) → IsInRange n
+pub in_range : (n : ℕ) → ¬ (IsOutOfRange n) → IsInRange n
 in_range n not =
     let some : n < 1 → ⊥ = λ h. not (inl h) in
     let few : 64 < n → ⊥ = λ h. not (inr h) in
     (omega (arith, some), omega (arith, few))
 
-one_in_range : ¬ (IsOutOfRange 1)
+pub one_in_range : ¬ (IsOutOfRange 1)
 one_in_range (inl few) = absurd (omega (arith, few))
 one_in_range (inr many) = absurd (omega (arith, many))
 

@@ -10,6 +10,7 @@ use Rattle.simulation.specs.declared.fault.SimulationFault.{SimulationFault}
 use Rattle.core_machine.specs.Opening.{opening_parts}
 use Rattle.core_machine.specs.Parts.{CoreParts, world}
 use Rattle.core_machine.specs.Works.{log_at}
+use Rattle.log_record.specs.declared.format.Format.TheVariants.{One}
 use Rattle.tardis_command.specs.Files.{Files}
 use Rattle.tardis_command.specs.Logs.{ArePut, ArePutAsFar, ArePutUpTo, IsUnwritten, performed_below}
 use Rattle.tardis_command.specs.Programmed.{AreProgramsIn, config_of}
@@ -21,12 +22,12 @@ module _ (old new : Files) (asked : Sim) (programs : List (List Instruction)) (c
     (sound : first_bad (config_of asked.limits) ≡ None) (read : AreProgramsIn old.told asked.programs.now programs)
     (parsed : AreCommandsOf old.told asked.schedule (length programs) commands) where
   pub faulted : (fault : SimulationFault) → IsSimulationFault commands asked.seed (opening_parts programs (config_of asked.limits)) q fault
-      → ArePutAsFar old new asked.out.now (length programs) (log_at (world q)) → IsRun old new asked (Err (Simulation fault))
+      → ArePutAsFar One old new asked.out.now (length programs) (log_at (world q)) → IsRun old new asked (Err (Simulation fault))
   faulted fault is far = (sound, programs, read, (commands, parsed, (q, is, far)))
 
   pub ended : IsSimulated commands asked.seed (opening_parts programs (config_of asked.limits)) q → (written : Result ℕ CommandFault)
-      → IfOk written (λ count. count ≡ performed_below (log_at (world q)) (length programs)) → OnOk written (ArePut old new asked.out.now (length programs) (log_at (world q)))
-      → IfErr written (IsUnwritten (ArePutUpTo old new asked.out.now (length programs) (log_at (world q)))) → IsRun old new asked written
+      → IfOk written (λ count. count ≡ performed_below (log_at (world q)) (length programs)) → OnOk written (ArePut One old new asked.out.now (length programs) (log_at (world q)))
+      → IfErr written (IsUnwritten (ArePutUpTo One old new asked.out.now (length programs) (log_at (world q)))) → IsRun old new asked written
   ended simulated (Ok count) counted put unwritten = (sound, programs, read, (commands, parsed, (q, simulated, (counted, put))))
   ended simulated (Err (LogUnwritten file)) counted put unwritten = (sound, programs, read, (commands, parsed, (q, simulated, unwritten)))
   ended simulated (Err OutOfMemory) counted put unwritten = tt

@@ -11,6 +11,7 @@ use Rattle.audit.specs.declared.machine_fault.Cause.{Cause}
 use Rattle.audit.specs.declared.machine_fault.Cause.TheVariants.{GaveUp, Stopped}
 use Rattle.machine.specs.Runs.{IsMachineRun}
 use Rattle.machine.specs.declared.fault.RunFault.{RunFault}
+use Rattle.log_record.specs.declared.format.Format.TheVariants.{One}
 use Rattle.tardis_command.specs.Files.{Files}
 use Rattle.tardis_command.specs.Logs.{ArePut, ArePutAsFar, ArePutUpTo, IsUnwritten, performed_below}
 use Rattle.tardis_command.specs.Programmed.{AreProgramsIn, config_of}
@@ -20,14 +21,14 @@ use Rattle.tardis_command.specs.declared.fault.CommandFault.TheVariants.{Judge, 
 
 module _ (old new : Files) (asked : Asked) (programs : List (List Instruction)) (us : List UnitParts)
     (sound : first_bad (config_of asked.limits) ≡ None) (read : AreProgramsIn old.told asked.programs.now programs) where
-  pub left : (fault : RunFault) → AreLeft programs fault us → ArePutAsFar old new asked.out.now (length programs) (kept_log us)
+  pub left : (fault : RunFault) → AreLeft programs fault us → ArePutAsFar One old new asked.out.now (length programs) (kept_log us)
       → IsThreadRun old new asked (Err (Run fault))
   left fault are far = (sound, programs, read, (us, are, far))
 
   pub whole : (ss : List SliceParts) → IsRun programs (config_of asked.limits) us ss → IsMachineRun programs (config_of asked.limits) us ss
       → (written : Result ℕ CommandFault) → IfOk written (λ count. count ≡ performed_below (kept_log us) (length programs))
-      → OnOk written (ArePut old new asked.out.now (length programs) (kept_log us))
-      → IfErr written (IsUnwritten (ArePutUpTo old new asked.out.now (length programs) (kept_log us))) → IsThreadRun old new asked written
+      → OnOk written (ArePut One old new asked.out.now (length programs) (kept_log us))
+      → IfErr written (IsUnwritten (ArePutUpTo One old new asked.out.now (length programs) (kept_log us))) → IsThreadRun old new asked written
   whole ss is events (Ok count) counted put unwritten = (sound, programs, read, (us, ss, is, events, (counted, put)))
   whole ss is events (Err (LogUnwritten file)) counted put unwritten = (sound, programs, read, (us, ss, is, events, unwritten))
   whole ss is events (Err OutOfMemory) counted put unwritten = tt

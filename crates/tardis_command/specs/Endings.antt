@@ -5,7 +5,7 @@ use Rattle.command_line.specs.Asking.{Asks, IsCommandLine}
 use Rattle.command_line.specs.declared.request.Litmus.{Litmus as AskedLitmus}
 use Rattle.command_line.specs.declared.request.Order.{Order as AskedOrder}
 use Rattle.command_line.specs.declared.request.Request.{Request}
-use Rattle.command_line.specs.declared.request.Request.TheVariants.{Check, Order, Sim, Run, Litmus}
+use Rattle.command_line.specs.declared.request.Request.TheVariants.{Check, Order, Upgrade, Sim, Run, Litmus}
 use Rattle.tardis_command.specs.Answers.{answer_status, answer_text, told_text}
 use Rattle.tardis_command.specs.Checking.{FilesAreConsistent, FilesRunFlat, IsChecked, TextsAreConsistent}
 use Rattle.tardis_command.specs.Files.{Files}
@@ -16,6 +16,7 @@ use Rattle.tardis_command.specs.Ordering.{IsOrdered, TakesOrder}
 use Rattle.tardis_command.specs.Running.{IsThreadRun}
 use Rattle.tardis_command.specs.Simulating.{IsRun}
 use Rattle.tardis_command.specs.Tabling.{IsCounted}
+use Rattle.tardis_command.specs.Upgrading.{IsUpgraded}
 use Rattle.tardis_command.specs.declared.answer.Answer.{Answer}
 use Rattle.tardis_command.specs.declared.answer.Answer.TheVariants.{Judged, Ordered, Counted, Done}
 use Rattle.tardis_command.specs.declared.fault.CommandFault.{CommandFault}
@@ -60,6 +61,11 @@ IsAnswerTo old new (Check asked) (Ok (Done count)) = ⊥
 IsAnswerTo old new (Check asked) (Err fault) = IsChecked old.told asked (Err fault)
 IsAnswerTo old new (Order asked) answer = ⊥
 IsAnswerTo old new (Litmus asked) answer = ⊥
+IsAnswerTo old new (Upgrade asked) (Ok (Judged verdict)) = ⊥
+IsAnswerTo old new (Upgrade asked) (Ok (Ordered verdict)) = ⊥
+IsAnswerTo old new (Upgrade asked) (Ok (Counted forbidden)) = ⊥
+IsAnswerTo old new (Upgrade asked) (Ok (Done count)) = IsUpgraded old new asked (Ok count)
+IsAnswerTo old new (Upgrade asked) (Err fault) = IsUpgraded old new asked (Err fault)
 IsAnswerTo old new (Sim asked) (Ok (Judged verdict)) = ⊥
 IsAnswerTo old new (Sim asked) (Ok (Ordered verdict)) = ⊥
 IsAnswerTo old new (Sim asked) (Ok (Counted forbidden)) = ⊥
@@ -87,6 +93,7 @@ AskFor words Holds = (asked : Request) × Asks words asked × Holds asked
 abbrev pub AreConsistent : (List ℕ → Option (List ℕ)) → Request → Type 0
 AreConsistent told (Check asked) = FilesAreConsistent told asked
 AreConsistent told (Order asked) = TextsAreConsistent told asked.files.items
+AreConsistent told (Upgrade asked) = ⊤
 AreConsistent told (Sim asked) = ⊤
 AreConsistent told (Run asked) = ⊤
 AreConsistent told (Litmus asked) = ⊤
@@ -95,6 +102,7 @@ AreConsistent told (Litmus asked) = ⊤
 abbrev pub AreOrdered : (List ℕ → Option (List ℕ)) → Sink → Sink → Request → Type 0
 AreOrdered told old new (Check asked) = ⊤
 AreOrdered told old new (Order asked) = TakesOrder told asked.files.items old new
+AreOrdered told old new (Upgrade asked) = ⊤
 AreOrdered told old new (Sim asked) = ⊤
 AreOrdered told old new (Run asked) = ⊤
 AreOrdered told old new (Litmus asked) = ⊤
@@ -103,6 +111,7 @@ AreOrdered told old new (Litmus asked) = ⊤
 abbrev pub RunFlat : (List ℕ → Option (List ℕ)) → Request → Type 0
 RunFlat told (Check asked) = FilesRunFlat told asked
 RunFlat told (Order asked) = ⊤
+RunFlat told (Upgrade asked) = ⊤
 RunFlat told (Sim asked) = ⊤
 RunFlat told (Run asked) = ⊤
 RunFlat told (Litmus asked) = ⊤
@@ -111,6 +120,7 @@ RunFlat told (Litmus asked) = ⊤
 abbrev pub LeaveYes : (List ℕ → Option (List ℕ)) → (List ℕ → Option (List ℕ)) → Request → Type 0
 LeaveYes told told' (Check asked) = ⊤
 LeaveYes told told' (Order asked) = ⊤
+LeaveYes told told' (Upgrade asked) = ⊤
 LeaveYes told told' (Sim asked) = LeavesYes told told' asked.programs.now asked.out.now
 LeaveYes told told' (Run asked) = LeavesYes told told' asked.programs.now asked.out.now
 LeaveYes told told' (Litmus asked) = ⊤
@@ -120,6 +130,7 @@ abbrev pub IsLogName : Request → List ℕ → Type 0
 IsLogName (Check asked) name = ⊥
 IsLogName (Order asked) name = ⊥
 IsLogName (Litmus asked) name = ⊥
+IsLogName (Upgrade asked) name = (c : ℕ) × (c < 64) × (name ≡ log_name asked.out.now c)
 IsLogName (Sim asked) name = (c : ℕ) × (c < 64) × (name ≡ log_name asked.out.now c)
 IsLogName (Run asked) name = (c : ℕ) × (c < 64) × (name ≡ log_name asked.out.now c)
 
@@ -169,6 +180,7 @@ IsCountedBy told asked out out' (Misused text) = ⊥
 abbrev pub IsDoneBy : Files → Files → Request → Sink → Sink → Ending → Type 0
 IsDoneBy old new (Check asked) out out' ending = IsPrintedBy old new (Check asked) out out' ending
 IsDoneBy old new (Order asked) out out' ending = IsWrittenBy old.told asked out out' ending
+IsDoneBy old new (Upgrade asked) out out' ending = IsPrintedBy old new (Upgrade asked) out out' ending
 IsDoneBy old new (Sim asked) out out' ending = IsPrintedBy old new (Sim asked) out out' ending
 IsDoneBy old new (Run asked) out out' ending = IsPrintedBy old new (Run asked) out out' ending
 IsDoneBy old new (Litmus asked) out out' ending = IsCountedBy old.told asked out out' ending

@@ -11,4 +11,5 @@ pub mod Running
 pub mod Simulating
 pub mod Sinks
 pub mod Tabling
+pub mod Upgrading
 pub mod inner

@@ -9,6 +9,7 @@ use Rattle.audit.specs.Runs.{IsRun, IsUnitLog, StoppedShort, kept_log}
 use Rattle.audit.specs.declared.machine_fault.Cause.TheVariants.{GaveUp, Stopped}
 use Rattle.machine.specs.Runs.{IsMachineRun}
 use Rattle.machine.specs.declared.fault.RunFault.{RunFault}
+use Rattle.log_record.specs.declared.format.Format.TheVariants.{One}
 use Rattle.tardis_command.specs.Checking.{IsTextFault}
 use Rattle.tardis_command.specs.Files.{Files}
 use Rattle.tardis_command.specs.Logs.{ArePut, ArePutAsFar, ArePutUpTo, performed_below}
@@ -35,17 +36,17 @@ pub record AreLeft (programs : List (List Instruction)) (fault : RunFault) (us :
 abbrev pub IsThreadRun : Files → Files → Run → Result ℕ CommandFault → Type 0
 IsThreadRun old new asked (Ok count) =
     Programmed old.told asked.limits asked.programs.now (λ programs. Ended asked programs (λ us.
-    (count ≡ performed_below (kept_log us) (length programs)) × ArePut old new asked.out.now (length programs) (kept_log us)))
+    (count ≡ performed_below (kept_log us) (length programs)) × ArePut One old new asked.out.now (length programs) (kept_log us)))
 IsThreadRun old new asked (Err (Config fault)) = first_bad (config_of asked.limits) ≡ Some fault
 IsThreadRun old new asked (Err (Programs fault)) =
     (first_bad (config_of asked.limits) ≡ None) × IsTextFault old.told asked.programs.now fault
 IsThreadRun old new asked (Err ProgramsUnread) = first_bad (config_of asked.limits) ≡ None
 IsThreadRun old new asked (Err (RunRefused fault)) =
     Programmed old.told asked.limits asked.programs.now (λ programs. (us : List UnitParts)
-    × AreLeft programs fault us × ArePutAsFar old new asked.out.now (length programs) (kept_log us))
+    × AreLeft programs fault us × ArePutAsFar One old new asked.out.now (length programs) (kept_log us))
 IsThreadRun old new asked (Err (LogUnwritten file)) =
     Programmed old.told asked.limits asked.programs.now (λ programs. Ended asked programs (λ us.
-    ArePutUpTo old new asked.out.now (length programs) (kept_log us) file))
+    ArePutUpTo One old new asked.out.now (length programs) (kept_log us) file))
 IsThreadRun old new asked (Err OutOfMemory) = ⊤
 IsThreadRun old new asked (Err (Judge fault)) = ⊥
 IsThreadRun old new asked (Err (Schedule fault)) = ⊥

@@ -12,6 +12,7 @@ use Rattle.core_machine.specs.Opening.{opening_parts}
 use Rattle.core_machine.specs.Parts.{CoreParts, world}
 use Rattle.core_machine.specs.Works.{log_at}
 use Rattle.simulation.specs.Simulating.{IsSimulated, IsSimulationFault}
+use Rattle.log_record.specs.declared.format.Format.TheVariants.{One}
 use Rattle.tardis_command.specs.Checking.{IsTextFault}
 use Rattle.tardis_command.specs.Files.{Files}
 use Rattle.tardis_command.specs.Logs.{ArePut, ArePutAsFar, ArePutUpTo, performed_below}
@@ -66,7 +67,7 @@ EndsIn asked programs commands Holds = (q : CoreParts) × IsSimulated commands a
 abbrev pub IsRun : Files → Files → Sim → Result ℕ CommandFault → Type 0
 IsRun old new asked (Ok count) =
     Scheduled old.told asked (λ programs commands. EndsIn asked programs commands (λ q.
-    (count ≡ performed_below (log_at (world q)) (length programs)) × ArePut old new asked.out.now (length programs) (log_at (world q))))
+    (count ≡ performed_below (log_at (world q)) (length programs)) × ArePut One old new asked.out.now (length programs) (log_at (world q))))
 IsRun old new asked (Err (Config fault)) = first_bad (config_of asked.limits) ≡ Some fault
 IsRun old new asked (Err (Programs fault)) = (first_bad (config_of asked.limits) ≡ None) × IsTextFault old.told asked.programs.now fault
 IsRun old new asked (Err ProgramsUnread) = first_bad (config_of asked.limits) ≡ None
@@ -75,10 +76,10 @@ IsRun old new asked (Err ScheduleUnread) = Programmed old.told asked.limits aske
 IsRun old new asked (Err (Simulation fault)) =
     Scheduled old.told asked (λ programs commands. (q : CoreParts)
     × IsSimulationFault commands asked.seed (opening_parts programs (config_of asked.limits)) q fault
-    × ArePutAsFar old new asked.out.now (length programs) (log_at (world q)))
+    × ArePutAsFar One old new asked.out.now (length programs) (log_at (world q)))
 IsRun old new asked (Err (LogUnwritten file)) =
     Scheduled old.told asked (λ programs commands. EndsIn asked programs commands (λ q.
-    ArePutUpTo old new asked.out.now (length programs) (log_at (world q)) file))
+    ArePutUpTo One old new asked.out.now (length programs) (log_at (world q)) file))
 IsRun old new asked (Err OutOfMemory) = ⊤
 IsRun old new asked (Err (Judge fault)) = ⊥
 IsRun old new asked (Err (Run fault)) = ⊥

@@ -15,6 +15,7 @@ use super::output::{print_answer, refuse, tell, tell_answer};
 use super::run::run;
 use super::sim::sim;
 use super::table::count_outcomes;
+use super::upgrade::upgrade;
 use super::watch::Watch;
 use command_line::{Refusal, Request, read};
 use log_file::ByteSink;
@@ -29,7 +30,7 @@ const USAGE: u8 = 3;
 /// answers the exit status: 0 for Yes or done, 1 for No or a forbidden outcome, 2 where a log, the
 /// programs, the schedule or the test are refused, 3 where the words are or a number is out of range, else 4. An answer goes to standard
 /// output, all else to standard error; where an order goes to standard output, its verdict goes to
-/// standard error. In the folder nothing but the logs of a run is put.
+/// standard error. In the folder nothing but logs is put, those of a run or of an upgrade.
 pub fn command<R: Threads + Wait + Sync, W: Watch + Sync, F: Folder, O: ByteSink, E: ByteSink>(
     rt: &R,
     alloc: Global,
@@ -112,6 +113,10 @@ fn perform<R: Threads + Wait + Sync, W: Watch + Sync, F: Folder, O: ByteSink>(
         }
         Request::Run(asked) => {
             let operations = run(rt, alloc, watch, folder, asked)?;
+            print_answer(alloc, out, Answer::Done(operations))
+        }
+        Request::Upgrade(asked) => {
+            let operations = upgrade(rt, alloc, folder, asked)?;
             print_answer(alloc, out, Answer::Done(operations))
         }
         Request::Litmus(asked) => Ok(Answer::Counted(count_outcomes(

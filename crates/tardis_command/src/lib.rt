@@ -14,6 +14,7 @@ mod run;
 mod sim;
 mod table;
 mod text;
+mod upgrade;
 mod verdict_line;
 mod watch;
 mod writing;

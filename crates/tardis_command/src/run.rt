@@ -11,6 +11,7 @@ use super::text::read_programs;
 use super::watch::{Watch, Watched};
 use super::writing::{UnitLogs, write_logs};
 use command_line::Run;
+use log_record::Format;
 use machine::{RunFault, run_threads};
 use std::alloc::Global;
 use std::sync::Wait;
@@ -36,11 +37,11 @@ pub(crate) fn run<R: Threads + Wait + Sync, W: Watch + Sync, F: Folder>(
     match ran {
         Ok(end) => {
             let made = UnitLogs { units: &end.units };
-            write_logs(alloc, folder, asked.out, &made, programs.len())
+            write_logs(alloc, folder, asked.out, Format::One, &made, programs.len())
         }
         Err(left) => {
             let made = UnitLogs { units: &left.units };
-            let _written = write_logs(alloc, folder, asked.out, &made, programs.len());
+            let _written = write_logs(alloc, folder, asked.out, Format::One, &made, programs.len());
             Err(CommandFault::Run(RunFault::of(&left)))
         }
     }

@@ -12,6 +12,7 @@ use super::text::{read_programs, read_text};
 use super::writing::write_logs;
 use command_line::Sim;
 use log_file::ReadFault;
+use log_record::Format;
 use schedule::{Command, parse};
 use simulation::simulate;
 use std::alloc::Global;
@@ -36,7 +37,14 @@ pub(crate) fn sim<F: Folder>(
         return Err(CommandFault::OutOfMemory);
     };
     let ended = simulate(alloc, &mut machine, commands.as_slice(), asked.seed);
-    let written = write_logs(alloc, folder, asked.out, &machine, programs.len());
+    let written = write_logs(
+        alloc,
+        folder,
+        asked.out,
+        Format::One,
+        &machine,
+        programs.len(),
+    );
     ended?;
     written
 }

@@ -4,7 +4,7 @@ ghost use Rattle.std.specs.Prelude.{◌≡◌, ◌≢◌, ◌≤◌, ◌<◌, �
 ghost use Rattle.mem_op.specs.Limits.{operation_limit};
 ghost use Rattle.log_record.specs.declared.record.Record.{Record};
 ghost use Rattle.log_file.specs.Devices.{Tells};
-ghost use Rattle.log_file.specs.Log.{Spells, first_format};
+ghost use Rattle.log_file.specs.Log.{SpellsIn};
 ghost use Rattle.tardis_command.specs.Files.{files_of};
 ghost use Rattle.tardis_command.specs.Logs as logs;
 ghost use Rattle.tardis_command.specs.inner.Putting.{IsUnput};
@@ -13,7 +13,7 @@ use super::fault::CommandFault;
 use super::folder::Folder;
 use core_unit::CoreUnit;
 use log_file::{MemSink, write_log};
-use log_record::Record;
+use log_record::{Format, Record};
 use mem_op::CoreId;
 use std::alloc::Global;
 use tardis_core::Core;
@@ -65,41 +65,43 @@ impl<'a> Logs for UnitLogs<'a> {
     }
 }
 
-/// Writes the log of each core, of `cores`, and answers how many operations they have performed. The
-/// first log that can't be written ends it.
+/// Writes the log of each core, of `cores`, in this format, and answers how many operations they have
+/// performed. The first log that can't be written ends it.
 pub(crate) fn write_logs<F: Folder, L: Logs>(
     alloc: Global,
     folder: &mut F,
     out: &str,
+    format: Format,
     of: &L,
     cores: usize,
 ) -> Result<u64, CommandFault>
     requires { cores ≤ 64 }
     ensures ok { IfOk result (λ count.
         count ≡ logs.performed_below (L.made of.now) cores) }
-    ensures logs { OnOk result (logs.ArePut (files_of F.told F.failed folder.old)
+    ensures logs { OnOk result (logs.ArePut format (files_of F.told F.failed folder.old)
         (files_of F.told F.failed folder.new) out.now cores (L.made of.now)) }
-    ensures err { IfErr result (logs.IsUnwritten (logs.ArePutUpTo
+    ensures err { IfErr result (logs.IsUnwritten (logs.ArePutUpTo format
         (files_of F.told F.failed folder.old) (files_of F.told F.failed folder.new)
         out.now cores (L.made of.now))) }
-    ensures far { logs.ArePutAsFar (files_of F.told F.failed folder.old)
+    ensures far { logs.ArePutAsFar format (files_of F.told F.failed folder.old)
         (files_of F.told F.failed folder.new) out.now cores (L.made of.now) }
 {
     let mut count = 0;
     for number in 0..cores {
         let core = CoreId::at(number);
         let records = of.log(core);
-        write_log_of(alloc, folder, out, core, cores, records)?;
+        write_log_of(alloc, folder, out, format, core, cores, records)?;
         count += records.len() as u64;
     }
     Ok(count)
 }
 
-/// Writes the log of a core, of `cores`: its name is that of the logs, a dot and the core's number.
+/// Writes the log of a core, of `cores`, in this format: its name is that of the logs, a dot and the core's number.
 fn write_log_of<F: Folder>(
     alloc: Global,
     folder: &mut F,
     out: &str,
+    format: Format,
     core: CoreId,
     cores: usize,
     records: &[Record],
@@ -108,7 +110,7 @@ fn write_log_of<F: Folder>(
     requires cores { cores ≤ 64 }
     requires few { length records.now ≤ operation_limit }
     ensures ok { OnOk result ((text : List ℕ) × Tells (F.told folder.new (logs.log_name out.now core)) text
-        × Spells first_format core cores text records.now) }
+        × SpellsIn format core cores text records.now) }
     ensures others { (name : List ℕ) → name ≢ logs.log_name out.now core
         → F.told folder.new name ≡ F.told folder.old name }
     ensures quiet { OnOk result (F.failed folder.new ≡ F.failed folder.old) }
@@ -117,7 +119,7 @@ fn write_log_of<F: Folder>(
 {
     let name = format!(in alloc; "{out}.{}", core.get())?;
     let mut text = MemSink::new(alloc, &[]);
-    if write_log(alloc, &mut text, core, cores as u64, records).is_err() {
+    if write_log(alloc, &mut text, format, core, cores as u64, records).is_err() {
         return Err(CommandFault::OutOfMemory);
     }
     match folder.put(name.as_str(), text.bytes()) {

@@ -67,6 +67,19 @@ returns-then-eq-4-clause-usage c =
     sym (ap (λ (app : App). fault_of app (texts c.args.words.now)) c.in_ok-tardis.ensures.app)
     ∙ c.in-Ok.ensures.kinds (ap is_simple_and_free c.in_ok-tardis.ensures.app)
 
+pub returns-then-eq-5-clause-request : goal.returns-then-eq-5-clause-request
+returns-then-eq-5-clause-request c =
+    let words = texts c.args.words.now in
+    let found = both_found _ _ _ c.in-Some.name.now _ c.in-Some.ensures.name c.in-Some.ensures.rows in
+    let named = found_named _ words c.in-Ok.matches _ c.in_ok-tardis.ensures.app c.in-Ok.ensures.matches found in
+    let is_upgrade = (bytes_eq-Decides c.in-Some.name.now (codes "upgrade")).0 (sym c.eq-5.ensures ∙ c.if-eq-5.true) in
+    (_, named, (is_upgrade, c.in_ok-upgrade_of.ensures))
+
+pub returns-then-eq-5-clause-usage : goal.returns-then-eq-5-clause-usage
+returns-then-eq-5-clause-usage c =
+    sym (ap (λ (app : App). fault_of app (texts c.args.words.now)) c.in_ok-tardis.ensures.app)
+    ∙ c.in-Ok.ensures.kinds (ap is_simple_and_free c.in_ok-tardis.ensures.app)
+
 -- a name that was looked for isn't there
 other : (name own : Text) (b : Bool) → b ≡ bytes_eq name own → b ≡ false → name ≡ own → ⊥
 other name own b is off same = let wrong : true ≡ false = sym ((bytes_eq-Decides name own).1 same) ∙ sym is ∙ off in absurd cc
@@ -84,7 +97,8 @@ returns-clause-request c =
       | inr (inr (inl is)) ↦ absurd (other c.in-Some.name.now (codes "sim") _ c.eq.ensures c.if-eq.false is)
       | inr (inr (inr (inl is))) ↦ absurd (other c.in-Some.name.now (codes "run") _ c.eq-2.ensures c.if-eq-2.false is)
       | inr (inr (inr (inr (inl is)))) ↦ absurd (other c.in-Some.name.now (codes "litmus") _ c.eq-4.ensures c.if-eq-4.false is)
-      | inr (inr (inr (inr (inr never)))) ↦ absurd never
+      | inr (inr (inr (inr (inr (inl is))))) ↦ absurd (other c.in-Some.name.now (codes "upgrade") _ c.eq-5.ensures c.if-eq-5.false is)
+      | inr (inr (inr (inr (inr (inr never))))) ↦ absurd never
     ] in
     (_, named, (is_check, c.in_ok-check_of.ensures))
 

@@ -83,3 +83,16 @@ returns-in_ok-operations-in-Run-clause-yes g c =
     let files = files_of g.F.Folder.told g.F.Folder.failed in
     rw c.in-Run.is (whatever (λ answer. answer_status answer ≡ 0) _ c.print_answer-in-Run.result
     (run_leaves (files c.args.folder.now) (files c.run.new.folder) c.in-Run.asked c.in_ok-operations-in-Run.operations c.in_ok-operations-in-Run.ensures.exact))
+
+pub returns-in_err-operations-in-Upgrade-clause-exact : goal.returns-in_err-operations-in-Upgrade-clause-exact
+returns-in_err-operations-in-Upgrade-clause-exact g c =
+    let files = files_of g.F.Folder.told g.F.Folder.failed in
+    let is : c.from_residual-in_err-operations-in-Upgrade.result ≡ Err c.in_err-operations-in-Upgrade.field-0.0 = search rules in
+    rw c.in-Upgrade.is (refused_at_once (files c.args.folder.now) (files c.upgrade.new.folder) (request.Upgrade c.in-Upgrade.asked) _ c.in_err-operations-in-Upgrade.field-0.0 _ is c.in_err-operations-in-Upgrade.ensures.exact)
+
+pub returns-in_ok-operations-in-Upgrade-clause-exact : goal.returns-in_ok-operations-in-Upgrade-clause-exact
+returns-in_ok-operations-in-Upgrade-clause-exact g c =
+    let files = files_of g.F.Folder.told g.F.Folder.failed in
+    let sink = sink_of g.O.ByteSink.contents g.O.ByteSink.failed in
+    rw c.in-Upgrade.is (printed (files c.args.folder.now) (files c.upgrade.new.folder) (request.Upgrade c.in-Upgrade.asked) (Done c.in_ok-operations-in-Upgrade.operations) (sink c.args.out.now) (sink c.print_answer-in-Upgrade.new.out)
+    c.in_ok-operations-in-Upgrade.ensures.exact tt c.print_answer-in-Upgrade.result c.print_answer-in-Upgrade.ensures.ok c.print_answer-in-Upgrade.ensures.printed c.print_answer-in-Upgrade.ensures.err)

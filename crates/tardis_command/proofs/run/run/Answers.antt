@@ -2,6 +2,7 @@ use Rattle.std.proofs.Common.{◌≡◌, length, None, subst, rules}
 use Rattle.lease_rule.specs.Ranges.{first_bad}
 use Rattle.audit.specs.Runs.{IsRun, kept_log}
 use Rattle.machine.specs.Runs.{IsMachineRun}
+use Rattle.log_record.specs.declared.format.Format.TheVariants.{One}
 use Rattle.tardis_command.proofs.ThreadRuns.{left, left_by, whole}
 use Rattle.tardis_command.specs.Files.{files_of}
 use Rattle.tardis_command.specs.Logs.{ArePutAsFar}
@@ -36,5 +37,5 @@ returns-clause-exact g c =
     let are = left_by programs c.of.result c.in-Err.left.core c.in-Err.left.cause us c.in-Err.left.units.items
     c.of.ensures.core c.of.ensures.cause c.deref-in-Err.ensures.value c.in-Err.ensures.logs c.in-Err.ensures.short in
     let many : c.len-in-Err.result ≡ length programs = search rules in
-    let far = subst (λ n. ArePutAsFar old new asked.out.now n (kept_log us)) many c.write_logs-written.ensures.far in
+    let far = subst (λ n. ArePutAsFar One old new asked.out.now n (kept_log us)) many c.write_logs-written.ensures.far in
     left old new asked programs us sound read c.of.result are far

@@ -4,6 +4,7 @@ use Rattle.simulation.specs.Simulating.{IsSimulated, IsSimulationFault}
 use Rattle.core_machine.specs.Opening.{opening_parts}
 use Rattle.core_machine.specs.Parts.{world}
 use Rattle.core_machine.specs.Works.{log_at}
+use Rattle.log_record.specs.declared.format.Format.TheVariants.{One}
 use Rattle.tardis_command.proofs.Logs.{keeps_files}
 use Rattle.tardis_command.proofs.Runs.{ended, faulted}
 use Rattle.tardis_command.specs.Files.{files_of}
@@ -27,7 +28,7 @@ returns-in_err-ended-clause-exact g c =
     let fault : IsSimulationFault commands asked.seed (opening_parts programs (config_of asked.limits)) c.simulate-ended.new.machine c.in_err-ended.field-0.0 = search rules in
     let new = files c.write_logs-written.new.folder in
     let many : c.len-2.result ≡ length programs = search rules in
-    let far = subst (λ n. ArePutAsFar old new asked.out.now n (log_at (world c.simulate-ended.new.machine))) many c.write_logs-written.ensures.far in
+    let far = subst (λ n. ArePutAsFar One old new asked.out.now n (log_at (world c.simulate-ended.new.machine))) many c.write_logs-written.ensures.far in
     rw is (faulted old new asked programs commands c.simulate-ended.new.machine sound read parsed c.in_err-ended.field-0.0 fault far)
 
 pub returns-clause-exact : goal.returns-clause-exact
@@ -47,9 +48,9 @@ returns-clause-exact g c =
 pub returns-in_err-ended-clause-files : goal.returns-in_err-ended-clause-files
 returns-in_err-ended-clause-files g c =
     let few : c.len-2.result ≤ 64 = search rules in
-    keeps_files (files_of g.F.Folder.told g.F.Folder.failed c.args.folder.now) (files_of g.F.Folder.told g.F.Folder.failed c.write_logs-written.new.folder) c.args.asked.now.out.now c.len-2.result (log_at (world c.simulate-ended.new.machine)) few c.write_logs-written.ensures.far
+    keeps_files One (files_of g.F.Folder.told g.F.Folder.failed c.args.folder.now) (files_of g.F.Folder.told g.F.Folder.failed c.write_logs-written.new.folder) c.args.asked.now.out.now c.len-2.result (log_at (world c.simulate-ended.new.machine)) few c.write_logs-written.ensures.far
 
 pub returns-clause-files : goal.returns-clause-files
 returns-clause-files g c =
     let few : c.len-2.result ≤ 64 = search rules in
-    keeps_files (files_of g.F.Folder.told g.F.Folder.failed c.args.folder.now) (files_of g.F.Folder.told g.F.Folder.failed c.write_logs-written.new.folder) c.args.asked.now.out.now c.len-2.result (log_at (world c.simulate-ended.new.machine)) few c.write_logs-written.ensures.far
+    keeps_files One (files_of g.F.Folder.told g.F.Folder.failed c.args.folder.now) (files_of g.F.Folder.told g.F.Folder.failed c.write_logs-written.new.folder) c.args.asked.now.out.now c.len-2.result (log_at (world c.simulate-ended.new.machine)) few c.write_logs-written.ensures.far

@@ -11,7 +11,7 @@ loop-number-preserved g c =
     record {
       count = search rules;
       few = search rules;
-      put = put_next (told c.args.folder.now) (told c.loop-number.folder) (told c.write_log_of.new.folder) c.args.out.now c.args.cores (g.L.Logs.made c.args.of.now)
+      put = put_next c.args.format (told c.args.folder.now) (told c.loop-number.folder) (told c.write_log_of.new.folder) c.args.out.now c.args.cores (g.L.Logs.made c.args.of.now)
           c.loop-number.number c.at-core.result is few c.loop-number.invariant.put c.in_ok-write_log_of.ensures.others
           c.log-records.result.now c.log-records.ensures.records c.in_ok-write_log_of.ensures.ok;
       quiet = search rules;
@@ -23,7 +23,7 @@ returns-in_err-write_log_of-clause-err g c =
     let is : c.at-core.result ≡ c.loop-number.number = search rules in
     let few : c.loop-number.number < 64 = search rules in
     let refused : c.from_residual.result ≡ Err c.in_err-write_log_of.field-0.0 = search rules in
-    rw refused (unwritten (files c.args.folder.now) (files c.loop-number.folder) (files c.write_log_of.new.folder) c.args.out.now c.args.cores (g.L.Logs.made c.args.of.now)
+    rw refused (unwritten c.args.format (files c.args.folder.now) (files c.loop-number.folder) (files c.write_log_of.new.folder) c.args.out.now c.args.cores (g.L.Logs.made c.args.of.now)
     c.loop-number.number c.at-core.result is few c.loop-number.invariant.put c.loop-number.invariant.quiet c.in_err-write_log_of.ensures.others
     c.loop-number-test.true c.in_err-write_log_of.field-0.0 c.in_err-write_log_of.ensures.err)
 
@@ -32,6 +32,6 @@ returns-in_err-write_log_of-clause-far g c =
     let files = files_of g.F.Folder.told g.F.Folder.failed in
     let is : c.at-core.result ≡ c.loop-number.number = search rules in
     let few : c.loop-number.number < 64 = search rules in
-    put_as_far (files c.args.folder.now) (files c.loop-number.folder) (files c.write_log_of.new.folder) c.args.out.now c.args.cores (g.L.Logs.made c.args.of.now)
+    put_as_far c.args.format (files c.args.folder.now) (files c.loop-number.folder) (files c.write_log_of.new.folder) c.args.out.now c.args.cores (g.L.Logs.made c.args.of.now)
     c.loop-number.number c.at-core.result is few c.loop-number.invariant.put c.loop-number.invariant.quiet c.in_err-write_log_of.ensures.others
     c.loop-number-test.true c.in_err-write_log_of.field-0.0 c.in_err-write_log_of.ensures.err

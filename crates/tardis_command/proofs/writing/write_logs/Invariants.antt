@@ -8,6 +8,6 @@ abbrev pub invariant-loop-number : goal.invariant-loop-number
 invariant-loop-number g l = record {
   count : l.count ≡ performed_below (g.L.Logs.made l.of) l.number;
   few : l.count ≤ l.number * operation_limit;
-  put : ArePutFirst (g.F.Folder.told l.fn.folder) (g.F.Folder.told l.folder) l.out l.cores (g.L.Logs.made l.of) l.number;
+  put : ArePutFirst l.fn.format (g.F.Folder.told l.fn.folder) (g.F.Folder.told l.folder) l.out l.cores (g.L.Logs.made l.of) l.number;
   quiet : g.F.Folder.failed l.folder ≡ g.F.Folder.failed l.fn.folder;
 }
