@@ -1,9 +1,9 @@
 -- The judge says Yes to the logs that a run leaves.
-use Rattle.std.proofs.Common.{◌≡◌, ◌<◌, ◌≤◌, ℕ, zero, suc, ◌+◌, List, [], ◌∷◌, ◌++◌, length, map, inl, inr, refl, sym, ap, subst, ◌∙◌, arith, eq-eqb}
+use Rattle.std.proofs.Common.{◌≡◌, ◌≤◌, ℕ, zero, suc, ◌+◌, List, [], ◌∷◌, ◌++◌, length, map, inl, inr, refl, sym, ap, subst, ◌∙◌, arith, eq-eqb}
 use Rattle.std.specs.Prelude.{Option, None, Some, Result, Ok, Err, IfOk, if◌then◌else◌, nat_eq, slice_get}
 use Rattle.std.specs.Option.{option_map, option_map_or}
 use Rattle.std.proofs.lemmas.List.{length-append}
-use Rattle.std.proofs.lemmas.Option.{slice_get-map, slice_get_past}
+use Rattle.std.proofs.lemmas.Option.{slice_get-map}
 use Rattle.lease_rule.specs.ConfigParts.{ConfigParts}
 use Rattle.log_record.specs.declared.record.Record.{Record}
 use Rattle.log_record.specs.Entries.{entries}
@@ -12,13 +12,12 @@ use Rattle.log_file.specs.Log.{Spells, SpellsIn}
 use Rattle.log_record.specs.declared.format.Format.TheVariants.{One}
 use Rattle.log_file.specs.Sets.{SpellFrom}
 use Rattle.core_program.specs.declared.instruction.Instruction.{Instruction}
-use Rattle.schedule.specs.declared.command.Command.{Command}
 use Rattle.manager_slice.specs.Parts.{SliceParts}
 use Rattle.core_unit.specs.Core.{Core}
 use Rattle.core_unit.specs.Parts.{UnitParts, core_of}
 use Rattle.core_machine.specs.Machine.{World, Run}
 use Rattle.core_machine.specs.Opening.{opening_parts}
-use Rattle.core_machine.specs.Parts.{CoreParts, world}
+use Rattle.core_machine.specs.Parts.{world}
 use Rattle.core_machine.specs.Works.{log_at, logs_below}
 use Rattle.core_machine.proofs.Opened.{found_in_push, opening_world}
 use Rattle.audit.specs.Events.{world_of}
@@ -26,16 +25,14 @@ use Rattle.audit.specs.Runs.{IsRun, kept_log}
 use Rattle.machine_laws.specs.Laws.{GetYesBy}
 use Rattle.machine_laws.proofs.Below.{ended_below_get_yes, whole_below_get_yes}
 use Rattle.simulation.specs.Events.{simulated_events}
-use Rattle.simulation.specs.Simulating.{IsSimulated}
 use Rattle.simulation.proofs.Ended.{simulated_ended}
 use Rattle.simulation.proofs.SimulatedRuns.{simulated_run}
 use Rattle.command_line.specs.declared.request.Run.{Run as AskedRun}
 use Rattle.command_line.specs.declared.request.Sim.{Sim as AskedSim}
 use Rattle.litmus.proofs.Judged.{spell_push}
-use Rattle.tardis_command.specs.Answers.{answer_status}
 use Rattle.tardis_command.specs.Files.{Files}
 use Rattle.tardis_command.specs.Leaving.{AreLogTexts, LeavesYes}
-use Rattle.tardis_command.specs.Logs.{TellsFirst, TellsLog, log_name}
+use Rattle.tardis_command.specs.Logs.{TellsFirst, log_name}
 use Rattle.tardis_command.specs.Programmed.{AreProgramsIn, config_of}
 use Rattle.tardis_command.specs.Running.{IsThreadRun}
 use Rattle.tardis_command.specs.Simulating as simulating

@@ -1,12 +1,12 @@
 -- How the writing of logs anew ends.
-use Rattle.std.proofs.Common.{◌≡◌, ◌≤◌, ◌<◌, ◌∙◌, refl, sym, ap, subst, ℕ, zero, suc, List, [], ◌∷◌, length, Option, None, Some, Result, Ok, Err, vec_len, arith}
+use Rattle.std.proofs.Common.{◌≡◌, ◌<◌, ◌∙◌, refl, sym, ap, subst, ℕ, List, [], length, Option, None, Some, Result, Ok, Err, vec_len}
 use Rattle.std.specs.Prelude.{◌↔◌, slice_get, IfErr, IfOk, IsErrOf, IsOk, OnOk}
 use Rattle.std.specs.Borrow.{Bor}
 use Rattle.std.specs.Global.{Vec}
 use Rattle.std.specs.Option.{option_map, option_map_or}
 use Rattle.std.proofs.lemmas.Option.{slice_get-map}
 use Rattle.command_line.specs.declared.request.Upgrade.{Upgrade}
-use Rattle.log_file.specs.Sets.{IsSetFault, SpellSet}
+use Rattle.log_file.specs.Sets.{IsSetFault}
 use Rattle.log_file.specs.declared.fault.LogFault.{LogFault}
 use Rattle.log_file.specs.declared.fault.LogFault.TheVariants.{At, OutOfMemory as NoLogMemory, Read as ReadFailed}
 use Rattle.log_record.specs.Entries.{record_lists}
