@@ -1,7 +1,7 @@
 //! Worked sets of records.
 
 use address_check::*;
-use log_record::{Entry, Record, read_line};
+use log_record::{Entry, Format, Record, read_line};
 use mem_op::Addr;
 use std::alloc::Global;
 use std::process::Abort;
@@ -12,7 +12,7 @@ use std::thread::Threads;
 fn log(alloc: Global, lines: &[&str]) -> Result<Vec<Record>, Fail> {
     let mut all = Vec::new(alloc);
     for line in lines {
-        all.push(read_line(line.as_bytes())?)?;
+        all.push(read_line(Format::One, line.as_bytes())?)?;
     }
     Ok(all)
 }

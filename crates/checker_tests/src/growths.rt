@@ -15,7 +15,7 @@ use std::test::Fail;
 use std::thread::Threads;
 use verdict::{JudgeFault, replay_order};
 
-const SETS: [&[&[u8]; 2]; 2] = [&READ_ACROSS, &BOTH_READ_OLD];
+const SETS: [&[&[u8]; 2]; 3] = [&READ_ACROSS, &BOTH_READ_OLD, &OF_BOTH_FORMATS];
 
 #[test]
 fn judges(rt: HostRuntime) -> Result<(), Fail> {

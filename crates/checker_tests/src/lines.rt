@@ -14,7 +14,7 @@ fn lines_are_read_and_printed(rt: HostRuntime) -> Result<(), Fail> {
         "S 65535 18446744073709551615 0 4294967295",
         "L 65535 18446744073709551615 281474976710656 4294967295 63.1048575",
     ] {
-        match read_line(text.as_bytes()) {
+        match read_line(Format::One, text.as_bytes()) {
             Ok(read) => {
                 let printed = print_line(rt.alloc(), &read)?;
                 assert_eq!(rt; printed.as_str(), text);
@@ -28,18 +28,30 @@ fn lines_are_read_and_printed(rt: HostRuntime) -> Result<(), Fail> {
 #[test]
 fn header_and_end_line(rt: HostRuntime) -> Result<(), Fail> {
     if let Ok(core) = CoreId::new(0) {
-        let header = print_header(rt.alloc(), core, 1)?;
-        assert_eq!(rt; header.as_str(), "tardis-log 1 core 0 of 1");
+        for (format, text) in [
+            (Format::One, "tardis-log 1 core 0 of 1"),
+            (Format::Two, "tardis-log 2 core 0 of 1"),
+        ] {
+            let header = print_header(rt.alloc(), format, core, 1)?;
+            assert_eq!(rt; header.as_str(), text);
+            let said = Header {
+                format,
+                core: Some(0),
+                cores: Some(1),
+            };
+            assert_eq!(rt; read_header(text.as_bytes()), Some(said));
+        }
     } else {
         assert!(rt; false, "0 is a core");
     }
     let read = read_header(b"tardis-log 1 core 3 of 18446744073709551616");
     let expected = Header {
+        format: Format::One,
         core: Some(3),
         cores: None,
     };
     assert_eq!(rt; read, Some(expected));
-    assert_eq!(rt; read_header(b"tardis-log 2 core 0 of 1"), None);
+    assert_eq!(rt; read_header(b"tardis-log 3 core 0 of 1"), None);
     assert_eq!(rt; read_header(b"tardis-log 1 core 0 of 1 "), None);
 
     let end = print_end(rt.alloc(), 0)?;

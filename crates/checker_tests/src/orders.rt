@@ -1,6 +1,6 @@
 //! Orders of two cores.
 
-use log_record::{Record, read_line};
+use log_record::{Format, Record, read_line};
 use mem_op::{CoreId, OpId, OpIndex};
 use std::alloc::Global;
 use std::test::Fail;
@@ -16,11 +16,11 @@ fn id(core: u64, index: u64) -> Result<OpId, Fail> {
 /// Each core stores 1 at an address and loads the other's; core 1 comes after core 0.
 fn read_across(alloc: Global) -> Result<Vec<Vec<Record>>, Fail> {
     let mut first = Vec::new(alloc);
-    first.push(read_line(b"S 0 1 1 0")?)?;
-    first.push(read_line(b"L 1 0 1 0 init")?)?;
+    first.push(read_line(Format::One, b"S 0 1 1 0")?)?;
+    first.push(read_line(Format::One, b"L 1 0 1 0 init")?)?;
     let mut second = Vec::new(alloc);
-    second.push(read_line(b"S 1 1 12 0")?)?;
-    second.push(read_line(b"L 0 1 12 0 0.0")?)?;
+    second.push(read_line(Format::One, b"S 1 1 12 0")?)?;
+    second.push(read_line(Format::One, b"L 0 1 12 0 0.0")?)?;
     Ok(vec![in alloc; first, second]?)
 }
 

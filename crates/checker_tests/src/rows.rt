@@ -16,6 +16,10 @@ pub(super) const PROGRAMS: &[u8] =
 /// Core 0's log.
 pub(super) const FIRST: &[u8] = b"tardis-log 1 core 0 of 2\nS 0 1 1 0\nL 1 0 1 0 init\nend 2\n";
 
+/// Core 0's log in format 2.
+pub(super) const FIRST_IN_2: &[u8] =
+    b"tardis-log 2 core 0 of 2\nS 0 1 1 0\nL 1 0 1 0 init\nend 2\n";
+
 /// The log of a core 1 that comes after core 0, and loads its store.
 const LATER: &[u8] = b"tardis-log 1 core 1 of 2\nS 1 1 12 0\nL 0 1 12 0 0.0\nend 2\n";
 
@@ -28,7 +32,10 @@ pub(super) const READ_ACROSS: [&[u8]; 2] = [FIRST, LATER];
 /// No at 1.1, by SOURCE.
 pub(super) const BOTH_READ_OLD: [&[u8]; 2] = [FIRST, AT_ONCE];
 
-/// Whether a verdict is that on one of the two sets.
+/// The same set with one log in format 2.
+pub(super) const OF_BOTH_FORMATS: [&[u8]; 2] = [FIRST_IN_2, AT_ONCE];
+
+/// Whether a verdict is that on one of the sets.
 pub(super) fn is_row(verdict: &Verdict, logs: &[&[u8]; 2]) -> bool {
     let is_old = logs[1] == AT_ONCE;
     match verdict {

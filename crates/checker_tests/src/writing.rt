@@ -1,7 +1,7 @@
 //! Logs that are written.
 
 use log_file::{MemSink, Step, WriteFault, write_log};
-use log_record::{Record, read_line};
+use log_record::{Format, Record, read_line};
 use mem_op::CoreId;
 use std::test::Fail;
 
@@ -9,23 +9,32 @@ use std::test::Fail;
 const THREE_RECORDS: &str =
     "tardis-log 1 core 0 of 1\nS 5 7 1 0\nL 5 7 1 1 0.0\nS 5 8 1 1\nend 3\n";
 
+/// The same log in format 2.
+const THREE_IN_2: &str = "tardis-log 2 core 0 of 1\nS 5 7 1 0\nL 5 7 1 1 0.0\nS 5 8 1 1\nend 3\n";
+
 fn three_records() -> Result<[Record; 3], Fail> {
     Ok([
-        read_line(b"S 5 7 1 0")?,
-        read_line(b"L 5 7 1 1 0.0")?,
-        read_line(b"S 5 8 1 1")?,
+        read_line(Format::One, b"S 5 7 1 0")?,
+        read_line(Format::One, b"L 5 7 1 1 0.0")?,
+        read_line(Format::One, b"S 5 8 1 1")?,
     ])
 }
 
 #[test]
 fn logs_are_written(rt: HostRuntime) -> Result<(), Fail> {
     let core = CoreId::new(0)?;
-    let mut sink = MemSink::new(rt.alloc(), &[]);
     let records = three_records()?;
-    assert_eq!(rt; write_log(rt.alloc(), &mut sink, core, 1, &records), Ok(()));
-    assert_eq!(rt; sink.bytes(), THREE_RECORDS.as_bytes());
+    for (format, text) in [(Format::One, THREE_RECORDS), (Format::Two, THREE_IN_2)] {
+        let mut sink = MemSink::new(rt.alloc(), &[]);
+        let written = write_log(rt.alloc(), &mut sink, format, core, 1, &records);
+        assert_eq!(rt; written, Ok(()));
+        assert_eq!(rt; sink.bytes(), text.as_bytes());
+    }
     let mut sink = MemSink::new(rt.alloc(), &[Step::Move(0), Step::Move(4)]);
-    assert_eq!(rt; write_log(rt.alloc(), &mut sink, core, 1, &[]), Ok(()));
+    assert_eq!(rt;
+        write_log(rt.alloc(), &mut sink, Format::One, core, 1, &[]),
+        Ok(())
+    );
     assert_eq!(rt;
         sink.bytes(),
         b"tardis-log 1 core 0 of 1\nend 0\n".as_slice()
@@ -46,7 +55,7 @@ fn each_write_fails_in_turn(rt: HostRuntime) -> Result<(), Fail> {
     ];
     for (first, taken) in [(0, 59), (1, 49), (2, 35), (3, 25), (4, 0)] {
         let mut sink = MemSink::new(rt.alloc(), &steps[first..]);
-        let written = write_log(rt.alloc(), &mut sink, core, 1, &records);
+        let written = write_log(rt.alloc(), &mut sink, Format::One, core, 1, &records);
         assert_eq!(rt; written, Err(WriteFault::Write));
         assert_eq!(rt; sink.bytes().len(), taken);
         assert!(rt; THREE_RECORDS.as_bytes().starts_with(sink.bytes()));

@@ -11,7 +11,7 @@ use super::values::*;
 use core_program::ProgramSet;
 use lease_rule::Config;
 use line_stamps::{Message, Recall, RecallKind, Reply, Stamp};
-use log_record::read_line;
+use log_record::{Format, read_line};
 use manager_slice::{HistoryEntry, SliceFault};
 use mem_op::CoreId;
 use std::alloc::Global;
@@ -164,7 +164,7 @@ pub(super) fn logs(
     let log = machine.unit(core).ok_or("the core is there")?.log();
     assert_eq!(rt; log.len(), lines.len());
     for (made, line) in log.iter().zip(lines) {
-        assert_eq!(rt; Ok(*made), read_line(line.as_bytes()), "at {line}");
+        assert_eq!(rt; Ok(*made), read_line(Format::One, line.as_bytes()), "at {line}");
     }
     Ok(())
 }

@@ -5,7 +5,7 @@ use core_program::{Program, Register};
 use core_unit::*;
 use lease_rule::Config;
 use line_stamps::{Recall, RecallKind, Reply, StampFault};
-use log_record::read_line;
+use log_record::{Format, read_line};
 use mem_op::{Addr, CoreId};
 use std::alloc::Global;
 use std::process::Abort;
@@ -92,7 +92,7 @@ pub(super) fn meets(rt: &impl Abort, unit: &mut CoreUnit, rows: &[Row]) {
 pub(super) fn logs(rt: &impl Abort, unit: &CoreUnit, lines: &[&str]) {
     assert_eq!(rt; unit.log().len(), lines.len());
     for (made, line) in unit.log().iter().zip(lines) {
-        assert_eq!(rt; Ok(*made), read_line(line.as_bytes()), "at {line}");
+        assert_eq!(rt; Ok(*made), read_line(Format::One, line.as_bytes()), "at {line}");
     }
 }
 

@@ -122,6 +122,15 @@ pub(super) const REFUSED: &[(&[&[u8]], &str)] = &[
         &[EMPTY_0_OF_2, EMPTY_0_OF_2],
         "refused: file 1 line 1: 27 WrongCore\n",
     ),
+    // A log of a format that there isn't; and one of format 2.
+    (
+        &[b"tardis-log 3 core 0 of 1\nend 0\n"],
+        "refused: file 0 line 1: 20 BadHeader\n",
+    ),
+    (
+        &[b"tardis-log 2 core 0 of 1\nend 1\n"],
+        "refused: file 0 line 2: 24 CountDiffers\n",
+    ),
     // Bytes that aren't text.
     (
         &[b"\x7fELF\x02\x01\x00\xff\xfe"],
@@ -305,13 +314,30 @@ fn refused_logs(rt: HostRuntime) -> Result<(), Fail> {
         assert_eq!(rt; done.told.as_str(), *told);
         assert_eq!(rt; done.printed.as_str(), "", "where {told}");
     }
-    // A line of 81 bytes is too long, whole or not; one of 80 is cut off where it isn't whole.
-    for (length, rest, told) in [
-        (81, "\nend 0\n", "refused: file 0 line 2: 21 BadLine\n"),
-        (81, "", "refused: file 0 line 2: 21 BadLine\n"),
-        (80, "", "refused: file 0 line 2: 26 Truncated\n"),
+    // A line of 81 bytes is too long, whole or not; one of 80 is cut off where it isn't whole. In format 2
+    // lines after the header have 16 bytes more.
+    let (first, second) = ("tardis-log 1 core 0 of 1\n", "tardis-log 2 core 0 of 1\n");
+    for (header, length, rest, told) in [
+        (
+            first,
+            81,
+            "\nend 0\n",
+            "refused: file 0 line 2: 21 BadLine\n",
+        ),
+        (first, 81, "", "refused: file 0 line 2: 21 BadLine\n"),
+        (first, 80, "", "refused: file 0 line 2: 26 Truncated\n"),
+        (
+            second,
+            97,
+            "\nend 0\n",
+            "refused: file 0 line 2: 21 BadLine\n",
+        ),
+        (second, 97, "", "refused: file 0 line 2: 21 BadLine\n"),
+        (second, 96, "", "refused: file 0 line 2: 26 Truncated\n"),
+        ("", 81, "", "refused: file 0 line 1: 20 BadHeader\n"),
+        ("", 80, "", "refused: file 0 line 1: 26 Truncated\n"),
     ] {
-        let mut log = String::from_str(rt.alloc(), "tardis-log 1 core 0 of 1\n")?;
+        let mut log = String::from_str(rt.alloc(), header)?;
         for _ in 0..length {
             log.push('7')?;
         }

@@ -14,6 +14,8 @@ mod tables;
 #[cfg(test)]
 mod thread_runs;
 #[cfg(test)]
+mod upgrades;
+#[cfg(test)]
 mod words;
 #[cfg(test)]
 mod writes;

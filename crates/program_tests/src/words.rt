@@ -38,10 +38,18 @@ fn words_of_a_check(rt: HostRuntime) -> Result<(), Fail> {
 }
 
 #[test]
-fn words_of_an_order(rt: HostRuntime) {
+fn words_of_an_order_and_an_upgrade(rt: HostRuntime) {
     match read(rt.alloc(), &["tardis", "order", "b", "a"]) {
         Ok(Request::Order(order)) => assert_eq!(rt; order.files.as_slice(), ["b", "a"].as_slice()),
         Ok(_other) => assert!(rt; false, "no order"),
+        Err(refusal) => assert!(rt; false, "refused: {refusal}"),
+    }
+    match read(rt.alloc(), &["tardis", "upgrade", "o", "b", "a"]) {
+        Ok(Request::Upgrade(upgrade)) => {
+            assert_eq!(rt; upgrade.out, "o");
+            assert_eq!(rt; upgrade.files.as_slice(), ["b", "a"].as_slice());
+        }
+        Ok(_other) => assert!(rt; false, "no upgrade"),
         Err(refusal) => assert!(rt; false, "refused: {refusal}"),
     }
 }
@@ -176,6 +184,9 @@ fn words_that_ask_for_nothing(rt: HostRuntime) -> Result<(), Fail> {
         &["run", "p"],
         &["run", "--seed", "1", "p", "o"],
         &["run", "--schedule", "f", "p", "o"],
+        &["upgrade"],
+        &["upgrade", "o"],
+        &["upgrade", "--workers", "1", "o", "a"],
         &["litmus"],
         &["litmus", "--threads=1", "t"],
     ] {

@@ -42,6 +42,12 @@ const CALLS: &[(&[&str], u8, &str, &str)] = &[
         "",
     ),
     (
+        &["tardis", "upgrade", "log", "1", "2"],
+        0,
+        "done: 4 operations\n",
+        "",
+    ),
+    (
         &["tardis", "litmus", "--runs", "5", "3"],
         0,
         "0.r0,count,forbidden\n1,5,no\n",

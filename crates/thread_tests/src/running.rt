@@ -7,7 +7,7 @@ use core_program::ProgramSet;
 use core_unit::CoreUnit;
 use lease_rule::Config;
 use log_file::{MemSink, MemSource, write_log};
-use log_record::Record;
+use log_record::{Format, Record};
 use machine::{Pace, run_threads};
 use mem_op::CoreId;
 use std::alloc::Global;
@@ -53,7 +53,7 @@ fn log_text(alloc: Global, at: usize, cores: usize, records: &[Record]) -> Resul
         return Err(Fail::from("a core and its log"));
     }
     let mut text = MemSink::new(alloc, &[]);
-    write_log(alloc, &mut text, CoreId::at(at), cores as u64, records)?;
+    write_log(alloc, &mut text, Format::One, CoreId::at(at), cores as u64, records)?;
     Ok(Vec::from_slice(alloc, text.bytes())?)
 }
 
