@@ -24,6 +24,7 @@ pub use laws::{
 };
 pub use program::Program;
 pub use program_set::ProgramSet;
+pub use program_text::print_instruction;
 pub use register::Register;
 pub use section::next_line;
 pub use sections::{Sections, read_sections};

@@ -49,7 +49,7 @@ impl Program {
 
 /// The line of an instruction, without its line feed.
 #[tactic(auto, using(decimal_text::proofs::Printing::numeral_decimal), unfolding(crate::specs::Grammar::instruction_text))]
-fn print_instruction(alloc: Global, instruction: &Instruction) -> Result<String, AllocError>
+pub fn print_instruction(alloc: Global, instruction: &Instruction) -> Result<String, AllocError>
     ensures text { IfOk result (λ line. string_bytes line ≡ instruction_text instruction.now) }
     ensures fits { Fits instruction.now }
 {

@@ -85,6 +85,13 @@ impl ProgramState {
         self.registers[register.get() as usize]
     }
 
+    /// The index of the next instruction in its program; at the end, how many there are.
+    pub fn position(&self) -> usize
+        ensures { result ≡ self.now.position }
+    {
+        usize::from(self.position)
+    }
+
     // The next instruction, or none at the end.
     fn instruction<'a>(&self, program: &'a Program) -> Option<&'a Instruction>
         ensures next { option_copied result ≡ slice_get program.now self.now.position }

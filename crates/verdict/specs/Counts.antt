@@ -1,5 +1,7 @@
--- The range of the numbers of files and of workers.
-use Rattle.std.specs.Prelude.{ℕ, ◌≤◌, ◌<◌, ◌⊎◌}
+-- The range of the numbers of files and of workers, and the number of programs.
+use Rattle.std.specs.Prelude.{◌≡◌, ◌≢◌, ℕ, ◌≤◌, ◌<◌, ◌⊎◌, List, length, Option, None, Some, All}
+use Rattle.core_program.specs.Shape.{IsProgram}
+use Rattle.core_program.specs.declared.instruction.Instruction.{Instruction}
 use Rattle.verdict.specs.declared.judge_fault.JudgeFault.{JudgeFault}
 use Rattle.verdict.specs.declared.judge_fault.JudgeFault.TheVariants.{BadConfig, Log, OutOfMemory, Read}
 
@@ -15,3 +17,13 @@ IsBadCount (BadConfig count) = Unit {0}
 IsBadCount (Log file line fault) = ⊥
 IsBadCount OutOfMemory = ⊥
 IsBadCount (Read file) = ⊥
+
+-- where programs are given, each is one, and there are as many as this
+abbrev pub AreAsMany : ℕ → Option (List (List Instruction)) → Type 0
+AreAsMany n None = Unit {0}
+AreAsMany n (Some programs) = All IsProgram programs × (length programs ≡ n)
+
+-- programs are given, and there aren't as many as this
+abbrev pub AreNotAsMany : ℕ → Option (List (List Instruction)) → Type 0
+AreNotAsMany n None = ⊥
+AreNotAsMany n (Some programs) = length programs ≢ n

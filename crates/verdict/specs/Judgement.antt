@@ -35,6 +35,11 @@ IsAnswerTo = IsAnswerBy verdict_of
 abbrev pub IsRunAnswerTo : List (List Instruction) → List (List ℕ) → Result Verdict JudgeFault → Type 0
 IsRunAnswerTo programs = IsAnswerBy (run_verdict_of programs)
 
+-- the one or the other
+abbrev pub IsAnswerAgainst : Option (List (List Instruction)) → List (List ℕ) → Result Verdict JudgeFault → Type 0
+IsAnswerAgainst None = IsAnswerTo
+IsAnswerAgainst (Some programs) = IsRunAnswerTo programs
+
 -- the file at which the reading ended
 abbrev pub last_file : JudgeFault → Option ℕ
 last_file (Log file line fault) = Some file
@@ -67,3 +72,8 @@ SpellConsistentSet texts =
 abbrev pub SpellFlatRun : List (List Instruction) → List (List ℕ) → Type 0
 SpellFlatRun programs texts =
     (logs : List (List Record)) × SpellSet texts logs × RunsFlat programs (operations_of logs)
+
+-- the same of the programs that are given
+abbrev pub SpellFlatRunBy : Option (List (List Instruction)) → List (List ℕ) → Type 0
+SpellFlatRunBy None texts = Unit {0}
+SpellFlatRunBy (Some programs) texts = SpellFlatRun programs texts

@@ -1,3 +1,4 @@
+pub mod Bases
 pub mod ByKey
 pub mod CoreFaultsOf
 pub mod CoreLaw

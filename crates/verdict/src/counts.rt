@@ -1,11 +1,13 @@
 //! The ranges of the counts of a call.
 
-ghost use Rattle.std.specs.Prelude.{◌≡◌, ◌↔◌, IfErr, IsOk, IsErrOf};
-ghost use Rattle.verdict.specs.Counts.{IsBadCount, IsInRange, IsOutOfRange};
-ghost use Rattle.verdict.specs.declared.judge_fault.Count.TheVariants.{Files, Workers};
+ghost use Rattle.std.specs.Prelude.{◌≡◌, ◌↔◌, IfErr, IsOk, IsErrOf, OnOk};
+ghost use Rattle.verdict.specs.CoreFaultsOf.{given};
+ghost use Rattle.verdict.specs.Counts.{AreAsMany, AreNotAsMany, IsBadCount, IsInRange, IsOutOfRange};
+ghost use Rattle.verdict.specs.declared.judge_fault.Count.TheVariants.{Files, Workers, Programs};
 ghost use Rattle.verdict.specs.declared.judge_fault.JudgeFault.TheVariants.{BadConfig};
 
 use super::judge_fault::{Count, JudgeFault};
+use core_program::ProgramSet;
 
 /// How many files a set has at most.
 const MAX_FILES: usize = 64;
@@ -29,4 +31,16 @@ pub fn check_counts(files: usize, workers: usize) -> Result<(), JudgeFault>
         return Err(JudgeFault::BadConfig(Count::Workers));
     }
     Ok(())
+}
+
+/// Whether there are as many programs as files, where programs are given. Else 6 BadConfig.
+pub(crate) fn check_programs(programs: Option<&ProgramSet>, files: usize) -> Result<(), JudgeFault>
+    ensures ok { OnOk result (AreAsMany files (given programs.entry)) }
+    ensures err { IfErr result (λ fault. (fault ≡ BadConfig Programs)
+        × AreNotAsMany files (given programs.entry)) }
+{
+    match programs {
+        Some(set) if set.len() != files => Err(JudgeFault::BadConfig(Count::Programs)),
+        _ => Ok(()),
+    }
 }

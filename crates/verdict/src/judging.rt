@@ -10,13 +10,11 @@ ghost use Rattle.verdict.specs.declared.judge_fault.Count.TheVariants.{Files, Wo
 ghost use Rattle.verdict.specs.declared.judge_fault.JudgeFault.TheVariants.{BadConfig, Read};
 
 use super::answer::Verdict;
-use super::counts::check_counts;
+use super::examining::examination;
 use super::judge_fault::JudgeFault;
-use super::log_set::LogSet;
-use super::verdict_on::verdict_on;
 use address_check::Gate;
 use core_program::ProgramSet;
-use log_file::{ByteSource, read_set};
+use log_file::ByteSource;
 use std::alloc::Global;
 use std::thread::Threads;
 
@@ -41,10 +39,10 @@ pub(crate) fn answer_to<R: Threads + Sync, S: ByteSource, G: Gate + Sync>(
     ensures read { IfErr result (λ fault. (file : ℕ) → fault ≡ Read file
         → ReaderFailed S.failed readers.old readers.new file) }
 {
-    check_counts(readers.len(), workers)?;
-    let set = LogSet::new(read_set(rt, alloc, readers, workers)?);
-    let verdict = verdict_on(rt, alloc, programs, set, workers, gate)?;
-    Ok(verdict)
+    match examination(rt, alloc, programs, readers, workers, gate) {
+        Ok(examined) => Ok(examined.verdict),
+        Err(fault) => Err(fault),
+    }
 }
 
 /// The verdict on the set of logs that the readers give, file `k` the log of core `k` of as many cores

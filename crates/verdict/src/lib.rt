@@ -2,8 +2,11 @@
 #![tactic(auto)]
 
 mod answer;
+mod basis;
 mod cores;
 mod counts;
+mod examine_set;
+mod examining;
 mod fault;
 mod judge_fault;
 mod judging;
@@ -12,15 +15,17 @@ mod log_set;
 mod replay;
 mod rule;
 mod run_judging;
-mod verdict_on;
 
 pub use address_check::{Gate, Phase};
 pub use answer::Verdict;
+pub use basis::{Basis, Examined};
 pub use counts::check_counts;
+pub use examining::examine;
 pub use fault::Fault;
 pub use judge_fault::{Count, JudgeFault};
 pub use judging::judge;
 pub use laws::{key_order_is_sequential, texts_have_one_answer, yes_is_consistent};
+pub use log_set::LogSet;
 pub use replay::replay_order;
 pub use rule::Rule;
 pub use run_judging::judge_run;

@@ -10,7 +10,7 @@ use std::marker::Model;
 
 /// The logs of a set, one a core: at most 64, each of at most 1,048,576 records.
 #[derive(Drop)]
-pub(crate) struct LogSet {
+pub struct LogSet {
     logs: Vec<Vec<Record>>,
 }
 
@@ -39,7 +39,7 @@ impl LogSet {
     }
 
     /// How many logs there are.
-    pub(crate) fn len(&self) -> usize
+    pub fn len(&self) -> usize
         ensures len { result ≡ length self.now }
         ensures few { result ≤ 64 }
     {
@@ -47,7 +47,7 @@ impl LogSet {
     }
 
     /// The log of a core, if it is there.
-    pub(crate) fn get(&self, core: CoreId) -> Option<&[Record]>
+    pub fn get(&self, core: CoreId) -> Option<&[Record]>
         ensures log { option_map (λ log. log.now) result ≡ slice_get self.now core }
         ensures short { IfSome result (λ log. length log.now ≤ operation_limit) }
     {

@@ -1,0 +1,23 @@
+//! What a verdict stands on.
+
+use super::answer::Verdict;
+use super::log_set::LogSet;
+use address_check::AddressIndex;
+
+/// What a verdict stands on.
+#[derive(Drop)]
+pub enum Basis {
+    /// The logs as they were read, where one of them breaks a rule by itself.
+    Logs(LogSet),
+    /// All records, by address and then by key.
+    Index(AddressIndex),
+}
+
+/// A verdict, and what it stands on.
+#[derive(Drop)]
+pub struct Examined {
+    /// The verdict.
+    pub verdict: Verdict,
+    /// What it stands on.
+    pub basis: Basis,
+}

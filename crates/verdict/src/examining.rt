@@ -1,0 +1,94 @@
+//! The judge of a set of log files that keeps what its verdict stands on.
+
+ghost use Rattle.std.specs.Prelude.{◌≡◌, ◌↔◌, ℕ, List, length, IfErr, IfOk, IsErrOf};
+ghost use Rattle.log_file.specs.Sets.{ReaderFailed, TellEach};
+ghost use Rattle.verdict.specs.CoreFaultsOf.{given};
+ghost use Rattle.verdict.specs.Counts.{AreNotAsMany, IsBadCount, IsInRange, IsOutOfRange};
+ghost use Rattle.verdict.specs.Bases.{IsExaminedBy, verdict_in};
+ghost use Rattle.verdict.specs.Judgement.{AreLaterUnread, IsAnswerAgainst, IsYes, SpellConsistentSet, SpellFlatRunBy};
+ghost use Rattle.verdict.specs.declared.judge_fault.Count.TheVariants.{Files, Workers, Programs};
+ghost use Rattle.verdict.specs.declared.judge_fault.JudgeFault.TheVariants.{BadConfig, Read};
+
+use super::basis::Examined;
+use super::counts::{check_counts, check_programs};
+use super::examine_set::examine_set;
+use super::judge_fault::JudgeFault;
+use super::log_set::LogSet;
+use address_check::Gate;
+use core_program::ProgramSet;
+use log_file::{ByteSource, read_set};
+use std::alloc::Global;
+use std::thread::Threads;
+
+/// The verdict on the set of logs that the readers give, against the programs of its cores where they
+/// are given, with what it stands on; or why there is none. Programs aren't counted.
+pub(crate) fn examination<R: Threads + Sync, S: ByteSource, G: Gate + Sync>(
+    rt: &R,
+    alloc: Global,
+    programs: Option<&ProgramSet>,
+    readers: &mut [S],
+    workers: usize,
+    gate: &G,
+) -> Result<Examined, JudgeFault>
+    ensures files { IsErrOf result (BadConfig Files) ↔ IsOutOfRange (length readers.old) }
+    ensures workers { IsErrOf result (BadConfig Workers)
+        ↔ (IsInRange (length readers.old) × IsOutOfRange workers) }
+    ensures programs { ¬ (IsErrOf result (BadConfig Programs)) }
+    ensures unread { IfErr result (λ fault. IsBadCount fault → readers.new ≡ readers.old) }
+    ensures later { IfErr result (λ fault. AreLaterUnread fault readers.old readers.new) }
+    ensures exact { (texts : List (List ℕ)) × TellEach S.remaining readers.old texts
+        × IsExaminedBy (given programs.entry) texts result }
+    ensures read { IfErr result (λ fault. (file : ℕ) → fault ≡ Read file
+        → ReaderFailed S.failed readers.old readers.new file) }
+{
+    let files = readers.len();
+    check_counts(files, workers)?;
+    let set = LogSet::new(read_set(rt, alloc, readers, workers)?);
+    let examined = examine_set(rt, alloc, programs, set, workers, gate)?;
+    Ok(examined)
+}
+
+/// Judges the set of logs that the readers give as `judge` does, or as `judge_run` where programs are
+/// given, and gives back what the verdict stands on beside it: the logs where a core's log breaks a
+/// rule by itself, else the index of all records.
+///
+/// Refusals: those of `judge` or `judge_run`.
+pub fn examine<R: Threads + Sync, S: ByteSource, G: Gate + Sync>(
+    rt: &R,
+    alloc: Global,
+    programs: Option<&ProgramSet>,
+    readers: &mut [S],
+    workers: usize,
+    gate: &G,
+) -> Result<Examined, JudgeFault>
+    // 6 comes exactly where a count is out of range, and nothing is read then.
+    ensures files { IsErrOf result (BadConfig Files) ↔ IsOutOfRange (length readers.old) }
+    ensures workers { IsErrOf result (BadConfig Workers)
+        ↔ (IsInRange (length readers.old) × IsOutOfRange workers) }
+    ensures programs { IsErrOf result (BadConfig Programs)
+        ↔ (IsInRange (length readers.old) × IsInRange workers
+        × AreNotAsMany (length readers.old) (given programs.entry)) }
+    ensures unread { IfErr result (λ fault. IsBadCount fault → readers.new ≡ readers.old) }
+    // No file after the one that is refused is read.
+    ensures later { IfErr result (λ fault. AreLaterUnread fault readers.old readers.new) }
+
+    // The readers tell texts. The verdict is that of the judge on the set that these spell, and what it
+    // stands on is that set's.
+    ensures exact { (texts : List (List ℕ)) × TellEach S.remaining readers.old texts
+        × IsAnswerAgainst (given programs.entry) texts (verdict_in result)
+        × IsExaminedBy (given programs.entry) texts result }
+    ensures read { IfErr result (λ fault. (file : ℕ) → fault ≡ Read file
+        → ReaderFailed S.failed readers.old readers.new file) }
+
+    // Where it is Yes, the set is sequentially consistent, and a whole run of the flat machine performs
+    // just its operations where programs are given.
+    ensures sound { (texts : List (List ℕ)) × TellEach S.remaining readers.old texts
+        × IfOk result (λ examined. IsYes examined.verdict → SpellConsistentSet texts) }
+    ensures flat { (texts : List (List ℕ)) × TellEach S.remaining readers.old texts
+        × IfOk result (λ examined. IsYes examined.verdict
+        → SpellFlatRunBy (given programs.entry) texts) }
+{
+    check_counts(readers.len(), workers)?;
+    check_programs(programs, readers.len())?;
+    examination(rt, alloc, programs, readers, workers, gate)
+}
