@@ -1,0 +1,5 @@
+pub mod CoreFaulted
+pub mod CoreRecords
+pub mod Examining
+pub mod Finding
+pub mod RightStores

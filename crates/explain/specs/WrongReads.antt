@@ -1,0 +1,35 @@
+-- The explanation of a load that breaks a rule.
+use Rattle.std.specs.Prelude.{◌≡◌, ℕ, ◌-◌, List, Option, None, Some, find, slice_get, option_and_then}
+use Rattle.mem_op.specs.declared.id.OpId.{OpId}
+use Rattle.mem_op.specs.declared.id.Source.TheVariants.{Init, Store as From}
+use Rattle.mem_op.specs.Consistency.{is_same_id}
+use Rattle.log_record.specs.declared.record.Act.{Act}
+use Rattle.log_record.specs.declared.record.Act.TheVariants.{Load, Store}
+use Rattle.log_record.specs.declared.record.Entry.{Entry}
+use Rattle.address_check.specs.AddressFaults.{right_store}
+use Rattle.address_check.specs.Groups.{at_address}
+use Rattle.verdict.specs.declared.rule.Rule.{Rule}
+use Rattle.explain.specs.declared.explanation.WrongRead.{WrongRead}
+use Rattle.explain.specs.Windows.{window, window_start}
+
+-- the id that a source names
+abbrev pub named_id : Act → Option OpId
+named_id (Load Init) = None
+named_id (Load (From id)) = Some id
+named_id Store = None
+
+-- the record of an id
+abbrev pub of_id : List Entry → OpId → Option Entry
+of_id es id = find (λ e. is_same_id e.id id) es
+
+-- The load of this id among all records, the store that it should read, what its source names, and the records of its address around it,
+-- in the order of keys.
+pub record IsWrongRead (es : List Entry) (id : OpId) (rule : Rule) (found : WrongRead) : Type 0 where
+  pub rule_is : found.rule ≡ rule
+  pub load : of_id es id ≡ Some found.load
+  pub right : found.right ≡ right_store es found.load
+  pub named : found.named ≡ option_and_then (of_id es) (named_id found.load.logged.act)
+  pub place : ℕ
+  pub stands : slice_get (at_address found.load.logged.addr es) place ≡ Some found.load
+  pub rows : found.rows.items ≡ window (at_address found.load.logged.addr es) place
+  pub marked : found.place ≡ place - window_start place

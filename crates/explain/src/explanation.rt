@@ -1,0 +1,104 @@
+//! Explanations as data.
+
+use core_program::Instruction;
+use line_stamps::Stamp;
+use log_record::Entry;
+use mem_op::{Addr, Op, OpId, Word};
+use verdict::Rule;
+
+/// Why a set got its verdict.
+#[derive(Drop)]
+pub enum Explanation {
+    /// A load reads another store than the right one, or another value than that store's.
+    Load(WrongRead),
+    /// The stamp and rank of a core's log fall.
+    CoreOrder(Fall),
+    /// A core's log isn't its program's.
+    Program(Departure),
+    /// No record breaks a rule.
+    Summed(Summary),
+}
+
+/// A load that breaks a rule, and what stands around it.
+#[derive(Drop)]
+pub struct WrongRead {
+    /// SOURCE or VALUE.
+    pub rule: Rule,
+    /// The load.
+    pub load: Entry,
+    /// The store that it should read; none where that is the initial 0.
+    pub right: Option<Entry>,
+    /// The record that its source names; none where it names the initial 0, or nothing that is there.
+    pub named: Option<Entry>,
+    /// The records of its address around it, in the order of their keys.
+    pub rows: Vec<Entry>,
+    /// Its place among these.
+    pub place: usize,
+}
+
+/// Two records of a core of which the later has the lesser stamp and rank.
+#[derive(Drop)]
+pub struct Fall {
+    /// The record before.
+    pub before: Entry,
+    /// The record that breaks the rule.
+    pub fault: Entry,
+    /// The records of its core around it, in program order.
+    pub rows: Vec<Entry>,
+}
+
+/// A place at which a core's log isn't its program's.
+#[derive(Drop)]
+pub struct Departure {
+    /// Where the operation was due.
+    pub id: OpId,
+    /// The record that stands there; none where the log has ended.
+    pub found: Option<Entry>,
+    /// What was due there; none where the program had ended.
+    pub due: Option<Due>,
+    /// What the registers held.
+    pub registers: [Word; 16],
+    /// The records of its core around it, in program order.
+    pub rows: Vec<Entry>,
+}
+
+/// An instruction that was due.
+#[derive(Clone, Copy, Debug, PartialEq, Eq)]
+pub struct Due {
+    /// Its line in the file of the programs, counted from 1.
+    pub line: u64,
+    /// The instruction.
+    pub instruction: Instruction,
+    /// What it does to memory.
+    pub op: Op,
+}
+
+/// What a set has that gets Yes.
+#[derive(Drop)]
+pub struct Summary {
+    /// How many cores there are.
+    pub cores: usize,
+    /// How many operations are loads.
+    pub loads: usize,
+    /// How many operations are stores.
+    pub stores: usize,
+    /// How many addresses are used.
+    pub addresses: usize,
+    /// The most used addresses, five at most, the most used first.
+    pub most_used: Vec<Use>,
+    /// The least and the greatest stamp, where there are operations.
+    pub stamps: Option<(Stamp, Stamp)>,
+    /// How many operations have a stamp that another has too.
+    pub sharing: usize,
+    /// All operations in the order of their keys, where they are few enough to be drawn.
+    pub rows: Option<Vec<Entry>>,
+}
+
+/// How often an address is used.
+#[derive(Clone, Copy, Debug, PartialEq, Eq)]
+pub struct Use {
+    /// The address.
+    pub addr: Addr,
+    /// How many operations are on it.
+    pub operations: usize,
+}

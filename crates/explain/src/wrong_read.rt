@@ -1,0 +1,98 @@
+//! The explanation of a load that breaks a rule.
+
+ghost use Rattle.std.specs.Prelude.{◌≡◌, ◌<◌, None, IfOk, IfSome, IsNone, length, option_and_then, slice_get};
+ghost use Rattle.mem_op.specs.Consistency.{is_same_id};
+ghost use Rattle.address_check.proofs.GroupPass.{last_store};
+ghost use Rattle.explain.specs.WrongReads.{IsWrongRead, named_id, of_id};
+
+use super::acts::{is_store, named_id};
+use super::around::{entries_around, start_of};
+use super::explanation::WrongRead;
+use address_check::AddressIndex;
+use log_record::Entry;
+use mem_op::OpId;
+use std::alloc::{AllocError, Global};
+use verdict::Rule;
+
+/// Whether a record has an id.
+fn has_id(entry: &Entry, id: OpId) -> bool
+    ensures { result ≡ is_same_id entry.now.id id }
+{
+    entry.id() == id
+}
+
+/// The place of the first record of an id.
+fn place_of(entries: &[Entry], id: OpId) -> Option<usize>
+    ensures found { IfSome result (λ place. (place < length entries.now)
+        × (slice_get entries.now place ≡ of_id entries.now id)) }
+    ensures none { IsNone result → of_id entries.now id ≡ None }
+{
+    for (place, entry) in entries.iter().enumerate() {
+        if has_id(entry, id) {
+            return Some(place);
+        }
+    }
+    None
+}
+
+/// The first record of an id.
+fn entry_of(entries: &[Entry], id: OpId) -> Option<Entry>
+    ensures { result ≡ of_id entries.now id }
+{
+    match place_of(entries, id) {
+        Some(place) => Some(entries[place]),
+        None => None,
+    }
+}
+
+/// The record that the source of a load names.
+fn named(entries: &[Entry], load: &Entry) -> Option<Entry>
+    ensures { result ≡ option_and_then (of_id entries.now) (named_id load.now.logged.act) }
+{
+    match named_id(load) {
+        Some(id) => entry_of(entries, id),
+        None => None,
+    }
+}
+
+/// The last store among entries.
+fn last_store(entries: &[Entry]) -> Option<Entry>
+    ensures { result ≡ last_store entries.now }
+{
+    let mut last = None;
+    for entry in entries {
+        if is_store(entry) {
+            last = Some(*entry);
+        }
+    }
+    last
+}
+
+/// Why the load of this id breaks a rule; none where no record has the id.
+pub(crate) fn wrong_read(
+    alloc: Global,
+    index: &AddressIndex,
+    id: OpId,
+    rule: Rule,
+) -> Result<Option<WrongRead>, AllocError>
+    ensures found { IfOk result (λ o. IfSome o (IsWrongRead index.now id rule)) }
+    ensures none { IfOk result (λ o. IsNone o → of_id index.now id ≡ None) }
+{
+    let all = index.all();
+    let Some(load) = entry_of(all, id) else {
+        return Ok(None);
+    };
+    let group = index.group(load.addr());
+    let Some(place) = place_of(group, id) else {
+        return Ok(None);
+    };
+    let rows = entries_around(alloc, group, place)?;
+    Ok(Some(WrongRead {
+        rule,
+        load,
+        right: last_store(&group[..place]),
+        named: named(all, &load),
+        rows,
+        place: place - start_of(place),
+    }))
+}
