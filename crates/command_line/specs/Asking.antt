@@ -8,6 +8,7 @@ use Rattle.command_line.specs.Grammar.{tardis}
 use Rattle.command_line.specs.declared.refusal.Refusal.{Refusal}
 use Rattle.command_line.specs.declared.refusal.Refusal.TheVariants.{Usage, OutOfMemory}
 use Rattle.command_line.specs.declared.request.Check.{Check}
+use Rattle.command_line.specs.declared.request.Explain.{Explain}
 use Rattle.command_line.specs.declared.request.Limits.{Limits}
 use Rattle.command_line.specs.declared.request.Litmus.{Litmus}
 use Rattle.command_line.specs.declared.request.Order.{Order}
@@ -54,6 +55,13 @@ pub record IsCheck (rows : List Row) (check : Check) : Type 0 where
 pub record IsOrder (rows : List Row) (order : Order) : Type 0 where
   pub files : texts order.files.items ≡ unwrap_or (all_of (codes "FILE") rows) []
 
+-- a check of the files that were given by one worker, against the programs that were given, and the file for a picture that was
+pub record IsExplain (rows : List Row) (explain : Explain) : Type 0 where
+  pub workers : explain.check.workers ≡ 1
+  pub program : text_of explain.check.program ≡ first_of (codes "program") rows
+  pub picture : text_of explain.picture ≡ first_of (codes "svg") rows
+  pub files : texts explain.check.files.items ≡ unwrap_or (all_of (codes "FILE") rows) []
+
 -- the files that were given, anew in format 2, under the name that was given
 pub record IsUpgrade (rows : List Row) (upgrade : Upgrade) : Type 0 where
   pub out : upgrade.out.now ≡ unwrap_or (first_of (codes "OUT") rows) []
@@ -94,6 +102,7 @@ pub record IsLitmus (rows : List Row) (litmus : Litmus) : Type 0 where
 abbrev pub IsAskedBy : Text × List Row → Request → Type 0
 IsAskedBy named (request.Check check) = (named.0 ≡ codes "check") × IsCheck named.1 check
 IsAskedBy named (request.Order order) = (named.0 ≡ codes "order") × IsOrder named.1 order
+IsAskedBy named (request.Explain explain) = (named.0 ≡ codes "explain") × IsExplain named.1 explain
 IsAskedBy named (request.Upgrade upgrade) = (named.0 ≡ codes "upgrade") × IsUpgrade named.1 upgrade
 IsAskedBy named (request.Sim sim) = (named.0 ≡ codes "sim") × IsSim named.1 sim
 IsAskedBy named (request.Run run) = (named.0 ≡ codes "run") × IsThreaded named.1 run

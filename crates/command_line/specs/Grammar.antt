@@ -43,17 +43,21 @@ check = with_rule (with_check_options (new_app (codes "check"))) files
 abbrev pub order : App
 order = with_rule (new_app (codes "order")) files
 
+-- [--program F] [--svg F]
+abbrev pub with_explain_options : App → App
+with_explain_options app = with_rule (with_rule app (file_option (codes "program"))) (file_option (codes "svg"))
+
+-- tardis explain [--program F] [--svg F] FILE..
+abbrev pub explain : App
+explain = with_rule (with_explain_options (new_app (codes "explain"))) files
+
 -- a name that has to be there
 abbrev pub name : Text → Rule
 name place = record (new_rule place) { required = true; action = Some Set }
 
--- OUT FILE..
-abbrev pub with_sets : App → App
-with_sets app = with_rule (with_rule app (name (codes "OUT"))) files
-
 -- tardis upgrade OUT FILE..
 abbrev pub upgrade : App
-upgrade = with_sets (new_app (codes "upgrade"))
+upgrade = with_rule (with_rule (new_app (codes "upgrade")) (name (codes "OUT"))) files
 
 abbrev pub with_number : App → Text → App
 with_number app option = with_rule app (number_option option)
@@ -88,10 +92,13 @@ with_litmus_options app = with_rule (with_number (with_number app (codes "runs")
 abbrev pub litmus : App
 litmus = with_rule (with_litmus_options (with_limits (new_app (codes "litmus")))) (name (codes "TEST"))
 
+-- check, order and explain
+abbrev pub with_judges : App → App
+with_judges app = with_subcommand (with_subcommand (with_subcommand app check.top) order.top) explain.top
+
 -- the program with the subcommands that judge, and never called without one
 abbrev pub judging : App
-judging =
-    with_subcommand (with_subcommand (on_top (λ top. record top { subcommand_required = true }) (new_app (codes "tardis"))) check.top) order.top
+judging = with_judges (on_top (λ top. record top { subcommand_required = true }) (new_app (codes "tardis")))
 
 -- sim, run and litmus
 abbrev pub with_machine : App → App

@@ -1,7 +1,7 @@
 //! The program's command line: its subcommands, and the arguments of each.
 
 ghost use Rattle.std.specs.Prelude.{◌≡◌, IfOk, false};
-ghost use Rattle.clap.specs.Words.{app_of, rule_of, with_rule};
+ghost use Rattle.clap.specs.Words.{app_of, rule_of, with_rule, with_subcommand as with_top};
 ghost use Rattle.clap.specs.declared.builder.command.Command.TheViews.{out-Command as fields_of};
 ghost use Rattle.command_line.specs.Grammar as grammar;
 
@@ -16,17 +16,28 @@ pub(crate) fn tardis<'a>(alloc: Global) -> Result<Command<'a>, AllocError>
     with_logs(alloc, with_machine(alloc, judging(alloc)?)?)
 }
 
-/// The command line with the subcommands that judge.
+/// The command line, with the subcommands that judge alone.
 fn judging<'a>(alloc: Global) -> Result<Command<'a>, AllocError>
     ensures app { IfOk result (λ command. app_of command ≡ grammar.judging) }
     ensures local { IfOk result (λ command. (fields_of command).has_globals ≡ false) }
 {
-    Command::new(alloc, "tardis")
+    let command = Command::new(alloc, "tardis")
         .about("Judges the logs of a multiprocessor for sequential consistency, and runs one")
         .after_help("Example: tardis check log.0 log.1")
-        .subcommand_required(true)
-        .subcommand(check(alloc)?)?
-        .subcommand(order(alloc)?)
+        .subcommand_required(true);
+    with_judges(alloc, command)
+}
+
+/// A command line with the subcommands that judge.
+fn with_judges<'a>(alloc: Global, command: Command<'a>) -> Result<Command<'a>, AllocError>
+    ensures app { IfOk result (λ made. app_of made
+        ≡ grammar.with_judges (app_of command.entry)) }
+    ensures local { (fields_of command.entry).has_globals ≡ false
+        → IfOk result (λ made. (fields_of made).has_globals ≡ false) }
+{
+    let command = with_command(command, check(alloc)?)?;
+    let command = with_command(command, order(alloc)?)?;
+    with_command(command, explain(alloc)?)
 }
 
 /// A command line with the subcommands that run the machine.
@@ -36,10 +47,9 @@ fn with_machine<'a>(alloc: Global, command: Command<'a>) -> Result<Command<'a>, 
     ensures local { (fields_of command.entry).has_globals ≡ false
         → IfOk result (λ made. (fields_of made).has_globals ≡ false) }
 {
-    command
-        .subcommand(sim(alloc)?)?
-        .subcommand(run(alloc)?)?
-        .subcommand(litmus(alloc)?)
+    let command = with_command(command, sim(alloc)?)?;
+    let command = with_command(command, run(alloc)?)?;
+    with_command(command, litmus(alloc)?)
 }
 
 /// A command line with the subcommand that writes logs anew.
@@ -48,7 +58,7 @@ fn with_logs<'a>(alloc: Global, command: Command<'a>) -> Result<Command<'a>, All
     ensures local { (fields_of command.entry).has_globals ≡ false
         → IfOk result (λ made. (fields_of made).has_globals ≡ false) }
 {
-    command.subcommand(upgrade(alloc)?)
+    with_command(command, upgrade(alloc)?)
 }
 
 /// The subcommand that judges a set of logs.
@@ -73,6 +83,29 @@ fn order<'a>(alloc: Global) -> Result<Command<'a>, AllocError>
     command.arg(files(alloc).help("The logs, that of core 0 first"))
 }
 
+/// The subcommand that judges a set of logs and tells why.
+fn explain<'a>(alloc: Global) -> Result<Command<'a>, AllocError>
+    ensures app { IfOk result (λ command. app_of command ≡ grammar.explain) }
+    ensures local { IfOk result (λ command. (fields_of command).has_globals ≡ false) }
+{
+    let command = Command::new(alloc, "explain")
+        .about("Judges logs, and tells why they get that verdict")
+        .after_help("Example: tardis explain --svg why.svg log.0 log.1");
+    with_explain_options(alloc, command)?.arg(files(alloc).help("The logs, that of core 0 first"))
+}
+
+/// A command with the options of an explanation.
+fn with_explain_options<'a>(alloc: Global, command: Command<'a>) -> Result<Command<'a>, AllocError>
+    ensures app { IfOk result (λ made. app_of made
+        ≡ grammar.with_explain_options (app_of command.entry)) }
+    ensures local { (fields_of command.entry).has_globals ≡ false
+        → IfOk result (λ made. (fields_of made).has_globals ≡ false) }
+{
+    let program = file(alloc, "program").help("The programs whose logs these have to be");
+    let picture = file(alloc, "svg").help("The file that a picture of it goes to [default: none]");
+    with_argument(with_argument(command, program)?, picture)
+}
+
 /// A command with the options of a check.
 fn with_check_options<'a>(alloc: Global, command: Command<'a>) -> Result<Command<'a>, AllocError>
     ensures app { IfOk result (λ made. app_of made
@@ -80,9 +113,9 @@ fn with_check_options<'a>(alloc: Global, command: Command<'a>) -> Result<Command
     ensures local { (fields_of command.entry).has_globals ≡ false
         → IfOk result (λ made. (fields_of made).has_globals ≡ false) }
 {
-    command
-        .arg(number(alloc, "workers").help("How many workers judge at once [default: 1]"))?
-        .arg(file(alloc, "program").help("The programs whose logs these have to be"))
+    let workers = number(alloc, "workers").help("How many workers judge at once [default: 1]");
+    let program = file(alloc, "program").help("The programs whose logs these have to be");
+    with_argument(with_argument(command, workers)?, program)
 }
 
 /// The subcommand that runs the machine, one event after the other.
@@ -116,20 +149,11 @@ fn upgrade<'a>(alloc: Global) -> Result<Command<'a>, AllocError>
     let command = Command::new(alloc, "upgrade")
         .about("Reads logs, one of each core, and writes them in format 2")
         .after_help("Example: tardis upgrade new log.0 log.1");
-    with_sets(alloc, command)
-}
-
-/// A command with the names of the logs that are written and of those that are read.
-fn with_sets<'a>(alloc: Global, command: Command<'a>) -> Result<Command<'a>, AllocError>
-    ensures app { IfOk result (λ made. app_of made ≡ grammar.with_sets (app_of command.entry)) }
-    ensures local { (fields_of command.entry).has_globals ≡ false
-        → IfOk result (λ made. (fields_of made).has_globals ≡ false) }
-{
-    command
-        .arg(name(alloc, "OUT").help(
-            "What the names of the new logs begin with: new for new.0, new.1 and so on",
-        ))?
-        .arg(files(alloc).help("The logs, that of core 0 first"))
+    let out = name(alloc, "OUT").help(
+        "What the names of the new logs begin with: new for new.0, new.1 and so on",
+    );
+    let logs = files(alloc).help("The logs, that of core 0 first");
+    with_argument(with_argument(command, out)?, logs)
 }
 
 /// The subcommand that runs a litmus test again and again, and counts its outcomes.
@@ -151,12 +175,16 @@ fn with_litmus_options<'a>(alloc: Global, command: Command<'a>) -> Result<Comman
     ensures local { (fields_of command.entry).has_globals ≡ false
         → IfOk result (λ made. (fields_of made).has_globals ≡ false) }
 {
-    command
-        .arg(number(alloc, "runs").help("How many runs there are [default: 100]"))?
-        .arg(number(alloc, "seed").help(
-            "What the rounds of the first run are drawn from; one more for each run after it [default: 1]",
-        ))?
-        .arg(flag(alloc, "threads").help("Runs each core in a thread; the seed has no use then"))
+    let runs = number(alloc, "runs").help("How many runs there are [default: 100]");
+    let seed = number(alloc, "seed").help(
+        "What the rounds of the first run are drawn from; one more for each run after it [default: 1]",
+    );
+    let threads = flag(alloc, "threads").help(
+        "Runs each core in a thread; the seed has no use then",
+    );
+    let command = with_argument(command, runs)?;
+    let command = with_argument(command, seed)?;
+    with_argument(command, threads)
 }
 
 /// A command with the options that give the numbers of the machine.
@@ -211,11 +239,13 @@ fn with_sim_options<'a>(alloc: Global, command: Command<'a>) -> Result<Command<'
     ensures local { (fields_of command.entry).has_globals ≡ false
         → IfOk result (λ made. (fields_of made).has_globals ≡ false) }
 {
-    command
-        .arg(file(alloc, "schedule").help("The schedule that is followed first [default: none]"))?
-        .arg(number(alloc, "seed").help(
-            "What the rounds after it are drawn from [default: no draws, core 0 first]",
-        ))
+    let schedule = file(alloc, "schedule").help(
+        "The schedule that is followed first [default: none]",
+    );
+    let seed = number(alloc, "seed").help(
+        "What the rounds after it are drawn from [default: no draws, core 0 first]",
+    );
+    with_argument(with_argument(command, schedule)?, seed)
 }
 
 /// A command with the names of the programs and of the logs.
@@ -225,11 +255,11 @@ fn with_names<'a>(alloc: Global, command: Command<'a>) -> Result<Command<'a>, Al
     ensures local { (fields_of command.entry).has_globals ≡ false
         → IfOk result (λ made. (fields_of made).has_globals ≡ false) }
 {
-    command
-        .arg(name(alloc, "PROGRAMS").help("The file of the programs"))?
-        .arg(name(alloc, "OUT").help(
-            "What the names of the logs begin with: log for log.0, log.1 and so on",
-        ))
+    let programs = name(alloc, "PROGRAMS").help("The file of the programs");
+    let out = name(alloc, "OUT").help(
+        "What the names of the logs begin with: log for log.0, log.1 and so on",
+    );
+    with_argument(with_argument(command, programs)?, out)
 }
 
 /// A command with an option that takes a number.
@@ -244,7 +274,32 @@ fn with_number<'a>(
     ensures local { (fields_of command.entry).has_globals ≡ false
         → IfOk result (λ made. (fields_of made).has_globals ≡ false) }
 {
-    command.arg(number(alloc, name).help(help))
+    with_argument(command, number(alloc, name).help(help))
+}
+
+/// A command line with one more subcommand.
+fn with_command<'a>(
+    command: Command<'a>,
+    subcommand: Command<'a>,
+) -> Result<Command<'a>, AllocError>
+    requires { (fields_of subcommand).has_globals ≡ false }
+    ensures app { IfOk result (λ made. app_of made
+        ≡ with_top (app_of command.entry) (app_of subcommand.entry).top) }
+    ensures local { (fields_of command.entry).has_globals ≡ false
+        → IfOk result (λ made. (fields_of made).has_globals ≡ false) }
+{
+    command.subcommand(subcommand)
+}
+
+/// A command with one more argument, which its subcommands don't take over.
+fn with_argument<'a>(command: Command<'a>, argument: Arg<'a>) -> Result<Command<'a>, AllocError>
+    requires { argument.global ≡ false }
+    ensures app { IfOk result (λ made. app_of made
+        ≡ with_rule (app_of command.entry) (rule_of argument.entry)) }
+    ensures local { (fields_of command.entry).has_globals ≡ false
+        → IfOk result (λ made. (fields_of made).has_globals ≡ false) }
+{
+    command.arg(argument)
 }
 
 /// An option that takes a number.

@@ -7,5 +7,5 @@ mod request;
 mod words;
 
 pub use refusal::Refusal;
-pub use request::{Check, Limits, Litmus, Order, Request, Run, Sim, Upgrade};
+pub use request::{Check, Explain, Limits, Litmus, Order, Request, Run, Sim, Upgrade};
 pub use words::read;

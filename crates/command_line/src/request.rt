@@ -7,6 +7,8 @@ pub enum Request<'a> {
     Check(Check<'a>),
     /// The verdict on a set of logs, and its order.
     Order(Order<'a>),
+    /// The verdict on a set of logs, and why it is so.
+    Explain(Explain<'a>),
     /// A set of logs, written anew in format 2.
     Upgrade(Upgrade<'a>),
     /// A run of the machine, one event after the other.
@@ -33,6 +35,15 @@ pub struct Check<'a> {
 pub struct Order<'a> {
     /// The names of its files, that of core 0 first.
     pub files: Vec<&'a str>,
+}
+
+/// Asks for the verdict on a set of logs, and for what there is to tell of it.
+#[derive(Debug, Drop)]
+pub struct Explain<'a> {
+    /// What is judged, by one worker.
+    pub check: Check<'a>,
+    /// The name of the file that a picture goes to, where one is given.
+    pub picture: Option<&'a str>,
 }
 
 /// Asks for a set of logs in format 2.

@@ -7,7 +7,7 @@ ghost use Rattle.command_line.specs.Asking as asking;
 
 use super::grammar::tardis;
 use super::refusal::Refusal;
-use super::request::{Check, Limits, Litmus, Order, Request, Run, Sim, Upgrade};
+use super::request::{Check, Explain, Limits, Litmus, Order, Request, Run, Sim, Upgrade};
 use clap::error::ErrorKind;
 use clap::{ArgMatches, Error};
 use std::alloc::{AllocError, Global};
@@ -39,6 +39,9 @@ pub fn read<'a>(alloc: Global, words: &'a [&'a str]) -> Result<Request<'a>, Refu
     if name == "litmus" {
         return Ok(Request::Litmus(litmus_of(asked)));
     }
+    if name == "explain" {
+        return Ok(Request::Explain(explain_of(alloc, asked)?));
+    }
     if name == "upgrade" {
         return Ok(Request::Upgrade(upgrade_of(alloc, asked)?));
     }
@@ -62,6 +65,20 @@ fn order_of<'a>(alloc: Global, matches: &ArgMatches<'a>) -> Result<Order<'a>, Al
 {
     Ok(Order {
         files: files_of(alloc, matches)?,
+    })
+}
+
+/// What the words after `explain` ask for.
+fn explain_of<'a>(alloc: Global, matches: &ArgMatches<'a>) -> Result<Explain<'a>, AllocError>
+    ensures { IfOk result (asking.IsExplain (rows_of (found_of matches.now))) }
+{
+    Ok(Explain {
+        check: Check {
+            workers: 1,
+            program: name_of(matches, "program"),
+            files: files_of(alloc, matches)?,
+        },
+        picture: name_of(matches, "svg"),
     })
 }
 

@@ -17,7 +17,7 @@ use Rattle.verdict.specs.declared.judge_fault.JudgeFault.{JudgeFault}
 use Rattle.verdict.specs.declared.judge_fault.JudgeFault.TheVariants.{BadConfig, Log, Read, OutOfMemory}
 use Rattle.tardis_command.specs.Faults.{from_judge}
 use Rattle.tardis_command.specs.declared.fault.CommandFault.{CommandFault}
-use Rattle.tardis_command.specs.declared.fault.CommandFault.TheVariants.{Judge, Config, Programs, ProgramsUnread, Schedule, ScheduleUnread, Simulation, Run, Test, TestUnread, Collect, LogUnwritten, Output, OutOfMemory as NoMemory}
+use Rattle.tardis_command.specs.declared.fault.CommandFault.TheVariants.{Judge, Config, Programs, ProgramsUnread, Schedule, ScheduleUnread, Simulation, Run, Test, TestUnread, Collect, LogUnwritten, PictureUnwritten, Output, OutOfMemory as NoMemory}
 use Rattle.tardis_command.specs.Checking.{Against, AreInRange, AreNotAsMany, AreSourcesOf, AreTextsOf, IsAnswerAgainst, IsChecked, IsCheckedAgainst, IsFaultOfPrograms, IsUnprogrammed}
 
 -- the next file's source, after those of the files before it
@@ -78,7 +78,7 @@ lifted (Err fault) = Err (from_judge fault)
 whatever : (told : List ℕ → Option (List ℕ)) (name : Option (Bor (List ℕ))) (Holds : Type 0) → Against told name (λ programs. Holds) → Holds
 whatever told name Holds h = h.2
 
-against : (told : List ℕ → Option (List ℕ)) (asked : Check) (answer : Result Verdict JudgeFault)
+pub against : (told : List ℕ → Option (List ℕ)) (asked : Check) (answer : Result Verdict JudgeFault)
     → Against told asked.program (λ programs. IsCheckedAgainst told programs asked answer) → IsChecked told asked (lifted answer)
 against told asked (Ok verdict) h = h
 against told asked (Err (Log file line fault)) h = h
@@ -119,4 +119,5 @@ unprogrammed told asked name (Test reason) range some h = absurd h
 unprogrammed told asked name TestUnread range some h = absurd h
 unprogrammed told asked name (Collect reason) range some h = absurd h
 unprogrammed told asked name (LogUnwritten file) range some h = absurd h
+unprogrammed told asked name PictureUnwritten range some h = absurd h
 unprogrammed told asked name Output range some h = absurd h

@@ -4,6 +4,7 @@ use Rattle.std.specs.Prelude.{IfOk, OnOk, IfErr}
 use Rattle.std.specs.Io.KnownBytes.{Appends, Keeps}
 use Rattle.std.proofs.KnownBytes.{Appends-nil}
 use Rattle.command_line.specs.Asking.{Asks, IsCommandLine}
+use Rattle.command_line.specs.declared.request.Explain.{Explain}
 use Rattle.command_line.specs.declared.request.Litmus.{Litmus}
 use Rattle.command_line.specs.declared.request.Request.{Request}
 use Rattle.command_line.specs.declared.request.Request.TheVariants as request
@@ -15,11 +16,12 @@ use Rattle.tardis_command.specs.declared.answer.Answer.{Answer}
 use Rattle.tardis_command.specs.declared.answer.Answer.TheVariants as answer
 use Rattle.tardis_command.specs.inner.Printing.{IsUnprinted}
 use Rattle.tardis_command.specs.Endings.{Answered, Ending, EndsBy, HasFailed, IsAnswered, IsAnswerTo, IsDoneBy, IsPrintedBy, Misused, OutputAt, Refused, Sink, Takes, Unprinted, Unread, line, status_of}
+use Rattle.tardis_command.specs.Explaining.{IsExplained}
 use Rattle.tardis_command.specs.Files.{Files}
 use Rattle.tardis_command.specs.Tabling.{IsCounted}
 use Rattle.tardis_command.specs.Faults.{command_fault_text, fault_status}
 use Rattle.tardis_command.specs.declared.fault.CommandFault.{CommandFault}
-use Rattle.tardis_command.specs.declared.fault.CommandFault.TheVariants.{Judge, Config, Programs, ProgramsUnread, Schedule, ScheduleUnread, Simulation, Run, Test, TestUnread, Collect, LogUnwritten, Output, OutOfMemory}
+use Rattle.tardis_command.specs.declared.fault.CommandFault.TheVariants.{Judge, Config, Programs, ProgramsUnread, Schedule, ScheduleUnread, Simulation, Run, Test, TestUnread, Collect, LogUnwritten, PictureUnwritten, Output, OutOfMemory}
 
 pub kept : (contents : Option (List ℕ)) → Keeps contents contents
 kept None = tt
@@ -51,6 +53,26 @@ uncounted told asked old new (Test fault) done = inl done.1
 uncounted told asked old new TestUnread done = inl done.1
 uncounted told asked old new (Collect fault) done = inl done.1
 uncounted told asked old new (LogUnwritten file) done = inl done.1
+uncounted told asked old new PictureUnwritten done = inl done.1
+
+-- standard output holds what it held, or failed, where nothing was explained
+unexplained : (before after : Files) (asked : Explain) (old new : Sink) (fault : CommandFault) → IsExplained before after asked old new (Err fault)
+    → Keeps old.contents new.contents ⊎ HasFailed old new
+unexplained before after asked old new Output done = let (verdict, checked, holds) = done in inr holds.1
+unexplained before after asked old new OutOfMemory done = done
+unexplained before after asked old new PictureUnwritten done = inl done.1
+unexplained before after asked old new (Judge fault) done = inl done.1
+unexplained before after asked old new (Programs fault) done = inl done.1
+unexplained before after asked old new ProgramsUnread done = inl done.1
+unexplained before after asked old new (Config fault) done = absurd done
+unexplained before after asked old new (Schedule fault) done = absurd done
+unexplained before after asked old new ScheduleUnread done = absurd done
+unexplained before after asked old new (Simulation fault) done = absurd done
+unexplained before after asked old new (Run fault) done = absurd done
+unexplained before after asked old new (Test fault) done = absurd done
+unexplained before after asked old new TestUnread done = absurd done
+unexplained before after asked old new (Collect fault) done = absurd done
+unexplained before after asked old new (LogUnwritten file) done = absurd done
 
 -- lack of memory may be told in place of whatever refusal
 memory_instead : (before after : Files) (asked : Request) (out out' : Sink) (fault : CommandFault) (ending : Ending) → IsAnswered ending (Err fault)
@@ -64,6 +86,11 @@ memory_instead before after (request.Litmus litmus) out out' fault (Unprinted an
 memory_instead before after (request.Litmus litmus) out out' fault (Refused reason) answered done = uncounted before.told litmus out out' reason done
 memory_instead before after (request.Litmus litmus) out out' fault Unread answered done = absurd done
 memory_instead before after (request.Litmus litmus) out out' fault (Misused text) answered done = absurd done
+memory_instead before after (request.Explain explain) out out' fault (Answered answer) answered done = cc
+memory_instead before after (request.Explain explain) out out' fault (Unprinted answer) answered done = absurd done
+memory_instead before after (request.Explain explain) out out' fault (Refused reason) answered done = unexplained before after explain out out' reason done
+memory_instead before after (request.Explain explain) out out' fault Unread answered done = absurd done
+memory_instead before after (request.Explain explain) out out' fault (Misused text) answered done = absurd done
 memory_instead before after (request.Order order) out out' fault (Answered answer) answered done = cc
 memory_instead before after (request.Order order) out out' fault (Unprinted answer) answered done = absurd done
 memory_instead before after (request.Order order) out out' fault (Refused reason) answered done = (tt, done.1)
@@ -95,6 +122,7 @@ module _ (before after : Files) (asked : Request) (answer : Answer) (out out' : 
   unprinted TestUnread never = absurd never
   unprinted (Collect reason) never = absurd never
   unprinted (LogUnwritten file) never = absurd never
+  unprinted PictureUnwritten never = absurd never
 
   -- an answer that was to be printed
   pub printed : (result : Result Answer CommandFault) → IfOk result (λ same. same ≡ answer)

@@ -1,5 +1,6 @@
 mod Checks
 mod Ends
+mod Explained
 mod Leaving
 mod Logs
 mod Orders

@@ -13,7 +13,7 @@ use Rattle.tardis_command.specs.Files.{Files}
 use Rattle.tardis_command.specs.inner.Putting.{IsUnput}
 use Rattle.tardis_command.specs.Logs.{ArePutAsFar, ArePutBefore, ArePutFirst, ArePutUpTo, IsUnwritten, KeepsOthers, log_name, TellsLog, TellsFirst}
 use Rattle.tardis_command.specs.declared.fault.CommandFault.{CommandFault}
-use Rattle.tardis_command.specs.declared.fault.CommandFault.TheVariants.{Judge, Config, Programs, ProgramsUnread, Schedule, ScheduleUnread, Simulation, Run, Test, TestUnread, Collect, LogUnwritten, Output, OutOfMemory}
+use Rattle.tardis_command.specs.declared.fault.CommandFault.TheVariants.{Judge, Config, Programs, ProgramsUnread, Schedule, ScheduleUnread, Simulation, Run, Test, TestUnread, Collect, LogUnwritten, PictureUnwritten, Output, OutOfMemory}
 
 -- no two cores' logs are of one name
 names_differ : (out : List ℕ) (c d : ℕ) → c < d → d < 64 → log_name out c ≢ log_name out d
@@ -63,6 +63,7 @@ module _ (format : Format) (old now new : Files) (out : List ℕ) (cores : ℕ) 
 
   pub put_as_far : (fault : CommandFault) → IsUnput now new core fault → ArePutAsFar format old new out cores made
   put_as_far (LogUnwritten file) unput = inr (inl (n, put_up_to unput.1))
+  put_as_far PictureUnwritten never = absurd never
   put_as_far OutOfMemory same = inr (inr (n, put_before same))
   put_as_far (Judge fault) never = absurd never
   put_as_far (Config fault) never = absurd never
@@ -79,6 +80,7 @@ module _ (format : Format) (old now new : Files) (out : List ℕ) (cores : ℕ) 
 
   pub unwritten : (fault : CommandFault) → IsUnput now new core fault → IsUnwritten (ArePutUpTo format old new out cores made) fault
   unwritten (LogUnwritten file) unput = subst (ArePutUpTo format old new out cores made) (sym (unput.0 ∙ is)) (put_up_to unput.1)
+  unwritten PictureUnwritten never = absurd never
   unwritten OutOfMemory same = tt
   unwritten (Judge fault) never = absurd never
   unwritten (Config fault) never = absurd never

@@ -16,7 +16,7 @@ use Rattle.tardis_command.specs.Logs.{ArePut, ArePutAsFar, ArePutUpTo, IsUnwritt
 use Rattle.tardis_command.specs.Programmed.{AreProgramsIn, config_of}
 use Rattle.tardis_command.specs.Simulating.{AreCommandsOf, IsRun}
 use Rattle.tardis_command.specs.declared.fault.CommandFault.{CommandFault}
-use Rattle.tardis_command.specs.declared.fault.CommandFault.TheVariants.{Judge, Config, Programs, ProgramsUnread, Schedule, ScheduleUnread, Simulation, Run, Test, TestUnread, Collect, LogUnwritten, Output, OutOfMemory}
+use Rattle.tardis_command.specs.declared.fault.CommandFault.TheVariants.{Judge, Config, Programs, ProgramsUnread, Schedule, ScheduleUnread, Simulation, Run, Test, TestUnread, Collect, LogUnwritten, PictureUnwritten, Output, OutOfMemory}
 
 module _ (old new : Files) (asked : Sim) (programs : List (List Instruction)) (commands : List Command) (q : CoreParts)
     (sound : first_bad (config_of asked.limits) ≡ None) (read : AreProgramsIn old.told asked.programs.now programs)
@@ -30,6 +30,7 @@ module _ (old new : Files) (asked : Sim) (programs : List (List Instruction)) (c
       → IfErr written (IsUnwritten (ArePutUpTo One old new asked.out.now (length programs) (log_at (world q)))) → IsRun old new asked written
   ended simulated (Ok count) counted put unwritten = (sound, programs, read, (commands, parsed, (q, simulated, (counted, put))))
   ended simulated (Err (LogUnwritten file)) counted put unwritten = (sound, programs, read, (commands, parsed, (q, simulated, unwritten)))
+  ended simulated (Err PictureUnwritten) counted put unwritten = absurd unwritten
   ended simulated (Err OutOfMemory) counted put unwritten = tt
   ended simulated (Err (Judge fault)) counted put unwritten = absurd unwritten
   ended simulated (Err (Config fault)) counted put unwritten = absurd unwritten

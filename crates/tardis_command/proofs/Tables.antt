@@ -13,7 +13,7 @@ use Rattle.tardis_command.specs.Programmed.{config_of}
 use Rattle.tardis_command.specs.Sinks.{Sink}
 use Rattle.tardis_command.specs.Tabling.{IsCounted, IsFaultBy, IsInOrder, IsTestIn, IsUntabled, IsUntested}
 use Rattle.tardis_command.specs.declared.fault.CommandFault.{CommandFault}
-use Rattle.tardis_command.specs.declared.fault.CommandFault.TheVariants.{Judge, Config, Programs, ProgramsUnread, Schedule, ScheduleUnread, Simulation, Run, Test, TestUnread, Collect, LogUnwritten, Output, OutOfMemory}
+use Rattle.tardis_command.specs.declared.fault.CommandFault.TheVariants.{Judge, Config, Programs, ProgramsUnread, Schedule, ScheduleUnread, Simulation, Run, Test, TestUnread, Collect, LogUnwritten, PictureUnwritten, Output, OutOfMemory}
 use Rattle.tardis_command.proofs.Ends.{kept}
 
 -- ---- a row that passes a test
@@ -61,6 +61,7 @@ no_test told asked (Simulation fault) order why = absurd why
 no_test told asked (Run fault) order why = absurd why
 no_test told asked (Collect fault) order why = absurd why
 no_test told asked (LogUnwritten file) order why = absurd why
+no_test told asked PictureUnwritten order why = absurd why
 no_test told asked Output order why = absurd why
 
 by_threads : (threads : Bool) (t : LitmusParts) (asked : Litmus) → IsFaultBy threads t (config_of asked.limits) asked.runs asked.seed BadRuns
@@ -91,3 +92,4 @@ not_tabled told asked sink (Test fault) why = (why, kept sink.contents)
 not_tabled told asked sink TestUnread why = (why, kept sink.contents)
 not_tabled told asked sink (Collect fault) why = (why, kept sink.contents)
 not_tabled told asked sink (LogUnwritten file) why = (why, kept sink.contents)
+not_tabled told asked sink PictureUnwritten why = (why, kept sink.contents)

@@ -17,7 +17,7 @@ use Rattle.tardis_command.specs.Logs.{ArePut, ArePutAsFar, ArePutUpTo, IsUnwritt
 use Rattle.tardis_command.specs.Programmed.{AreProgramsIn, config_of}
 use Rattle.tardis_command.specs.Running.{AreLeft, IsThreadRun}
 use Rattle.tardis_command.specs.declared.fault.CommandFault.{CommandFault}
-use Rattle.tardis_command.specs.declared.fault.CommandFault.TheVariants.{Judge, Config, Programs, ProgramsUnread, Schedule, ScheduleUnread, Simulation, Run, Test, TestUnread, Collect, LogUnwritten, Output, OutOfMemory}
+use Rattle.tardis_command.specs.declared.fault.CommandFault.TheVariants.{Judge, Config, Programs, ProgramsUnread, Schedule, ScheduleUnread, Simulation, Run, Test, TestUnread, Collect, LogUnwritten, PictureUnwritten, Output, OutOfMemory}
 
 module _ (old new : Files) (asked : Asked) (programs : List (List Instruction)) (us : List UnitParts)
     (sound : first_bad (config_of asked.limits) ≡ None) (read : AreProgramsIn old.told asked.programs.now programs) where
@@ -31,6 +31,7 @@ module _ (old new : Files) (asked : Asked) (programs : List (List Instruction)) 
       → IfErr written (IsUnwritten (ArePutUpTo One old new asked.out.now (length programs) (kept_log us))) → IsThreadRun old new asked written
   whole ss is events (Ok count) counted put unwritten = (sound, programs, read, (us, ss, is, events, (counted, put)))
   whole ss is events (Err (LogUnwritten file)) counted put unwritten = (sound, programs, read, (us, ss, is, events, unwritten))
+  whole ss is events (Err PictureUnwritten) counted put unwritten = absurd unwritten
   whole ss is events (Err OutOfMemory) counted put unwritten = tt
   whole ss is events (Err (Judge fault)) counted put unwritten = absurd unwritten
   whole ss is events (Err (Config fault)) counted put unwritten = absurd unwritten

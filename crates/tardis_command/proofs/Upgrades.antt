@@ -24,7 +24,7 @@ use Rattle.tardis_command.specs.Logs.{ArePut, ArePutUpTo, IsUnwritten, performed
 use Rattle.tardis_command.specs.Upgrading.{IsUnread, IsUpgraded, log_in, Spelled}
 use Rattle.tardis_command.specs.inner.Reading.{read_log_of}
 use Rattle.tardis_command.specs.declared.fault.CommandFault.{CommandFault}
-use Rattle.tardis_command.specs.declared.fault.CommandFault.TheVariants.{Judge, Config, Programs, ProgramsUnread, Schedule, ScheduleUnread, Simulation, Run, Test, TestUnread, Collect, LogUnwritten, Output, OutOfMemory as NoMemory}
+use Rattle.tardis_command.specs.declared.fault.CommandFault.TheVariants.{Judge, Config, Programs, ProgramsUnread, Schedule, ScheduleUnread, Simulation, Run, Test, TestUnread, Collect, LogUnwritten, PictureUnwritten, Output, OutOfMemory as NoMemory}
 use Rattle.tardis_command.proofs.Orders.{in_range, one_in_range}
 
 -- no file was opened, since their number is out of range
@@ -108,4 +108,5 @@ module _ (old new : Files) (asked : Upgrade) (vs : List (Vec Record)) (n : ℕ) 
   written (Err (Test fault)) counted put unwritten = absurd unwritten
   written (Err TestUnread) counted put unwritten = absurd unwritten
   written (Err (Collect fault)) counted put unwritten = absurd unwritten
+  written (Err PictureUnwritten) counted put unwritten = absurd unwritten
   written (Err Output) counted put unwritten = absurd unwritten

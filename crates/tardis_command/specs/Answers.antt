@@ -5,11 +5,12 @@ use Rattle.verdict.specs.Texts.{verdict_text}
 use Rattle.verdict.specs.declared.answer.Verdict.{Verdict}
 use Rattle.verdict.specs.declared.answer.Verdict.TheVariants.{Yes, No}
 use Rattle.tardis_command.specs.declared.answer.Answer.{Answer}
-use Rattle.tardis_command.specs.declared.answer.Answer.TheVariants.{Judged, Ordered, Counted, Done}
+use Rattle.tardis_command.specs.declared.answer.Answer.TheVariants.{Judged, Ordered, Explained, Counted, Done}
 
 abbrev pub answer_text : Answer → List ℕ
 answer_text (Judged verdict) = verdict_text verdict
 answer_text (Ordered verdict) = verdict_text verdict
+answer_text (Explained verdict) = verdict_text verdict
 answer_text (Counted forbidden) = []
 answer_text (Done operations) = codes "done: " ++ (decimal operations ++ codes " operations")
 
@@ -21,6 +22,7 @@ line text = text ++ 10 ∷ []
 abbrev pub told_text : Answer → List ℕ
 told_text (Judged verdict) = []
 told_text (Ordered verdict) = line (verdict_text verdict)
+told_text (Explained verdict) = []
 told_text (Counted forbidden) = []
 told_text (Done operations) = []
 
@@ -31,5 +33,6 @@ verdict_status (No fault) = 1
 abbrev pub answer_status : Answer → ℕ
 answer_status (Judged verdict) = verdict_status verdict
 answer_status (Ordered verdict) = verdict_status verdict
+answer_status (Explained verdict) = verdict_status verdict
 answer_status (Counted forbidden) = if forbidden then 1 else 0
 answer_status (Done operations) = 0

@@ -1,5 +1,5 @@
 -- What the check of files answers.
-use Rattle.std.specs.Prelude.{◌≡◌, ◌≢◌, ◌<◌, ⊤, ℕ, List, length, Option, None, Some, Result, Ok, Err, IfSome, IsSome, vec_len}
+use Rattle.std.specs.Prelude.{◌≡◌, ◌<◌, ⊤, ℕ, List, length, Option, None, Some, Result, Ok, Err, IfSome, IsSome, vec_len}
 use Rattle.std.specs.Borrow.{Bor}
 use Rattle.std.specs.List.{AllZip}
 use Rattle.command_line.specs.declared.request.Check.{Check}
@@ -8,13 +8,15 @@ use Rattle.core_program.specs.declared.fault.ProgramFault.{ProgramFault}
 use Rattle.core_program.specs.declared.instruction.Instruction.{Instruction}
 use Rattle.log_file.specs.Devices.{Tells}
 use Rattle.verdict.specs.Counts.{IsInRange, IsOutOfRange}
-use Rattle.verdict.specs.Judgement.{IsAnswerTo, IsRunAnswerTo, SpellConsistentSet, SpellFlatRun}
+use Rattle.verdict.specs.Judgement.{SpellConsistentSet, SpellFlatRun}
 use Rattle.verdict.specs.declared.answer.Verdict.{Verdict}
 use Rattle.verdict.specs.declared.judge_fault.Count.TheVariants.{Files, Workers, Programs as ProgramCount}
 use Rattle.verdict.specs.declared.judge_fault.JudgeFault.{JudgeFault}
 use Rattle.verdict.specs.declared.judge_fault.JudgeFault.TheVariants.{BadConfig, Log, Read, OutOfMemory}
 use Rattle.tardis_command.specs.declared.fault.CommandFault.{CommandFault}
-use Rattle.tardis_command.specs.declared.fault.CommandFault.TheVariants.{Judge, Config, Programs, ProgramsUnread, Schedule, ScheduleUnread, Simulation, Run, Test, TestUnread, Collect, LogUnwritten, Output, OutOfMemory as NoMemory}
+use Rattle.tardis_command.specs.declared.fault.CommandFault.TheVariants.{Judge, Config, Programs, ProgramsUnread, Schedule, ScheduleUnread, Simulation, Run, Test, TestUnread, Collect, LogUnwritten, PictureUnwritten, Output, OutOfMemory as NoMemory}
+pub use Rattle.verdict.specs.Counts.{AreNotAsMany}
+pub use Rattle.verdict.specs.Judgement.{IsAnswerAgainst}
 
 -- these are sources of the files of these names: each tells the bytes that the folder tells
 abbrev pub AreSourcesOf : {S : Type 0} → (List ℕ → Option (List ℕ)) → (S → Option (List ℕ)) → List S → List (Bor (List ℕ)) → Type 0
@@ -41,11 +43,6 @@ AreProgramsOf told (Some name) (Some programs) = (text : List ℕ) × Tells (tol
 abbrev pub Against : (List ℕ → Option (List ℕ)) → Option (Bor (List ℕ)) → (Option (List (List Instruction)) → Type 0) → Type 0
 Against told name Holds = (programs : Option (List (List Instruction))) × AreProgramsOf told name programs × Holds programs
 
--- the number of programs isn't this
-abbrev pub AreNotAsMany : ℕ → Option (List (List Instruction)) → Type 0
-AreNotAsMany n None = ⊥
-AreNotAsMany n (Some programs) = length programs ≢ n
-
 -- why the text of the file of this name isn't a set of programs
 abbrev pub IsTextFault : (List ℕ → Option (List ℕ)) → List ℕ → ProgramFault → Type 0
 IsTextFault told name fault = (text : List ℕ) × Tells (told name) text × IsSetFault text fault
@@ -69,14 +66,10 @@ IsUnprogrammed told name (Test fault) = ⊥
 IsUnprogrammed told name TestUnread = ⊥
 IsUnprogrammed told name (Collect fault) = ⊥
 IsUnprogrammed told name (LogUnwritten file) = ⊥
+IsUnprogrammed told name PictureUnwritten = ⊥
 IsUnprogrammed told name Output = ⊥
 
 -- ---- the answer
-
--- the answer of the judge, against programs where they are given
-abbrev pub IsAnswerAgainst : Option (List (List Instruction)) → List (List ℕ) → Result Verdict JudgeFault → Type 0
-IsAnswerAgainst None = IsAnswerTo
-IsAnswerAgainst (Some programs) = IsRunAnswerTo programs
 
 -- what the judge answers to the texts of the files
 abbrev pub IsJudged : (List ℕ → Option (List ℕ)) → Option (List (List Instruction)) → Check → Result Verdict JudgeFault → Type 0
@@ -114,6 +107,7 @@ IsChecked told asked (Err (Test fault)) = ⊥
 IsChecked told asked (Err TestUnread) = ⊥
 IsChecked told asked (Err (Collect fault)) = ⊥
 IsChecked told asked (Err (LogUnwritten file)) = ⊥
+IsChecked told asked (Err PictureUnwritten) = ⊥
 IsChecked told asked (Err Output) = ⊥
 
 -- ---- what a Yes says

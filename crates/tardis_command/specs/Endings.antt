@@ -2,12 +2,14 @@
 use Rattle.std.specs.Prelude.{◌≡◌, ◌<◌, ◌≤◌, ◌⊎◌, ⊤, ℕ, List, [], ◌∷◌, ◌++◌, Option, Result, Ok, Err, length, take}
 use Rattle.std.specs.Io.KnownBytes.{Appends, Keeps}
 use Rattle.command_line.specs.Asking.{Asks, IsCommandLine}
+use Rattle.command_line.specs.declared.request.Explain.{Explain as AskedExplain}
 use Rattle.command_line.specs.declared.request.Litmus.{Litmus as AskedLitmus}
 use Rattle.command_line.specs.declared.request.Order.{Order as AskedOrder}
 use Rattle.command_line.specs.declared.request.Request.{Request}
-use Rattle.command_line.specs.declared.request.Request.TheVariants.{Check, Order, Upgrade, Sim, Run, Litmus}
+use Rattle.command_line.specs.declared.request.Request.TheVariants.{Check, Order, Explain, Upgrade, Sim, Run, Litmus}
 use Rattle.tardis_command.specs.Answers.{answer_status, answer_text, told_text}
 use Rattle.tardis_command.specs.Checking.{FilesAreConsistent, FilesRunFlat, IsChecked, TextsAreConsistent}
+use Rattle.tardis_command.specs.Explaining.{IsExplained, IsPictureName}
 use Rattle.tardis_command.specs.Files.{Files}
 use Rattle.tardis_command.specs.Faults.{command_fault_text, fault_status}
 use Rattle.tardis_command.specs.Leaving.{LeavesYes}
@@ -18,7 +20,7 @@ use Rattle.tardis_command.specs.Simulating.{IsRun}
 use Rattle.tardis_command.specs.Tabling.{IsCounted}
 use Rattle.tardis_command.specs.Upgrading.{IsUpgraded}
 use Rattle.tardis_command.specs.declared.answer.Answer.{Answer}
-use Rattle.tardis_command.specs.declared.answer.Answer.TheVariants.{Judged, Ordered, Counted, Done}
+use Rattle.tardis_command.specs.declared.answer.Answer.TheVariants.{Judged, Ordered, Explained, Counted, Done}
 use Rattle.tardis_command.specs.declared.fault.CommandFault.{CommandFault}
 use Rattle.tardis_command.specs.declared.fault.CommandFault.TheVariants.{OutOfMemory, Output}
 pub use Rattle.tardis_command.specs.Answers.{line}
@@ -51,28 +53,33 @@ complaint_of (Misused text) = text
 
 -- ---- why
 
--- This may be the answer to what was asked, or why there is none; the folder was `old` before and is `new` after. An order and a
--- table have no answer apart from what standard output took of them.
+-- This may be the answer to what was asked, or why there is none; the folder was `old` before and is `new` after. An order, an
+-- explanation and a table have no answer apart from what standard output took of them.
 abbrev pub IsAnswerTo : Files → Files → Request → Result Answer CommandFault → Type 0
 IsAnswerTo old new (Check asked) (Ok (Judged verdict)) = IsChecked old.told asked (Ok verdict)
 IsAnswerTo old new (Check asked) (Ok (Ordered verdict)) = ⊥
+IsAnswerTo old new (Check asked) (Ok (Explained verdict)) = ⊥
 IsAnswerTo old new (Check asked) (Ok (Counted forbidden)) = ⊥
 IsAnswerTo old new (Check asked) (Ok (Done count)) = ⊥
 IsAnswerTo old new (Check asked) (Err fault) = IsChecked old.told asked (Err fault)
 IsAnswerTo old new (Order asked) answer = ⊥
+IsAnswerTo old new (Explain asked) answer = ⊥
 IsAnswerTo old new (Litmus asked) answer = ⊥
 IsAnswerTo old new (Upgrade asked) (Ok (Judged verdict)) = ⊥
 IsAnswerTo old new (Upgrade asked) (Ok (Ordered verdict)) = ⊥
+IsAnswerTo old new (Upgrade asked) (Ok (Explained verdict)) = ⊥
 IsAnswerTo old new (Upgrade asked) (Ok (Counted forbidden)) = ⊥
 IsAnswerTo old new (Upgrade asked) (Ok (Done count)) = IsUpgraded old new asked (Ok count)
 IsAnswerTo old new (Upgrade asked) (Err fault) = IsUpgraded old new asked (Err fault)
 IsAnswerTo old new (Sim asked) (Ok (Judged verdict)) = ⊥
 IsAnswerTo old new (Sim asked) (Ok (Ordered verdict)) = ⊥
+IsAnswerTo old new (Sim asked) (Ok (Explained verdict)) = ⊥
 IsAnswerTo old new (Sim asked) (Ok (Counted forbidden)) = ⊥
 IsAnswerTo old new (Sim asked) (Ok (Done count)) = IsRun old new asked (Ok count)
 IsAnswerTo old new (Sim asked) (Err fault) = IsRun old new asked (Err fault)
 IsAnswerTo old new (Run asked) (Ok (Judged verdict)) = ⊥
 IsAnswerTo old new (Run asked) (Ok (Ordered verdict)) = ⊥
+IsAnswerTo old new (Run asked) (Ok (Explained verdict)) = ⊥
 IsAnswerTo old new (Run asked) (Ok (Counted forbidden)) = ⊥
 IsAnswerTo old new (Run asked) (Ok (Done count)) = IsThreadRun old new asked (Ok count)
 IsAnswerTo old new (Run asked) (Err fault) = IsThreadRun old new asked (Err fault)
@@ -93,6 +100,7 @@ AskFor words Holds = (asked : Request) × Asks words asked × Holds asked
 abbrev pub AreConsistent : (List ℕ → Option (List ℕ)) → Request → Type 0
 AreConsistent told (Check asked) = FilesAreConsistent told asked
 AreConsistent told (Order asked) = TextsAreConsistent told asked.files.items
+AreConsistent told (Explain asked) = FilesAreConsistent told asked.check
 AreConsistent told (Upgrade asked) = ⊤
 AreConsistent told (Sim asked) = ⊤
 AreConsistent told (Run asked) = ⊤
@@ -102,6 +110,7 @@ AreConsistent told (Litmus asked) = ⊤
 abbrev pub AreOrdered : (List ℕ → Option (List ℕ)) → Sink → Sink → Request → Type 0
 AreOrdered told old new (Check asked) = ⊤
 AreOrdered told old new (Order asked) = TakesOrder told asked.files.items old new
+AreOrdered told old new (Explain asked) = ⊤
 AreOrdered told old new (Upgrade asked) = ⊤
 AreOrdered told old new (Sim asked) = ⊤
 AreOrdered told old new (Run asked) = ⊤
@@ -111,6 +120,7 @@ AreOrdered told old new (Litmus asked) = ⊤
 abbrev pub RunFlat : (List ℕ → Option (List ℕ)) → Request → Type 0
 RunFlat told (Check asked) = FilesRunFlat told asked
 RunFlat told (Order asked) = ⊤
+RunFlat told (Explain asked) = FilesRunFlat told asked.check
 RunFlat told (Upgrade asked) = ⊤
 RunFlat told (Sim asked) = ⊤
 RunFlat told (Run asked) = ⊤
@@ -120,23 +130,25 @@ RunFlat told (Litmus asked) = ⊤
 abbrev pub LeaveYes : (List ℕ → Option (List ℕ)) → (List ℕ → Option (List ℕ)) → Request → Type 0
 LeaveYes told told' (Check asked) = ⊤
 LeaveYes told told' (Order asked) = ⊤
+LeaveYes told told' (Explain asked) = ⊤
 LeaveYes told told' (Upgrade asked) = ⊤
 LeaveYes told told' (Sim asked) = LeavesYes told told' asked.programs.now asked.out.now
 LeaveYes told told' (Run asked) = LeavesYes told told' asked.programs.now asked.out.now
 LeaveYes told told' (Litmus asked) = ⊤
 
--- the name of a log that was asked for
-abbrev pub IsLogName : Request → List ℕ → Type 0
-IsLogName (Check asked) name = ⊥
-IsLogName (Order asked) name = ⊥
-IsLogName (Litmus asked) name = ⊥
-IsLogName (Upgrade asked) name = (c : ℕ) × (c < 64) × (name ≡ log_name asked.out.now c)
-IsLogName (Sim asked) name = (c : ℕ) × (c < 64) × (name ≡ log_name asked.out.now c)
-IsLogName (Run asked) name = (c : ℕ) × (c < 64) × (name ≡ log_name asked.out.now c)
+-- a name under which what was asked for may put a file: that of a log or of a picture
+abbrev pub IsPutName : Request → List ℕ → Type 0
+IsPutName (Check asked) name = ⊥
+IsPutName (Order asked) name = ⊥
+IsPutName (Litmus asked) name = ⊥
+IsPutName (Explain asked) name = IsPictureName asked.picture name
+IsPutName (Upgrade asked) name = (c : ℕ) × (c < 64) × (name ≡ log_name asked.out.now c)
+IsPutName (Sim asked) name = (c : ℕ) × (c < 64) × (name ≡ log_name asked.out.now c)
+IsPutName (Run asked) name = (c : ℕ) × (c < 64) × (name ≡ log_name asked.out.now c)
 
 -- what the folder tells of other names is what it told
 abbrev pub KeepsFiles : (List ℕ → Option (List ℕ)) → (List ℕ → Option (List ℕ)) → (List ℕ → Type 0) → Type 0
-KeepsFiles told told' IsLog = (name : List ℕ) → ¬ (IsLog name) → told' name ≡ told name
+KeepsFiles told told' IsPut = (name : List ℕ) → ¬ (IsPut name) → told' name ≡ told name
 
 -- ---- standard output
 
@@ -156,6 +168,7 @@ IsPrintedBy old new asked out out' ending = IsEndOf old new asked ending × Outp
 abbrev pub IsWrittenBy : (List ℕ → Option (List ℕ)) → AskedOrder → Sink → Sink → Ending → Type 0
 IsWrittenBy told asked out out' (Answered (Ordered verdict)) = IsOrdered told asked out out' (Ok verdict)
 IsWrittenBy told asked out out' (Answered (Judged verdict)) = ⊥
+IsWrittenBy told asked out out' (Answered (Explained verdict)) = ⊥
 IsWrittenBy told asked out out' (Answered (Counted forbidden)) = ⊥
 IsWrittenBy told asked out out' (Answered (Done count)) = ⊥
 IsWrittenBy told asked out out' (Unprinted answer) = ⊥
@@ -163,11 +176,24 @@ IsWrittenBy told asked out out' (Refused fault) = IsOrdered told asked out out' 
 IsWrittenBy told asked out out' Unread = ⊥
 IsWrittenBy told asked out out' (Misused text) = ⊥
 
+-- an explanation ended so, which went to standard output and into a picture
+abbrev pub IsExplainedBy : Files → Files → AskedExplain → Sink → Sink → Ending → Type 0
+IsExplainedBy old new asked out out' (Answered (Explained verdict)) = IsExplained old new asked out out' (Ok verdict)
+IsExplainedBy old new asked out out' (Answered (Judged verdict)) = ⊥
+IsExplainedBy old new asked out out' (Answered (Ordered verdict)) = ⊥
+IsExplainedBy old new asked out out' (Answered (Counted forbidden)) = ⊥
+IsExplainedBy old new asked out out' (Answered (Done count)) = ⊥
+IsExplainedBy old new asked out out' (Unprinted answer) = ⊥
+IsExplainedBy old new asked out out' (Refused fault) = IsExplained old new asked out out' (Err fault)
+IsExplainedBy old new asked out out' Unread = ⊥
+IsExplainedBy old new asked out out' (Misused text) = ⊥
+
 -- the counting of outcomes ended so, whose table went to standard output
 abbrev pub IsCountedBy : (List ℕ → Option (List ℕ)) → AskedLitmus → Sink → Sink → Ending → Type 0
 IsCountedBy told asked out out' (Answered (Counted forbidden)) = IsCounted told asked out out' (Ok forbidden)
 IsCountedBy told asked out out' (Answered (Judged verdict)) = ⊥
 IsCountedBy told asked out out' (Answered (Ordered verdict)) = ⊥
+IsCountedBy told asked out out' (Answered (Explained verdict)) = ⊥
 IsCountedBy told asked out out' (Answered (Done count)) = ⊥
 IsCountedBy told asked out out' (Unprinted answer) = ⊥
 IsCountedBy told asked out out' (Refused fault) = IsCounted told asked out out' (Err fault)
@@ -180,6 +206,7 @@ IsCountedBy told asked out out' (Misused text) = ⊥
 abbrev pub IsDoneBy : Files → Files → Request → Sink → Sink → Ending → Type 0
 IsDoneBy old new (Check asked) out out' ending = IsPrintedBy old new (Check asked) out out' ending
 IsDoneBy old new (Order asked) out out' ending = IsWrittenBy old.told asked out out' ending
+IsDoneBy old new (Explain asked) out out' ending = IsExplainedBy old new asked out out' ending
 IsDoneBy old new (Upgrade asked) out out' ending = IsPrintedBy old new (Upgrade asked) out out' ending
 IsDoneBy old new (Sim asked) out out' ending = IsPrintedBy old new (Sim asked) out out' ending
 IsDoneBy old new (Run asked) out out' ending = IsPrintedBy old new (Run asked) out out' ending

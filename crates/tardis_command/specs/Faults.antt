@@ -26,7 +26,7 @@ use Rattle.verdict.specs.Texts.{judge_fault_text}
 use Rattle.verdict.specs.declared.judge_fault.JudgeFault.{JudgeFault}
 use Rattle.verdict.specs.declared.judge_fault.JudgeFault.TheVariants.{BadConfig, Log, Read, OutOfMemory}
 use Rattle.tardis_command.specs.declared.fault.CommandFault.{CommandFault}
-use Rattle.tardis_command.specs.declared.fault.CommandFault.TheVariants.{Judge, Config, Programs, ProgramsUnread, Schedule, ScheduleUnread, Simulation, Run, Test, TestUnread, Collect, LogUnwritten, Output, OutOfMemory as NoMemoryAtAll}
+use Rattle.tardis_command.specs.declared.fault.CommandFault.TheVariants.{Judge, Config, Programs, ProgramsUnread, Schedule, ScheduleUnread, Simulation, Run, Test, TestUnread, Collect, LogUnwritten, PictureUnwritten, Output, OutOfMemory as NoMemoryAtAll}
 
 -- why there is no verdict, as a refusal of the command
 abbrev pub from_judge : JudgeFault → CommandFault
@@ -95,6 +95,7 @@ command_fault_text (Test fault) = litmus_fault_text fault
 command_fault_text TestUnread = codes "refused: litmus: 28 Read"
 command_fault_text (Collect fault) = collect_fault_text fault
 command_fault_text (LogUnwritten file) = codes "refused: file " ++ (decimal file ++ codes ": 29 Write")
+command_fault_text PictureUnwritten = codes "refused: picture: 29 Write"
 command_fault_text Output = codes "refused: output: 29 Write"
 command_fault_text NoMemoryAtAll = codes "refused: 10 OutOfMemory"
 
@@ -146,5 +147,6 @@ fault_status (Test fault) = litmus_fault_status fault
 fault_status TestUnread = 4
 fault_status (Collect fault) = collect_fault_status fault
 fault_status (LogUnwritten file) = 4
+fault_status PictureUnwritten = 4
 fault_status Output = 4
 fault_status NoMemoryAtAll = 4

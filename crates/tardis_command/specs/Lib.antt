@@ -1,6 +1,7 @@
 pub mod Answers
 pub mod Checking
 pub mod Endings
+pub mod Explaining
 pub mod Faults
 pub mod Files
 pub mod Leaving

@@ -7,7 +7,7 @@ use Rattle.log_record.specs.declared.format.Format.{Format}
 use Rattle.log_record.specs.declared.record.Record.{Record}
 use Rattle.tardis_command.specs.Files.{Files}
 use Rattle.tardis_command.specs.declared.fault.CommandFault.{CommandFault}
-use Rattle.tardis_command.specs.declared.fault.CommandFault.TheVariants.{Judge, Config, Programs, ProgramsUnread, Schedule, ScheduleUnread, Simulation, Run, Test, TestUnread, Collect, LogUnwritten, Output, OutOfMemory}
+use Rattle.tardis_command.specs.declared.fault.CommandFault.TheVariants.{Judge, Config, Programs, ProgramsUnread, Schedule, ScheduleUnread, Simulation, Run, Test, TestUnread, Collect, LogUnwritten, PictureUnwritten, Output, OutOfMemory}
 
 -- the name of core c's log: that of the logs, a dot and the core's number
 abbrev pub log_name : List ℕ → ℕ → List ℕ
@@ -61,6 +61,7 @@ performed_below made (suc c) = performed_below made c + length (made c)
 -- a core's log can't be written, of whose number this holds, or memory ran out
 abbrev pub IsUnwritten : (ℕ → Type 0) → CommandFault → Type 0
 IsUnwritten Holds (LogUnwritten file) = Holds file
+IsUnwritten Holds PictureUnwritten = ⊥
 IsUnwritten Holds OutOfMemory = ⊤
 IsUnwritten Holds (Judge fault) = ⊥
 IsUnwritten Holds (Config fault) = ⊥

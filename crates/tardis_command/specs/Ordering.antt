@@ -12,7 +12,7 @@ use Rattle.verdict.specs.declared.judge_fault.JudgeFault.TheVariants.{BadConfig,
 use Rattle.tardis_command.specs.Checking.{AreTextsOf}
 use Rattle.tardis_command.specs.Sinks.{HasFailed, Sink, Took}
 use Rattle.tardis_command.specs.declared.fault.CommandFault.{CommandFault}
-use Rattle.tardis_command.specs.declared.fault.CommandFault.TheVariants.{Judge, Config, Programs, ProgramsUnread, Schedule, ScheduleUnread, Simulation, Run, Test, TestUnread, Collect, LogUnwritten, Output, OutOfMemory as NoMemory}
+use Rattle.tardis_command.specs.declared.fault.CommandFault.TheVariants.{Judge, Config, Programs, ProgramsUnread, Schedule, ScheduleUnread, Simulation, Run, Test, TestUnread, Collect, LogUnwritten, PictureUnwritten, Output, OutOfMemory as NoMemory}
 
 -- The judge that merges answers this verdict to the texts of the files; with a Yes the sink took the order text of an order by which
 -- the set that they spell is sequentially consistent, and else what it took lacks the `end` line.
@@ -42,6 +42,7 @@ IsUnordered told asked old new (Test fault) = ⊥
 IsUnordered told asked old new TestUnread = ⊥
 IsUnordered told asked old new (Collect fault) = ⊥
 IsUnordered told asked old new (LogUnwritten file) = ⊥
+IsUnordered told asked old new PictureUnwritten = ⊥
 
 -- the verdict on the files, or why there is none; then what the sink took lacks the `end` line
 abbrev pub IsOrdered : (List ℕ → Option (List ℕ)) → Order → Sink → Sink → Result Verdict CommandFault → Type 0

@@ -15,7 +15,7 @@ use Rattle.tardis_command.specs.Files.{Files}
 use Rattle.tardis_command.specs.Logs.{ArePut, ArePutAsFar, ArePutUpTo, performed_below}
 use Rattle.tardis_command.specs.Programmed.{Programmed, config_of}
 use Rattle.tardis_command.specs.declared.fault.CommandFault.{CommandFault}
-use Rattle.tardis_command.specs.declared.fault.CommandFault.TheVariants.{Judge, Config, Programs, ProgramsUnread, Schedule, ScheduleUnread, Simulation, Run as RunRefused, Test, TestUnread, Collect, LogUnwritten, Output, OutOfMemory}
+use Rattle.tardis_command.specs.declared.fault.CommandFault.TheVariants.{Judge, Config, Programs, ProgramsUnread, Schedule, ScheduleUnread, Simulation, Run as RunRefused, Test, TestUnread, Collect, LogUnwritten, PictureUnwritten, Output, OutOfMemory}
 
 -- this holds of the units of a whole run of the programs, which is one of the core machine
 abbrev pub Ended : Run → List (List Instruction) → (List UnitParts → Type 0) → Type 0
@@ -56,3 +56,4 @@ IsThreadRun old new asked (Err TestUnread) = ⊥
 IsThreadRun old new asked (Err (Collect fault)) = ⊥
 IsThreadRun old new asked (Err (Simulation fault)) = ⊥
 IsThreadRun old new asked (Err Output) = ⊥
+IsThreadRun old new asked (Err PictureUnwritten) = ⊥

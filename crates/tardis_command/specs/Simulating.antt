@@ -18,7 +18,7 @@ use Rattle.tardis_command.specs.Files.{Files}
 use Rattle.tardis_command.specs.Logs.{ArePut, ArePutAsFar, ArePutUpTo, performed_below}
 use Rattle.tardis_command.specs.Programmed.{Programmed, config_of}
 use Rattle.tardis_command.specs.declared.fault.CommandFault.{CommandFault}
-use Rattle.tardis_command.specs.declared.fault.CommandFault.TheVariants.{Judge, Config, Programs, ProgramsUnread, Schedule, ScheduleUnread, Simulation, Run, Test, TestUnread, Collect, LogUnwritten, Output, OutOfMemory}
+use Rattle.tardis_command.specs.declared.fault.CommandFault.TheVariants.{Judge, Config, Programs, ProgramsUnread, Schedule, ScheduleUnread, Simulation, Run, Test, TestUnread, Collect, LogUnwritten, PictureUnwritten, Output, OutOfMemory}
 
 -- ---- what was asked for
 
@@ -47,6 +47,7 @@ IsUnscheduled told name cores (Test fault) = ⊥
 IsUnscheduled told name cores TestUnread = ⊥
 IsUnscheduled told name cores (Collect fault) = ⊥
 IsUnscheduled told name cores (LogUnwritten file) = ⊥
+IsUnscheduled told name cores PictureUnwritten = ⊥
 IsUnscheduled told name cores Output = ⊥
 
 -- ---- what it came to
@@ -87,3 +88,4 @@ IsRun old new asked (Err (Test fault)) = ⊥
 IsRun old new asked (Err TestUnread) = ⊥
 IsRun old new asked (Err (Collect fault)) = ⊥
 IsRun old new asked (Err Output) = ⊥
+IsRun old new asked (Err PictureUnwritten) = ⊥

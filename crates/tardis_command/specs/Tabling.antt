@@ -18,7 +18,7 @@ use Rattle.log_file.specs.Devices.{Tells}
 use Rattle.tardis_command.specs.Programmed.{config_of}
 use Rattle.tardis_command.specs.Sinks.{HasFailed, Sink, TakesBeginning}
 use Rattle.tardis_command.specs.declared.fault.CommandFault.{CommandFault}
-use Rattle.tardis_command.specs.declared.fault.CommandFault.TheVariants.{Judge, Config, Programs, ProgramsUnread, Schedule, ScheduleUnread, Simulation, Run, Test, TestUnread, Collect, LogUnwritten, Output, OutOfMemory}
+use Rattle.tardis_command.specs.declared.fault.CommandFault.TheVariants.{Judge, Config, Programs, ProgramsUnread, Schedule, ScheduleUnread, Simulation, Run, Test, TestUnread, Collect, LogUnwritten, PictureUnwritten, Output, OutOfMemory}
 
 -- ---- what was asked for
 
@@ -41,6 +41,7 @@ IsUntested told name (Simulation fault) = ⊥
 IsUntested told name (Run fault) = ⊥
 IsUntested told name (Collect fault) = ⊥
 IsUntested told name (LogUnwritten file) = ⊥
+IsUntested told name PictureUnwritten = ⊥
 IsUntested told name Output = ⊥
 
 -- the numbers of the machine and the number of runs are in range
@@ -92,6 +93,7 @@ IsUntabled told asked ScheduleUnread = ⊥
 IsUntabled told asked (Simulation fault) = ⊥
 IsUntabled told asked (Run fault) = ⊥
 IsUntabled told asked (LogUnwritten file) = ⊥
+IsUntabled told asked PictureUnwritten = ⊥
 IsUntabled told asked Output = ⊥
 
 -- ---- its text
@@ -115,4 +117,5 @@ IsCounted told asked old new (Err (Test fault)) = IsUntabled told asked (Test fa
 IsCounted told asked old new (Err TestUnread) = IsUntabled told asked TestUnread × Keeps old.contents new.contents
 IsCounted told asked old new (Err (Collect fault)) = IsUntabled told asked (Collect fault) × Keeps old.contents new.contents
 IsCounted told asked old new (Err (LogUnwritten file)) = IsUntabled told asked (LogUnwritten file) × Keeps old.contents new.contents
+IsCounted told asked old new (Err PictureUnwritten) = IsUntabled told asked PictureUnwritten × Keeps old.contents new.contents
 IsCounted told asked old new (Err OutOfMemory) = Keeps old.contents new.contents ⊎ HasFailed old new

@@ -14,7 +14,7 @@ use Rattle.tardis_command.specs.Checking.{AreTextsOf}
 use Rattle.tardis_command.specs.Files.{Files}
 use Rattle.tardis_command.specs.Logs.{ArePut, ArePutUpTo, performed_below}
 use Rattle.tardis_command.specs.declared.fault.CommandFault.{CommandFault}
-use Rattle.tardis_command.specs.declared.fault.CommandFault.TheVariants.{Judge, Config, Programs, ProgramsUnread, Schedule, ScheduleUnread, Simulation, Run, Test, TestUnread, Collect, LogUnwritten, Output, OutOfMemory as NoMemory}
+use Rattle.tardis_command.specs.declared.fault.CommandFault.TheVariants.{Judge, Config, Programs, ProgramsUnread, Schedule, ScheduleUnread, Simulation, Run, Test, TestUnread, Collect, LogUnwritten, PictureUnwritten, Output, OutOfMemory as NoMemory}
 
 -- log c of a set, of no records where it has no such log
 abbrev pub log_in : List (List Record) → ℕ → List Record
@@ -61,4 +61,5 @@ IsUpgraded old new asked (Err (Run fault)) = ⊥
 IsUpgraded old new asked (Err (Test fault)) = ⊥
 IsUpgraded old new asked (Err TestUnread) = ⊥
 IsUpgraded old new asked (Err (Collect fault)) = ⊥
+IsUpgraded old new asked (Err PictureUnwritten) = ⊥
 IsUpgraded old new asked (Err Output) = ⊥

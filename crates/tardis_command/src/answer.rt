@@ -14,6 +14,8 @@ pub enum Answer {
     Judged(Verdict),
     /// The verdict on a set of logs whose order was written, where it is Yes.
     Ordered(Verdict),
+    /// The verdict on a set of logs, with what there is to tell of it.
+    Explained(Verdict),
     /// A table of the outcomes of a litmus test was written, and whether one of them is forbidden.
     Counted(bool),
     /// Programs were run to their ends, and have performed this number of operations.
@@ -26,8 +28,12 @@ impl Answer {
         ensures { result ≡ answer_status self.now }
     {
         match self {
-            Answer::Judged(Verdict::No(_)) | Answer::Ordered(Verdict::No(_)) => 1,
-            Answer::Judged(Verdict::Yes(_)) | Answer::Ordered(Verdict::Yes(_)) => 0,
+            Answer::Judged(verdict) | Answer::Ordered(verdict) | Answer::Explained(verdict) => {
+                match verdict {
+                    Verdict::No(_) => 1,
+                    Verdict::Yes(_) => 0,
+                }
+            }
             Answer::Counted(true) => 1,
             Answer::Counted(false) | Answer::Done(_) => 0,
         }
@@ -42,7 +48,9 @@ impl Display for Answer {
 
     fn fmt<W: fmt::Write>(&self, f: &mut fmt::Formatter<W>) -> fmt::Result {
         match self {
-            Answer::Judged(verdict) | Answer::Ordered(verdict) => write!(f, "{verdict}"),
+            Answer::Judged(verdict) | Answer::Ordered(verdict) | Answer::Explained(verdict) => {
+                write!(f, "{verdict}")
+            }
             Answer::Counted(_) => f.write_str(""),
             Answer::Done(operations) => write!(f, "done: {operations} operations"),
         }

@@ -15,6 +15,7 @@ use super::output::{print_answer, refuse, tell, tell_answer};
 use super::run::run;
 use super::sim::sim;
 use super::table::count_outcomes;
+use super::telling::explain;
 use super::upgrade::upgrade;
 use super::watch::Watch;
 use command_line::{Refusal, Request, read};
@@ -30,7 +31,8 @@ const USAGE: u8 = 3;
 /// answers the exit status: 0 for Yes or done, 1 for No or a forbidden outcome, 2 where a log, the
 /// programs, the schedule or the test are refused, 3 where the words are or a number is out of range, else 4. An answer goes to standard
 /// output, all else to standard error; where an order goes to standard output, its verdict goes to
-/// standard error. In the folder nothing but logs is put, those of a run or of an upgrade.
+/// standard error. In the folder nothing is put but the logs of a run or of an upgrade and the picture of
+/// an explanation.
 pub fn command<R: Threads + Wait + Sync, W: Watch + Sync, F: Folder, O: ByteSink, E: ByteSink>(
     rt: &R,
     alloc: Global,
@@ -48,7 +50,7 @@ pub fn command<R: Threads + Wait + Sync, W: Watch + Sync, F: Folder, O: ByteSink
         (endings.sink_of E.contents E.failed err.old)
         (endings.sink_of E.contents E.failed err.new) ending }
     ensures files { endings.KeepsFiles (F.told folder.old) (F.told folder.new)
-        (λ name. endings.AskFor (texts words.entry.now) (λ asked. endings.IsLogName asked name)) }
+        (λ name. endings.AskFor (texts words.entry.now) (λ asked. endings.IsPutName asked name)) }
     ensures sound { result ≡ 0 → endings.AskFor (texts words.entry.now)
         (endings.AreConsistent (F.told folder.old)) }
     ensures order { result ≡ 0 → endings.AskFor (texts words.entry.now)
@@ -90,7 +92,7 @@ fn perform<R: Threads + Wait + Sync, W: Watch + Sync, F: Folder, O: ByteSink>(
         (endings.sink_of O.contents O.failed out.old)
         (endings.sink_of O.contents O.failed out.new) ending }
     ensures files { endings.KeepsFiles (F.told folder.old) (F.told folder.new)
-        (endings.IsLogName request.now) }
+        (endings.IsPutName request.now) }
     ensures sound { IfOk result (λ answer. answer_status answer ≡ 0
         → endings.AreConsistent (F.told folder.old) request.now) }
     ensures order { IfOk result (λ answer. answer_status answer ≡ 0
@@ -107,6 +109,7 @@ fn perform<R: Threads + Wait + Sync, W: Watch + Sync, F: Folder, O: ByteSink>(
             print_answer(alloc, out, Answer::Judged(verdict))
         }
         Request::Order(asked) => Ok(Answer::Ordered(order(alloc, folder, asked, out)?)),
+        Request::Explain(asked) => Ok(Answer::Explained(explain(rt, alloc, folder, asked, out)?)),
         Request::Sim(asked) => {
             let operations = sim(alloc, folder, asked)?;
             print_answer(alloc, out, Answer::Done(operations))

@@ -45,6 +45,8 @@ pub enum CommandFault {
     Collect(CollectFault),
     /// The log of this file can't be written.
     LogUnwritten { file: usize },
+    /// The picture of an explanation can't be written.
+    PictureUnwritten,
     /// Standard output failed.
     Output,
     /// A growth was refused.
@@ -79,7 +81,7 @@ impl CommandFault {
             CommandFault::ProgramsUnread | CommandFault::ScheduleUnread => 4,
             CommandFault::TestUnread => 4,
             CommandFault::Simulation(_) | CommandFault::Run(_) => 4,
-            CommandFault::LogUnwritten { .. } => 4,
+            CommandFault::LogUnwritten { .. } | CommandFault::PictureUnwritten => 4,
             CommandFault::Output | CommandFault::OutOfMemory => 4,
         }
     }
@@ -125,6 +127,7 @@ impl Display for CommandFault {
             }
             CommandFault::Collect(fault) => write!(f, "refused: {fault}"),
             CommandFault::LogUnwritten { file } => write!(f, "refused: file {file}: 29 Write"),
+            CommandFault::PictureUnwritten => f.write_str("refused: picture: 29 Write"),
             CommandFault::Output => f.write_str("refused: output: 29 Write"),
             CommandFault::OutOfMemory => f.write_str("refused: 10 OutOfMemory"),
         }

@@ -13,6 +13,7 @@ mod output;
 mod run;
 mod sim;
 mod table;
+mod telling;
 mod text;
 mod upgrade;
 mod verdict_line;

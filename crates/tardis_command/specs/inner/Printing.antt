@@ -2,7 +2,7 @@
 use Rattle.std.specs.Prelude.{◌≡◌, ℕ, List}
 use Rattle.tardis_command.specs.Endings.{HasFailed, Sink, TakesBeginning}
 use Rattle.tardis_command.specs.declared.fault.CommandFault.{CommandFault}
-use Rattle.tardis_command.specs.declared.fault.CommandFault.TheVariants.{Judge, Config, Programs, ProgramsUnread, Schedule, ScheduleUnread, Simulation, Run, Test, TestUnread, Collect, LogUnwritten, Output, OutOfMemory}
+use Rattle.tardis_command.specs.declared.fault.CommandFault.TheVariants.{Judge, Config, Programs, ProgramsUnread, Schedule, ScheduleUnread, Simulation, Run, Test, TestUnread, Collect, LogUnwritten, PictureUnwritten, Output, OutOfMemory}
 
 -- the sink failed after a beginning of the line, or there was no memory and it is as it was
 abbrev pub IsUnprinted : Sink → Sink → List ℕ → CommandFault → Type 0
@@ -19,4 +19,5 @@ IsUnprinted old new line (Test fault) = ⊥
 IsUnprinted old new line TestUnread = ⊥
 IsUnprinted old new line (Collect fault) = ⊥
 IsUnprinted old new line (LogUnwritten file) = ⊥
+IsUnprinted old new line PictureUnwritten = ⊥
 IsUnprinted old new line (Judge fault) = ⊥

@@ -3,11 +3,12 @@ use Rattle.std.specs.Prelude.{◌≡◌, ℕ}
 use Rattle.log_file.specs.Devices.{Failed}
 use Rattle.tardis_command.specs.Files.{Files}
 use Rattle.tardis_command.specs.declared.fault.CommandFault.{CommandFault}
-use Rattle.tardis_command.specs.declared.fault.CommandFault.TheVariants.{Judge, Config, Programs, ProgramsUnread, Schedule, ScheduleUnread, Simulation, Run, Test, TestUnread, Collect, LogUnwritten, Output, OutOfMemory}
+use Rattle.tardis_command.specs.declared.fault.CommandFault.TheVariants.{Judge, Config, Programs, ProgramsUnread, Schedule, ScheduleUnread, Simulation, Run, Test, TestUnread, Collect, LogUnwritten, PictureUnwritten, Output, OutOfMemory}
 
 -- its put failed, or memory ran out before it
 abbrev pub IsUnput : Files → Files → ℕ → CommandFault → Type 0
 IsUnput old new core (LogUnwritten file) = (file ≡ core) × Failed old.failed new.failed
+IsUnput old new core PictureUnwritten = ⊥
 IsUnput old new core OutOfMemory = new ≡ old
 IsUnput old new core (Judge fault) = ⊥
 IsUnput old new core (Config fault) = ⊥

@@ -72,11 +72,24 @@ returns-then-eq-5-clause-request c =
     let words = texts c.args.words.now in
     let found = both_found _ _ _ c.in-Some.name.now _ c.in-Some.ensures.name c.in-Some.ensures.rows in
     let named = found_named _ words c.in-Ok.matches _ c.in_ok-tardis.ensures.app c.in-Ok.ensures.matches found in
-    let is_upgrade = (bytes_eq-Decides c.in-Some.name.now (codes "upgrade")).0 (sym c.eq-5.ensures ∙ c.if-eq-5.true) in
-    (_, named, (is_upgrade, c.in_ok-upgrade_of.ensures))
+    let is_explain = (bytes_eq-Decides c.in-Some.name.now (codes "explain")).0 (sym c.eq-5.ensures ∙ c.if-eq-5.true) in
+    (_, named, (is_explain, c.in_ok-explain_of.ensures))
 
 pub returns-then-eq-5-clause-usage : goal.returns-then-eq-5-clause-usage
 returns-then-eq-5-clause-usage c =
+    sym (ap (λ (app : App). fault_of app (texts c.args.words.now)) c.in_ok-tardis.ensures.app)
+    ∙ c.in-Ok.ensures.kinds (ap is_simple_and_free c.in_ok-tardis.ensures.app)
+
+pub returns-then-eq-6-clause-request : goal.returns-then-eq-6-clause-request
+returns-then-eq-6-clause-request c =
+    let words = texts c.args.words.now in
+    let found = both_found _ _ _ c.in-Some.name.now _ c.in-Some.ensures.name c.in-Some.ensures.rows in
+    let named = found_named _ words c.in-Ok.matches _ c.in_ok-tardis.ensures.app c.in-Ok.ensures.matches found in
+    let is_upgrade = (bytes_eq-Decides c.in-Some.name.now (codes "upgrade")).0 (sym c.eq-6.ensures ∙ c.if-eq-6.true) in
+    (_, named, (is_upgrade, c.in_ok-upgrade_of.ensures))
+
+pub returns-then-eq-6-clause-usage : goal.returns-then-eq-6-clause-usage
+returns-then-eq-6-clause-usage c =
     sym (ap (λ (app : App). fault_of app (texts c.args.words.now)) c.in_ok-tardis.ensures.app)
     ∙ c.in-Ok.ensures.kinds (ap is_simple_and_free c.in_ok-tardis.ensures.app)
 
@@ -94,11 +107,12 @@ returns-clause-request c =
     let is_check : c.in-Some.name.now ≡ codes "check" = elim (names_own words _ quiet named) [
       | inl is ↦ is
       | inr (inl is) ↦ absurd (other c.in-Some.name.now (codes "order") _ c.eq-3.ensures c.if-eq-3.false is)
-      | inr (inr (inl is)) ↦ absurd (other c.in-Some.name.now (codes "sim") _ c.eq.ensures c.if-eq.false is)
-      | inr (inr (inr (inl is))) ↦ absurd (other c.in-Some.name.now (codes "run") _ c.eq-2.ensures c.if-eq-2.false is)
-      | inr (inr (inr (inr (inl is)))) ↦ absurd (other c.in-Some.name.now (codes "litmus") _ c.eq-4.ensures c.if-eq-4.false is)
-      | inr (inr (inr (inr (inr (inl is))))) ↦ absurd (other c.in-Some.name.now (codes "upgrade") _ c.eq-5.ensures c.if-eq-5.false is)
-      | inr (inr (inr (inr (inr (inr never))))) ↦ absurd never
+      | inr (inr (inl is)) ↦ absurd (other c.in-Some.name.now (codes "explain") _ c.eq-5.ensures c.if-eq-5.false is)
+      | inr (inr (inr (inl is))) ↦ absurd (other c.in-Some.name.now (codes "sim") _ c.eq.ensures c.if-eq.false is)
+      | inr (inr (inr (inr (inl is)))) ↦ absurd (other c.in-Some.name.now (codes "run") _ c.eq-2.ensures c.if-eq-2.false is)
+      | inr (inr (inr (inr (inr (inl is))))) ↦ absurd (other c.in-Some.name.now (codes "litmus") _ c.eq-4.ensures c.if-eq-4.false is)
+      | inr (inr (inr (inr (inr (inr (inl is)))))) ↦ absurd (other c.in-Some.name.now (codes "upgrade") _ c.eq-6.ensures c.if-eq-6.false is)
+      | inr (inr (inr (inr (inr (inr (inr never)))))) ↦ absurd never
     ] in
     (_, named, (is_check, c.in_ok-check_of.ensures))
 

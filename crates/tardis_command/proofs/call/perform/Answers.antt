@@ -5,7 +5,7 @@ use Rattle.tardis_command.proofs.Leaving.{run_leaves, sim_leaves, whatever}
 use Rattle.tardis_command.proofs.Ends.{printed, printed_yes, refused_at_once}
 use Rattle.tardis_command.specs.Endings.{Answered, Refused, sink_of}
 use Rattle.tardis_command.specs.Files.{files_of}
-use Rattle.tardis_command.specs.declared.answer.Answer.TheVariants.{Judged, Ordered, Counted, Done}
+use Rattle.tardis_command.specs.declared.answer.Answer.TheVariants.{Judged, Ordered, Explained, Counted, Done}
 use Rattle.tardis_command.proofs.call.perform.Goals as goal
 
 pub returns-in_err-verdict-in-Check-clause-exact : goal.returns-in_err-verdict-in-Check-clause-exact
@@ -83,6 +83,15 @@ returns-in_ok-operations-in-Run-clause-yes g c =
     let files = files_of g.F.Folder.told g.F.Folder.failed in
     rw c.in-Run.is (whatever (λ answer. answer_status answer ≡ 0) _ c.print_answer-in-Run.result
     (run_leaves (files c.args.folder.now) (files c.run.new.folder) c.in-Run.asked c.in_ok-operations-in-Run.operations c.in_ok-operations-in-Run.ensures.exact))
+
+pub returns-in_err-explain-in-Explain-clause-exact : goal.returns-in_err-explain-in-Explain-clause-exact
+returns-in_err-explain-in-Explain-clause-exact g c =
+    let is : c.from_residual-in_err-explain-in-Explain.result ≡ Err c.in_err-explain-in-Explain.field-0.0 = search rules in
+    rw c.in-Explain.is (Refused c.in_err-explain-in-Explain.field-0.0, is, c.in_err-explain-in-Explain.ensures.exact)
+
+pub returns-in_ok-explain-in-Explain-clause-exact : goal.returns-in_ok-explain-in-Explain-clause-exact
+returns-in_ok-explain-in-Explain-clause-exact g c =
+    rw c.in-Explain.is (Answered (Explained c.in_ok-explain-in-Explain.field-0), refl, c.in_ok-explain-in-Explain.ensures.exact)
 
 pub returns-in_err-operations-in-Upgrade-clause-exact : goal.returns-in_err-operations-in-Upgrade-clause-exact
 returns-in_err-operations-in-Upgrade-clause-exact g c =

@@ -1,0 +1,79 @@
+-- What explaining comes to, from what its parts answer.
+use Rattle.std.proofs.Common.{◌≡◌, ap, subst, sym, refl, ℕ, List, length, Option, None, Some, Result, Ok, Err, inl, vec_len, option_copied}
+use Rattle.std.specs.Prelude.{IsErrOf, option_map}
+use Rattle.std.specs.Borrow.{Bor}
+use Rattle.command_line.specs.declared.request.Check.{Check}
+use Rattle.command_line.specs.declared.request.Explain.{Explain}
+use Rattle.core_program.specs.SetParts.{SetParts}
+use Rattle.core_program.specs.declared.instruction.Instruction.{Instruction}
+use Rattle.verdict.specs.CoreFaultsOf.{given}
+use Rattle.verdict.specs.Counts.{IsInRange, IsOutOfRange}
+use Rattle.verdict.specs.Bases.{verdict_in}
+use Rattle.verdict.specs.Judgement.{SpellFlatRunBy}
+use Rattle.verdict.specs.VerdictOf.{run_verdict_of, verdict_of}
+use Rattle.verdict.specs.declared.answer.Verdict.{Verdict}
+use Rattle.verdict.specs.declared.basis.Examined.{Examined}
+use Rattle.verdict.specs.declared.judge_fault.Count.TheVariants.{Files as FileCount, Workers, Programs as ProgramCount}
+use Rattle.verdict.specs.declared.judge_fault.JudgeFault.{JudgeFault}
+use Rattle.verdict.specs.declared.judge_fault.JudgeFault.TheVariants.{BadConfig}
+use Rattle.tardis_command.specs.Checking.{AreInRange, AreNotAsMany, AreTextsOf, FilesRunFlatBy, IsAnswerAgainst, IsChecked, IsCheckedAgainst}
+use Rattle.tardis_command.specs.Explaining.{IsExplained, IsUnprogrammedBy}
+use Rattle.tardis_command.specs.Files.{Files}
+use Rattle.tardis_command.specs.Sinks.{Sink}
+use Rattle.tardis_command.specs.declared.fault.CommandFault.{CommandFault}
+use Rattle.tardis_command.specs.declared.fault.CommandFault.TheVariants.{Judge, Config, Programs, ProgramsUnread, Schedule, ScheduleUnread, Simulation, Run, Test, TestUnread, Collect, LogUnwritten, PictureUnwritten, Output, OutOfMemory}
+use Rattle.tardis_command.proofs.Checks.{checked, unprogrammed}
+use Rattle.tardis_command.proofs.Ends.{kept}
+
+-- nothing was explained, and nothing written
+pub not_explained : (old : Files) (asked : Explain) (out : Sink) (fault : CommandFault) → IsChecked old.told asked.check (Err fault) → IsExplained old old asked out out (Err fault)
+not_explained old asked out (Judge fault) why = (why, kept out.contents)
+not_explained old asked out (Programs fault) why = (why, kept out.contents)
+not_explained old asked out ProgramsUnread why = (why, kept out.contents)
+not_explained old asked out OutOfMemory why = inl (kept out.contents)
+not_explained old asked out (Config fault) why = absurd why
+not_explained old asked out (Schedule fault) why = absurd why
+not_explained old asked out ScheduleUnread why = absurd why
+not_explained old asked out (Simulation fault) why = absurd why
+not_explained old asked out (Run fault) why = absurd why
+not_explained old asked out (Test fault) why = absurd why
+not_explained old asked out TestUnread why = absurd why
+not_explained old asked out (Collect fault) why = absurd why
+not_explained old asked out (LogUnwritten file) why = absurd why
+not_explained old asked out PictureUnwritten why = absurd why
+not_explained old asked out Output why = absurd why
+
+-- there are no programs
+pub unprogrammed_by : (told : List ℕ → Option (List ℕ)) (asked : Check) (fault : CommandFault) → AreInRange asked → IsUnprogrammedBy told asked.program fault → IsChecked told asked (Err fault)
+unprogrammed_by told asked fault range why = go asked.program refl why
+  where
+    go : (name : Option (Bor (List ℕ))) → asked.program ≡ name → IsUnprogrammedBy told name fault → IsChecked told asked (Err fault)
+    go None is none = absurd none
+    go (Some name) is h = unprogrammed told asked name fault range is h
+
+-- the programs that a reference leads to are those that were read
+pub given_is : (lent : Option (Bor SetParts)) (set : Option SetParts) → option_copied lent ≡ set → given lent ≡ option_map (λ s. s.programs) set
+given_is None set is = ap (λ (o : Option SetParts). option_map (λ s. s.programs) o) is
+given_is (Some lent) set is = ap (λ (o : Option SetParts). option_map (λ s. s.programs) o) is
+
+-- the verdict on the files against these programs
+pub checked_against : (told : List ℕ → Option (List ℕ)) (programs : Option (List (List Instruction))) (asked : Check) (answer : Result Verdict JudgeFault) (texts : List (List ℕ))
+    → AreInRange asked → AreTextsOf told asked.files.items texts → IsAnswerAgainst programs texts answer → length texts ≡ vec_len asked.files
+    → (IsErrOf answer (BadConfig FileCount) → IsOutOfRange (vec_len asked.files))
+    → (IsErrOf answer (BadConfig Workers) → IsInRange (vec_len asked.files) × IsOutOfRange asked.workers)
+    → (IsErrOf answer (BadConfig ProgramCount) → AreNotAsMany (vec_len asked.files) programs) → IsCheckedAgainst told programs asked answer
+checked_against told None asked answer texts range tell answers many files workers counted =
+    checked told None asked verdict_of answer texts (λ a h. h) range tell answers many files workers counted
+checked_against told (Some programs) asked answer texts range tell answers many files workers counted =
+    checked told (Some programs) asked (run_verdict_of programs) answer texts (λ a h. h) range tell answers many files workers counted
+
+-- a fault of the verdict is one of the examination
+pub err_in : (result : Result Examined JudgeFault) (fault : JudgeFault) → IsErrOf (verdict_in result) fault → IsErrOf result fault
+err_in (Ok examined) fault is = cc
+err_in (Err found) fault is = let same : found ≡ fault = cc in subst (λ (f : JudgeFault). IsErrOf {T = Examined} (Err found) f) same refl
+
+-- the texts of the files spell a run of these programs
+pub flat_by : (told : List ℕ → Option (List ℕ)) (asked : Check) (programs : Option (List (List Instruction))) (texts : List (List ℕ)) → AreTextsOf told asked.files.items texts
+    → SpellFlatRunBy programs texts → FilesRunFlatBy told asked programs
+flat_by told asked None texts tell runs = tt
+flat_by told asked (Some programs) texts tell runs = (texts, tell, runs)

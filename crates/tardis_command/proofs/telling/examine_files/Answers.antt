@@ -1,0 +1,44 @@
+use Rattle.std.proofs.Common.{rules, ◌≡◌, ◌∙◌, subst, length, vec_len}
+use Rattle.std.proofs.lemmas.Result.{IfOk-weaker}
+use Rattle.std.proofs.lemmas.Slice.Zip.{AllZip-long}
+use Rattle.verdict.specs.CoreFaultsOf.{given}
+use Rattle.verdict.specs.Bases.{verdict_in}
+use Rattle.verdict.specs.declared.judge_fault.Count.TheVariants.{Files, Workers, Programs}
+use Rattle.verdict.specs.declared.judge_fault.JudgeFault.TheVariants.{BadConfig}
+use Rattle.tardis_command.specs.Checking.{AreNotAsMany, AreSourcesOf}
+use Rattle.tardis_command.proofs.Checks.{told_by_sources}
+use Rattle.tardis_command.proofs.Explained.{checked_against, err_in, flat_by}
+use Rattle.tardis_command.proofs.telling.examine_files.Goals as goal
+
+pub returns-clause-exact : goal.returns-clause-exact
+returns-clause-exact g c =
+    let told = g.F.Folder.told c.args.folder.now in
+    let remaining = g.F.Source.ByteSource.remaining in
+    let names = c.args.asked.now.files.items in
+    let programs = given c.args.programs in
+    let are : AreSourcesOf told remaining c.as_mut_slice.result.now names = search rules in
+    let each = AllZip-long _ _ names are in
+    let many : length c.as_mut_slice.result.now ≡ vec_len c.args.asked.now.files = search rules in
+    let (texts, tell, answers, by) = c.examine.ensures.exact in
+    checked_against told programs c.args.asked.now (verdict_in c.examine.result) texts c.requires (told_by_sources told remaining _ names texts are tell) answers
+    (AllZip-long _ _ texts tell ∙ many) (λ bad. rw (← many) (c.examine.ensures.files.0 (err_in c.examine.result (BadConfig Files) bad)))
+    (λ bad. rw (← many) (c.examine.ensures.workers.0 (err_in c.examine.result (BadConfig Workers) bad)))
+    (λ bad. subst (λ n. AreNotAsMany n programs) many (c.examine.ensures.programs.0 (err_in c.examine.result (BadConfig Programs) bad)).2)
+
+pub returns-clause-sound : goal.returns-clause-sound
+returns-clause-sound g c =
+    let told = g.F.Folder.told c.args.folder.now in
+    let remaining = g.F.Source.ByteSource.remaining in
+    let names = c.args.asked.now.files.items in
+    let are : AreSourcesOf told remaining c.as_mut_slice.result.now names = search rules in
+    let (texts, tell, sound) = c.examine.ensures.sound in
+    IfOk-weaker c.examine.result _ _ (λ examined consistent yes. (texts, told_by_sources told remaining _ names texts are tell, consistent yes)) sound
+
+pub returns-clause-flat : goal.returns-clause-flat
+returns-clause-flat g c =
+    let told = g.F.Folder.told c.args.folder.now in
+    let remaining = g.F.Source.ByteSource.remaining in
+    let names = c.args.asked.now.files.items in
+    let are : AreSourcesOf told remaining c.as_mut_slice.result.now names = search rules in
+    let (texts, tell, flat) = c.examine.ensures.flat in
+    IfOk-weaker c.examine.result _ _ (λ examined runs yes. flat_by told c.args.asked.now (given c.args.programs) texts (told_by_sources told remaining _ names texts are tell) (runs yes)) flat

@@ -1,0 +1,78 @@
+-- What the explaining of files answers, what standard output took of it and which picture was put. The folder and the sink were `old`
+-- before and are `new` after.
+use Rattle.std.specs.Prelude.{◌≡◌, ◌≢◌, ◌⊎◌, ⊤, ℕ, List, ◌++◌, Option, None, Some, Result, Ok, Err, codes}
+use Rattle.std.specs.Borrow.{Bor}
+use Rattle.std.specs.Io.KnownBytes.{Appends, Keeps}
+use Rattle.command_line.specs.declared.request.Check.{Check}
+use Rattle.command_line.specs.declared.request.Explain.{Explain}
+use Rattle.explain.specs.Pictures.{IsPicture}
+use Rattle.log_file.specs.Devices.{Failed, Tells}
+use Rattle.verdict.specs.Texts.{verdict_text}
+use Rattle.verdict.specs.declared.answer.Verdict.{Verdict}
+use Rattle.tardis_command.specs.Answers.{line}
+use Rattle.tardis_command.specs.Checking.{IsChecked, IsUnprogrammed}
+use Rattle.tardis_command.specs.Files.{Files}
+use Rattle.tardis_command.specs.Sinks.{HasFailed, Sink, TakesBeginning}
+use Rattle.tardis_command.specs.declared.fault.CommandFault.{CommandFault}
+use Rattle.tardis_command.specs.declared.fault.CommandFault.TheVariants.{Judge, Config, Programs, ProgramsUnread, Schedule, ScheduleUnread, Simulation, Run, Test, TestUnread, Collect, LogUnwritten, PictureUnwritten, Output, OutOfMemory}
+
+-- the name that a picture goes to, where one was given
+abbrev pub IsPictureName : Option (Bor (List ℕ)) → List ℕ → Type 0
+IsPictureName None name = ⊥
+IsPictureName (Some given) name = name ≡ given.now
+
+-- why there are no programs in a file whose name was given
+abbrev pub IsUnprogrammedBy : (List ℕ → Option (List ℕ)) → Option (Bor (List ℕ)) → CommandFault → Type 0
+IsUnprogrammedBy told None fault = ⊥
+IsUnprogrammedBy told (Some name) fault = IsUnprogrammed told name.now fault
+
+-- the line of a verdict, and then what there is to tell of it
+abbrev pub BeginsWithVerdict : Verdict → List ℕ → Type 0
+BeginsWithVerdict verdict text = (more : List ℕ) × (text ≡ line (verdict_text verdict) ++ more)
+
+-- a picture was put under this name, and nothing else
+pub record PutsPicture (old new : Files) (name : List ℕ) : Type 0 where
+  pub svg : List ℕ
+  pub is_picture : IsPicture svg
+  pub told : Tells (new.told name) svg
+  pub others : (other : List ℕ) → other ≢ name → new.told other ≡ old.told other
+  pub quiet : new.failed ≡ old.failed
+
+-- it was put under the name that was given; nothing was, where no name was given or the set is too large to be drawn
+abbrev pub PutsPictureAt : Files → Files → Option (Bor (List ℕ)) → Type 0
+PutsPictureAt old new None = new ≡ old
+PutsPictureAt old new (Some name) = (new ≡ old) ⊎ PutsPicture old new name.now
+
+-- the put of a picture under the name that was given failed, and nothing else was put
+abbrev pub FailsPictureAt : Files → Files → Option (Bor (List ℕ)) → Type 0
+FailsPictureAt old new None = ⊥
+FailsPictureAt old new (Some name) = Failed old.failed new.failed × ((other : List ℕ) → other ≢ name.now → new.told other ≡ old.told other)
+
+-- there was a verdict to explain
+abbrev pub Judged : Files → Check → (Verdict → Type 0) → Type 0
+Judged old asked Holds = (verdict : Verdict) × IsChecked old.told asked (Ok verdict) × Holds verdict
+
+-- The verdict on the files, whose line standard output took first, or why there is none. A picture is put before anything is printed;
+-- lack of memory may be told in place of another refusal.
+abbrev pub IsExplained : Files → Files → Explain → Sink → Sink → Result Verdict CommandFault → Type 0
+IsExplained old new asked out out' (Ok verdict) =
+    IsChecked old.told asked.check (Ok verdict) × PutsPictureAt old new asked.picture
+    × (text : List ℕ) × BeginsWithVerdict verdict text × Appends out.contents out'.contents text
+IsExplained old new asked out out' (Err Output) =
+    Judged old asked.check (λ verdict. PutsPictureAt old new asked.picture × HasFailed out out'
+    × (text : List ℕ) × BeginsWithVerdict verdict text × TakesBeginning out out' text)
+IsExplained old new asked out out' (Err PictureUnwritten) =
+    Judged old asked.check (λ verdict. FailsPictureAt old new asked.picture) × Keeps out.contents out'.contents
+IsExplained old new asked out out' (Err OutOfMemory) = Keeps out.contents out'.contents ⊎ HasFailed out out'
+IsExplained old new asked out out' (Err (Judge fault)) = IsChecked old.told asked.check (Err (Judge fault)) × Keeps out.contents out'.contents
+IsExplained old new asked out out' (Err (Programs fault)) = IsChecked old.told asked.check (Err (Programs fault)) × Keeps out.contents out'.contents
+IsExplained old new asked out out' (Err ProgramsUnread) = IsChecked old.told asked.check (Err ProgramsUnread) × Keeps out.contents out'.contents
+IsExplained old new asked out out' (Err (Config fault)) = ⊥
+IsExplained old new asked out out' (Err (Schedule fault)) = ⊥
+IsExplained old new asked out out' (Err ScheduleUnread) = ⊥
+IsExplained old new asked out out' (Err (Simulation fault)) = ⊥
+IsExplained old new asked out out' (Err (Run fault)) = ⊥
+IsExplained old new asked out out' (Err (Test fault)) = ⊥
+IsExplained old new asked out out' (Err TestUnread) = ⊥
+IsExplained old new asked out out' (Err (Collect fault)) = ⊥
+IsExplained old new asked out out' (Err (LogUnwritten file)) = ⊥
