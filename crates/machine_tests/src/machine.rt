@@ -164,7 +164,11 @@ pub(super) fn logs(
     let log = machine.unit(core).ok_or("the core is there")?.log();
     assert_eq!(rt; log.len(), lines.len());
     for (made, line) in log.iter().zip(lines) {
-        assert_eq!(rt; Ok(*made), read_line(Format::One, line.as_bytes()), "at {line}");
+        assert_eq!(rt;
+            Ok(*made),
+            read_line(Format::One, line.as_bytes()),
+            "at {line}"
+        );
     }
     Ok(())
 }

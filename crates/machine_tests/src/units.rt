@@ -92,7 +92,11 @@ pub(super) fn meets(rt: &impl Abort, unit: &mut CoreUnit, rows: &[Row]) {
 pub(super) fn logs(rt: &impl Abort, unit: &CoreUnit, lines: &[&str]) {
     assert_eq!(rt; unit.log().len(), lines.len());
     for (made, line) in unit.log().iter().zip(lines) {
-        assert_eq!(rt; Ok(*made), read_line(Format::One, line.as_bytes()), "at {line}");
+        assert_eq!(rt;
+            Ok(*made),
+            read_line(Format::One, line.as_bytes()),
+            "at {line}"
+        );
     }
 }
 

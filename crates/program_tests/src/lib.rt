@@ -6,6 +6,8 @@ mod calls;
 #[cfg(test)]
 mod checks;
 #[cfg(test)]
+mod explained;
+#[cfg(test)]
 mod orders;
 #[cfg(test)]
 mod runs;

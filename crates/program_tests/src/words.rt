@@ -55,6 +55,32 @@ fn words_of_an_order_and_an_upgrade(rt: HostRuntime) {
 }
 
 #[test]
+fn words_of_an_explanation(rt: HostRuntime) -> Result<(), Fail> {
+    for (words, program, picture) in [
+        (["b", "a"].as_slice(), None, None),
+        (
+            &["--svg", "o", "--program", "p", "b", "a"],
+            Some("p"),
+            Some("o"),
+        ),
+    ] {
+        let mut line = Vec::from_slice(rt.alloc(), &["tardis", "explain"])?;
+        line.extend_from_slice(words)?;
+        match read(rt.alloc(), line.as_slice()) {
+            Ok(Request::Explain(explain)) => {
+                assert_eq!(rt; explain.check.workers, 1);
+                assert_eq!(rt; explain.check.program, program);
+                assert_eq!(rt; explain.check.files.as_slice(), ["b", "a"].as_slice());
+                assert_eq!(rt; explain.picture, picture);
+            }
+            Ok(_other) => assert!(rt; false, "no explanation"),
+            Err(refusal) => assert!(rt; false, "refused: {refusal}"),
+        }
+    }
+    Ok(())
+}
+
+#[test]
 fn words_of_a_sim(rt: HostRuntime) -> Result<(), Fail> {
     for (words, schedule, seed, programs, out) in [
         (["p", "o"].as_slice(), None, None, "p", "o"),
@@ -171,6 +197,8 @@ fn words_that_ask_for_nothing(rt: HostRuntime) -> Result<(), Fail> {
         &["sim", "--help"],
         &["order"],
         &["order", "--workers", "1", "a"],
+        &["explain"],
+        &["explain", "--workers", "1", "a"],
         &["check"],
         &["check", "--seed", "1", "a"],
         &["sim"],

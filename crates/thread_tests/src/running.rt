@@ -53,7 +53,14 @@ fn log_text(alloc: Global, at: usize, cores: usize, records: &[Record]) -> Resul
         return Err(Fail::from("a core and its log"));
     }
     let mut text = MemSink::new(alloc, &[]);
-    write_log(alloc, &mut text, Format::One, CoreId::at(at), cores as u64, records)?;
+    write_log(
+        alloc,
+        &mut text,
+        Format::One,
+        CoreId::at(at),
+        cores as u64,
+        records,
+    )?;
     Ok(Vec::from_slice(alloc, text.bytes())?)
 }
 
