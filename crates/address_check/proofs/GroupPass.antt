@@ -11,8 +11,8 @@ use Rattle.line_stamps.specs.Ordered.{In, EachPair, Ascends, IsGreatest, IsLeast
 use Rattle.line_stamps.proofs.Order.{lt_irrefl, lt_asym}
 use Rattle.line_stamps.proofs.Ordered.{In-append, In-take, In-slice_get, In-get_or, Ascends-take, before_from_take, take_from_before, last_is_greatest, greatest_from_least, In-filter_map, filter_map-In, least_is, one_least}
 use Rattle.log_record.specs.declared.record.Entry.{Entry}
-use Rattle.log_record.specs.declared.record.Act.{Act}
-use Rattle.log_record.specs.declared.record.Act.TheVariants.{Load, Store}
+use Rattle.log_record.specs.declared.act.Act.{Act}
+use Rattle.log_record.specs.declared.act.Act.TheVariants.{Load, Store}
 use Rattle.log_record.specs.Entries.{key_of, entry_cmp}
 use Rattle.address_check.specs.declared.fault.AddressRule.{AddressRule}
 use Rattle.address_check.specs.declared.fault.AddressFault.{AddressFault}

@@ -16,8 +16,8 @@ use Rattle.core_program.proofs.Paths.{issued_op, op_issued}
 use Rattle.core_program.proofs.Runs.{state_after-snoc}
 use Rattle.core_program.proofs.Faults.{conforms-fault, fault-conforms, fault-differs, differs-few, fault-at, no-fault}
 use Rattle.log_record.specs.declared.record.Record.{Record}
-use Rattle.log_record.specs.declared.record.Act.{Act}
-use Rattle.log_record.specs.declared.record.Act.TheVariants.{Load, Store}
+use Rattle.log_record.specs.declared.act.Act.{Act}
+use Rattle.log_record.specs.declared.act.Act.TheVariants.{Load, Store}
 use Rattle.log_record.specs.Entries.{operation_of, operation_by}
 
 -- ---- what follows from the index of the fault

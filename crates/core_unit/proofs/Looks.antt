@@ -5,7 +5,7 @@ use Rattle.std.specs.FinMap as map
 use Rattle.mem_op.specs.declared.id.Op.TheVariants as op
 use Rattle.mem_op.specs.declared.id.Source.{Source}
 use Rattle.line_stamps.specs.declared.message.Message.{Message}
-use Rattle.log_record.specs.declared.record.Act.TheVariants as act
+use Rattle.log_record.specs.declared.act.Act.TheVariants as act
 use Rattle.private_cache.specs.Answers.{store_answer}
 use Rattle.private_cache.specs.Table.{Hit, store_hit}
 use Rattle.private_cache.specs.declared.answer.Store.TheVariants as store

@@ -7,8 +7,8 @@ use Rattle.line_stamps.specs.Ordered.{In, IsLeastIn}
 use Rattle.line_stamps.proofs.Ordered.{least_is, filter_map-In}
 use Rattle.mem_op.specs.declared.id.OpId.{OpId}
 use Rattle.mem_op.specs.Consistency.{is_same_id}
-use Rattle.log_record.specs.declared.record.Act.{Act}
-use Rattle.log_record.specs.declared.record.Act.TheVariants.{Load, Store}
+use Rattle.log_record.specs.declared.act.Act.{Act}
+use Rattle.log_record.specs.declared.act.Act.TheVariants.{Load, Store}
 use Rattle.log_record.specs.declared.record.Entry.{Entry}
 use Rattle.log_record.specs.declared.record.Record.{Record}
 use Rattle.log_record.specs.Entries.{entries, key_of}

@@ -1,18 +1,18 @@
 -- What every line of a log is like: no line feed in it, short where its numbers are in range, and determined
 -- by its text.
 use Rattle.std.proofs.Common.{◌≡◌, ℕ, ◌+◌, ◌<◌, ◌≤◌, ◌^◌, List, [], ◌∷◌, ◌++◌, length, refl, sym, ap, subst, ◌∙◌, arith, length-append}
-use Rattle.std.specs.Prelude.{codes}
+use Rattle.std.specs.Prelude.{codes, true}
 use Rattle.std.proofs.lemmas.Fmt.{length-decimal-le}
 use Rattle.mem_op.specs.declared.id.Source.{Source}
 use Rattle.mem_op.specs.declared.id.Source.TheVariants as source
 use Rattle.mem_op.specs.Limits.{operation_limit}
 use Rattle.log_record.specs.declared.format.Format.{Format}
 use Rattle.log_record.specs.declared.format.Format.TheVariants.{One, Two}
-use Rattle.log_record.specs.declared.record.Act.{Act}
-use Rattle.log_record.specs.declared.record.Act.TheVariants as act
+use Rattle.log_record.specs.declared.act.Act.{Act}
+use Rattle.log_record.specs.declared.act.Act.TheVariants as act
 use Rattle.log_record.specs.declared.record.Record.{Record}
 use Rattle.decimal_text.specs.Numbers.{numeral}
-use Rattle.log_record.specs.Line.{format_number, source_text, record_text, header_text, end_text, line_limit, limit_of, Fits, ActFits, SourceFits}
+use Rattle.log_record.specs.Line.{format_number, source_text, record_text, header_text, end_text, line_limit, limit_of, has_act, Fits, FitsIn, ActFits, SourceFits}
 use Rattle.log_record.specs.inner.Reading.{Fields, record_of, header_of, end_of}
 pub use Rattle.decimal_text.proofs.Lines.{NoLf, NoLf-append, NoLf-all, numeral_no_lf}
 use Rattle.decimal_text.proofs.Lines.{const_no_lf}
@@ -39,6 +39,14 @@ tagged_no_lf : (a : Act) (f : Fields) (rank : ℕ) → NoLf (tagged_text a f ran
 tagged_no_lf act.Store f rank = (refl, (refl, fields_no_lf f (numeral rank ++ []) (NoLf-append (numeral rank) [] (numeral_no_lf rank) tt)))
 tagged_no_lf (act.Load s) f rank =
     (refl, (refl, fields_no_lf f (numeral rank ++ (32 ∷ (source_text s ++ []))) (NoLf-append (numeral rank) (32 ∷ (source_text s ++ [])) (numeral_no_lf rank) (refl, NoLf-append (source_text s) [] (source_no_lf s) tt))))
+
+tagged_no_lf (act.Swap s read) f rank =
+    (
+      refl,
+      (refl, fields_no_lf f (numeral rank ++ (32 ∷ (source_text s ++ (32 ∷ (numeral read ++ [])))))
+          (NoLf-append (numeral rank) (32 ∷ (source_text s ++ (32 ∷ (numeral read ++ [])))) (numeral_no_lf rank)
+              (refl, NoLf-append (source_text s) (32 ∷ (numeral read ++ [])) (source_no_lf s) (refl, NoLf-append (numeral read) [] (numeral_no_lf read) tt)))),
+    )
 
 pub record_no_lf : (r : Record) → NoLf (record_text r)
 record_no_lf r = subst NoLf (sym (record_text_is r)) (tagged_no_lf r.act (fields_in r) r.rank)
@@ -78,17 +86,42 @@ fields_short f rest n a v t le =
       numeral_short 15 f.ts (omega arith) (omega arith) (omega arith),
     )
 
-tagged_short : (a : Act) (f : Fields) (rank : ℕ) → ActFits a → f.addr < 65536 → f.value < 2 ^ 64 → f.ts ≤ 281474976710656 → rank < 4294967296 → length (tagged_text a f rank []) ≤ 80
-tagged_short act.Store f rank fits a v t k =
+swap_short : (src : Source) (read : ℕ) (f : Fields) (rank : ℕ) → SourceFits src → read < 2 ^ 64 → f.addr < 65536 → f.value < 2 ^ 64 → f.ts ≤ 281474976710656 → rank < 4294967296
+    → length (tagged_text (act.Swap src read) f rank []) ≤ 96
+swap_short src read f rank fits o a v t k =
+    let s : length (numeral rank ++ (32 ∷ (source_text src ++ (32 ∷ (numeral read ++ []))))) ≤ 42 =
+    omega (
+      arith,
+      length-append (numeral rank) (32 ∷ (source_text src ++ (32 ∷ (numeral read ++ [])))),
+      length-append (source_text src) (32 ∷ (numeral read ++ [])),
+      length-append (numeral read) [],
+      source_short src fits,
+      numeral_short 10 rank (omega arith) (omega arith) (omega arith),
+      numeral_short 20 read (omega arith) (omega arith) (omega arith),
+    ) in
+    omega (arith, fields_short f (numeral rank ++ (32 ∷ (source_text src ++ (32 ∷ (numeral read ++ []))))) 42 a v t s)
+
+-- a line that is short in either format
+pub within_limit : (format : Format) (line : List ℕ) → length line ≤ line_limit → length line ≤ limit_of format
+within_limit One line short = short
+within_limit Two line short = omega arith
+
+tagged_short : (format : Format) (a : Act) (f : Fields) (rank : ℕ) → has_act format a ≡ true → ActFits a → f.addr < 65536 → f.value < 2 ^ 64 → f.ts ≤ 281474976710656 → rank < 4294967296
+    → length (tagged_text a f rank []) ≤ limit_of format
+tagged_short format act.Store f rank has fits a v t k =
     let s : length (numeral rank ++ []) ≤ 10 = omega (arith, length-append (numeral rank) [], numeral_short 10 rank (omega arith) (omega arith) (omega arith)) in
-    omega (arith, fields_short f (numeral rank ++ []) 10 a v t s)
-tagged_short (act.Load src) f rank fits a v t k =
+    within_limit format (tagged_text act.Store f rank []) (omega (arith, fields_short f (numeral rank ++ []) 10 a v t s))
+tagged_short One (act.Swap src read) f rank has fits a v t k = absurd cc
+tagged_short Two (act.Swap src read) f rank has fits a v t k = swap_short src read f rank fits.0 fits.1 a v t k
+tagged_short format (act.Load src) f rank has fits a v t k =
     let s : length (numeral rank ++ (32 ∷ (source_text src ++ []))) ≤ 21 =
     omega (arith, length-append (numeral rank) (32 ∷ (source_text src ++ [])), length-append (source_text src) [], source_short src fits, numeral_short 10 rank (omega arith) (omega arith) (omega arith)) in
-    omega (arith, fields_short f (numeral rank ++ (32 ∷ (source_text src ++ []))) 21 a v t s)
+    within_limit format (tagged_text (act.Load src) f rank []) (omega (arith, fields_short f (numeral rank ++ (32 ∷ (source_text src ++ []))) 21 a v t s))
 
-pub record_short : (r : Record) → Fits r → length (record_text r) ≤ line_limit
-record_short r fits = subst (λ (xs : List ℕ). length xs ≤ 80) (sym (record_text_is r)) (tagged_short r.act (fields_in r) r.rank fits.act fits.addr fits.value fits.ts fits.rank)
+pub record_short : (format : Format) (r : Record) → FitsIn format r → length (record_text r) ≤ limit_of format
+record_short format r fits =
+    subst (λ (xs : List ℕ). length xs ≤ limit_of format) (sym (record_text_is r))
+    (tagged_short format r.act (fields_in r) r.rank fits.has fits.numbers.act fits.numbers.addr fits.numbers.value fits.numbers.ts fits.numbers.rank)
 
 pub header_short : (format : Format) (core cores : ℕ) → core < cores → cores < 65
     → length (header_text (format_number format) core cores) ≤ line_limit
@@ -106,11 +139,6 @@ header_short format core cores lt few =
     short : (format : Format) → length (words_of format ++ (numeral core ++ (codes " of " ++ numeral cores))) ≤ 80
     short One = omega (arith, behind, length-append (codes "tardis-log 1 core ") (numeral core ++ (codes " of " ++ numeral cores)))
     short Two = omega (arith, behind, length-append (codes "tardis-log 2 core ") (numeral core ++ (codes " of " ++ numeral cores)))
-
--- a line that is short in either format
-pub within_limit : (format : Format) (line : List ℕ) → length line ≤ line_limit → length line ≤ limit_of format
-within_limit One line short = short
-within_limit Two line short = omega arith
 
 pub end_short : (count : ℕ) → count ≤ operation_limit → length (end_text count) ≤ line_limit
 unfolding end_text
@@ -140,12 +168,13 @@ abbrev first_of : List ℕ → ℕ
 first_of [] = 0
 first_of (b ∷ bs) = b
 
-tag_at : (a : Act) (f : Fields) (rank : ℕ) → first_of (tagged_text a f rank []) ≤ 83
+tag_at : (a : Act) (f : Fields) (rank : ℕ) → first_of (tagged_text a f rank []) ≤ 88
 tag_at act.Store f rank = omega arith
 tag_at (act.Load s) f rank = omega arith
+tag_at (act.Swap s read) f rank = omega arith
 
-first_of_record : (r : Record) → first_of (record_text r) ≤ 83
-first_of_record r = subst (λ (xs : List ℕ). first_of xs ≤ 83) (sym (record_text_is r)) (tag_at r.act (fields_in r) r.rank)
+first_of_record : (r : Record) → first_of (record_text r) ≤ 88
+first_of_record r = subst (λ (xs : List ℕ). first_of xs ≤ 88) (sym (record_text_is r)) (tag_at r.act (fields_in r) r.rank)
 
 first_of_header : (format core cores : ℕ) → first_of (header_text format core cores) ≡ 116
 unfolding header_text

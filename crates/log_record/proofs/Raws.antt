@@ -1,14 +1,15 @@
 -- From what the code keeps of a line back to the record.
+use Rattle.std.specs.Prelude.{IsTrue, true, false}
 use Rattle.std.proofs.Common.{◌≡◌, ℕ, ◌<◌, ◌^◌, List, Option, Some, None, option_map, refl, sym, ap, ◌∙◌, arith, inl, inr}
 use Rattle.std.proofs.lemmas.Bool.{cases_lt}
 use Rattle.mem_op.specs.declared.id.Source.{Source}
 use Rattle.mem_op.specs.declared.id.Source.TheVariants as source
 use Rattle.log_record.specs.declared.format.Format.{Format}
-use Rattle.log_record.specs.declared.record.Act.{Act}
-use Rattle.log_record.specs.declared.record.Act.TheVariants as act
+use Rattle.log_record.specs.declared.act.Act.{Act}
+use Rattle.log_record.specs.declared.act.Act.TheVariants as act
 use Rattle.log_record.specs.declared.record.Record.{Record}
 use Rattle.log_record.specs.declared.raw.RawRecord.{RawRecord}
-use Rattle.log_record.specs.Line.{record_text, IsRecordShape, Fits, ActFits, SourceFits}
+use Rattle.log_record.specs.Line.{record_text, has_act, IsRecordShape, Fits, ActFits, SourceFits}
 use Rattle.log_record.specs.inner.Reading.{record_of}
 use Rattle.decimal_text.specs.Numbers.{as_u64}
 use Rattle.log_record.specs.inner.Raw.{raw_of, raw_act_of, raw_source_of}
@@ -36,7 +37,15 @@ source_back (source.Store a) (source.Store b) e fits =
 act_back : (a b : Act) → raw_act_of a ≡ raw_act_of b → ActFits b → a ≡ b
 act_back act.Store act.Store e fits = refl
 act_back act.Store (act.Load t) e fits = absurd cc
+act_back act.Store (act.Swap t m) e fits = absurd cc
 act_back (act.Load s) act.Store e fits = absurd cc
+act_back (act.Load s) (act.Swap t m) e fits = absurd cc
+act_back (act.Swap s n) act.Store e fits = absurd cc
+act_back (act.Swap s n) (act.Load t) e fits = absurd cc
+act_back (act.Swap s n) (act.Swap t m) e fits =
+    let same : raw_source_of s ≡ raw_source_of t = cc in
+    let read-is : as_u64 n ≡ as_u64 m = cc in
+    ap (λ (x : Source). act.Swap x n) (source_back s t same fits.0) ∙ ap (λ (k : ℕ). act.Swap t k) (as_u64_back n m read-is fits.1)
 act_back (act.Load s) (act.Load t) e fits =
     let same : raw_source_of s ≡ raw_source_of t = cc in
     ap (λ (x : Source). act.Load x) (source_back s t same fits)
@@ -68,9 +77,6 @@ some_is_raw : (o : Option Record) (raw : RawRecord) → Some raw ≡ option_map 
 some_is_raw None raw e = absurd cc
 some_is_raw (Some r) raw e = (r, refl, cc)
 
-pub is_shape : (format : Format) (line : List ℕ) (raw : RawRecord) → Some raw ≡ option_map raw_of (record_of line) → IsRecordShape format line
-is_shape format line raw e = let p = some_is_raw (record_of line) raw e in (p.0, record_takes line p.0 p.1)
-
 pub raw_is : (line : List ℕ) (raw : RawRecord) (r : Record) → Some raw ≡ option_map raw_of (record_of line) → line ≡ record_text r → raw ≡ raw_of r
 raw_is line raw r e line-is =
     let there : record_of line ≡ Some r = ap record_of line-is ∙ record_again r in
@@ -83,7 +89,17 @@ found line raw r e raw-is fits =
     record_takes line p.0 p.1 ∙ ap record_text (raw_back p.0 r (sym p.2 ∙ raw-is) fits)
 
 -- what was read is some record's, which isn't in range where none is
-pub out_of_range : (line : List ℕ) (raw : RawRecord) → Some raw ≡ option_map raw_of (record_of line) → ((r : Record) → raw ≡ raw_of r → Fits r → ⊥) → (r : Record) × (line ≡ record_text r) × (Fits r → ⊥)
-out_of_range line raw e none =
+pub out_of_range : (format : Format) (line : List ℕ) (raw : RawRecord) → Some raw ≡ option_map raw_of (record_of line) → ((a : Act) → raw.act ≡ raw_act_of a → has_act format a ≡ true)
+    → ((r : Record) → raw ≡ raw_of r → Fits r → ⊥) → (r : Record) × (line ≡ record_text r) × IsTrue (has_act format r.act) × (Fits r → ⊥)
+out_of_range format line raw e has none =
     let p = some_is_raw (record_of line) raw e in
-    (p.0, record_takes line p.0 p.1, none p.0 p.2)
+    (p.0, record_takes line p.0 p.1, has p.0.act (ap (λ (x : RawRecord). x.act) p.2), none p.0 p.2)
+
+-- what was read is no record's of this format
+pub other_format : (format : Format) (line : List ℕ) (raw : RawRecord) → Some raw ≡ option_map raw_of (record_of line) → ((a : Act) → raw.act ≡ raw_act_of a → has_act format a ≡ false)
+    → IsRecordShape format line → ⊥
+other_format format line raw e not shape =
+    let same : raw ≡ raw_of shape.0 = raw_is line raw shape.0 e shape.1 in
+    let no : has_act format shape.0.act ≡ false = not shape.0.act (ap (λ (x : RawRecord). x.act) same) in
+    let yes : has_act format shape.0.act ≡ true = shape.2 in
+    absurd cc

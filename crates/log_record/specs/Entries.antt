@@ -3,18 +3,19 @@ use Rattle.std.specs.Prelude.{ℕ, suc, List, [], ◌∷◌, ◌++◌, map, Opti
 use Rattle.std.specs.declared.cmp.Ordering.{Ordering}
 use Rattle.std.specs.Global.{Vec}
 use Rattle.mem_op.specs.declared.id.OpId.{OpId}
-use Rattle.mem_op.specs.Consistency.{Operation, Loaded, Stored}
+use Rattle.mem_op.specs.Consistency.{Operation, Loaded, Stored, Swapped}
 use Rattle.line_stamps.specs.declared.key.Key.{Key}
 use Rattle.line_stamps.specs.KeyOrder.{key_cmp}
 use Rattle.log_record.specs.declared.record.Record.{Record}
 use Rattle.log_record.specs.declared.record.Entry.{Entry}
-use Rattle.log_record.specs.declared.record.Act.{Act}
-use Rattle.log_record.specs.declared.record.Act.TheVariants.{Load, Store}
+use Rattle.log_record.specs.declared.act.Act.{Act}
+use Rattle.log_record.specs.declared.act.Act.TheVariants.{Load, Store, Swap}
 
 -- a record's operation, without stamp, rank and source
 abbrev pub operation_by : Act → ℕ → ℕ → Operation
 operation_by (Load source) addr value = Loaded addr value
 operation_by Store addr value = Stored addr value
+operation_by (Swap source read) addr value = Swapped addr read value
 
 abbrev pub operation_of : Record → Operation
 operation_of r = operation_by r.act r.addr r.value

@@ -1,7 +1,8 @@
 -- What holds of the texts of all lines.
 use Rattle.std.specs.Prelude.{◌≡◌, ◌≢◌, ℕ, ◌≤◌, length}
+use Rattle.log_record.specs.declared.format.Format.{Format}
 use Rattle.log_record.specs.declared.record.Record.{Record}
-use Rattle.log_record.specs.Line.{record_text, header_text, end_text, Fits, line_limit}
+use Rattle.log_record.specs.Line.{record_text, header_text, end_text, FitsIn, limit_of}
 
 -- a line is that of at most one record
 abbrev pub OneRecordALine : Type 0
@@ -13,6 +14,6 @@ pub record NoLineIsAnothers : Type 0 where
   pub record_no_end : (r : Record) (count : ℕ) → record_text r ≢ end_text count
   pub header_no_end : (format core cores count : ℕ) → header_text format core cores ≢ end_text count
 
--- the line of a record in range isn't longer than the limit
+-- the line of a record in range isn't longer than the limit of a log that may have it
 abbrev pub NoRecordIsLong : Type 0
-NoRecordIsLong = (r : Record) → Fits r → length (record_text r) ≤ line_limit
+NoRecordIsLong = (format : Format) (r : Record) → FitsIn format r → length (record_text r) ≤ limit_of format

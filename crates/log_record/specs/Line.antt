@@ -1,5 +1,5 @@
 -- The text of each line of a log, without its line feed.
-use Rattle.std.specs.Prelude.{◌≡◌, ℕ, ◌<◌, ◌≤◌, ◌^◌, List, [], ◌∷◌, ◌++◌, codes}
+use Rattle.std.specs.Prelude.{◌≡◌, ℕ, ◌<◌, ◌≤◌, ◌^◌, Bool, true, false, IsTrue, List, [], ◌∷◌, ◌++◌, codes}
 use Rattle.std.specs.List.{join_with_byte}
 use Rattle.decimal_text.specs.Numbers.{numeral}
 use Rattle.mem_op.specs.declared.id.Source.{Source}
@@ -7,14 +7,21 @@ use Rattle.mem_op.specs.declared.id.Source.TheVariants as source
 use Rattle.mem_op.specs.Limits.{operation_limit}
 use Rattle.log_record.specs.declared.format.Format.{Format}
 use Rattle.log_record.specs.declared.format.Format.TheVariants.{One, Two}
-use Rattle.log_record.specs.declared.record.Act.{Act}
-use Rattle.log_record.specs.declared.record.Act.TheVariants as act
+use Rattle.log_record.specs.declared.act.Act.{Act}
+use Rattle.log_record.specs.declared.act.Act.TheVariants as act
 use Rattle.log_record.specs.declared.record.Record.{Record}
 
 -- the number of a format
 abbrev pub format_number : Format → ℕ
 format_number One = 1
 format_number Two = 2
+
+-- whether a log of this format may have a record of this act: format 1 has no swaps
+abbrev pub has_act : Format → Act → Bool
+has_act format act.Store = true
+has_act format (act.Load s) = true
+has_act One (act.Swap s read) = false
+has_act Two (act.Swap s read) = true
 
 -- ---- the texts
 
@@ -23,15 +30,17 @@ abbrev pub source_text : Source → List ℕ
 source_text source.Init = codes "init"
 source_text (source.Store id) = numeral id.core ++ 46 ∷ numeral id.index
 
--- S for a store, L for a load
+-- S for a store, L for a load, X for a swap
 abbrev pub tag : Act → List ℕ
 tag act.Store = codes "S"
 tag (act.Load s) = codes "L"
+tag (act.Swap s read) = codes "X"
 
 -- the fields after those of every record
 abbrev pub last_fields : Act → List (List ℕ)
 last_fields act.Store = []
 last_fields (act.Load s) = source_text s ∷ []
+last_fields (act.Swap s read) = source_text s ∷ numeral read ∷ []
 
 abbrev pub fields_of : Record → List (List ℕ)
 fields_of r = tag r.act ∷ numeral r.addr ∷ numeral r.value ∷ numeral r.ts ∷ numeral r.rank ∷ last_fields r.act
@@ -53,9 +62,9 @@ end_text count = codes "end " ++ numeral count
 -- A number of a line may have any size. So a line has a record's shape where it is the text of some record,
 -- of numbers of any size; the same below.
 
--- of a record of this format: the records of both are the same
+-- of a record that a log of this format may have
 abbrev pub IsRecordShape : Format → List ℕ → Type 0
-IsRecordShape format line = (r : Record) × (line ≡ record_text r)
+IsRecordShape format line = (r : Record) × (line ≡ record_text r) × IsTrue (has_act format r.act)
 
 abbrev pub IsHeaderShape : ℕ → List ℕ → Type 0
 IsHeaderShape format line = (core : ℕ) × ((cores : ℕ) × (line ≡ header_text format core cores))
@@ -76,6 +85,7 @@ SourceFits (source.Store id) = (id.core < 64) × (id.index < operation_limit)
 abbrev pub ActFits : Act → Type 0
 ActFits act.Store = Unit {0}
 ActFits (act.Load s) = SourceFits s
+ActFits (act.Swap s read) = SourceFits s × (read < 2 ^ 64)
 
 -- the numbers of a record are in range
 pub record Fits (r : Record) : Type 0 where
@@ -85,13 +95,18 @@ pub record Fits (r : Record) : Type 0 where
   pub addr : r.addr < 65536
   pub act : ActFits r.act
 
+-- a log of this format may have the record, and its numbers are in range
+pub record FitsIn (format : Format) (r : Record) : Type 0 where
+  pub has : IsTrue (has_act format r.act)
+  pub numbers : Fits r
+
 -- ---- the lengths
 
--- The most bytes of the header of a log, its line feed not counted. No line of numbers in range has more.
+-- the most bytes of the header of a log, its line feed not counted
 abbrev pub line_limit : ℕ
 line_limit = 80
 
--- the most bytes of a later line, by the log's format
+-- The most bytes of a later line, by the log's format. No line of numbers in range has more.
 abbrev pub limit_of : Format → ℕ
 limit_of One = line_limit
 limit_of Two = 96

@@ -1,6 +1,6 @@
 -- The parts of a record.
 use Rattle.std.specs.Prelude.{ℕ}
-use Rattle.log_record.specs.declared.record.Act.{Act}
+use Rattle.log_record.specs.declared.act.Act.{Act}
 
 pub record RecordParts : Type 0 where
   pub value : ℕ

@@ -1,14 +1,16 @@
 //! The formats of logs.
 
 ghost use Rattle.std.specs.Prelude.{◌≡◌};
-ghost use Rattle.log_record.specs.Line.{limit_of};
+ghost use Rattle.log_record.specs.Line.{has_act, limit_of};
+
+use super::act::Act;
 
 /// A format of logs. A log says its own in its header.
 #[derive(Clone, Copy, Debug, PartialEq, Eq)]
 pub enum Format {
-    /// Format 1.
+    /// Format 1, which has no swaps.
     One,
-    /// Format 2, whose lines after the header may be longer.
+    /// Format 2, which has them, and whose lines after the header may be longer.
     Two,
 }
 
@@ -20,6 +22,16 @@ impl Format {
         match self {
             Format::One => 80,
             Format::Two => 96,
+        }
+    }
+
+    /// Whether a log of this format may have a record of this act.
+    pub fn has_act(self, act: &Act) -> bool
+        ensures { result ≡ has_act self act.now }
+    {
+        match act {
+            Act::Load(_) | Act::Store => true,
+            Act::Swap(..) => self == Format::Two,
         }
     }
 }

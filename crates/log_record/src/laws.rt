@@ -14,7 +14,7 @@ pub fn no_line_is_anothers()
     ensures { NoLineIsAnothers }
 {}
 
-/// The line of a record in range has at most 80 bytes.
+/// The line of a record in range has at most 80 bytes in a log of format 1, and 96 in one of format 2.
 #[tactic(auto, using(crate::proofs::Lines::record_short))]
 pub fn no_record_is_long()
     ensures { NoRecordIsLong }

@@ -1,6 +1,7 @@
 //! The records of a core's log, and the line of text that each one is.
 #![tactic(auto)]
 
+mod act;
 mod end;
 mod fault;
 mod format;
@@ -12,10 +13,11 @@ mod raw;
 mod reading;
 mod record;
 
+pub use act::Act;
 pub use end::{End, print_end, read_end};
 pub use fault::LineFault;
 pub use format::Format;
 pub use header::{Header, print_header, read_header};
 pub use laws::{no_line_is_anothers, no_record_is_long, one_record_a_line};
 pub use line::{print_line, read_line};
-pub use record::{Act, Entry, Record};
+pub use record::{Entry, Record};

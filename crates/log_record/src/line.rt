@@ -1,14 +1,18 @@
 //! A record's line, written and read.
 
-ghost use Rattle.std.specs.Prelude.{◌≡◌, IfOk, IsErrOf, Some, string_bytes};
-ghost use Rattle.log_record.specs.Line.{record_text, IsRecordShape, Fits};
+ghost use Rattle.std.specs.Prelude.{◌≡◌, IfOk, IsErrOf, IsTrue, Some, string_bytes};
+ghost use Rattle.log_record.specs.Line.{record_text, has_act, IsRecordShape, Fits, FitsIn};
+ghost use Rattle.log_record.specs.declared.act.Act.{Act};
+ghost use Rattle.log_record.specs.inner.Raw.{raw_act_of};
 ghost use Rattle.log_record.specs.declared.record.Record.{Record};
 
+use super::act::Act;
 use super::fault::LineFault;
 use super::format::Format;
 use super::range::in_range;
+use super::raw::RawAct;
 use super::reading::raw_record;
-use super::record::{Act, Record};
+use super::record::Record;
 use mem_op::Source;
 use std::alloc::{AllocError, Global};
 use std::fmt;
@@ -16,19 +20,27 @@ use std::fmt;
 impl fmt::Display for Record {
     ghost output = { λ r. Some (record_text r) };
 
-    #[tactic(auto, using(decimal_text::proofs::Printing::numeral_decimal), unfolding(crate::specs::Line::record_text))]
+    #[tactic(auto, using(decimal_text::proofs::Printing::numeral_decimal, crate::proofs::Records::swap_text_is), unfolding(crate::specs::Line::record_text))]
     fn fmt<W: fmt::Write>(&self, f: &mut fmt::Formatter<W>) -> fmt::Result {
         let addr = self.addr.get();
         let value = self.value;
         let ts = self.ts.get();
         let rank = self.rank.get();
-        match &self.act {
+        match &self.act() {
             Act::Store => write!(f, "S {addr} {value} {ts} {rank}"),
             Act::Load(Source::Init) => write!(f, "L {addr} {value} {ts} {rank} init"),
             Act::Load(Source::Store(id)) => {
                 let core = id.core.get();
                 let index = id.index.get();
                 write!(f, "L {addr} {value} {ts} {rank} {core}.{index}")
+            }
+            Act::Swap(Source::Init, read) => {
+                write!(f, "X {addr} {value} {ts} {rank} init {read}")
+            }
+            Act::Swap(Source::Store(id), read) => {
+                let core = id.core.get();
+                let index = id.index.get();
+                write!(f, "X {addr} {value} {ts} {rank} {core}.{index} {read}")
             }
         }
     }
@@ -41,20 +53,34 @@ pub fn print_line(alloc: Global, logged: &Record) -> Result<String, AllocError>
     logged.to_string(alloc)
 }
 
-/// The record whose line this is in a log of this format, without its line feed. BadLine where it isn't a
-/// record's line there, whatever the size of its numbers; OutOfRange where it is the line of a record with a number out of range.
-#[tactic(auto, using(crate::proofs::Raws::out_of_range, crate::proofs::Raws::found))]
-pub fn read_line(_format: Format, line: &[u8]) -> Result<Record, LineFault>
-    ensures found { IfOk result (λ r. (line.now ≡ record_text r) × Fits r) }
-    ensures bad { IsErrOf result LineFault.BadLine → ¬ IsRecordShape _format line.now }
-    ensures range { IsErrOf result LineFault.OutOfRange →
-        (r : Record) × (line.now ≡ record_text r) × (¬ Fits r) }
+// Whether a log of this format may have a record of this act, its numbers of any size.
+fn has_raw(format: Format, act: RawAct) -> bool
+    ensures { (a : Act) → act ≡ raw_act_of a → result ≡ has_act format a }
 {
-    match raw_record(line) {
-        None => Err(LineFault::BadLine),
-        Some(raw) => match in_range(raw) {
-            None => Err(LineFault::OutOfRange),
-            Some(read) => Ok(read),
-        },
+    match act {
+        RawAct::Load(_) | RawAct::Store => true,
+        RawAct::Swap(..) => format == Format::Two,
+    }
+}
+
+/// The record whose line this is in a log of this format, without its line feed. BadLine where it isn't a
+/// record's line there, whatever the size of its numbers; OutOfRange where it is the line of a record with
+/// a number out of range.
+#[tactic(auto, using(crate::proofs::Raws::out_of_range, crate::proofs::Raws::found))]
+pub fn read_line(format: Format, line: &[u8]) -> Result<Record, LineFault>
+    ensures found { IfOk result (λ r. (line.now ≡ record_text r) × FitsIn format r) }
+    ensures bad { IsErrOf result LineFault.BadLine → ¬ IsRecordShape format line.now }
+    ensures range { IsErrOf result LineFault.OutOfRange →
+        (r : Record) × (line.now ≡ record_text r) × IsTrue (has_act format r.act) × (¬ Fits r) }
+{
+    let Some(raw) = raw_record(line) else {
+        return Err(LineFault::BadLine);
+    };
+    if !has_raw(format, raw.act) {
+        return Err(LineFault::BadLine);
+    }
+    match in_range(raw) {
+        None => Err(LineFault::OutOfRange),
+        Some(read) => Ok(read),
     }
 }

@@ -2,14 +2,16 @@
 
 ghost use Rattle.std.specs.Prelude.{◌≡◌, ◌<◌, ℕ, IfSome, IfNone};
 ghost use Rattle.mem_op.specs.Limits.{operation_limit};
-ghost use Rattle.log_record.specs.Line.{Fits, ActFits};
+ghost use Rattle.mem_op.specs.declared.id.Source.{Source};
+ghost use Rattle.log_record.specs.Line.{Fits, ActFits, SourceFits};
 ghost use Rattle.decimal_text.specs.Numbers.{as_u64};
-ghost use Rattle.log_record.specs.inner.Raw.{raw_act_of, raw_of};
-ghost use Rattle.log_record.specs.declared.record.Act.{Act};
+ghost use Rattle.log_record.specs.inner.Raw.{raw_act_of, raw_of, raw_source_of};
+ghost use Rattle.log_record.specs.declared.act.Act.{Act};
 ghost use Rattle.log_record.specs.declared.record.Record.{Record};
 
 use super::raw::{RawAct, RawRecord, RawSource};
-use super::record::{Act, Record};
+use super::act::Act;
+use super::record::Record;
 use line_stamps::{Rank, Stamp};
 use mem_op::{Addr, CoreId, OpId, OpIndex, Source};
 
@@ -26,18 +28,26 @@ fn id_in_range(core: Option<u64>, index: Option<u64>) -> Option<OpId>
     })
 }
 
-/// The act, where the numbers of a source are in range.
+/// The source, where its numbers are in range.
+fn source_in_range(raw: RawSource) -> Option<Source>
+    ensures found { IfSome result (λ s. (raw ≡ raw_source_of s) × SourceFits s) }
+    ensures none { IfNone result ((s : Source) → raw ≡ raw_source_of s → SourceFits s → ⊥) }
+{
+    match raw {
+        RawSource::Init => Some(Source::Init),
+        RawSource::Store(core, index) => Some(Source::Store(id_in_range(core, index)?)),
+    }
+}
+
+/// The act, where its numbers are in range.
 fn act_in_range(raw: RawAct) -> Option<Act>
     ensures found { IfSome result (λ a. (raw ≡ raw_act_of a) × ActFits a) }
     ensures none { IfNone result ((a : Act) → raw ≡ raw_act_of a → ActFits a → ⊥) }
 {
     match raw {
         RawAct::Store => Some(Act::Store),
-        RawAct::Load(RawSource::Init) => Some(Act::Load(Source::Init)),
-        RawAct::Load(RawSource::Store(core, index)) => {
-            let id = id_in_range(core, index)?;
-            Some(Act::Load(Source::Store(id)))
-        }
+        RawAct::Load(source) => Some(Act::Load(source_in_range(source)?)),
+        RawAct::Swap(source, read) => Some(Act::Swap(source_in_range(source)?, read?)),
     }
 }
 
@@ -46,11 +56,12 @@ pub(crate) fn in_range(raw: RawRecord) -> Option<Record>
     ensures found { IfSome result (λ r. (raw ≡ raw_of r) × Fits r) }
     ensures none { IfNone result ((r : Record) → raw ≡ raw_of r → Fits r → ⊥) }
 {
-    Some(Record {
-        value: raw.fields.value?,
-        ts: Stamp::new(raw.fields.ts?).ok()?,
-        rank: Rank::new(raw.rank?).ok()?,
-        addr: Addr::new(raw.fields.addr?).ok()?,
-        act: act_in_range(raw.act)?,
-    })
+    let value = raw.fields.value?;
+    let ts = Stamp::new(raw.fields.ts?).ok()?;
+    let rank = Rank::new(raw.rank?).ok()?;
+    let addr = Addr::new(raw.fields.addr?).ok()?;
+    let Some(act) = &act_in_range(raw.act) else {
+        return None;
+    };
+    Some(Record::new(value, ts, rank, addr, act))
 }

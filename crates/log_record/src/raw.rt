@@ -10,6 +10,7 @@ pub(crate) enum RawSource {
 pub(crate) enum RawAct {
     Load(RawSource),
     Store,
+    Swap(RawSource, Option<u64>),
 }
 
 #[derive(Clone, Copy)]

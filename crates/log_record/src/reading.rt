@@ -3,10 +3,10 @@
 ghost use Rattle.std.specs.Prelude.{◌≡◌, option_map};
 ghost use Rattle.decimal_text.specs.Reading.{front_now, front_map};
 ghost use Rattle.log_record.specs.inner.Raw.{raw_source_of, raw_fields_of, raw_of};
-ghost use Rattle.log_record.specs.inner.Reading.{store_source_at, source_at, fields_at, store_at, load_at, tagged_at, record_of};
+ghost use Rattle.log_record.specs.inner.Reading.{store_source_at, source_at, fields_at, store_at, load_at, swap_at, tagged_at, record_of};
 
 use super::raw::{RawAct, RawFields, RawRecord, RawSource};
-use decimal_text::{read_field, read_number};
+use decimal_text::{after_text, read_field, read_number};
 
 /// A core, a dot and an index.
 #[tactic(auto, unfolding(crate::specs::inner::Reading::store_source_at))]
@@ -63,14 +63,28 @@ fn load(bytes: &[u8]) -> Option<(RawRecord, &[u8])>
     Some((RawRecord { act, fields, rank }, rest))
 }
 
+/// A swap's fields.
+#[tactic(auto, unfolding(crate::specs::inner::Reading::swap_at))]
+fn swap(bytes: &[u8]) -> Option<(RawRecord, &[u8])>
+    ensures { front_now result ≡ front_map raw_of (swap_at bytes.now) }
+{
+    let (fields, rest) = fields(bytes)?;
+    let (rank, rest) = read_field(b' ', rest)?;
+    let (source, rest) = source(rest)?;
+    let (read, rest) = read_number(after_text(b" ", rest)?)?;
+    let act = RawAct::Swap(source, read);
+    Some((RawRecord { act, fields, rank }, rest))
+}
+
 /// A record's tag and its fields.
-#[tactic(auto, unfolding(crate::specs::inner::Reading::tagged_at, decimal_text::specs::Reading::after))]
+#[tactic(auto, unfolding(crate::specs::inner::Reading::tagged_at, crate::specs::inner::Reading::reading_at, decimal_text::specs::Reading::after))]
 fn tagged(bytes: &[u8]) -> Option<(RawRecord, &[u8])>
     ensures { front_now result ≡ front_map raw_of (tagged_at bytes.now) }
 {
     match bytes {
         [b'S', b' ', rest @ ..] => store(rest),
         [b'L', b' ', rest @ ..] => load(rest),
+        [b'X', b' ', rest @ ..] => swap(rest),
         _ => None,
     }
 }

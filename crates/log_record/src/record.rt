@@ -2,34 +2,24 @@
 
 ghost use Rattle.std.specs.Prelude.{◌≡◌};
 ghost use Rattle.log_record.specs.Entries.{key_of};
-ghost use Rattle.log_record.specs.inner.FlatActs.{act_of};
 
+use super::act::{Act, FlatAct};
 use line_stamps::{Key, Rank, Stamp};
-use mem_op::{Addr, CoreId, OpId, OpIndex, Source, Word};
+use mem_op::{Addr, CoreId, OpId, OpIndex, Word};
 use std::marker::Model;
 
-/// What a record says was done.
-#[derive(Clone, Copy, Debug, PartialEq, Eq)]
-pub enum Act {
-    /// A load, with the store that it says it read.
-    Load(Source),
-    /// A store.
-    Store,
-}
-
-/// One operation of a core, as its log has it.
+/// One operation of a core, as its log has it. It takes 40 bytes.
 #[derive(Clone, Copy, Debug, PartialEq, Eq)]
 pub struct Record {
-    /// The word that was loaded or stored.
+    /// The word that was loaded or stored; of a swap the one that it stored.
     pub value: Word,
     /// When the operation took place.
     pub ts: Stamp,
+    act: FlatAct,
     /// Its order among those of its stamp.
     pub rank: Rank,
     /// The address of the word.
     pub addr: Addr,
-    /// What was done.
-    pub act: Act,
 }
 
 impl Model for Record {
@@ -42,80 +32,59 @@ impl Model for Record {
     ghost inverse = { λ r. record { value = r.value; ts = r.ts; rank = r.rank; addr = r.addr; act = r.act } };
 }
 
-/// What a record says was done, with one tag: an `Act` has two, and takes 16 bytes where this takes
-/// 12.
-#[derive(Clone, Copy, Debug, PartialEq, Eq)]
-enum FlatAct {
-    LoadInit,
-    Load(OpId),
-    Store,
-}
-
-impl FlatAct {
-    /// An act with one tag.
-    fn of(act: &Act) -> FlatAct
-        ensures { act_of result ≡ act.now }
+impl Record {
+    /// A record of these parts: the word that was loaded or stored, and when, at which rank, at which address
+    /// and how.
+    pub fn new(value: Word, ts: Stamp, rank: Rank, addr: Addr, act: &Act) -> Record
+        ensures { result ≡ record { value = value; ts = ts; rank = rank; addr = addr; act = act.now } }
     {
-        match act {
-            Act::Load(Source::Init) => FlatAct::LoadInit,
-            Act::Load(Source::Store(id)) => FlatAct::Load(*id),
-            Act::Store => FlatAct::Store,
+        let act = FlatAct::of(act);
+        Record {
+            value,
+            ts,
+            act,
+            rank,
+            addr,
         }
     }
 
-    /// The act.
-    fn act(&self) -> Act
-        ensures { result ≡ act_of self.now }
+    /// What was done.
+    pub fn act(&self) -> Act
+        ensures { result ≡ self.now.act }
     {
-        match self {
-            FlatAct::LoadInit => Act::Load(Source::Init),
-            FlatAct::Load(id) => Act::Load(Source::Store(*id)),
-            FlatAct::Store => Act::Store,
-        }
+        self.act.act()
     }
 }
 
-/// A record with its id. It takes 40 bytes, as the record does alone.
+/// A record with its id. It takes 48 bytes.
 #[derive(Clone, Copy, Debug, PartialEq, Eq)]
 pub struct Entry {
     value: Word,
     ts: Stamp,
+    act: FlatAct,
     rank: Rank,
     index: OpIndex,
-    act: FlatAct,
     addr: Addr,
     core: CoreId,
 }
 
 impl Model for Entry {
     ghost use Rattle.log_record.specs.EntryParts.{EntryParts};
-    ghost use Rattle.log_record.specs.inner.FlatActs.{act_of, flat_of, flat_of-act_of};
-
     ghost Value = { EntryParts };
 
     ghost view = { λ e. record {
       id = record { core = e.core; index = e.index };
-      logged = record { value = e.value; ts = e.ts; rank = e.rank; addr = e.addr; act = act_of e.act };
+      logged = record { value = e.value; ts = e.ts; rank = e.rank; addr = e.addr; act = e.act };
     } };
 
     ghost inverse = { λ e. record {
       value = e.logged.value;
       ts = e.logged.ts;
+      act = e.logged.act;
       rank = e.logged.rank;
       index = e.id.index;
-      act = flat_of e.logged.act;
       addr = e.logged.addr;
       core = e.id.core;
-    } };
-
-    ghost inverse_ok = { λ e h i. record {
-      value = e.value;
-      ts = e.ts;
-      rank = e.rank;
-      index = e.index;
-      act = flat_of-act_of e.act i;
-      addr = e.addr;
-      core = e.core;
     } };
 }
 
@@ -129,7 +98,7 @@ impl Entry {
             ts: logged.ts,
             rank: logged.rank,
             index: id.index,
-            act: FlatAct::of(&logged.act),
+            act: logged.act,
             addr: logged.addr,
             core: id.core,
         }
@@ -149,20 +118,12 @@ impl Entry {
     pub fn logged(&self) -> Record
         ensures { result ≡ self.now.logged }
     {
-        let Entry {
-            value,
-            ts,
-            rank,
-            addr,
-            ..
-        } = *self;
-        let act = self.act();
         Record {
-            value,
-            ts,
-            rank,
-            addr,
-            act,
+            value: self.value,
+            ts: self.ts,
+            act: self.act,
+            rank: self.rank,
+            addr: self.addr,
         }
     }
 
@@ -173,7 +134,7 @@ impl Entry {
         self.addr
     }
 
-    /// The word that was loaded or stored.
+    /// The word that was loaded or stored; of a swap the one that it stored.
     pub fn value(&self) -> Word
         ensures { result ≡ self.now.logged.value }
     {

@@ -14,8 +14,8 @@ use Rattle.mem_op.specs.declared.id.Source.TheVariants.{Init, Store as From}
 use Rattle.line_stamps.specs.Ordered.{In, IsGreatest}
 use Rattle.line_stamps.proofs.Order.{lt_irrefl, lt_asym}
 use Rattle.line_stamps.proofs.Ordered.{greatest_from_least}
-use Rattle.log_record.specs.declared.record.Act.{Act}
-use Rattle.log_record.specs.declared.record.Act.TheVariants.{Load, Store}
+use Rattle.log_record.specs.declared.act.Act.{Act}
+use Rattle.log_record.specs.declared.act.Act.TheVariants.{Load, Store}
 use Rattle.log_record.specs.declared.record.Entry.{Entry}
 use Rattle.log_record.specs.declared.record.Record.{Record}
 use Rattle.log_record.specs.Entries.{entries, entry_cmp, record_at}

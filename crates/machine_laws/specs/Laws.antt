@@ -3,7 +3,7 @@
 use Rattle.std.specs.Prelude.{◌≡◌, ℕ, false, List, [], ◌∷◌, length, map, All}
 use Rattle.mem_op.specs.Consistency.{IsConsistent}
 use Rattle.lease_rule.specs.ConfigParts.{ConfigParts}
-use Rattle.log_record.specs.declared.record.Act.TheVariants as act
+use Rattle.log_record.specs.declared.act.Act.TheVariants as act
 use Rattle.log_record.specs.declared.record.Record.{Record}
 use Rattle.log_record.specs.Entries.{entries, operations_of}
 use Rattle.core_program.specs.declared.instruction.Instruction.{Instruction}

@@ -1,13 +1,16 @@
 -- Sequential consistency, as textbooks have it: one order of all operations that keeps each core's program
--- order, and in which each load answers the last earlier store to its address, or 0.
+-- order, and in which each load answers the last earlier store to its address, or 0. A swap is a load and a
+-- store at one place of the order.
 use Rattle.std.specs.Prelude.{◌≡◌, ℕ, ◌<◌, Bool, false, ◌&&◌, ◌==◌, if◌then◌else◌, List, Option, Some, None, slice_get, is_some, option_and_then, AllPairs, count_by, find, reverse, take}
 use Rattle.std.specs.List.{filter_map}
 use Rattle.mem_op.specs.declared.id.OpId.{OpId}
 
--- a load of a value from an address, or a store of a value to it
+-- a load of a value from an address, a store of a value to it, or a swap: the two in one, of the value that
+-- it reads and of the one that it stores
 pub data Operation : Type 0 where
   Loaded : (addr value : ℕ) → Operation
   Stored : (addr value : ℕ) → Operation
+  Swapped : (addr read stored : ℕ) → Operation
 
 -- the operation of an id, where `cores` has each core's operations in program order
 abbrev pub operation_at : List (List Operation) → OpId → Option Operation
@@ -25,19 +28,23 @@ IsSerialOrder cores order =
 abbrev pub KeepsProgramOrder : List OpId → Type 0
 KeepsProgramOrder order = AllPairs (λ a b. a.core ≡ b.core → a.index < b.index) order
 
+-- a swap stores as a store does
 abbrev pub is_store_to : ℕ → Operation → Bool
 is_store_to addr (Loaded a v) = false
 is_store_to addr (Stored a v) = a == addr
+is_store_to addr (Swapped a r v) = a == addr
 
--- the word that its core has of an operation: the one that a load reads, the one that a store writes
+-- the word that its core has of an operation: the one that a load or a swap reads, the one that a store writes
 abbrev pub word_answered : Operation → ℕ
 word_answered (Loaded a v) = v
 word_answered (Stored a v) = v
+word_answered (Swapped a r v) = r
 
 -- the word that stands at its address after an operation: a load leaves the one that it reads
 abbrev pub word_left : Operation → ℕ
 word_left (Loaded a v) = v
 word_left (Stored a v) = v
+word_left (Swapped a r v) = v
 
 abbrev pub value_or_zero : Option Operation → ℕ
 value_or_zero None = 0
@@ -47,12 +54,12 @@ value_or_zero (Some operation) = word_left operation
 abbrev pub last_value : ℕ → List Operation → ℕ
 last_value addr operations = value_or_zero (find (is_store_to addr) (reverse operations))
 
--- each load answers the last store to its address that stands earlier
-abbrev pub GivesFlatAnswers : List Operation → Type 0
-GivesFlatAnswers operations =
-    (k addr value : ℕ) → slice_get operations k ≡ Some (Loaded addr value) → value ≡ last_value addr (take k operations)
+-- each load, and each swap by what it reads, answers the last store to its address that stands earlier
+pub record GivesFlatAnswers (operations : List Operation) : Type 0 where
+  pub loads : (k addr value : ℕ) → slice_get operations k ≡ Some (Loaded addr value) → value ≡ last_value addr (take k operations)
+  pub swaps : (k addr read stored : ℕ) → slice_get operations k ≡ Some (Swapped addr read stored) → read ≡ last_value addr (take k operations)
 
--- a serial order that keeps program order and in which each load has its flat answer
+-- a serial order that keeps program order and in which each load and each swap has its flat answer
 pub record IsSequentialOrder (cores : List (List Operation)) (order : List OpId) : Type 0 where
   pub serial : IsSerialOrder cores order
   pub program : KeepsProgramOrder order

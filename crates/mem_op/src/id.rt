@@ -43,4 +43,6 @@ pub enum Op {
     Load(Addr),
     /// Writes a word at an address.
     Store(Addr, Word),
+    /// Reads the word at an address and writes another there, in one step.
+    Swap(Addr, Word),
 }

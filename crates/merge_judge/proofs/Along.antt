@@ -10,8 +10,8 @@ use Rattle.line_stamps.proofs.Order.{lt_irrefl, lt_asym, lt_cases}
 use Rattle.line_stamps.proofs.Ordered.{In-append, In-append_left, In-append_right, In-from_sorted, last_is_greatest, greatest_from_least, In-filter_map, filter_map-In, least_is, one_least}
 use Rattle.log_record.specs.declared.record.Record.{Record}
 use Rattle.log_record.specs.declared.record.Entry.{Entry}
-use Rattle.log_record.specs.declared.record.Act.{Act}
-use Rattle.log_record.specs.declared.record.Act.TheVariants.{Load, Store}
+use Rattle.log_record.specs.declared.act.Act.{Act}
+use Rattle.log_record.specs.declared.act.Act.TheVariants.{Load, Store}
 use Rattle.log_record.specs.Entries.{key_of, entry_cmp, entries}
 use Rattle.log_record.proofs.EntryFacts.{same_record}
 use Rattle.address_check.specs.declared.fault.AddressRule.{AddressRule}

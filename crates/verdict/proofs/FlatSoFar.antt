@@ -11,8 +11,8 @@ use Rattle.std.proofs.lemmas.Option.{slice_get_within}
 use Rattle.mem_op.specs.declared.id.OpId.{OpId}
 use Rattle.mem_op.specs.Consistency.{Operation, Loaded, Stored, operation_at, is_store_to, word_left, value_or_zero, last_value, GivesFlatAnswers}
 use Rattle.log_record.specs.declared.record.Record.{Record}
-use Rattle.log_record.specs.declared.record.Act.{Act}
-use Rattle.log_record.specs.declared.record.Act.TheVariants.{Load, Store}
+use Rattle.log_record.specs.declared.act.Act.{Act}
+use Rattle.log_record.specs.declared.act.Act.TheVariants.{Load, Store}
 use Rattle.log_record.specs.Entries.{operation_by, operation_of, operations_of, record_at, record_lists}
 use Rattle.log_record.proofs.EntryFacts.{operation_at-operations_of}
 

@@ -2,8 +2,8 @@
 use Rattle.std.specs.Prelude.{ℕ}
 use Rattle.mem_op.specs.declared.id.Source.{Source}
 use Rattle.mem_op.specs.declared.id.Source.TheVariants as source
-use Rattle.log_record.specs.declared.record.Act.{Act}
-use Rattle.log_record.specs.declared.record.Act.TheVariants as act
+use Rattle.log_record.specs.declared.act.Act.{Act}
+use Rattle.log_record.specs.declared.act.Act.TheVariants as act
 use Rattle.log_record.specs.declared.record.Record.{Record}
 use Rattle.log_record.specs.declared.raw.RawSource.{RawSource}
 use Rattle.log_record.specs.declared.raw.RawSource.TheVariants as raw_source
@@ -24,6 +24,7 @@ raw_source_of (source.Store id) = raw_source.Store (as_u64 id.core) (as_u64 id.i
 abbrev pub raw_act_of : Act → RawAct
 raw_act_of act.Store = raw_act.Store
 raw_act_of (act.Load s) = raw_act.Load (raw_source_of s)
+raw_act_of (act.Swap s read) = raw_act.Swap (raw_source_of s) (as_u64 read)
 
 abbrev pub raw_fields_of : Fields → RawFields
 raw_fields_of f = record { addr = as_u64 f.addr; value = as_u64 f.value; ts = as_u64 f.ts }

@@ -6,8 +6,8 @@ use Rattle.mem_op.specs.declared.id.Source.{Source}
 use Rattle.mem_op.specs.declared.id.Source.TheVariants as source
 use Rattle.log_record.specs.declared.format.Format.{Format}
 use Rattle.log_record.specs.declared.format.Format.TheVariants.{One, Two}
-use Rattle.log_record.specs.declared.record.Act.{Act}
-use Rattle.log_record.specs.declared.record.Act.TheVariants as act
+use Rattle.log_record.specs.declared.act.Act.{Act}
+use Rattle.log_record.specs.declared.act.Act.TheVariants as act
 use Rattle.log_record.specs.declared.record.Record.{Record}
 
 -- ---- records
@@ -40,9 +40,18 @@ store_at bytes = fields_at bytes >>= λ f. number_at f.1 >>= λ rank. Some (made
 unfoldable pub load_at : List ℕ → Option (Record × List ℕ)
 load_at bytes = fields_at bytes >>= λ f. field_at 32 f.1 >>= λ rank. source_at rank.1 >>= λ s. Some (made (act.Load s.0) f.0 rank.0, s.1)
 
+unfoldable pub swap_at : List ℕ → Option (Record × List ℕ)
+swap_at bytes =
+    fields_at bytes >>= λ f. field_at 32 f.1 >>= λ rank. source_at rank.1 >>= λ s. after (codes " ") s.1 >>= λ rest. number_at rest >>= λ read. Some (made (act.Swap s.0 read.0) f.0 rank.0, read.1)
+
+-- a load's or a swap's
+unfoldable pub reading_at : List ℕ → Option (Record × List ℕ)
+reading_at bytes =
+    if is_some (after (codes "L ") bytes) then (after (codes "L ") bytes >>= load_at) else (after (codes "X ") bytes >>= swap_at)
+
 unfoldable pub tagged_at : List ℕ → Option (Record × List ℕ)
 tagged_at bytes =
-    if is_some (after (codes "S ") bytes) then (after (codes "S ") bytes >>= store_at) else (after (codes "L ") bytes >>= load_at)
+    if is_some (after (codes "S ") bytes) then (after (codes "S ") bytes >>= store_at) else reading_at bytes
 
 -- the record whose line this is, its numbers of any size
 unfoldable pub record_of : List ℕ → Option Record

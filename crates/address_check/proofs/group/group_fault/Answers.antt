@@ -1,5 +1,5 @@
 use Rattle.std.proofs.Common.{◌≡◌, arith, option_copied, sym, ◌∙◌}
-use Rattle.log_record.specs.declared.record.Act.TheVariants.{Load, Store}
+use Rattle.log_record.specs.declared.act.Act.TheVariants.{Load, Store}
 use Rattle.address_check.proofs.GroupPass.{more_store, more_load, fault_at, none_at_end, found_least, none_found}
 use Rattle.address_check.proofs.group.group_fault.Goals as goal
 use Rattle.address_check.proofs.group.group_fault.Goals.{in-Store, in-Load+else-is_some}

@@ -1,5 +1,5 @@
 use Rattle.log_record.specs.declared.record.Record.{Record}
-use Rattle.log_record.specs.declared.record.Act.{Act}
+use Rattle.log_record.specs.declared.act.Act.{Act}
 use Rattle.std.proofs.Common.{arith, ◌≡◌, ◌∙◌, sym, ap, ℕ, length}
 use Rattle.std.proofs.lemmas.List.{get_or_read}
 use Rattle.verdict.proofs.FlatSoFar.{operations_done, flat_skip, flat_store, flat_load, flat_refuse}

@@ -1,6 +1,6 @@
 -- The words stay those of the last stores.
 use Rattle.std.proofs.Common.{◌≡◌, ◌∙◌, ◌<◌, arith, sym}
-use Rattle.log_record.specs.declared.record.Act.TheVariants.{Load, Store}
+use Rattle.log_record.specs.declared.act.Act.TheVariants.{Load, Store}
 use Rattle.merge_judge.proofs.WordFacts.{holds_store, fault_by_words}
 use Rattle.merge_judge.proofs.words.Words.perform.Goals as goal
 
