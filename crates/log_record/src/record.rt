@@ -3,33 +3,62 @@
 ghost use Rattle.std.specs.Prelude.{◌≡◌};
 ghost use Rattle.log_record.specs.Entries.{key_of};
 
-use super::act::{Act, FlatAct};
+use super::act::{Act, Tag, act_by, index_in, read_in, tag_of};
 use line_stamps::{Key, Rank, Stamp};
 use mem_op::{Addr, CoreId, OpId, OpIndex, Word};
 use std::marker::Model;
 
-/// One operation of a core, as its log has it. It takes 40 bytes.
+/// One operation of a core, as its log has it. It takes 40 bytes, since its act stands in parts.
 #[derive(Clone, Copy, Debug, PartialEq, Eq)]
 pub struct Record {
     /// The word that was loaded or stored; of a swap the one that it stored.
     pub value: Word,
+    read: Word,
     /// When the operation took place.
     pub ts: Stamp,
-    act: FlatAct,
     /// Its order among those of its stamp.
     pub rank: Rank,
+    source_index: OpIndex,
     /// The address of the word.
     pub addr: Addr,
+    tag: Tag,
 }
 
 impl Model for Record {
     ghost use Rattle.log_record.specs.RecordParts.{RecordParts};
+    ghost use Rattle.log_record.specs.inner.FlatActs.{act_by, index_in, IsFlat, kind_of, kind_of-act_by, read_in};
 
     ghost Value = { RecordParts };
 
-    ghost view = { λ r. record { value = r.value; ts = r.ts; rank = r.rank; addr = r.addr; act = r.act } };
+    ghost view = { λ r. record {
+      value = r.value;
+      ts = r.ts;
+      rank = r.rank;
+      addr = r.addr;
+      act = act_by r.tag r.source_index r.read;
+    } };
 
-    ghost inverse = { λ r. record { value = r.value; ts = r.ts; rank = r.rank; addr = r.addr; act = r.act } };
+    ghost invariant = { λ r. IsFlat r.tag r.source_index r.read };
+
+    ghost inverse = { λ r. record {
+      value = r.value;
+      read = read_in r.act;
+      ts = r.ts;
+      rank = r.rank;
+      source_index = index_in r.act;
+      addr = r.addr;
+      tag = kind_of r.act;
+    } };
+
+    ghost inverse_ok = { λ r h i. record {
+      value = r.value;
+      read = h.same_read i;
+      ts = r.ts;
+      rank = r.rank;
+      source_index = h.same_index i;
+      addr = r.addr;
+      tag = kind_of-act_by r.tag r.source_index r.read i;
+    } };
 }
 
 impl Record {
@@ -38,13 +67,14 @@ impl Record {
     pub fn new(value: Word, ts: Stamp, rank: Rank, addr: Addr, act: &Act) -> Record
         ensures { result ≡ record { value = value; ts = ts; rank = rank; addr = addr; act = act.now } }
     {
-        let act = FlatAct::of(act);
         Record {
             value,
+            read: read_in(act),
             ts,
-            act,
             rank,
+            source_index: index_in(act),
             addr,
+            tag: tag_of(act),
         }
     }
 
@@ -52,40 +82,59 @@ impl Record {
     pub fn act(&self) -> Act
         ensures { result ≡ self.now.act }
     {
-        self.act.act()
+        act_by(self.tag, self.source_index, self.read)
     }
 }
 
-/// A record with its id. It takes 48 bytes.
+/// A record with its id. It takes 40 bytes, as the record does alone.
 #[derive(Clone, Copy, Debug, PartialEq, Eq)]
 pub struct Entry {
     value: Word,
+    read: Word,
     ts: Stamp,
-    act: FlatAct,
     rank: Rank,
+    source_index: OpIndex,
     index: OpIndex,
     addr: Addr,
     core: CoreId,
+    tag: Tag,
 }
 
 impl Model for Entry {
     ghost use Rattle.log_record.specs.EntryParts.{EntryParts};
+    ghost use Rattle.log_record.specs.inner.FlatActs.{act_by, index_in, IsFlat, kind_of, kind_of-act_by, read_in};
 
     ghost Value = { EntryParts };
 
     ghost view = { λ e. record {
       id = record { core = e.core; index = e.index };
-      logged = record { value = e.value; ts = e.ts; rank = e.rank; addr = e.addr; act = e.act };
+      logged = record { value = e.value; ts = e.ts; rank = e.rank; addr = e.addr; act = act_by e.tag e.source_index e.read };
     } };
+
+    ghost invariant = { λ e. IsFlat e.tag e.source_index e.read };
 
     ghost inverse = { λ e. record {
       value = e.logged.value;
+      read = read_in e.logged.act;
       ts = e.logged.ts;
-      act = e.logged.act;
       rank = e.logged.rank;
+      source_index = index_in e.logged.act;
       index = e.id.index;
       addr = e.logged.addr;
       core = e.id.core;
+      tag = kind_of e.logged.act;
+    } };
+
+    ghost inverse_ok = { λ e h i. record {
+      value = e.value;
+      read = h.same_read i;
+      ts = e.ts;
+      rank = e.rank;
+      source_index = h.same_index i;
+      index = e.index;
+      addr = e.addr;
+      core = e.core;
+      tag = kind_of-act_by e.tag e.source_index e.read i;
     } };
 }
 
@@ -96,12 +145,14 @@ impl Entry {
     {
         Entry {
             value: logged.value,
+            read: logged.read,
             ts: logged.ts,
             rank: logged.rank,
+            source_index: logged.source_index,
             index: id.index,
-            act: logged.act,
             addr: logged.addr,
             core: id.core,
+            tag: logged.tag,
         }
     }
 
@@ -121,18 +172,22 @@ impl Entry {
     {
         let Entry {
             value,
+            read,
             ts,
-            act,
             rank,
+            source_index,
             addr,
+            tag,
             ..
         } = *self;
         Record {
             value,
+            read,
             ts,
-            act,
             rank,
+            source_index,
             addr,
+            tag,
         }
     }
 
@@ -154,7 +209,7 @@ impl Entry {
     pub fn act(&self) -> Act
         ensures { result ≡ self.now.logged.act }
     {
-        self.act.act()
+        act_by(self.tag, self.source_index, self.read)
     }
 
     /// The key of the record: its place in the order of all.
