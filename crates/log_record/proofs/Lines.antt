@@ -39,14 +39,15 @@ tagged_no_lf : (a : Act) (f : Fields) (rank : ℕ) → NoLf (tagged_text a f ran
 tagged_no_lf act.Store f rank = (refl, (refl, fields_no_lf f (numeral rank ++ []) (NoLf-append (numeral rank) [] (numeral_no_lf rank) tt)))
 tagged_no_lf (act.Load s) f rank =
     (refl, (refl, fields_no_lf f (numeral rank ++ (32 ∷ (source_text s ++ []))) (NoLf-append (numeral rank) (32 ∷ (source_text s ++ [])) (numeral_no_lf rank) (refl, NoLf-append (source_text s) [] (source_no_lf s) tt))))
-
-tagged_no_lf (act.Swap s read) f rank =
-    (
-      refl,
-      (refl, fields_no_lf f (numeral rank ++ (32 ∷ (source_text s ++ (32 ∷ (numeral read ++ [])))))
-          (NoLf-append (numeral rank) (32 ∷ (source_text s ++ (32 ∷ (numeral read ++ [])))) (numeral_no_lf rank)
-              (refl, NoLf-append (source_text s) (32 ∷ (numeral read ++ [])) (source_no_lf s) (refl, NoLf-append (numeral read) [] (numeral_no_lf read) tt)))),
-    )
+tagged_no_lf (act.Swap s read) f rank = (
+  refl,
+  (
+    refl,
+    fields_no_lf f (numeral rank ++ (32 ∷ (source_text s ++ (32 ∷ (numeral read ++ [])))))
+        (NoLf-append (numeral rank) (32 ∷ (source_text s ++ (32 ∷ (numeral read ++ [])))) (numeral_no_lf rank)
+        (refl, NoLf-append (source_text s) (32 ∷ (numeral read ++ [])) (source_no_lf s) (refl, NoLf-append (numeral read) [] (numeral_no_lf read) tt))),
+  ),
+)
 
 pub record_no_lf : (r : Record) → NoLf (record_text r)
 record_no_lf r = subst NoLf (sym (record_text_is r)) (tagged_no_lf r.act (fields_in r) r.rank)

@@ -3,7 +3,6 @@ use Rattle.std.proofs.Common.{◌≡◌, ℕ, true, List, [], ◌∷◌, ◌++�
 use Rattle.std.specs.Prelude.{codes}
 use Rattle.std.proofs.lemmas.Bool.{cases_Bool, cases_eq, ne_eqb, cond-true, cond-false}
 use Rattle.std.proofs.lemmas.List.{append-nil}
-use Rattle.mem_op.specs.declared.id.OpId.{OpId}
 use Rattle.mem_op.specs.declared.id.Source.{Source}
 use Rattle.mem_op.specs.declared.id.Source.TheVariants as source
 use Rattle.log_record.specs.declared.act.Act.{Act}
@@ -104,14 +103,6 @@ record_text_is r = go r.act
     go act.Store = ap (λ (last : List ℕ). 83 ∷ 32 ∷ fields_text (fields_in r) last) (sym (append-nil (numeral r.rank)))
     go (act.Load s) = ap (λ (last : List ℕ). 76 ∷ 32 ∷ fields_text (fields_in r) (numeral r.rank ++ (32 ∷ last))) (sym (append-nil (source_text s)))
     go (act.Swap s read) = ap (λ (last : List ℕ). 88 ∷ 32 ∷ fields_text (fields_in r) (numeral r.rank ++ (32 ∷ (source_text s ++ (32 ∷ last))))) (sym (append-nil (numeral read)))
-
--- the line of a swap that names a store, without brackets round the source
-pub swap_text_is : (r : Record) (id : OpId) (read : ℕ) → r.act ≡ act.Swap (source.Store id) read
-    → record_text r ≡ 88 ∷ 32 ∷ (numeral r.addr ++ (32 ∷ (numeral r.value ++ (32 ∷ (numeral r.ts ++ (32 ∷ (numeral r.rank ++ (32 ∷ (numeral id.core ++ (46 ∷ (numeral id.index ++ (32 ∷ numeral read))))))))))))
-unfolding record_text
-swap_text_is r id read e =
-    subst (λ (a : Act). record_text (made a (fields_in r) r.rank) ≡ 88 ∷ 32 ∷ fields_text (fields_in r) (numeral r.rank ++ (32 ∷ (numeral id.core ++ (46 ∷ (numeral id.index ++ (32 ∷ numeral read))))))) (sym e)
-    (ap (λ (last : List ℕ). 88 ∷ 32 ∷ fields_text (fields_in r) (numeral r.rank ++ (32 ∷ last))) (append_assoc (numeral id.core) (46 ∷ numeral id.index) (32 ∷ numeral read)))
 
 abbrev text_with : Record → List ℕ → List ℕ
 text_with r rest = tagged_text r.act (fields_in r) r.rank rest

@@ -1,7 +1,7 @@
 //! A record's line, written and read.
 
 ghost use Rattle.std.specs.Prelude.{◌≡◌, IfOk, IsErrOf, IsTrue, Some, string_bytes};
-ghost use Rattle.log_record.specs.Line.{record_text, has_act, IsRecordShape, Fits, FitsIn};
+ghost use Rattle.log_record.specs.Line.{record_text, source_text, has_act, IsRecordShape, Fits, FitsIn};
 ghost use Rattle.log_record.specs.declared.act.Act.{Act};
 ghost use Rattle.log_record.specs.inner.Raw.{raw_act_of};
 ghost use Rattle.log_record.specs.declared.record.Record.{Record};
@@ -17,10 +17,32 @@ use mem_op::Source;
 use std::alloc::{AllocError, Global};
 use std::fmt;
 
+/// The text of a source: `init`, or the core and the index of a store.
+#[derive(Clone, Copy)]
+struct SourceText {
+    source: Source,
+}
+
+impl fmt::Display for SourceText {
+    ghost output = { λ s. Some (source_text s.source) };
+
+    #[tactic(auto, using(decimal_text::proofs::Printing::numeral_decimal))]
+    fn fmt<W: fmt::Write>(&self, f: &mut fmt::Formatter<W>) -> fmt::Result {
+        match &self.source {
+            Source::Init => f.write_str("init"),
+            Source::Store(id) => {
+                let core = id.core.get();
+                let index = id.index.get();
+                write!(f, "{core}.{index}")
+            }
+        }
+    }
+}
+
 impl fmt::Display for Record {
     ghost output = { λ r. Some (record_text r) };
 
-    #[tactic(auto, using(decimal_text::proofs::Printing::numeral_decimal, crate::proofs::Records::swap_text_is), unfolding(crate::specs::Line::record_text))]
+    #[tactic(auto, using(decimal_text::proofs::Printing::numeral_decimal), unfolding(crate::specs::Line::record_text))]
     fn fmt<W: fmt::Write>(&self, f: &mut fmt::Formatter<W>) -> fmt::Result {
         let addr = self.addr.get();
         let value = self.value;
@@ -28,19 +50,13 @@ impl fmt::Display for Record {
         let rank = self.rank.get();
         match &self.act() {
             Act::Store => write!(f, "S {addr} {value} {ts} {rank}"),
-            Act::Load(Source::Init) => write!(f, "L {addr} {value} {ts} {rank} init"),
-            Act::Load(Source::Store(id)) => {
-                let core = id.core.get();
-                let index = id.index.get();
-                write!(f, "L {addr} {value} {ts} {rank} {core}.{index}")
+            Act::Load(source) => {
+                let source = SourceText { source: *source };
+                write!(f, "L {addr} {value} {ts} {rank} {source}")
             }
-            Act::Swap(Source::Init, read) => {
-                write!(f, "X {addr} {value} {ts} {rank} init {read}")
-            }
-            Act::Swap(Source::Store(id), read) => {
-                let core = id.core.get();
-                let index = id.index.get();
-                write!(f, "X {addr} {value} {ts} {rank} {core}.{index} {read}")
+            Act::Swap(source, read) => {
+                let source = SourceText { source: *source };
+                write!(f, "X {addr} {value} {ts} {rank} {source} {read}")
             }
         }
     }

@@ -9,8 +9,8 @@ ghost use Rattle.log_record.specs.inner.Raw.{raw_act_of, raw_of, raw_source_of};
 ghost use Rattle.log_record.specs.declared.act.Act.{Act};
 ghost use Rattle.log_record.specs.declared.record.Record.{Record};
 
-use super::raw::{RawAct, RawRecord, RawSource};
 use super::act::Act;
+use super::raw::{RawAct, RawRecord, RawSource};
 use super::record::Record;
 use line_stamps::{Rank, Stamp};
 use mem_op::{Addr, CoreId, OpId, OpIndex, Source};

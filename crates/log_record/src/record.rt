@@ -70,6 +70,7 @@ pub struct Entry {
 
 impl Model for Entry {
     ghost use Rattle.log_record.specs.EntryParts.{EntryParts};
+
     ghost Value = { EntryParts };
 
     ghost view = { λ e. record {
@@ -118,12 +119,20 @@ impl Entry {
     pub fn logged(&self) -> Record
         ensures { result ≡ self.now.logged }
     {
+        let Entry {
+            value,
+            ts,
+            act,
+            rank,
+            addr,
+            ..
+        } = *self;
         Record {
-            value: self.value,
-            ts: self.ts,
-            act: self.act,
-            rank: self.rank,
-            addr: self.addr,
+            value,
+            ts,
+            act,
+            rank,
+            addr,
         }
     }
 

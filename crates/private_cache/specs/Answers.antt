@@ -14,6 +14,8 @@ use Rattle.private_cache.specs.declared.answer.Load.{Load}
 use Rattle.private_cache.specs.declared.answer.Load.TheVariants as load
 use Rattle.private_cache.specs.declared.answer.Store.{Store}
 use Rattle.private_cache.specs.declared.answer.Store.TheVariants as store
+use Rattle.private_cache.specs.declared.answer.Swap.{Swap}
+use Rattle.private_cache.specs.declared.answer.Swap.TheVariants as swap
 use Rattle.private_cache.specs.declared.held.Held.{Held}
 use Rattle.private_cache.specs.declared.held.Held.TheVariants.{Shared, Exclusive}
 use Rattle.private_cache.specs.Table.{Hit, copy_of}
@@ -42,6 +44,11 @@ load_answer a pts held (Some hit) = load.Hit hit.value hit.source hit.stamp hit.
 abbrev pub store_answer : ℕ → Option Held → Option Hit → Store
 store_answer a held None = store.Miss (ExReq a (copy_of held))
 store_answer a held (Some hit) = store.Hit hit.stamp hit.rank
+
+-- a swap at an address with this line before it
+abbrev pub swap_answer : ℕ → Option Held → Option Hit → Swap
+swap_answer a held None = swap.Miss (ExReq a (copy_of held))
+swap_answer a held (Some hit) = swap.Hit hit.value hit.source hit.stamp hit.rank
 
 -- an eviction of an address with this line
 abbrev pub evict_answer : ℕ → Option Held → Evicted

@@ -71,6 +71,10 @@ store_hit value source pts r (Some (Exclusive modified l)) =
     let rank = rank_of t pts r l.stamps.wts l.stamps.wr in
     Some (record { value = l.value; source = l.source; held = stored value source t rank; stamp = t; rank = rank })
 
+-- the hit of a swap is a store's: it reads the word that was there with its source, and leaves the line as the store does
+abbrev pub swap_hit : ℕ → Source → ℕ → ℕ → Option Held → Option Hit
+swap_hit value source pts r held = store_hit value source pts r held
+
 -- the `wts` of the copy that a request tells of
 abbrev pub copy_of : Option Held → Option ℕ
 copy_of None = None

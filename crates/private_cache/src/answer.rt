@@ -26,6 +26,20 @@ pub enum Store {
     Miss(Message),
 }
 
+/// What a swap answers.
+#[derive(Clone, Copy, Debug, PartialEq, Eq)]
+pub enum Swap {
+    /// The word that was there before with its source, and the stamp and rank of the swap.
+    Hit {
+        value: Word,
+        source: Source,
+        stamp: Stamp,
+        rank: Rank,
+    },
+    /// The request to send: EX_REQ.
+    Miss(Message),
+}
+
 /// What an eviction answers.
 #[derive(Clone, Copy, Debug, PartialEq, Eq)]
 pub enum Evicted {

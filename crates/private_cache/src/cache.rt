@@ -4,8 +4,10 @@ ghost use Rattle.std.specs.Prelude.{◌≡◌, ◌<◌, ◌↔◌, IsTrue, IsSom
 ghost use Rattle.mem_op.specs.declared.id.Source.{Source};
 ghost use Rattle.std.specs.FinMap as map;
 ghost use Rattle.std.specs.Option.{option_copied};
+ghost use Rattle.lease_rule.specs.Lease.{store_stamp, rank_of};
+ghost use Rattle.private_cache.specs.Answers.{past_limit};
 
-use super::answer::{Evicted, Load, Store};
+use super::answer::{Evicted, Load, Store, Swap};
 use super::fault::FillFault;
 use super::held::{Held, copy_of, filled};
 use lease_rule::{Config, load_stamp, rank_of, store_stamp, write_back_rts};
@@ -43,9 +45,9 @@ impl Model for PrivateCache {
 }
 
 impl PrivateCache {
-    ghost use Rattle.private_cache.specs.Table.{load_hit, store_hit, read_at, stored, recalled};
+    ghost use Rattle.private_cache.specs.Table.{load_hit, store_hit, swap_hit, read_at, stored, recalled};
     ghost use Rattle.private_cache.specs.Steps.{empty_cache, line_at, used, kept, without, after_operation, after_recall, has_room, fill_line, least_recently_used, IsLeastExclusive};
-    ghost use Rattle.private_cache.specs.Answers.{hit_fault, give_fault, load_answer, store_answer, recall_answer, evict_answer};
+    ghost use Rattle.private_cache.specs.Answers.{hit_fault, give_fault, load_answer, store_answer, swap_answer, recall_answer, evict_answer};
 
     /// An empty cache of as many lines as the configuration says.
     pub fn new(alloc: Global, config: &Config) -> Result<PrivateCache, AllocError>
@@ -183,9 +185,7 @@ impl PrivateCache {
                 copy: copy_of(held),
             }));
         };
-        let stamps = line.stamps();
-        let stamp = store_stamp(pts, stamps.rts, *modified)?;
-        let rank = rank_of(stamp, pts, r, stamps.wts, stamps.wr)?;
+        let (stamp, rank) = store_time(*modified, line.stamps(), pts, r)?;
         Ok(Store::Hit { stamp, rank })
     }
 
@@ -217,6 +217,59 @@ impl PrivateCache {
         Ok(store)
     }
 
+    /// What a swap at `addr` would answer, whatever it stores. No memory.
+    #[inline(always)]
+    pub fn peek_swap(&self, addr: Addr, pts: Stamp, r: Rank) -> Result<Swap, StampFault>
+        ensures { (value : ℕ) (source : Source) → let held = line_at self.now addr in
+            let hit = swap_hit value source pts r held in
+            MatchResult result
+            (λ swap. (swap ≡ swap_answer addr held hit) × (hit_fault hit ≡ None))
+            (λ fault. hit_fault hit ≡ Some fault) }
+    {
+        let held = self.line(addr);
+        let Some(Held::Exclusive { modified, line }) = held else {
+            return Ok(Swap::Miss(Message::ExReq {
+                addr,
+                copy: copy_of(held),
+            }));
+        };
+        let (stamp, rank) = store_time(*modified, line.stamps(), pts, r)?;
+        Ok(Swap::Hit {
+            value: line.value(),
+            source: line.source(),
+            stamp,
+            rank,
+        })
+    }
+
+    /// Reads the word at `addr` and stores another in its place, for a core of stamp `pts` and rank
+    /// `r`; `id` is the swap's own. A hit answers the word that was there, and makes the line the
+    /// most recently used; a miss answers the request to send and changes nothing. 4 StampLimit or
+    /// 5 RankLimit where the swap's stamp or rank is above its limit. No memory.
+    pub fn swap(
+        &mut self,
+        addr: Addr,
+        value: Word,
+        id: OpId,
+        pts: Stamp,
+        r: Rank,
+    ) -> Result<Swap, StampFault>
+        ensures answer { let held = line_at self.old addr in
+            let hit = swap_hit value (Source.Store id) pts r held in
+            MatchResult result
+            (λ swap. (swap ≡ swap_answer addr held hit) × (hit_fault hit ≡ None))
+            (λ fault. hit_fault hit ≡ Some fault) }
+        ensures ok { let hit = swap_hit value (Source.Store id) pts r (line_at self.old addr) in
+            OnOk result (self.new ≡ after_operation self.old addr hit) }
+        ensures err { OnErr result (self.new ≡ self.old) }
+    {
+        let swap = self.peek_swap(addr, pts, r)?;
+        if let Swap::Hit { stamp, rank, .. } = &swap {
+            self.write(addr, value, id, *stamp, *rank);
+        }
+        Ok(swap)
+    }
+
     // Reads the line of the address by a load of this stamp, which hits: an owner extends the lease
     // to it, and the line becomes the most recently used. Nothing where no line is there.
     fn read(&mut self, addr: Addr, stamp: Stamp)
@@ -229,8 +282,8 @@ impl PrivateCache {
         }
     }
 
-    // Writes the line of the address by the store `id` of this stamp and rank, which hits: the line
-    // becomes the most recently used. Nothing where no line is there.
+    // Writes the line of the address by the store or swap `id` of this stamp and rank, which hits:
+    // the line becomes the most recently used. Nothing where no line is there.
     fn write(&mut self, addr: Addr, value: Word, id: OpId, stamp: Stamp, rank: Rank)
         ensures { MatchOption (line_at self.old addr)
             (self.new ≡ self.old)
@@ -361,4 +414,23 @@ impl PrivateCache {
         };
         self.put(addr, held)
     }
+}
+
+// The stamp and the rank of a store or swap, at a line that its core owns.
+#[inline(always)]
+fn store_time(
+    modified: bool,
+    stamps: LineStamps,
+    pts: Stamp,
+    r: Rank,
+) -> Result<(Stamp, Rank), StampFault>
+    ensures { let stamp = store_stamp pts stamps.rts modified in
+        let rank = rank_of stamp pts r stamps.wts stamps.wr in
+        MatchResult result
+        (λ time. (time ≡ (stamp, rank)) × (past_limit stamp rank ≡ None))
+        (λ fault. past_limit stamp rank ≡ Some fault) }
+{
+    let stamp = store_stamp(pts, stamps.rts, modified)?;
+    let rank = rank_of(stamp, pts, r, stamps.wts, stamps.wr)?;
+    Ok((stamp, rank))
 }
