@@ -1,5 +1,5 @@
 -- A log is read along its program, record by record.
-use Rattle.std.specs.Prelude.{◌≡◌, ◌≢◌, ◌↔◌, ℕ, zero, suc, ◌+◌, ◌<◌, ◌≤◌, true, false, List, [], ◌∷◌, ◌++◌, length, map, Option, Some, None, slice_get, take, refl}
+use Rattle.std.specs.Prelude.{◌≡◌, ◌≢◌, ◌↔◌, ℕ, zero, suc, ◌+◌, ◌<◌, ◌≤◌, true, false, List, [], ◌∷◌, ◌++◌, length, map, Option, Some, None, slice_get, take}
 use Rattle.std.specs.Option.{option_map}
 use Rattle.std.proofs.Common.{sym, ◌∙◌, ap, arith}
 use Rattle.std.proofs.lemmas.List.{length-map}
@@ -16,9 +16,7 @@ use Rattle.core_program.proofs.Paths.{issued_op, op_issued}
 use Rattle.core_program.proofs.Runs.{state_after-snoc}
 use Rattle.core_program.proofs.Faults.{conforms-fault, fault-conforms, fault-differs, differs-few, fault-at, no-fault}
 use Rattle.log_record.specs.declared.record.Record.{Record}
-use Rattle.log_record.specs.declared.act.Act.{Act}
-use Rattle.log_record.specs.declared.act.Act.TheVariants.{Load, Store}
-use Rattle.log_record.specs.Entries.{operation_of, operation_by}
+use Rattle.log_record.specs.Entries.{operation_of}
 
 -- ---- what follows from the index of the fault
 
@@ -41,19 +39,14 @@ take_snoc (y ∷ ys) (suc i) x e = ap (λ zs. y ∷ zs) (take_snoc ys i x e)
 operation_here : (log : List Record) (i : ℕ) (r : Record) → slice_get log i ≡ Some r → slice_get (map operation_of log) i ≡ Some (operation_of r)
 operation_here log i r here = slice_get-map operation_of log i ∙ ap (option_map operation_of) here
 
-value_by : (act : Act) (addr value : ℕ) → word_answered (operation_by act addr value) ≡ value
-value_by (Load source) addr value = refl
-value_by Store addr value = refl
-
 -- a record of the operation that was issued leads to the state after it
 pub state_after_record : (p : List Instruction) (log : List Record) (i : ℕ) (r : Record) (s : State) →
-    state_after p (take i (map operation_of log)) ≡ Some s → slice_get log i ≡ Some r → is_issued (next_op p s) (operation_of r) ≡ true → state_after p (take (i + 1) (map operation_of log)) ≡ Some (answered p r.value s)
+    state_after p (take i (map operation_of log)) ≡ Some s → slice_get log i ≡ Some r → is_issued (next_op p s) (operation_of r) ≡ true → state_after p (take (i + 1) (map operation_of log)) ≡ Some (answered p (word_answered (operation_of r)) s)
 state_after_record p log i r s run here is =
     let one_more : i + 1 ≡ suc i = omega arith in
     ap (λ n. state_after p (take n (map operation_of log))) one_more
     ∙ ap (state_after p) (take_snoc (map operation_of log) i (operation_of r) (operation_here log i r here))
     ∙ state_after-snoc p (take i (map operation_of log)) (operation_of r) s run (issued_op (next_op p s) (operation_of r) is)
-    ∙ ap (λ v. Some (answered p v s)) (value_by r.act r.addr r.value)
 
 -- a record of another operation is the fault
 pub fault_at_record : (p : List Instruction) (log : List Record) (i : ℕ) (r : Record) (s : State) →

@@ -5,7 +5,7 @@ use Rattle.std.proofs.Common.{sym, ◌∙◌, ap, subst, append_assoc, append-ni
 use Rattle.std.proofs.lemmas.Bool.{and_parts, and_from, eqb-true, eqb-false, eq-eqb}
 use Rattle.mem_op.specs.declared.id.Op.{Op}
 use Rattle.mem_op.specs.declared.id.Op.TheVariants as op
-use Rattle.mem_op.specs.Consistency.{Operation, Loaded, Stored, word_answered}
+use Rattle.mem_op.specs.Consistency.{Operation, Loaded, Stored, Swapped, word_answered}
 use Rattle.core_program.specs.declared.instruction.Instruction.{Instruction}
 use Rattle.core_program.specs.declared.instruction.Instruction.TheVariants.{Load, Store, StoreRegister, Add, SkipIfZero}
 use Rattle.core_program.specs.State.{State, reg, with_reg, further}
@@ -34,16 +34,26 @@ pub issued_op : (o : Option Op) (x : Operation) → is_issued o x ≡ true → o
 issued_op None x h = cc
 issued_op (Some (op.Load addr)) (Loaded a v) h = ap (λ n. Some (op.Load n)) (sym (eqb-true a addr h))
 issued_op (Some (op.Load addr)) (Stored a v) h = cc
+issued_op (Some (op.Load addr)) (Swapped a r v) h = cc
 issued_op (Some (op.Store addr value)) (Loaded a v) h = cc
 issued_op (Some (op.Store addr value)) (Stored a v) h =
     let t = and_parts (a == addr) (v == value) h in
     let one : addr ≡ a = sym (eqb-true a addr t.0) in
     let other : value ≡ v = sym (eqb-true v value t.1) in
     λ i. Some (op.Store (one i) (other i))
+issued_op (Some (op.Store addr value)) (Swapped a r v) h = cc
+issued_op (Some (op.Swap addr value)) (Loaded a v) h = cc
+issued_op (Some (op.Swap addr value)) (Stored a v) h = cc
+issued_op (Some (op.Swap addr value)) (Swapped a r v) h =
+    let t = and_parts (a == addr) (v == value) h in
+    let one : addr ≡ a = sym (eqb-true a addr t.0) in
+    let other : value ≡ v = sym (eqb-true v value t.1) in
+    λ i. Some (op.Swap (one i) (other i))
 
 pub op_issued : (x : Operation) → is_issued (Some (op_of x)) x ≡ true
 op_issued (Loaded a v) = eq-eqb a a refl
 op_issued (Stored a v) = and_from (a == a) (v == v) (eq-eqb a a refl) (eq-eqb v v refl)
+op_issued (Swapped a r v) = and_from (a == a) (v == v) (eq-eqb a a refl) (eq-eqb v v refl)
 
 -- an instruction that touches memory leads on by its operation
 pub path-performs : (p : List Instruction) (s t : State) (done : List Operation) (i : Instruction) (x : Operation) → Path p s done t → slice_get p t.position ≡ Some i → issued i t ≡ Some (op_of x) → Path p s (done ++ x ∷ []) (after i (word_answered x) t)
@@ -51,14 +61,17 @@ path-performs p s t done (Load to addr) (Loaded a v) h e f =
     let same : addr ≡ a = cc in
     subst (λ n. Path p s (done ++ Loaded n v ∷ []) (further 1 (with_reg t to v))) same (loads done t to addr v h e)
 path-performs p s t done (Load to addr) (Stored a v) h e f = cc
+path-performs p s t done (Load to addr) (Swapped a r v) h e f = cc
 path-performs p s t done (Store addr value) (Loaded a v) h e f = cc
 path-performs p s t done (Store addr value) (Stored a v) h e f =
     let same : Stored addr value ≡ Stored a v = cc in
     subst (λ (o : Operation). Path p s (done ++ o ∷ []) (further 1 t)) same (stores done t addr value h e)
+path-performs p s t done (Store addr value) (Swapped a r v) h e f = cc
 path-performs p s t done (StoreRegister addr from) (Loaded a v) h e f = cc
 path-performs p s t done (StoreRegister addr from) (Stored a v) h e f =
     let same : Stored addr (reg t from) ≡ Stored a v = cc in
     subst (λ (o : Operation). Path p s (done ++ o ∷ []) (further 1 t)) same (stores_register done t addr from h e)
+path-performs p s t done (StoreRegister addr from) (Swapped a r v) h e f = cc
 path-performs p s t done (Add to from value) x h e f = cc
 path-performs p s t done (SkipIfZero tested skip) x h e f = cc
 
@@ -103,6 +116,20 @@ waits p s x h = go (slice_get p s.position) refl h
     go None e f = cc
     go (Some i) e f = record { instruction = i; next = e; issues = f }
 
+-- no instruction issues a swap
+no_swap_issued : (i : Instruction) (s : State) (addr value : ℕ) → issued i s ≡ Some (op.Swap addr value) → ⊥
+no_swap_issued (Load to a) s addr value h = cc
+no_swap_issued (Store a v) s addr value h = cc
+no_swap_issued (StoreRegister a from) s addr value h = cc
+no_swap_issued (Add to from v) s addr value h = cc
+no_swap_issued (SkipIfZero tested skip) s addr value h = cc
+
+-- so none is a program's next operation
+pub next_is_no_swap : (p : List Instruction) (s : State) (addr value : ℕ) → next_op p s ≡ Some (op.Swap addr value) → ⊥
+next_is_no_swap p s addr value h =
+    let w = waits p s (op.Swap addr value) h in
+    no_swap_issued w.instruction s addr value w.issues
+
 pub answered-is : (p : List Instruction) (s : State) (x : ℕ) (i : Instruction) → slice_get p s.position ≡ Some i → answered p x s ≡ at_rest p (after i x s)
 answered-is p s x i e = ap (λ o. option_map_or (λ j. at_rest p (after j x s)) o s) e
 
@@ -127,11 +154,13 @@ answered-rests p s x program h = go (next_op p s) refl h
 pub op_of-performed : (a : Op) (x : ℕ) → op_of (performed a x) ≡ a
 op_of-performed (op.Load addr) x = refl
 op_of-performed (op.Store addr value) x = refl
+op_of-performed (op.Swap addr value) x = refl
 
 -- an instruction leads on by the answer to its operation
 pub after-performed : (i : Instruction) (s : State) (a : Op) (x : ℕ) → issued i s ≡ Some a → after i (word_answered (performed a x)) s ≡ after i x s
 after-performed (Load to addr) s (op.Load b) x h = refl
 after-performed (Load to addr) s (op.Store b w) x h = cc
+after-performed (Load to addr) s (op.Swap b w) x h = cc
 after-performed (Store addr value) s a x h = refl
 after-performed (StoreRegister addr from) s a x h = refl
 after-performed (Add to from value) s a x h = refl

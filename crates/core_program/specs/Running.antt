@@ -3,7 +3,7 @@ use Rattle.std.specs.Prelude.{ℕ, zero, suc, ◌+◌, ◌%◌, ◌^◌, ◌<◌
 use Rattle.std.specs.Option.{option_map_or}
 use Rattle.mem_op.specs.declared.id.Op.{Op}
 use Rattle.mem_op.specs.declared.id.Op.TheVariants as op
-use Rattle.mem_op.specs.Consistency.{Operation, Loaded, Stored, word_answered}
+use Rattle.mem_op.specs.Consistency.{Operation, Loaded, Stored, Swapped, word_answered}
 use Rattle.core_program.specs.declared.instruction.Instruction.{Instruction}
 use Rattle.core_program.specs.declared.instruction.Instruction.TheVariants.{Load, Store, StoreRegister, Add, SkipIfZero}
 use Rattle.core_program.specs.State.{State, start, reg, with_reg, further}
@@ -14,19 +14,26 @@ use Rattle.core_program.specs.State.{State, start, reg, with_reg, further}
 abbrev pub op_of : Operation → Op
 op_of (Loaded addr value) = op.Load addr
 op_of (Stored addr value) = op.Store addr value
+op_of (Swapped addr read stored) = op.Swap addr stored
 
--- what an operation is once it is answered. A store has no use for its answer
+-- what an operation is once it is answered: by the word that a load or a swap reads. A store has no use for its answer
 abbrev pub performed : Op → ℕ → Operation
 performed (op.Load addr) answer = Loaded addr answer
 performed (op.Store addr value) answer = Stored addr value
+performed (op.Swap addr value) answer = Swapped addr answer value
 
 -- whether an operation is that which was issued
 abbrev pub is_issued : Option Op → Operation → Bool
 is_issued None operation = false
 is_issued (Some (op.Load addr)) (Loaded a v) = a == addr
 is_issued (Some (op.Load addr)) (Stored a v) = false
+is_issued (Some (op.Load addr)) (Swapped a r v) = false
 is_issued (Some (op.Store addr value)) (Loaded a v) = false
 is_issued (Some (op.Store addr value)) (Stored a v) = (a == addr) && (v == value)
+is_issued (Some (op.Store addr value)) (Swapped a r v) = false
+is_issued (Some (op.Swap addr value)) (Loaded a v) = false
+is_issued (Some (op.Swap addr value)) (Stored a v) = false
+is_issued (Some (op.Swap addr value)) (Swapped a r v) = (a == addr) && (v == value)
 
 -- ---- one instruction
 

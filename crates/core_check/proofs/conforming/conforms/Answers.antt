@@ -1,6 +1,5 @@
 use Rattle.std.proofs.Common.{◌≡◌, ◌<◌, ◌∙◌, true, false, length, map, arith, Some, sym, ap, slice_get}
 use Rattle.std.proofs.lemmas.Option.{slice_get_read}
-use Rattle.log_record.specs.declared.record.Record.{Record}
 use Rattle.log_record.specs.Entries.{operation_of}
 use Rattle.core_program.specs.Running.{answered, is_issued, next_op}
 use Rattle.core_check.proofs.ConformingFacts.{conforms_where_none, differs_where_some, few_before, state_after_record, fault_at_record, fault_at_end, no_fault}
@@ -30,10 +29,9 @@ loop-i-preserved c =
     let inside : c.loop-i.i < length c.args.log.now = omega arith in
     let here : slice_get c.args.log.now c.loop-i.i ≡ Some r = slice_get_read c.args.log.now (length c.args.log.now) c.loop-i.i r (λ i. length c.args.log.now) inside c.index-log-i.is in
     let same : is_issued (next_op c.args.program.now c.loop-i.state) (operation_of r) ≡ true =
-    sym (c.is_issued.ensures ∙ ap (λ o. is_issued o (operation_of r)) c.next_op.ensures.next) ∙ c.if-not-is_issued.false in
-    let word : c.logged.inside.value ≡ r.value = ap (λ (q : Record). q.value) c.logged.view_is in (
+    sym (c.is_issued.ensures ∙ ap (λ o. is_issued o (operation_of r)) c.next_op.ensures.next) ∙ c.if-not-is_issued.false in (
       state_after_record c.args.program.now c.args.log.now c.loop-i.i r c.loop-i.state c.loop-i.invariant.0 here same
-          ∙ ap (λ v. Some (answered c.args.program.now v c.loop-i.state)) (sym word)
+          ∙ ap (λ v. Some (answered c.args.program.now v c.loop-i.state)) (sym c.answered.ensures)
           ∙ ap (λ s. Some s) (sym c.answer.ensures.state),
       c.answer.ensures.rests,
     )
