@@ -15,7 +15,7 @@ use Rattle.log_record.specs.Entries.{entry_cmp}
 use Rattle.address_check.specs.declared.fault.AddressFault.{AddressFault}
 use Rattle.address_check.specs.contracts.fault.AddressFaultOrd.TheImpl.{ghosts}
 use Rattle.address_check.specs.FaultOrder.{fault_cmp}
-use Rattle.address_check.specs.AddressFaults.{is_store, is_earlier_store, latest, act_fault, address_fault, address_faults, least_address_fault}
+use Rattle.address_check.specs.AddressFaults.{is_store, is_earlier_store, latest, right_store, act_fault, address_fault, address_faults, least_address_fault}
 use Rattle.address_check.specs.AddressLaw.{fault_total, least_fault_at-joined}
 use Rattle.address_check.specs.ByAddress.{faults_at, least_fault_at}
 use Rattle.address_check.specs.Groups.{at_address}
@@ -44,11 +44,12 @@ same_address load x t =
     let v = and_parts (is_store x.logged.act) (x.logged.addr == load.logged.addr) u.0 in
     eqb-true _ _ v.1
 
+-- the right store of an entry among those of its address is that among all
+pub right_in_group : (es : List Entry) (addr : ℕ) (e : Entry) → e.logged.addr ≡ addr → right_store (at_address addr es) e ≡ right_store es e
+right_in_group es addr e here = ap latest (filter_twice (is_earlier_store e) (λ x. x.logged.addr == addr) es (λ x t. eq-eqb _ _ (same_address e x t ∙ here)))
+
 fault_in_group : (es : List Entry) (addr : ℕ) (e : Entry) → In e (at_address addr es) → address_fault (at_address addr es) e ≡ address_fault es e
-fault_in_group es addr e h = ap (λ stores. act_fault e.logged.act e (latest stores)) (filter_twice (is_earlier_store e) (λ x. x.logged.addr == addr) es (λ x t. eq-eqb _ _ (same_address e x t ∙ here)))
-  where
-    here : e.logged.addr ≡ addr
-    here = eqb-true _ _ (In-filter (λ x. x.logged.addr == addr) es e h).1
+fault_in_group es addr e h = ap (act_fault e.logged.act e) (right_in_group es addr e (eqb-true _ _ (In-filter (λ x. x.logged.addr == addr) es e h).1))
 
 -- the least fault of a group looked at alone is the least at its address
 pub group_alone : (es : List Entry) (addr : ℕ) → least_address_fault (at_address addr es) ≡ least_of fault_cmp (faults_at es addr)

@@ -5,14 +5,13 @@ use Rattle.std.specs.Ordering.{is_lt}
 use Rattle.std.proofs.lemmas.Bool.{and_parts, and_from, eq-eqb, false_from_ne_true}
 use Rattle.std.proofs.lemmas.List.{take_more, drop_more, take-append-drop, take_all, reverse-append}
 use Rattle.std.proofs.lemmas.Option.{slice_get_read}
-use Rattle.mem_op.specs.declared.id.Source.{Source}
 use Rattle.line_stamps.specs.KeyOrder.{key_cmp}
 use Rattle.line_stamps.specs.Ordered.{In, EachPair, Ascends, IsGreatest, IsLeastIn}
 use Rattle.line_stamps.proofs.Order.{lt_irrefl, lt_asym}
 use Rattle.line_stamps.proofs.Ordered.{In-append, In-take, In-slice_get, In-get_or, Ascends-take, before_from_take, take_from_before, last_is_greatest, greatest_from_least, In-filter_map, filter_map-In, least_is, one_least}
 use Rattle.log_record.specs.declared.record.Entry.{Entry}
 use Rattle.log_record.specs.declared.act.Act.{Act}
-use Rattle.log_record.specs.declared.act.Act.TheVariants.{Load, Store}
+use Rattle.log_record.specs.declared.act.Act.TheVariants.{Load, Store, Swap}
 use Rattle.log_record.specs.Entries.{key_of, entry_cmp}
 use Rattle.address_check.specs.declared.fault.AddressRule.{AddressRule}
 use Rattle.address_check.specs.declared.fault.AddressFault.{AddressFault}
@@ -49,7 +48,7 @@ one_greatest p xs (Some a) None h g k = let f = k a g.0 in let t = g.1 in cc
 one_greatest p xs (Some a) (Some b) h g k = ap (λ v. Some v) (untied xs a b h g.0 k.0 (g.2 b k.0 k.1) (k.2 a g.0 g.1))
 
 -- the last store before an entry is its right store
-right_is_last : (group : List Entry) (k : ℕ) (e : Entry) → IsGroup group → slice_get group k ≡ Some e → right_store group e ≡ last_store (take k group)
+pub right_is_last : (group : List Entry) (k : ℕ) (e : Entry) → IsGroup group → slice_get group k ≡ Some e → right_store group e ≡ last_store (take k group)
 right_is_last group k e h g =
     one_greatest (is_earlier_store e) group (right_store group e) (last_store (take k group)) up (greatest_from_least entry_cmp entry_total (is_earlier_store e) group)
     (go (last_store (take k group)) (last_is_greatest entry_cmp entry_total is_store_entry (take k group) (Ascends-take entry_cmp entry_total k group up)))
@@ -92,9 +91,14 @@ last_store-push es e = ap (find is_store_entry) (reverse-append es (e ∷ []))
 take_here : (group : List Entry) (k : ℕ) (e : Entry) → k < length group → e ≡ get_or group k e → take (k + 1) group ≡ take k group ++ e ∷ []
 take_here group k e l at = take_more group k e l ∙ ap (λ v. take k group ++ v ∷ []) (sym at)
 
-more : (group : List Entry) (last : Option Entry) (k : ℕ) (e : Entry) (next : Option Entry) → CleanSoFar group last k → k < length group → e ≡ get_or group k e → next ≡ cond (is_store_entry e) (Some e) last → address_fault group e ≡ None → CleanSoFar group next (k + 1)
+-- the last store with one entry more
+pub last_more : (es : List Entry) (k : ℕ) (e : Entry) (last : Option Entry) → last ≡ last_store (take k es) → k < length es → e ≡ get_or es k e → cond (is_store_entry e) (Some e) last ≡ last_store (take (k + 1) es)
+last_more es k e last is l at = ap (cond (is_store_entry e) (Some e)) is ∙ sym (last_store-push (take k es) e) ∙ ap last_store (sym (take_here es k e l at))
+
+-- the pass goes on by an entry without a fault
+pub more : (group : List Entry) (last : Option Entry) (k : ℕ) (e : Entry) (next : Option Entry) → CleanSoFar group last k → k < length group → e ≡ get_or group k e → next ≡ cond (is_store_entry e) (Some e) last → address_fault group e ≡ None → CleanSoFar group next (k + 1)
 more group last k e next h l at n f = record {
-  last_is = n ∙ ap (cond (is_store_entry e) (Some e)) h.last_is ∙ sym (last_store-push (take k group) e) ∙ ap last_store (sym (take_here group k e l at));
+  last_is = n ∙ last_more group k e last h.last_is l at;
   clean = λ x p. each x (In-append x (take k group) (e ∷ []) (subst (λ t. In x t) (take_here group k e l at) p));
 }
   where
@@ -103,25 +107,20 @@ more group last k e next h l at n f = record {
     each x (inr (inl q)) = subst (λ w. address_fault group w ≡ None) q f
     each x (inr (inr q)) = absurd q
 
-pub more_store : (group : List Entry) (last : Option Entry) (k : ℕ) (e : Entry) → CleanSoFar group last k → k < length group → e ≡ get_or group k e → e.logged.act ≡ Store → CleanSoFar group (Some e) (k + 1)
-more_store group last k e h l at s = more group last k e (Some e) h l at (ap (λ a. cond (is_store a) (Some e) last) (sym s)) (ap (λ a. act_fault a e (right_store group e)) s)
+-- what the pass finds at an entry is its fault
+pub fault_at : (group : List Entry) (last : Option Entry) (k : ℕ) (e : Entry) → IsGroup group → CleanSoFar group last k → k < length group → e ≡ get_or group k e → act_fault e.logged.act e last ≡ address_fault group e
+fault_at group last k e g h l at =
+    ap (act_fault e.logged.act e) (h.last_is ∙ sym (right_is_last group k e g (slice_get_read group (length group) k e refl l at)))
 
--- what the pass finds at a load is its fault
-pub fault_at : (group : List Entry) (last : Option Entry) (k : ℕ) (e : Entry) (source : Source) → IsGroup group → CleanSoFar group last k → k < length group → e ≡ get_or group k e → e.logged.act ≡ Load source → fault_by e (broken_rule source e.logged.value last) ≡ address_fault group e
-fault_at group last k e source g h l at s =
-    ap (λ r. fault_by e (broken_rule source e.logged.value r)) (h.last_is ∙ sym (right_is_last group k e g (slice_get_read group (length group) k e refl l at)))
-    ∙ ap (λ a. act_fault a e (right_store group e)) (sym s)
+key_of_broken : (e : Entry) (o : Option AddressRule) (f : AddressFault) → fault_by e o ≡ Some f → f.key ≡ key_of e
+key_of_broken e None f q = cc
+key_of_broken e (Some rule) f q = (let p : record { key = key_of e; rule = rule } ≡ f = cc in ap (λ (x : AddressFault). x.key) (sym p))
 
-pub more_load : (group : List Entry) (last : Option Entry) (k : ℕ) (e : Entry) (source : Source) → CleanSoFar group last k → k < length group → e ≡ get_or group k e → e.logged.act ≡ Load source → address_fault group e ≡ None → CleanSoFar group last (k + 1)
-more_load group last k e source h l at s f = more group last k e last h l at (ap (λ a. cond (is_store a) (Some e) last) (sym s)) f
-
-key_of_fault : (act : Act) (e : Entry) (r : Option Entry) (f : AddressFault) → act_fault act e r ≡ Some f → f.key ≡ key_of e
+-- a fault has the key of its entry
+pub key_of_fault : (act : Act) (e : Entry) (r : Option Entry) (f : AddressFault) → act_fault act e r ≡ Some f → f.key ≡ key_of e
 key_of_fault Store e r f h = cc
-key_of_fault (Load source) e r f h = go (broken_rule source e.logged.value r) h
-  where
-    go : (o : Option AddressRule) → fault_by e o ≡ Some f → f.key ≡ key_of e
-    go None q = cc
-    go (Some rule) q = (let p : record { key = key_of e; rule = rule } ≡ f = cc in ap (λ (x : AddressFault). x.key) (sym p))
+key_of_fault (Load source) e r f h = key_of_broken e (broken_rule source e.logged.value r) f h
+key_of_fault (Swap source read) e r f h = key_of_broken e (broken_rule source read r) f h
 
 -- the first fault is the least
 first_is_least : (group : List Entry) (last : Option Entry) (k : ℕ) (e : Entry) (f : AddressFault) → IsGroup group → CleanSoFar group last k → k < length group → e ≡ get_or group k e → address_fault group e ≡ Some f → least_address_fault group ≡ Some f

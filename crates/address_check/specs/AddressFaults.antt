@@ -1,4 +1,5 @@
--- What a load should have read, and what it breaks where it read something else.
+-- What a load or a swap should have read, and what it breaks where it read something else. Here "load" covers a
+-- swap's read and "store" its write.
 use Rattle.std.specs.Prelude.{ℕ, Bool, true, false, ◌&&◌, ◌==◌, if◌then◌else◌, List, Option, Some, None, filter}
 use Rattle.std.specs.List.{filter_map}
 use Rattle.std.specs.Ordering.{is_lt, flip_args}
@@ -8,16 +9,18 @@ use Rattle.mem_op.specs.Consistency.{is_same_id}
 use Rattle.line_stamps.specs.Least.{least_of}
 use Rattle.log_record.specs.declared.record.Entry.{Entry}
 use Rattle.log_record.specs.declared.act.Act.{Act}
-use Rattle.log_record.specs.declared.act.Act.TheVariants.{Load, Store}
+use Rattle.log_record.specs.declared.act.Act.TheVariants.{Load, Store, Swap}
 use Rattle.log_record.specs.Entries.{key_of, entry_cmp}
 use Rattle.address_check.specs.declared.fault.AddressRule.{AddressRule}
 use Rattle.address_check.specs.declared.fault.AddressRule.TheVariants.{Source as WrongSource, Value as WrongValue}
 use Rattle.address_check.specs.declared.fault.AddressFault.{AddressFault}
 use Rattle.address_check.specs.FaultOrder.{fault_cmp}
 
+-- a swap stores as a store does
 abbrev pub is_store : Act → Bool
 is_store (Load source) = false
 is_store Store = true
+is_store (Swap source read) = true
 
 -- whether an entry is a store to the address of `load`, with a smaller key
 abbrev pub is_earlier_store : Entry → Entry → Bool
@@ -55,10 +58,11 @@ abbrev pub fault_by : Entry → Option AddressRule → Option AddressFault
 fault_by e None = None
 fault_by e (Some rule) = Some (record { key = key_of e; rule = rule })
 
--- what an entry breaks, where this is its right store; a store breaks nothing
+-- what an entry breaks, where this is its right store: a load or a swap by the word that it read; a store breaks nothing
 abbrev pub act_fault : Act → Entry → Option Entry → Option AddressFault
 act_fault (Load source) e right = fault_by e (broken_rule source e.logged.value right)
 act_fault Store e right = None
+act_fault (Swap source read) e right = fault_by e (broken_rule source read right)
 
 -- what an entry breaks among these entries
 abbrev pub address_fault : List Entry → Entry → Option AddressFault

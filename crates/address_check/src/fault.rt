@@ -1,9 +1,9 @@
-//! What a load breaks.
+//! What a load or a swap breaks.
 
 use line_stamps::Key;
 use std::marker::Model;
 
-/// Which rule a load breaks.
+/// Which rule a load breaks, or a swap by what it reads.
 #[derive(Clone, Copy, Debug, PartialEq, Eq, PartialOrd, Ord)]
 pub enum AddressRule {
     /// Its source isn't the last earlier store to its address.
@@ -12,10 +12,10 @@ pub enum AddressRule {
     Value,
 }
 
-/// A load that breaks a rule. Faults compare by key, and then by rule.
+/// A load or a swap that breaks a rule. Faults compare by key, and then by rule.
 #[derive(Clone, Copy, Debug, PartialEq, Eq, PartialOrd, Ord)]
 pub struct AddressFault {
-    /// The key of the load.
+    /// The key of the operation.
     pub key: Key,
     /// The rule that it breaks.
     pub rule: AddressRule,

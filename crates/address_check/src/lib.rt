@@ -1,4 +1,4 @@
-//! The check of loads against stores, address by address.
+//! The check of what is read against what was stored, address by address.
 #![tactic(auto)]
 
 mod addresses;
@@ -13,7 +13,7 @@ mod workers;
 
 pub use fault::{AddressFault, AddressRule};
 pub use gate::{Gate, Phase};
-pub use group::group_fault;
+pub use group::{group_fault, is_store};
 pub use index::AddressIndex;
 pub use local_check::{LocalCheck, lesser_fault};
 pub use workers::fault_by_workers;
