@@ -2,8 +2,6 @@
 
 ghost use Rattle.std.specs.Prelude.{◌≡◌, None, MatchOption, MatchResult, if◌then◌else◌};
 ghost use Rattle.lease_rule.specs.Lease.{self_increment};
-ghost use Rattle.log_record.specs.Entries.{operation_of};
-ghost use Rattle.mem_op.specs.Consistency.{word_answered};
 ghost use Rattle.private_cache.specs.Answers.{hit_fault, past_limit};
 ghost use Rattle.private_cache.specs.Steps.{after_operation, line_at};
 ghost use Rattle.core_unit.specs.Core.{op_addr, op_hit, is_due, next_id, record_of, tries};
@@ -113,16 +111,6 @@ impl CoreUnit {
             Ok(Swap::Miss(request)) => Ok(Look::Miss(*request)),
             Err(fault) => Err(*fault),
         }
-    }
-}
-
-/// The word with which the operation of a record answers its program: of a swap the one that it read.
-pub(crate) fn answer_in(made: &Record) -> Word
-    ensures { result ≡ word_answered (operation_of made.now) }
-{
-    match made.act() {
-        Act::Load(_) | Act::Store => made.value,
-        Act::Swap(_, read) => read,
     }
 }
 

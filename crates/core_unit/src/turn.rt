@@ -9,7 +9,7 @@ ghost use Rattle.core_unit.specs.Parts.{core_of, SameUnit};
 
 use super::entry::CoreEntry;
 use super::fault::UnitFault;
-use super::operation::{Look, after, answer_in, op_addr, perform_at};
+use super::operation::{Look, after, op_addr, perform_at};
 use super::outcome::Outcome;
 use super::transcript::check_room;
 use super::unit::CoreUnit;
@@ -79,7 +79,7 @@ impl CoreUnit {
             index: OpIndex::new(log.len() as u64).unwrap(),
         };
         perform_at(cache, op, id, *pts, *r);
-        state.answer(program, answer_in(made));
+        state.answer(program, made.word_answered());
         *pts = pts_after;
         *r = r_after;
         log.push_reserved(*made);

@@ -1,7 +1,7 @@
 //! What a record says was done.
 
 ghost use Rattle.std.specs.Prelude.{◌≡◌, ◌<◌};
-ghost use Rattle.log_record.specs.inner.FlatActs.{act_by, index_in, kind_of, read_in};
+ghost use Rattle.log_record.specs.inner.FlatActs.{index_in, kind_of, read_in};
 
 use mem_op::{CoreId, OpId, OpIndex, Source, Word};
 use std::marker::Model;
@@ -86,7 +86,7 @@ impl Tag {
 }
 
 /// The kind of an act.
-pub(crate) fn tag_of(act: &Act) -> Tag
+fn tag_of(act: &Act) -> Tag
     ensures { result ≡ kind_of act.now }
 {
     let kind = match act {
@@ -100,7 +100,7 @@ pub(crate) fn tag_of(act: &Act) -> Tag
 }
 
 /// The index of the store that an act names, 0 where it names none.
-pub(crate) fn index_in(act: &Act) -> OpIndex
+fn index_in(act: &Act) -> OpIndex
     ensures { result ≡ index_in act.now }
 {
     match act {
@@ -110,7 +110,7 @@ pub(crate) fn index_in(act: &Act) -> OpIndex
 }
 
 /// The word that a swap read, 0 of another act.
-pub(crate) fn read_in(act: &Act) -> Word
+fn read_in(act: &Act) -> Word
     ensures { result ≡ read_in act.now }
 {
     match act {
@@ -119,15 +119,56 @@ pub(crate) fn read_in(act: &Act) -> Word
     }
 }
 
-/// The act of these parts.
-pub(crate) fn act_by(tag: Tag, index: OpIndex, read: Word) -> Act
-    ensures { result ≡ act_by tag index read }
-{
-    match tag.kind() {
-        Kind::LoadInit => Act::Load(Source::Init),
-        Kind::LoadOf(core) => Act::Load(Source::Store(OpId { core, index })),
-        Kind::Store => Act::Store,
-        Kind::SwapInit => Act::Swap(Source::Init, read),
-        Kind::SwapOf(core) => Act::Swap(Source::Store(OpId { core, index }), read),
+/// An act in parts: 16 bytes, where an `Act` takes 32. A part that the act doesn't have is 0.
+#[derive(Clone, Copy, Debug, PartialEq, Eq)]
+pub(crate) struct FlatAct {
+    pub(crate) read: Word,
+    pub(crate) source_index: OpIndex,
+    pub(crate) tag: Tag,
+}
+
+impl Model for FlatAct {
+    ghost use Rattle.log_record.specs.inner.FlatActs.{act_by, index_in, IsFlat, kind_of, kind_of-act_by, read_in};
+    ghost use Rattle.log_record.specs.declared.act.Act.{Act};
+
+    ghost Value = { Act };
+
+    ghost view = { λ a. act_by a.tag a.source_index a.read };
+
+    ghost invariant = { λ a. IsFlat a.tag a.source_index a.read };
+
+    ghost inverse = { λ a. record { read = read_in a; source_index = index_in a; tag = kind_of a } };
+
+    ghost inverse_ok = { λ a h i. record {
+      read = h.same_read i;
+      source_index = h.same_index i;
+      tag = kind_of-act_by a.tag a.source_index a.read i;
+    } };
+}
+
+impl FlatAct {
+    /// An act in parts.
+    pub(crate) fn of(act: &Act) -> FlatAct
+        ensures { result ≡ act.now }
+    {
+        FlatAct {
+            read: read_in(act),
+            source_index: index_in(act),
+            tag: tag_of(act),
+        }
+    }
+
+    /// The act.
+    pub(crate) fn act(self) -> Act
+        ensures { result ≡ self }
+    {
+        let index = self.source_index;
+        match self.tag.kind() {
+            Kind::LoadInit => Act::Load(Source::Init),
+            Kind::LoadOf(core) => Act::Load(Source::Store(OpId { core, index })),
+            Kind::Store => Act::Store,
+            Kind::SwapInit => Act::Swap(Source::Init, self.read),
+            Kind::SwapOf(core) => Act::Swap(Source::Store(OpId { core, index }), self.read),
+        }
     }
 }

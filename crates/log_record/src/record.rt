@@ -1,64 +1,36 @@
 //! A record, and a record with its id.
 
 ghost use Rattle.std.specs.Prelude.{◌≡◌};
-ghost use Rattle.log_record.specs.Entries.{key_of};
+ghost use Rattle.mem_op.specs.Consistency.{word_answered};
+ghost use Rattle.log_record.specs.Entries.{key_of, operation_of};
 
-use super::act::{Act, Tag, act_by, index_in, read_in, tag_of};
+use super::act::{Act, FlatAct, Tag};
 use line_stamps::{Key, Rank, Stamp};
 use mem_op::{Addr, CoreId, OpId, OpIndex, Word};
 use std::marker::Model;
 
-/// One operation of a core, as its log has it. It takes 40 bytes, since its act stands in parts.
+/// One operation of a core, as its log has it. It takes 40 bytes.
 #[derive(Clone, Copy, Debug, PartialEq, Eq)]
 pub struct Record {
     /// The word that was loaded or stored; of a swap the one that it stored.
     pub value: Word,
-    read: Word,
     /// When the operation took place.
     pub ts: Stamp,
+    act: FlatAct,
     /// Its order among those of its stamp.
     pub rank: Rank,
-    source_index: OpIndex,
     /// The address of the word.
     pub addr: Addr,
-    tag: Tag,
 }
 
 impl Model for Record {
     ghost use Rattle.log_record.specs.RecordParts.{RecordParts};
-    ghost use Rattle.log_record.specs.inner.FlatActs.{act_by, index_in, IsFlat, kind_of, kind_of-act_by, read_in};
 
     ghost Value = { RecordParts };
 
-    ghost view = { λ r. record {
-      value = r.value;
-      ts = r.ts;
-      rank = r.rank;
-      addr = r.addr;
-      act = act_by r.tag r.source_index r.read;
-    } };
+    ghost view = { λ r. record { value = r.value; ts = r.ts; rank = r.rank; addr = r.addr; act = r.act } };
 
-    ghost invariant = { λ r. IsFlat r.tag r.source_index r.read };
-
-    ghost inverse = { λ r. record {
-      value = r.value;
-      read = read_in r.act;
-      ts = r.ts;
-      rank = r.rank;
-      source_index = index_in r.act;
-      addr = r.addr;
-      tag = kind_of r.act;
-    } };
-
-    ghost inverse_ok = { λ r h i. record {
-      value = r.value;
-      read = h.same_read i;
-      ts = r.ts;
-      rank = r.rank;
-      source_index = h.same_index i;
-      addr = r.addr;
-      tag = kind_of-act_by r.tag r.source_index r.read i;
-    } };
+    ghost inverse = { λ r. record { value = r.value; ts = r.ts; act = r.act; rank = r.rank; addr = r.addr } };
 }
 
 impl Record {
@@ -67,14 +39,13 @@ impl Record {
     pub fn new(value: Word, ts: Stamp, rank: Rank, addr: Addr, act: &Act) -> Record
         ensures { result ≡ record { value = value; ts = ts; rank = rank; addr = addr; act = act.now } }
     {
+        let act = FlatAct::of(act);
         Record {
             value,
-            read: read_in(act),
             ts,
+            act,
             rank,
-            source_index: index_in(act),
             addr,
-            tag: tag_of(act),
         }
     }
 
@@ -82,11 +53,22 @@ impl Record {
     pub fn act(&self) -> Act
         ensures { result ≡ self.now.act }
     {
-        act_by(self.tag, self.source_index, self.read)
+        self.act.act()
+    }
+
+    /// The word that the core had of the operation: the one that a load or a swap read, the one that a store
+    /// stored.
+    pub fn word_answered(&self) -> Word
+        ensures { result ≡ word_answered (operation_of self.now) }
+    {
+        match self.act() {
+            Act::Load(_) | Act::Store => self.value,
+            Act::Swap(_, read) => read,
+        }
     }
 }
 
-/// A record with its id. It takes 40 bytes, as the record does alone.
+/// A record with its id, its act in parts. It takes 40 bytes, as the record does alone.
 #[derive(Clone, Copy, Debug, PartialEq, Eq)]
 pub struct Entry {
     value: Word,
@@ -143,16 +125,21 @@ impl Entry {
     pub fn new(id: OpId, logged: &Record) -> Entry
         ensures { result ≡ record { id = id; logged = logged.now } }
     {
+        let FlatAct {
+            read,
+            source_index,
+            tag,
+        } = logged.act;
         Entry {
             value: logged.value,
-            read: logged.read,
+            read,
             ts: logged.ts,
             rank: logged.rank,
-            source_index: logged.source_index,
+            source_index,
             index: id.index,
             addr: logged.addr,
             core: id.core,
-            tag: logged.tag,
+            tag,
         }
     }
 
@@ -172,22 +159,29 @@ impl Entry {
     {
         let Entry {
             value,
-            read,
             ts,
             rank,
-            source_index,
             addr,
-            tag,
             ..
         } = *self;
+        let act = self.flat_act();
         Record {
             value,
-            read,
             ts,
+            act,
             rank,
-            source_index,
             addr,
-            tag,
+        }
+    }
+
+    // What was done, as a record keeps it.
+    fn flat_act(&self) -> FlatAct
+        ensures { result ≡ self.now.logged.act }
+    {
+        FlatAct {
+            read: self.read,
+            source_index: self.source_index,
+            tag: self.tag,
         }
     }
 
@@ -209,7 +203,7 @@ impl Entry {
     pub fn act(&self) -> Act
         ensures { result ≡ self.now.logged.act }
     {
-        act_by(self.tag, self.source_index, self.read)
+        self.flat_act().act()
     }
 
     /// The key of the record: its place in the order of all.
