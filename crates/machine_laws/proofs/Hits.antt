@@ -13,7 +13,7 @@ use Rattle.lease_rule.specs.ConfigParts.{ConfigParts}
 use Rattle.lease_rule.specs.Lease.{load_stamp, store_stamp, rank_of, self_increment}
 use Rattle.memory_stamp.specs.Memory.{filled_line, with_line}
 use Rattle.log_record.specs.declared.record.Record.{Record}
-use Rattle.private_cache.specs.Table.{Hit, load_hit, store_hit, loaded, stored, with_rts}
+use Rattle.private_cache.specs.Table.{Hit, load_hit, store_hit, swap_hit, loaded, stored, with_rts}
 use Rattle.private_cache.specs.declared.held.Held.{Held}
 use Rattle.private_cache.specs.declared.held.Held.TheVariants.{Shared, Exclusive}
 use Rattle.manager_slice.specs.Table.{Slice, met_line, without_line, Evicts, evicts}
@@ -76,9 +76,23 @@ store_case pts r id a v (Some (Exclusive m l)) hit i =
     subst (λ (h : Hit). HitCase pts r id (op.Store a v) (Some (Exclusive m l)) h) (some_same _ hit i)
     (case_write m l v refl refl refl (record { act = refl; read = λ s x e. absurd cc; ts = refl; rank = refl }))
 
+-- a swap has read the line before it, as an equation of what it has read tells
+read_before : (s z : Source) (x y : ℕ) → Some (s, x) ≡ Some (z, y) → (z ≡ s) × (y ≡ x)
+read_before s z x y e =
+    let h : ◌≡◌ {A = Source × ℕ} (z, y) (s, x) = cc in
+    (ap (λ (p : Source × ℕ). p.0) h, ap (λ (p : Source × ℕ). p.1) h)
+
+swap_case : (pts r : ℕ) (id : OpId) (a v : ℕ) (e : Option Held) (hit : Hit) → swap_hit v (source.Store id) pts r e ≡ Some hit → HitCase pts r id (op.Swap a v) e hit
+swap_case pts r id a v None hit i = absurd cc
+swap_case pts r id a v (Some (Shared k)) hit i = absurd cc
+swap_case pts r id a v (Some (Exclusive m l)) hit i =
+    subst (λ (h : Hit). HitCase pts r id (op.Swap a v) (Some (Exclusive m l)) h) (some_same _ hit i)
+    (case_write m l v refl refl refl (record { act = refl; read = λ s x e. read_before l.source s l.value x e; ts = refl; rank = refl }))
+
 hit_case : (x : Op) (pts r : ℕ) (id : OpId) (e : Option Held) (hit : Hit) → op_hit x id pts r e ≡ Some hit → HitCase pts r id x e hit
 hit_case (op.Load a) pts r id e hit i = load_case pts r id a e hit i
 hit_case (op.Store a v) pts r id e hit i = store_case pts r id a v e hit i
+hit_case (op.Swap a v) pts r id e hit i = swap_case pts r id a v e hit i
 
 due_at_most : (b : Bool) (t k : ℕ) → AtMost t k (cond b (self_increment t) t) (cond b 0 k)
 due_at_most true t k = record { time = omega arith; tie = λ h. absurd (omega arith) }

@@ -73,6 +73,7 @@ core_fits g w c u v e k f d x ex = elim (which d c) [
 request_fits : (x : Op) (pts : ℕ) (m : Lines) → HandTells (Some (request x pts (map.get m (op_addr x)))) m
 request_fits (op.Load a) pts m = refl
 request_fits (op.Store a v) pts m = refl
+request_fits (op.Swap a v) pts m = refl
 
 given_fits : (kind : RecallKind) (a : ℕ) (l : Line) (m : Lines) → map.get m a ≡ left kind l → HandTells (Some (give_back kind a l)) m
 given_fits WriteBack a l m e = e

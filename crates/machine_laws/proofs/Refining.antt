@@ -124,6 +124,7 @@ unserved_request (FlushRep a l) e i = absurd cc
 pub request_is : (x : Op) (pts : ℕ) (h : Option Held) → is_request (request x pts h) ≡ true
 request_is (op.Load a) pts h = refl
 request_is (op.Store a x) pts h = refl
+request_is (op.Swap a x) pts h = refl
 
 pub ask_move : (g : ConfigParts) (w : World) (c : ℕ) (u : Core) (m : Message) → slice_get w.cores c ≡ Some u → u.hand ≡ None → is_request m ≡ true → Move (settled g w) (settled g (with_core w c (has_asked u m)))
 ask_move g w c u m e free ask = core_stays g w c u (has_asked u m) e

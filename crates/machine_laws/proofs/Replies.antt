@@ -66,6 +66,7 @@ core_ready g w c u v e all r d x ex = elim (which d c) [
 request_addr : (x : Op) (pts : ℕ) (h : Option Held) → addr_of (request x pts h) ≡ op_addr x
 request_addr (op.Load a) pts h = refl
 request_addr (op.Store a v) pts h = refl
+request_addr (op.Swap a v) pts h = refl
 
 share_fits : (a : ℕ) (copy : Option ℕ) (pts : ℕ) (l : Line) → fits (ShReq a copy pts) (share_reply copy l) ≡ true
 share_fits a None pts l = refl

@@ -15,16 +15,16 @@ use Rattle.line_stamps.specs.Ordered.{In, IsGreatest}
 use Rattle.line_stamps.proofs.Order.{lt_irrefl, lt_asym}
 use Rattle.line_stamps.proofs.Ordered.{greatest_from_least}
 use Rattle.log_record.specs.declared.act.Act.{Act}
-use Rattle.log_record.specs.declared.act.Act.TheVariants.{Load, Store}
+use Rattle.log_record.specs.declared.act.Act.TheVariants.{Load, Store, Swap}
 use Rattle.log_record.specs.declared.record.Entry.{Entry}
 use Rattle.log_record.specs.declared.record.Record.{Record}
 use Rattle.log_record.specs.Entries.{entries, entry_cmp, record_at}
 use Rattle.log_record.proofs.EntryFacts.{at, same_id, same_id-refl, record_of_entry, entry_of_record, same_record}
 use Rattle.core_check.specs.CoreOrder.{falls, is_core_fault}
 use Rattle.core_check.specs.CoreFaults.{breaks_core_order, order_faults}
-use Rattle.address_check.specs.AddressFaults.{is_store, is_earlier_store, right_store, is_source, broken_rule, act_fault, address_fault, address_faults}
+use Rattle.address_check.specs.AddressFaults.{is_store, is_earlier_store, right_store, is_source, broken_rule, fault_by, act_fault, address_fault, address_faults}
 use Rattle.address_check.proofs.Totals.{entry_total}
-use Rattle.machine_laws.specs.Views.{View, Did}
+use Rattle.machine_laws.specs.Views.{View, Did, read_of}
 use Rattle.machine_laws.specs.Versions.{AtMost, Earlier, NotAfter, IsFrom, IsRight, HasVersions}
 
 -- the view's logs are these
@@ -171,12 +171,15 @@ reads_right v logs is e (From id) x there r (Some s) g =
 no_fault_at : (v : View) (logs : List (List Record)) → AreLogs v logs → HasVersions v → (e : Entry) → In e (entries logs) → address_fault (entries logs) e ≡ None
 no_fault_at v logs is p e there = go e.logged.act refl
   where
+    reads : (source : Source) (x : ℕ) → read_of e.logged ≡ Some (source, x) → fault_by e (broken_rule source x (right_store (entries logs) e)) ≡ None
+    reads source x f =
+        let right : IsRight v e.id.core e.id.index e.logged source x = p.right e.id.core e.id.index e.logged source x (is.did e.id e.logged (record_of_entry logs e there)) f in
+        rw (reads_right v logs is e source x there right (right_store (entries logs) e) (greatest_from_least entry_cmp entry_total (is_earlier_store e) (entries logs))) refl
+
     go : (act : Act) → e.logged.act ≡ act → act_fault act e (right_store (entries logs) e) ≡ None
     go Store f = refl
-    go (Load source) f =
-        let right : IsRight v e.id.core e.id.index e.logged source e.logged.value =
-        p.right e.id.core e.id.index e.logged source e.logged.value (is.did e.id e.logged (record_of_entry logs e there)) (rw f refl) in
-        rw (reads_right v logs is e source e.logged.value there right (right_store (entries logs) e) (greatest_from_least entry_cmp entry_total (is_earlier_store e) (entries logs))) refl
+    go (Load source) f = reads source e.logged.value (rw f refl)
+    go (Swap source read) f = reads source read (rw f refl)
 
 filter_map_none : {X Y : Type 0} (f : X → Option Y) (xs : List X) → ((x : X) → In x xs → f x ≡ None) → filter_map f xs ≡ []
 filter_map_none f [] h = refl

@@ -3,7 +3,7 @@ use Rattle.std.specs.Prelude.{◌≡◌, ℕ, Bool, List, Option, Some, None, sl
 use Rattle.mem_op.specs.declared.id.Source.{Source}
 use Rattle.line_stamps.specs.declared.line.Line.{Line}
 use Rattle.log_record.specs.declared.act.Act.{Act}
-use Rattle.log_record.specs.declared.act.Act.TheVariants.{Load, Store}
+use Rattle.log_record.specs.declared.act.Act.TheVariants.{Load, Store, Swap}
 use Rattle.log_record.specs.declared.record.Record.{Record}
 
 pub record View : Type 0 where
@@ -21,10 +21,11 @@ pub record View : Type 0 where
 pub record Did (v : View) (c i : ℕ) (q : Record) : Type 0 where
   pub is : slice_get (v.log c) i ≡ Some q
 
--- what an operation has read, and from which source; a store reads nothing
+-- what an operation has read, and from which source: a swap the word that it took the place of; a store reads nothing
 abbrev pub read_by : Act → ℕ → Option (Source × ℕ)
 read_by (Load source) value = Some (source, value)
 read_by Store value = None
+read_by (Swap source read) value = Some (source, read)
 
 abbrev pub read_of : Record → Option (Source × ℕ)
 read_of q = read_by q.act q.value

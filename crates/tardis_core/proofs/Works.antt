@@ -9,7 +9,7 @@ use Rattle.core_program.specs.declared.instruction.Instruction.{Instruction}
 use Rattle.core_program.specs.Running.{issued, after, next_op, rest_within, at_rest, answered}
 use Rattle.core_program.specs.State.{State}
 use Rattle.core_program.proofs.Rests.{leads_on}
-use Rattle.core_unit.specs.Core.{Core, next_of, record_of, word_of}
+use Rattle.core_unit.specs.Core.{Core, next_of, answer_of, record_of}
 use Rattle.core_unit.specs.declared.outcome.Outcome.{Outcome}
 use Rattle.core_unit.specs.declared.outcome.Outcome.TheVariants as outcome
 use Rattle.core_machine.specs.Machine.{World, CoreLeads, Leads, turn_hits, turn_drops, turn_gives, turn_asks, turn_ends, takes, takes_nothing, takes_busy, recall_gives, evict_drops, evict_gives, increments, by_core, serves, spills, no_effect, with_core}
@@ -133,7 +133,7 @@ core_performs g i u e o v (turn_hits op hit h n t) did c is =
         next = waits;
         made = record_of op hit;
         log = refl;
-        left = answered_on u.program (word_of op hit) u.state waits;
+        left = answered_on u.program (answer_of op hit) u.state waits;
         hand = ap (λ m. hand_of m u.kept) h;
       },
     )
