@@ -8,6 +8,7 @@ pub mod TextLines
 pub mod SectionTexts
 pub mod Wrong
 pub mod ProgramTexts
+pub mod Headers
 pub mod SetLines
 pub mod HeadLines
 pub mod SetTexts

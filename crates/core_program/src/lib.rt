@@ -18,6 +18,7 @@ mod state;
 mod text_laws;
 
 pub use fault::ProgramFault;
+pub use format::Format;
 pub use instruction::Instruction;
 pub use laws::{
     conforming_is_no_fault, fault_is_where_log_differs, few_operations, runs_are_paths,
