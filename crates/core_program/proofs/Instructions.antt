@@ -126,7 +126,7 @@ load_takes format bytes i e =
     let r = register_takes bytes a.0 a.1 in
     let d = last_addr_takes a.0.1 b.0 b.1 in
     subst (λ (j : Instruction). IsNamed format (codes "ld ") bytes j) (some_is (Load a.0.0 b.0) i b.2)
-    (ap (λ (x : List ℕ). codes "ld " ++ x) (r.0 ∙ ap (λ (x : List ℕ). register_front (a.0.0, x)) d.0), record { has = refl; numbers = (r.1, d.1) })
+    (ap (λ (x : List ℕ). codes "ld " ++ x) (r.0 ∙ ap (λ (x : List ℕ). register_front (a.0.0, x)) d.0), record { has = refl {a = true}; numbers = (r.1, d.1) })
 
 store_takes : (format : Format) (bytes : List ℕ) (i : Instruction) → store_of bytes ≡ Some i → IsNamed format (codes "st ") bytes i
 unfolding store_of instruction_text
@@ -136,7 +136,7 @@ store_takes format bytes i e =
     let r = addr_takes bytes a.0 a.1 in
     let d = last_word_takes a.0.1 b.0 b.1 in
     subst (λ (j : Instruction). IsNamed format (codes "st ") bytes j) (some_is (Store a.0.0 b.0) i b.2)
-    (ap (λ (x : List ℕ). codes "st " ++ x) (r.0 ∙ ap (λ (x : List ℕ). numeral a.0.0 ++ 32 ∷ x) d.0), record { has = refl; numbers = (r.1, d.1) })
+    (ap (λ (x : List ℕ). codes "st " ++ x) (r.0 ∙ ap (λ (x : List ℕ). numeral a.0.0 ++ 32 ∷ x) d.0), record { has = refl {a = true}; numbers = (r.1, d.1) })
 
 store_register_takes : (format : Format) (bytes : List ℕ) (i : Instruction) → store_register_of bytes ≡ Some i → IsNamed format (codes "sr ") bytes i
 unfolding store_register_of instruction_text
@@ -146,7 +146,7 @@ store_register_takes format bytes i e =
     let r = addr_takes bytes a.0 a.1 in
     let d = last_register_takes a.0.1 b.0 b.1 in
     subst (λ (j : Instruction). IsNamed format (codes "sr ") bytes j) (some_is (StoreRegister a.0.0 b.0) i b.2)
-    (ap (λ (x : List ℕ). codes "sr " ++ x) (r.0 ∙ ap (λ (x : List ℕ). numeral a.0.0 ++ 32 ∷ x) d.0), record { has = refl; numbers = (r.1, d.1) })
+    (ap (λ (x : List ℕ). codes "sr " ++ x) (r.0 ∙ ap (λ (x : List ℕ). numeral a.0.0 ++ 32 ∷ x) d.0), record { has = refl {a = true}; numbers = (r.1, d.1) })
 
 add_takes : (format : Format) (bytes : List ℕ) (i : Instruction) → add_of bytes ≡ Some i → IsNamed format (codes "ai ") bytes i
 unfolding add_of instruction_text
@@ -160,7 +160,7 @@ add_takes format bytes i e =
     subst (λ (j : Instruction). IsNamed format (codes "ai ") bytes j) {x = Add a.0.0 b.0.0 c.0} (some_is (Add a.0.0 b.0.0 c.0) i c.2) (
       ap (λ (x : List ℕ). codes "ai " ++ x)
           (r.0 ∙ ap (λ (x : List ℕ). register_front (a.0.0, x)) (s.0 ∙ ap (λ (x : List ℕ). register_front (b.0.0, x)) d.0)),
-      record { has = refl; numbers = (r.1, s.1, d.1) },
+      record { has = refl {a = true}; numbers = (r.1, s.1, d.1) },
     )
 
 skip_takes : (format : Format) (bytes : List ℕ) (i : Instruction) → skip_of bytes ≡ Some i → IsNamed format (codes "jz ") bytes i
@@ -171,7 +171,7 @@ skip_takes format bytes i e =
     let r = register_takes bytes a.0 a.1 in
     let d = last_skip_takes a.0.1 b.0 b.1 in
     subst (λ (j : Instruction). IsNamed format (codes "jz ") bytes j) (some_is (SkipIfZero a.0.0 b.0) i b.2)
-    (ap (λ (x : List ℕ). codes "jz " ++ x) (r.0 ∙ ap (λ (x : List ℕ). register_front (a.0.0, x)) d.0), record { has = refl; numbers = (r.1, d.1, d.2) })
+    (ap (λ (x : List ℕ). codes "jz " ++ x) (r.0 ∙ ap (λ (x : List ℕ). register_front (a.0.0, x)) d.0), record { has = refl {a = true}; numbers = (r.1, d.1, d.2) })
 
 swap_takes : (bytes : List ℕ) (i : Instruction) → swap_of bytes ≡ Some i → IsNamed Two (codes "sw ") bytes i
 unfolding swap_of instruction_text
@@ -185,7 +185,7 @@ swap_takes bytes i e =
     subst (λ (j : Instruction). IsNamed Two (codes "sw ") bytes j) {x = Swap a.0.0 b.0.0 c.0} (some_is (Swap a.0.0 b.0.0 c.0) i c.2) (
       ap (λ (x : List ℕ). codes "sw " ++ x)
           (r.0 ∙ ap (λ (x : List ℕ). register_front (a.0.0, x)) (s.0 ∙ ap (λ (x : List ℕ). numeral b.0.0 ++ 32 ∷ x) d.0)),
-      record { has = refl; numbers = (r.1, s.1, d.1) },
+      record { has = refl {a = true}; numbers = (r.1, s.1, d.1) },
     )
 
 -- ---- lines

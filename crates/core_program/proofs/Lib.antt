@@ -2,6 +2,7 @@ pub mod Faults
 pub mod Paths
 pub mod Rests
 pub mod Runs
+pub mod Formats
 pub mod InFront
 pub mod Instructions
 pub mod TextLines

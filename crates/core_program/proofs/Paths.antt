@@ -1,9 +1,7 @@
 -- Paths and runs are one: what the relation allows is what the functions compute.
-use Rattle.std.specs.Prelude.{◌≡◌, ℕ, zero, suc, ◌+◌, Bool, true, false, ◌==◌, if◌then◌else◌, List, [], ◌∷◌, ◌++◌, length, Option, Some, None, IsSome, IsTrue, IfSome, is_some, option_and_then, slice_get, refl}
+use Rattle.std.specs.Prelude.{◌≡◌, ℕ, zero, suc, ◌+◌, Bool, true, false, ◌==◌, if◌then◌else◌, List, [], ◌∷◌, ◌++◌, length, Option, Some, None, IsSome, IfSome, is_some, option_and_then, slice_get, refl}
 use Rattle.std.specs.Option.{option_map_or}
 use Rattle.std.proofs.Common.{sym, ◌∙◌, ap, subst, append_assoc, append-nil}
-use Rattle.std.proofs.lemmas.Option.{get_or_from_slice_get, slice_get_within}
-use Rattle.std.proofs.lemmas.List.Elements.{All-get_or}
 use Rattle.std.proofs.lemmas.Bool.{and_parts, and_from, eqb-true, eqb-false, eq-eqb}
 use Rattle.mem_op.specs.declared.id.Op.{Op}
 use Rattle.mem_op.specs.declared.id.Op.TheVariants as op
@@ -11,8 +9,7 @@ use Rattle.mem_op.specs.Consistency.{Operation, Loaded, Stored, Swapped, word_an
 use Rattle.core_program.specs.declared.instruction.Instruction.{Instruction}
 use Rattle.core_program.specs.declared.instruction.Instruction.TheVariants.{Load, Store, StoreRegister, Add, SkipIfZero, Swap}
 use Rattle.core_program.specs.State.{State, reg, with_reg, further}
-use Rattle.core_program.specs.declared.format.Format.TheVariants.{One}
-use Rattle.core_program.specs.Shape.{IsOfFormat, IsProgram, has_instruction}
+use Rattle.core_program.specs.Shape.{IsProgram}
 use Rattle.core_program.specs.Meaning.{Path, stays, loads, stores, stores_register, swaps, adds, skips, goes_on}
 use Rattle.core_program.specs.Running.{op_of, performed, is_issued, issued, after, next_op, IsAtRest, rest_within, at_rest, answered}
 use Rattle.core_program.proofs.Rests.{moved, at_rest-rests, leads_inside}
@@ -125,26 +122,6 @@ waits p s x h = go (slice_get p s.position) refl h
     go : (o : Option Instruction) → slice_get p s.position ≡ o → option_and_then (λ i. issued i s) o ≡ Some x → Waits p s x
     go None e f = cc
     go (Some i) e f = record { instruction = i; next = e; issues = f }
-
--- an instruction of format 1 issues no swap
-no_swap_issued : (i : Instruction) (s : State) (addr value : ℕ) → has_instruction One i ≡ true → issued i s ≡ Some (op.Swap addr value) → ⊥
-no_swap_issued (Load to a) s addr value has h = cc
-no_swap_issued (Store a v) s addr value has h = cc
-no_swap_issued (StoreRegister a from) s addr value has h = cc
-no_swap_issued (Add to from v) s addr value has h = cc
-no_swap_issued (SkipIfZero tested skip) s addr value has h = cc
-no_swap_issued (Swap to a v) s addr value has h = cc
-
-has_at : (p : List Instruction) (n : ℕ) (i : Instruction) → IsOfFormat One p → slice_get p n ≡ Some i → has_instruction One i ≡ true
-has_at p n i has at =
-    subst (λ (j : Instruction). has_instruction One j ≡ true) (get_or_from_slice_get p n i i at)
-    (All-get_or (λ j. IsTrue (has_instruction One j)) p n i (slice_get_within p n i at) has)
-
--- so none is the next operation of a program of format 1
-pub next_is_no_swap : (p : List Instruction) (s : State) (addr value : ℕ) → IsOfFormat One p → next_op p s ≡ Some (op.Swap addr value) → ⊥
-next_is_no_swap p s addr value has h =
-    let w = waits p s (op.Swap addr value) h in
-    no_swap_issued w.instruction s addr value (has_at p s.position w.instruction has w.next) w.issues
 
 pub answered-is : (p : List Instruction) (s : State) (x : ℕ) (i : Instruction) → slice_get p s.position ≡ Some i → answered p x s ≡ at_rest p (after i x s)
 answered-is p s x i e = ap (λ o. option_map_or (λ j. at_rest p (after j x s)) o s) e

@@ -124,7 +124,7 @@ pub bad_line_of_set : (format : Format) (text rest : List ℕ) (cores line : ℕ
 bad_line_of_set format text rest cores line programs some few stands others = (
   line_wrong format (SetLines IsSection) (IsSection format) IsLast (header_text (format_number format) cores) cores (limited format cores some few) text rest line programs stands.each stands others,
   (line_wrong format (SetLines EachFits) (EachFits format) IsLast (header_text (format_number format) cores) cores (unlimited format cores some few) text rest line programs
-  (each_fits_of format programs stands.each) stands others).wrong,
+      (each_fits_of format programs stands.each) stands others).wrong,
 )
 
 -- the line of a core is missing
