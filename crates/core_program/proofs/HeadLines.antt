@@ -1,5 +1,5 @@
 -- The header of a set and the line before a section, read and found at the front of bytes.
-use Rattle.std.proofs.Common.{◌≡◌, ℕ, ◌<◌, ◌≤◌, ◌^◌, true, false, cond, eqb, List, ◌∷◌, ◌++◌, Option, Some, None, refl, sym, ap, ◌∙◌, arith, inl, inr}
+use Rattle.std.proofs.Common.{◌≡◌, ℕ, ◌<◌, ◌≤◌, ◌^◌, true, false, cond, eqb, List, ◌∷◌, ◌++◌, Option, Some, None, refl, sym, ap, subst, ◌∙◌, arith, inl, inr}
 use Rattle.std.specs.Prelude.{codes}
 use Rattle.std.specs.Option.{option_eq}
 use Rattle.std.proofs.lemmas.Bool.{cases_Bool, cond-true, cond-false, eqb-true, eqb-false, ne_eqb}
@@ -8,48 +8,53 @@ use Rattle.decimal_text.specs.Reading.{◌>>=◌, after, last_number}
 use Rattle.decimal_text.proofs.Lines.{NoLf}
 use Rattle.decimal_text.proofs.Numbers.{after_takes, after_again}
 use Rattle.decimal_text.proofs.Reading.{bind_some, some_is, last_takes, last_again}
-use Rattle.core_program.specs.Grammar.{header_text, core_text}
+use Rattle.core_program.specs.declared.format.Format.{Format}
+use Rattle.core_program.specs.Grammar.{format_number, header_text, core_text}
 use Rattle.core_program.specs.Lines.{IsOneLine}
-use Rattle.core_program.specs.inner.Reading.{below, cores_of, core_of}
+use Rattle.core_program.specs.inner.Reading.{below, first_words, cores_of, header_of, core_of}
 use Rattle.core_program.specs.inner.Sections.{HeaderInFront}
+use Rattle.core_program.proofs.Headers.{header_text_is, words_of, words_again, words_take}
 use Rattle.core_program.proofs.Instructions.{below_is, below_again}
 use Rattle.core_program.proofs.SetLines.{header_no_lf, core_no_lf}
 use Rattle.core_program.proofs.TextLines.{no_lf_from, no_feed, line_once}
 
-numeral_one : numeral 1 ≡ codes "1"
-unfolding numeral
-numeral_one = refl
-
--- a header of format 1 from its first words on
-header_text_is : (cores : ℕ) → header_text 1 cores ≡ codes "tardis-programs 1 cores " ++ numeral cores
-unfolding header_text
-header_text_is cores = rw numeral_one refl
-
 -- ---- a line and its number
 
-cores_takes : (line : List ℕ) (n : ℕ) → cores_of line ≡ Some n → (1 ≤ n) × (n ≤ 64) × (line ≡ header_text 1 n)
+cores_take : (bytes : List ℕ) (n : ℕ) → cores_of bytes ≡ Some n → (1 ≤ n) × (n ≤ 64) × (bytes ≡ numeral n)
 unfolding cores_of
-cores_takes line n e =
-    let words = codes "tardis-programs 1 cores " in
-    let b = bind_some (after words line >>= last_number) (λ k. cond (eqb k 0) None (below 65 k)) n e in
-    let a = bind_some (after words line) last_number b.0 b.1 in
+cores_take bytes n e =
+    let b = bind_some (last_number bytes) (λ k. cond (eqb k 0) None (below 65 k)) n e in
     elim (cases_Bool (eqb b.0 0)) [
       | inl zero-is ↦ let wrong : None ≡ Some n = sym (cond-true (eqb b.0 0) None (below 65 b.0) zero-is) ∙ b.2 in absurd cc
       | inr other ↦
           let g = below_is 65 b.0 n (sym (cond-false (eqb b.0 0) None (below 65 b.0) other) ∙ b.2) in
           let some = eqb-false b.0 0 other in
-          let all : line ≡ words ++ numeral b.0 = after_takes words line a.0 a.1 ∙ ap (λ (r : List ℕ). words ++ r) (last_takes a.0 b.0 a.2) in (
-            omega (arith, g.0, some),
-            omega (arith, g.1),
-            all ∙ ap (λ (k : ℕ). words ++ numeral k) g.0 ∙ sym (header_text_is n),
-          )
+          (omega (arith, g.0, some), omega (arith, g.1), last_takes bytes b.0 b.1 ∙ ap numeral g.0)
     ]
 
-cores_again : (n : ℕ) → 1 ≤ n → n ≤ 64 → cores_of (header_text 1 n) ≡ Some n
+cores_again : (n : ℕ) → 1 ≤ n → n ≤ 64 → cores_of (numeral n) ≡ Some n
 unfolding cores_of
 cores_again n some few =
-    rw (header_text_is n, after_again (codes "tardis-programs 1 cores ") (numeral n), last_again n)
+    rw (last_again n)
     (cond-false (eqb n 0) None (below 65 n) (ne_eqb n 0 (λ e. omega (arith, e))) ∙ below_again 65 n (omega arith))
+
+-- the line is the header of this format and number of cores
+abbrev IsHeader : List ℕ → Format × ℕ → Type 0
+IsHeader line x = (1 ≤ x.1) × (x.1 ≤ 64) × (line ≡ header_text (format_number x.0) x.1)
+
+header_takes : (line : List ℕ) (x : Format × ℕ) → header_of line ≡ Some x → IsHeader line x
+unfolding header_of
+header_takes line x e =
+    let a = bind_some (first_words line) (λ front. cores_of front.1 >>= λ cores. Some (front.0, cores)) x e in
+    let b = bind_some (cores_of a.0.1) (λ cores. Some (a.0.0, cores)) x a.2 in
+    let n = cores_take a.0.1 b.0 b.1 in
+    let all : line ≡ header_text (format_number a.0.0) b.0 =
+    words_take line a.0 a.1 ∙ ap (λ (r : List ℕ). words_of a.0.0 ++ r) n.2 ∙ sym (header_text_is a.0.0 b.0) in
+    subst (IsHeader line) (some_is (a.0.0, b.0) x b.2) (n.0, n.1, all)
+
+header_again : (format : Format) (n : ℕ) → 1 ≤ n → n ≤ 64 → header_of (header_text (format_number format) n) ≡ Some (format, n)
+unfolding header_of
+header_again format n some few = rw (header_text_is format n, words_again format (numeral n), cores_again n some few) refl
 
 core_takes : (line : List ℕ) (n : ℕ) → core_of line ≡ Some n → line ≡ core_text n
 unfolding core_of core_text
@@ -66,25 +71,28 @@ core_again n lt = rw (after_again (codes "core ") (numeral n), last_again n) (be
 
 -- ---- at the front of bytes
 
+none_some : {A : Type 0} (x : A) → None ≡ Some x → ⊥
+none_some x e = cc
+
 -- a line where the first line is another
 first_line : (text line behind wanted rest : List ℕ) → IsOneLine line → NoLf wanted → text ≡ line ++ 10 ∷ behind
     → text ≡ wanted ++ 10 ∷ rest → line ≡ wanted
 first_line text line behind wanted rest one none is there =
     (line_once line wanted behind rest (no_lf_from line one) none (sym is ∙ there)).0
 
-pub no_header_without_feed : (text : List ℕ) → IsOneLine text → (cores : ℕ) (rest : List ℕ) → HeaderInFront cores text rest → ⊥
-no_header_without_feed text one cores rest there = no_feed text (header_text 1 cores) rest (no_lf_from text one) there.2
+pub no_header_without_feed : (text : List ℕ) → IsOneLine text → (format : Format) (cores : ℕ) (rest : List ℕ) → HeaderInFront format cores text rest → ⊥
+no_header_without_feed text one format cores rest there = no_feed text (header_text (format_number format) cores) rest (no_lf_from text one) there.2
 
-pub no_header_of_other : (text line behind : List ℕ) → IsOneLine line → text ≡ line ++ 10 ∷ behind → None ≡ cores_of line
-    → (cores : ℕ) (rest : List ℕ) → HeaderInFront cores text rest → ⊥
-no_header_of_other text line behind one is none cores rest there =
-    let same = first_line text line behind (header_text 1 cores) rest one (header_no_lf 1 cores) is there.2 in
-    let wrong : None ≡ Some cores = none ∙ ap cores_of same ∙ cores_again cores there.0 there.1 in
-    cc
+pub no_header_of_other : (text line behind : List ℕ) → IsOneLine line → text ≡ line ++ 10 ∷ behind → None ≡ header_of line
+    → (format : Format) (cores : ℕ) (rest : List ℕ) → HeaderInFront format cores text rest → ⊥
+no_header_of_other text line behind one is none format cores rest there =
+    let same = first_line text line behind (header_text (format_number format) cores) rest one (header_no_lf (format_number format) cores) is there.2 in
+    none_some (format, cores) (none ∙ ap header_of same ∙ header_again format cores there.0 there.1)
 
-pub header_in_front : (text line behind : List ℕ) (cores : ℕ) → text ≡ line ++ 10 ∷ behind → Some cores ≡ cores_of line → HeaderInFront cores text behind
-header_in_front text line behind cores is some =
-    let t = cores_takes line cores (sym some) in
+pub header_in_front : (text line behind : List ℕ) (format : Format) (cores : ℕ) → text ≡ line ++ 10 ∷ behind → Some (format, cores) ≡ header_of line
+    → HeaderInFront format cores text behind
+header_in_front text line behind format cores is some =
+    let t = header_takes line (format, cores) (sym some) in
     (t.0, t.1, is ∙ ap (λ (l : List ℕ). l ++ 10 ∷ behind) t.2)
 
 pub no_core_without_feed : (text : List ℕ) (core : ℕ) → IsOneLine text → (rest : List ℕ) → text ≡ core_text core ++ 10 ∷ rest → ⊥

@@ -1,5 +1,5 @@
 -- What is read as an instruction is its line, with numbers in range, and the line of such an instruction is read as it.
-use Rattle.std.proofs.Common.{◌≡◌, ℕ, ◌<◌, ◌≤◌, ◌^◌, ◌⊎◌, false, cond, eqb, List, ◌∷◌, ◌++◌, Option, Some, None, is_some, refl, sym, ap, subst, ◌∙◌, arith, inl, inr}
+use Rattle.std.proofs.Common.{◌≡◌, ℕ, ◌<◌, ◌≤◌, ◌^◌, ◌⊎◌, true, false, cond, eqb, List, ◌∷◌, ◌++◌, Option, Some, None, is_some, refl, sym, ap, subst, ◌∙◌, arith, inl, inr}
 use Rattle.std.specs.Prelude.{codes}
 use Rattle.std.proofs.lemmas.Bool.{cases_Bool, cond_below, cond-true, cond-false, eqb-false, ne_eqb, ltb-true}
 use Rattle.std.proofs.Math.Dec.{ltb}
@@ -9,9 +9,12 @@ use Rattle.decimal_text.proofs.Lines.{NoLf, NoLf-append, numeral_no_lf}
 use Rattle.decimal_text.proofs.Numbers.{guard_some, after_takes, after_again}
 use Rattle.decimal_text.proofs.Reading.{bind_some, some_is, field_takes, field_again, last_takes, last_again}
 use Rattle.core_program.specs.declared.instruction.Instruction.{Instruction}
-use Rattle.core_program.specs.declared.instruction.Instruction.TheVariants.{Load, Store, StoreRegister, Add, SkipIfZero}
-use Rattle.core_program.specs.Grammar.{instruction_text, Fits}
-use Rattle.core_program.specs.inner.Reading.{front_below, below, register_at, addr_at, last_register, last_addr, last_word, last_skip, load_of, store_of, store_register_of, add_of, skip_of, named, instruction_of}
+use Rattle.core_program.specs.declared.instruction.Instruction.TheVariants.{Load, Store, StoreRegister, Add, SkipIfZero, Swap}
+use Rattle.core_program.specs.declared.format.Format.{Format}
+use Rattle.core_program.specs.declared.format.Format.TheVariants.{One, Two}
+use Rattle.core_program.specs.Grammar.{instruction_text, Fits, FitsIn}
+use Rattle.core_program.specs.Shape.{has_instruction}
+use Rattle.core_program.specs.inner.Reading.{front_below, below, register_at, addr_at, last_register, last_addr, last_word, last_skip, load_of, store_of, store_register_of, add_of, skip_of, swap_of, swap_in, named, instruction_of}
 
 -- ---- numbers in range
 
@@ -111,64 +114,79 @@ last_word_takes bytes n e = last_below_takes (2 ^ 64) bytes n e
 
 -- ---- instructions
 
--- the line of an instruction in range is a name and these fields
-abbrev IsNamed : List ℕ → List ℕ → Instruction → Type 0
-IsNamed name fields i = (name ++ fields ≡ instruction_text i) × Fits i
+-- the line of an instruction of this format, in range, is a name and these fields
+abbrev IsNamed : Format → List ℕ → List ℕ → Instruction → Type 0
+IsNamed format name fields i = (name ++ fields ≡ instruction_text i) × FitsIn format i
 
-load_takes : (bytes : List ℕ) (i : Instruction) → load_of bytes ≡ Some i → IsNamed (codes "ld ") bytes i
+load_takes : (format : Format) (bytes : List ℕ) (i : Instruction) → load_of bytes ≡ Some i → IsNamed format (codes "ld ") bytes i
 unfolding load_of instruction_text
-load_takes bytes i e =
+load_takes format bytes i e =
     let a = bind_some (register_at bytes) (λ to. last_addr to.1 >>= λ addr. Some (Load to.0 addr)) i e in
     let b = bind_some (last_addr a.0.1) (λ addr. Some (Load a.0.0 addr)) i a.2 in
     let r = register_takes bytes a.0 a.1 in
     let d = last_addr_takes a.0.1 b.0 b.1 in
-    subst (λ (j : Instruction). IsNamed (codes "ld ") bytes j) (some_is (Load a.0.0 b.0) i b.2)
-    (ap (λ (x : List ℕ). codes "ld " ++ x) (r.0 ∙ ap (λ (x : List ℕ). register_front (a.0.0, x)) d.0), (r.1, d.1))
+    subst (λ (j : Instruction). IsNamed format (codes "ld ") bytes j) (some_is (Load a.0.0 b.0) i b.2)
+    (ap (λ (x : List ℕ). codes "ld " ++ x) (r.0 ∙ ap (λ (x : List ℕ). register_front (a.0.0, x)) d.0), record { has = refl {a = true}; numbers = (r.1, d.1) })
 
-store_takes : (bytes : List ℕ) (i : Instruction) → store_of bytes ≡ Some i → IsNamed (codes "st ") bytes i
+store_takes : (format : Format) (bytes : List ℕ) (i : Instruction) → store_of bytes ≡ Some i → IsNamed format (codes "st ") bytes i
 unfolding store_of instruction_text
-store_takes bytes i e =
+store_takes format bytes i e =
     let a = bind_some (addr_at bytes) (λ addr. last_word addr.1 >>= λ value. Some (Store addr.0 value)) i e in
     let b = bind_some (last_word a.0.1) (λ value. Some (Store a.0.0 value)) i a.2 in
     let r = addr_takes bytes a.0 a.1 in
     let d = last_word_takes a.0.1 b.0 b.1 in
-    subst (λ (j : Instruction). IsNamed (codes "st ") bytes j) (some_is (Store a.0.0 b.0) i b.2)
-    (ap (λ (x : List ℕ). codes "st " ++ x) (r.0 ∙ ap (λ (x : List ℕ). numeral a.0.0 ++ 32 ∷ x) d.0), (r.1, d.1))
+    subst (λ (j : Instruction). IsNamed format (codes "st ") bytes j) (some_is (Store a.0.0 b.0) i b.2)
+    (ap (λ (x : List ℕ). codes "st " ++ x) (r.0 ∙ ap (λ (x : List ℕ). numeral a.0.0 ++ 32 ∷ x) d.0), record { has = refl {a = true}; numbers = (r.1, d.1) })
 
-store_register_takes : (bytes : List ℕ) (i : Instruction) → store_register_of bytes ≡ Some i → IsNamed (codes "sr ") bytes i
+store_register_takes : (format : Format) (bytes : List ℕ) (i : Instruction) → store_register_of bytes ≡ Some i → IsNamed format (codes "sr ") bytes i
 unfolding store_register_of instruction_text
-store_register_takes bytes i e =
+store_register_takes format bytes i e =
     let a = bind_some (addr_at bytes) (λ addr. last_register addr.1 >>= λ from. Some (StoreRegister addr.0 from)) i e in
     let b = bind_some (last_register a.0.1) (λ from. Some (StoreRegister a.0.0 from)) i a.2 in
     let r = addr_takes bytes a.0 a.1 in
     let d = last_register_takes a.0.1 b.0 b.1 in
-    subst (λ (j : Instruction). IsNamed (codes "sr ") bytes j) (some_is (StoreRegister a.0.0 b.0) i b.2)
-    (ap (λ (x : List ℕ). codes "sr " ++ x) (r.0 ∙ ap (λ (x : List ℕ). numeral a.0.0 ++ 32 ∷ x) d.0), (r.1, d.1))
+    subst (λ (j : Instruction). IsNamed format (codes "sr ") bytes j) (some_is (StoreRegister a.0.0 b.0) i b.2)
+    (ap (λ (x : List ℕ). codes "sr " ++ x) (r.0 ∙ ap (λ (x : List ℕ). numeral a.0.0 ++ 32 ∷ x) d.0), record { has = refl {a = true}; numbers = (r.1, d.1) })
 
-add_takes : (bytes : List ℕ) (i : Instruction) → add_of bytes ≡ Some i → IsNamed (codes "ai ") bytes i
+add_takes : (format : Format) (bytes : List ℕ) (i : Instruction) → add_of bytes ≡ Some i → IsNamed format (codes "ai ") bytes i
 unfolding add_of instruction_text
-add_takes bytes i e =
+add_takes format bytes i e =
     let a = bind_some (register_at bytes) (λ to. register_at to.1 >>= λ from. last_word from.1 >>= λ value. Some (Add to.0 from.0 value)) i e in
     let b = bind_some (register_at a.0.1) (λ from. last_word from.1 >>= λ value. Some (Add a.0.0 from.0 value)) i a.2 in
     let c = bind_some (last_word b.0.1) (λ value. Some (Add a.0.0 b.0.0 value)) i b.2 in
     let r = register_takes bytes a.0 a.1 in
     let s = register_takes a.0.1 b.0 b.1 in
     let d = last_word_takes b.0.1 c.0 c.1 in
-    subst (λ (j : Instruction). IsNamed (codes "ai ") bytes j) {x = Add a.0.0 b.0.0 c.0} (some_is (Add a.0.0 b.0.0 c.0) i c.2) (
+    subst (λ (j : Instruction). IsNamed format (codes "ai ") bytes j) {x = Add a.0.0 b.0.0 c.0} (some_is (Add a.0.0 b.0.0 c.0) i c.2) (
       ap (λ (x : List ℕ). codes "ai " ++ x)
           (r.0 ∙ ap (λ (x : List ℕ). register_front (a.0.0, x)) (s.0 ∙ ap (λ (x : List ℕ). register_front (b.0.0, x)) d.0)),
-      (r.1, s.1, d.1),
+      record { has = refl {a = true}; numbers = (r.1, s.1, d.1) },
     )
 
-skip_takes : (bytes : List ℕ) (i : Instruction) → skip_of bytes ≡ Some i → IsNamed (codes "jz ") bytes i
+skip_takes : (format : Format) (bytes : List ℕ) (i : Instruction) → skip_of bytes ≡ Some i → IsNamed format (codes "jz ") bytes i
 unfolding skip_of instruction_text
-skip_takes bytes i e =
+skip_takes format bytes i e =
     let a = bind_some (register_at bytes) (λ tested. last_skip tested.1 >>= λ skip. Some (SkipIfZero tested.0 skip)) i e in
     let b = bind_some (last_skip a.0.1) (λ skip. Some (SkipIfZero a.0.0 skip)) i a.2 in
     let r = register_takes bytes a.0 a.1 in
     let d = last_skip_takes a.0.1 b.0 b.1 in
-    subst (λ (j : Instruction). IsNamed (codes "jz ") bytes j) (some_is (SkipIfZero a.0.0 b.0) i b.2)
-    (ap (λ (x : List ℕ). codes "jz " ++ x) (r.0 ∙ ap (λ (x : List ℕ). register_front (a.0.0, x)) d.0), (r.1, d.1, d.2))
+    subst (λ (j : Instruction). IsNamed format (codes "jz ") bytes j) (some_is (SkipIfZero a.0.0 b.0) i b.2)
+    (ap (λ (x : List ℕ). codes "jz " ++ x) (r.0 ∙ ap (λ (x : List ℕ). register_front (a.0.0, x)) d.0), record { has = refl {a = true}; numbers = (r.1, d.1, d.2) })
+
+swap_takes : (bytes : List ℕ) (i : Instruction) → swap_of bytes ≡ Some i → IsNamed Two (codes "sw ") bytes i
+unfolding swap_of instruction_text
+swap_takes bytes i e =
+    let a = bind_some (register_at bytes) (λ to. addr_at to.1 >>= λ addr. last_word addr.1 >>= λ value. Some (Swap to.0 addr.0 value)) i e in
+    let b = bind_some (addr_at a.0.1) (λ addr. last_word addr.1 >>= λ value. Some (Swap a.0.0 addr.0 value)) i a.2 in
+    let c = bind_some (last_word b.0.1) (λ value. Some (Swap a.0.0 b.0.0 value)) i b.2 in
+    let r = register_takes bytes a.0 a.1 in
+    let s = addr_takes a.0.1 b.0 b.1 in
+    let d = last_word_takes b.0.1 c.0 c.1 in
+    subst (λ (j : Instruction). IsNamed Two (codes "sw ") bytes j) {x = Swap a.0.0 b.0.0 c.0} (some_is (Swap a.0.0 b.0.0 c.0) i c.2) (
+      ap (λ (x : List ℕ). codes "sw " ++ x)
+          (r.0 ∙ ap (λ (x : List ℕ). register_front (a.0.0, x)) (s.0 ∙ ap (λ (x : List ℕ). numeral b.0.0 ++ 32 ∷ x) d.0)),
+      record { has = refl {a = true}; numbers = (r.1, s.1, d.1) },
+    )
 
 -- ---- lines
 
@@ -184,19 +202,27 @@ named_takes name fields line other i e =
       | inr not-there ↦ inr (sym (cond-false (is_some (after name line)) (after name line >>= fields) other not-there) ∙ e)
     ]
 
--- the line is that of an instruction in range
-abbrev IsLineOf : List ℕ → Instruction → Type 0
-IsLineOf line i = (line ≡ instruction_text i) × Fits i
+-- the line is that of an instruction of this format, in range
+abbrev IsLineOf : Format → List ℕ → Instruction → Type 0
+IsLineOf format line i = (line ≡ instruction_text i) × FitsIn format i
 
-named_is : (name line rest : List ℕ) (i : Instruction) → line ≡ name ++ rest → IsNamed name rest i → IsLineOf line i
-named_is name line rest i e is = (e ∙ is.0, is.1)
+named_is : (format : Format) (name line rest : List ℕ) (i : Instruction) → line ≡ name ++ rest → IsNamed format name rest i → IsLineOf format line i
+named_is format name line rest i e is = (e ∙ is.0, is.1)
 
-pub instruction_takes : (line : List ℕ) (i : Instruction) → instruction_of line ≡ Some i → IsLineOf line i
+swap_in_takes : (format : Format) (line : List ℕ) (i : Instruction) → swap_in format line ≡ Some i → IsLineOf format line i
+swap_in_takes One line i e = absurd cc
+swap_in_takes Two line i e = swap_or (named_takes (codes "sw ") swap_of line None i e)
+  where
+    swap_or : ((rest : List ℕ) × ((line ≡ codes "sw " ++ rest) × (swap_of rest ≡ Some i))) ⊎ (None ≡ Some i) → IsLineOf Two line i
+    swap_or (inl p) = named_is Two (codes "sw ") line p.0 i p.1.0 (swap_takes p.0 i p.1.1)
+    swap_or (inr e) = absurd cc
+
+pub instruction_takes : (format : Format) (line : List ℕ) (i : Instruction) → instruction_of format line ≡ Some i → IsLineOf format line i
 unfolding instruction_of
-instruction_takes line i e = load_or (named_takes (codes "ld ") load_of line others-load i e)
+instruction_takes format line i e = load_or (named_takes (codes "ld ") load_of line others-load i e)
   where
     others-add : Option Instruction
-    others-add = named (codes "jz ") skip_of line None
+    others-add = named (codes "jz ") skip_of line (swap_in format line)
 
     others-sr : Option Instruction
     others-sr = named (codes "ai ") add_of line others-add
@@ -210,42 +236,62 @@ instruction_takes line i e = load_or (named_takes (codes "ld ") load_of line oth
     Found : List ℕ → (List ℕ → Option Instruction) → Option Instruction → Type 0
     Found name fields other = ((rest : List ℕ) × ((line ≡ name ++ rest) × (fields rest ≡ Some i))) ⊎ (other ≡ Some i)
 
-    skip_or : Found (codes "jz ") skip_of None → IsLineOf line i
-    skip_or (inl p) = named_is (codes "jz ") line p.0 i p.1.0 (skip_takes p.0 i p.1.1)
-    skip_or (inr e) = absurd cc
+    skip_or : Found (codes "jz ") skip_of (swap_in format line) → IsLineOf format line i
+    skip_or (inl p) = named_is format (codes "jz ") line p.0 i p.1.0 (skip_takes format p.0 i p.1.1)
+    skip_or (inr e) = swap_in_takes format line i e
 
-    add_or : Found (codes "ai ") add_of others-add → IsLineOf line i
-    add_or (inl p) = named_is (codes "ai ") line p.0 i p.1.0 (add_takes p.0 i p.1.1)
-    add_or (inr e) = skip_or (named_takes (codes "jz ") skip_of line None i e)
+    add_or : Found (codes "ai ") add_of others-add → IsLineOf format line i
+    add_or (inl p) = named_is format (codes "ai ") line p.0 i p.1.0 (add_takes format p.0 i p.1.1)
+    add_or (inr e) = skip_or (named_takes (codes "jz ") skip_of line (swap_in format line) i e)
 
-    sr_or : Found (codes "sr ") store_register_of others-sr → IsLineOf line i
-    sr_or (inl p) = named_is (codes "sr ") line p.0 i p.1.0 (store_register_takes p.0 i p.1.1)
+    sr_or : Found (codes "sr ") store_register_of others-sr → IsLineOf format line i
+    sr_or (inl p) = named_is format (codes "sr ") line p.0 i p.1.0 (store_register_takes format p.0 i p.1.1)
     sr_or (inr e) = add_or (named_takes (codes "ai ") add_of line others-add i e)
 
-    st_or : Found (codes "st ") store_of others-st → IsLineOf line i
-    st_or (inl p) = named_is (codes "st ") line p.0 i p.1.0 (store_takes p.0 i p.1.1)
+    st_or : Found (codes "st ") store_of others-st → IsLineOf format line i
+    st_or (inl p) = named_is format (codes "st ") line p.0 i p.1.0 (store_takes format p.0 i p.1.1)
     st_or (inr e) = sr_or (named_takes (codes "sr ") store_register_of line others-sr i e)
 
-    load_or : Found (codes "ld ") load_of others-load → IsLineOf line i
-    load_or (inl p) = named_is (codes "ld ") line p.0 i p.1.0 (load_takes p.0 i p.1.1)
+    load_or : Found (codes "ld ") load_of others-load → IsLineOf format line i
+    load_or (inl p) = named_is format (codes "ld ") line p.0 i p.1.0 (load_takes format p.0 i p.1.1)
     load_or (inr e) = st_or (named_takes (codes "st ") store_of line others-st i e)
 
-pub instruction_again : (i : Instruction) → Fits i → instruction_of (instruction_text i) ≡ Some i
-unfolding instruction_of instruction_text after load_of store_of store_register_of add_of skip_of last_addr last_word
-instruction_again (Load to addr) fits =
+-- its name comes first
+again_in : (format : Format) (i : Instruction) → has_instruction format i ≡ true → Fits i → instruction_of format (instruction_text i) ≡ Some i
+unfolding instruction_of instruction_text after load_of store_of store_register_of add_of skip_of swap_of last_addr last_word
+again_in format (Load to addr) has fits =
     rw (register_again to (numeral addr) fits.0, last_below_again 65536 addr fits.1) refl
-instruction_again (Store addr value) fits =
+again_in format (Store addr value) has fits =
     rw (addr_again addr (numeral value) fits.0, last_below_again (2 ^ 64) value fits.1) refl
-instruction_again (StoreRegister addr from) fits =
+again_in format (StoreRegister addr from) has fits =
     rw (addr_again addr (114 ∷ numeral from) fits.0, last_register_again from fits.1) refl
-instruction_again (Add to from value) fits =
+again_in format (Add to from value) has fits =
     rw (register_again to (register_front (from, numeral value)) fits.0, register_again from (numeral value) fits.1, last_below_again (2 ^ 64) value fits.2) refl
-instruction_again (SkipIfZero tested skip) fits =
+again_in format (SkipIfZero tested skip) has fits =
     rw (register_again tested (numeral skip) fits.0, last_skip_again skip fits.1 fits.2) refl
+again_in One (Swap to addr value) has fits = absurd cc
+again_in Two (Swap to addr value) has fits =
+    rw (register_again to (numeral addr ++ 32 ∷ numeral value) fits.0, addr_again addr (numeral value) fits.1, last_below_again (2 ^ 64) value fits.2) refl
+
+pub instruction_again : (format : Format) (i : Instruction) → FitsIn format i → instruction_of format (instruction_text i) ≡ Some i
+instruction_again format i fits = again_in format i fits.has fits.numbers
+
+-- format 2 has all instructions
+two_has : (i : Instruction) → has_instruction Two i ≡ true
+two_has (Load to addr) = refl
+two_has (Store addr value) = refl
+two_has (StoreRegister addr from) = refl
+two_has (Add to from value) = refl
+two_has (SkipIfZero tested skip) = refl
+two_has (Swap to addr value) = refl
+
+pub fits_in_two : (i : Instruction) → Fits i → FitsIn Two i
+fits_in_two i fits = record { has = two_has i; numbers = fits }
 
 -- a line is that of at most one instruction in range
 pub instruction_once : (i j : Instruction) → Fits i → Fits j → instruction_text i ≡ instruction_text j → i ≡ j
-instruction_once i j p q e = some_is i j (sym (instruction_again i p) ∙ ap instruction_of e ∙ instruction_again j q)
+instruction_once i j p q e =
+    some_is i j (sym (instruction_again Two i (fits_in_two i p)) ∙ ap (instruction_of Two) e ∙ instruction_again Two j (fits_in_two j q))
 
 -- a space and more come after a number
 spaced_no_lf : (n : ℕ) (rest : List ℕ) → NoLf rest → NoLf (numeral n ++ 32 ∷ rest)
@@ -269,3 +315,6 @@ instruction_no_lf (Add to from value) =
     (refl, spaced_no_lf to (register_front (from, numeral value)) (refl, spaced_no_lf from (numeral value) (numeral_no_lf value)))
 instruction_no_lf (SkipIfZero tested skip) =
     named_no_lf 106 122 (register_front (tested, numeral skip)) refl refl (refl, spaced_no_lf tested (numeral skip) (numeral_no_lf skip))
+instruction_no_lf (Swap to addr value) =
+    named_no_lf 115 119 (register_front (to, numeral addr ++ 32 ∷ numeral value)) refl refl
+    (refl, spaced_no_lf to (numeral addr ++ 32 ∷ numeral value) (spaced_no_lf addr (numeral value) (numeral_no_lf value)))

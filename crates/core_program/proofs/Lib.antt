@@ -2,12 +2,14 @@ pub mod Faults
 pub mod Paths
 pub mod Rests
 pub mod Runs
+pub mod Formats
 pub mod InFront
 pub mod Instructions
 pub mod TextLines
 pub mod SectionTexts
 pub mod Wrong
 pub mod ProgramTexts
+pub mod Headers
 pub mod SetLines
 pub mod HeadLines
 pub mod SetTexts

@@ -7,10 +7,10 @@ use Rattle.mem_op.specs.declared.id.Op.{Op}
 use Rattle.mem_op.specs.declared.id.Op.TheVariants as op
 use Rattle.mem_op.specs.Consistency.{Operation, Loaded, Stored, Swapped, word_answered}
 use Rattle.core_program.specs.declared.instruction.Instruction.{Instruction}
-use Rattle.core_program.specs.declared.instruction.Instruction.TheVariants.{Load, Store, StoreRegister, Add, SkipIfZero}
+use Rattle.core_program.specs.declared.instruction.Instruction.TheVariants.{Load, Store, StoreRegister, Add, SkipIfZero, Swap}
 use Rattle.core_program.specs.State.{State, reg, with_reg, further}
 use Rattle.core_program.specs.Shape.{IsProgram}
-use Rattle.core_program.specs.Meaning.{Path, stays, loads, stores, stores_register, adds, skips, goes_on}
+use Rattle.core_program.specs.Meaning.{Path, stays, loads, stores, stores_register, swaps, adds, skips, goes_on}
 use Rattle.core_program.specs.Running.{op_of, performed, is_issued, issued, after, next_op, IsAtRest, rest_within, at_rest, answered}
 use Rattle.core_program.proofs.Rests.{moved, at_rest-rests, leads_inside}
 
@@ -25,6 +25,7 @@ path-join p s t u xs ys h stays = subst (λ zs. Path p s zs t) (sym (append-nil 
 path-join p s t u xs ys h (loads done v to addr value k e) = regroup p s (further 1 (with_reg v to value)) xs done (Loaded addr value) (loads (xs ++ done) v to addr value (path-join p s t v xs done h k) e)
 path-join p s t u xs ys h (stores done v addr value k e) = regroup p s (further 1 v) xs done (Stored addr value) (stores (xs ++ done) v addr value (path-join p s t v xs done h k) e)
 path-join p s t u xs ys h (stores_register done v addr from k e) = regroup p s (further 1 v) xs done (Stored addr (reg v from)) (stores_register (xs ++ done) v addr from (path-join p s t v xs done h k) e)
+path-join p s t u xs ys h (swaps done v to addr value read k e) = regroup p s (further 1 (with_reg v to read)) xs done (Swapped addr read value) (swaps (xs ++ done) v to addr value read (path-join p s t v xs done h k) e)
 path-join p s t u xs ys h (adds done v to from value k e) = adds (xs ++ done) v to from value (path-join p s t v xs done h k) e
 path-join p s t u xs ys h (skips done v tested skip k e is_zero) = skips (xs ++ done) v tested skip (path-join p s t v xs done h k) e is_zero
 path-join p s t u xs ys h (goes_on done v tested skip k e other) = goes_on (xs ++ done) v tested skip (path-join p s t v xs done h k) e other
@@ -74,12 +75,18 @@ path-performs p s t done (StoreRegister addr from) (Stored a v) h e f =
 path-performs p s t done (StoreRegister addr from) (Swapped a r v) h e f = cc
 path-performs p s t done (Add to from value) x h e f = cc
 path-performs p s t done (SkipIfZero tested skip) x h e f = cc
+path-performs p s t done (Swap to addr value) (Loaded a v) h e f = cc
+path-performs p s t done (Swap to addr value) (Stored a v) h e f = cc
+path-performs p s t done (Swap to addr value) (Swapped a r v) h e f =
+    let same : Swapped addr r value ≡ Swapped a r v = cc in
+    subst (λ (o : Operation). Path p s (done ++ o ∷ []) (further 1 (with_reg t to r))) same (swaps done t to addr value r h e)
 
 -- another one leads on without
 pub path-moves : (p : List Instruction) (s t : State) (done : List Operation) (i : Instruction) → Path p s done t → slice_get p t.position ≡ Some i → issued i t ≡ None → Path p s done (after i 0 t)
 path-moves p s t done (Load to addr) h e f = cc
 path-moves p s t done (Store addr value) h e f = cc
 path-moves p s t done (StoreRegister addr from) h e f = cc
+path-moves p s t done (Swap to addr value) h e f = cc
 path-moves p s t done (Add to from value) h e f = adds done t to from value h e
 path-moves p s t done (SkipIfZero tested skip) h e f = go (reg t tested == 0) refl
   where
@@ -116,20 +123,6 @@ waits p s x h = go (slice_get p s.position) refl h
     go None e f = cc
     go (Some i) e f = record { instruction = i; next = e; issues = f }
 
--- no instruction issues a swap
-no_swap_issued : (i : Instruction) (s : State) (addr value : ℕ) → issued i s ≡ Some (op.Swap addr value) → ⊥
-no_swap_issued (Load to a) s addr value h = cc
-no_swap_issued (Store a v) s addr value h = cc
-no_swap_issued (StoreRegister a from) s addr value h = cc
-no_swap_issued (Add to from v) s addr value h = cc
-no_swap_issued (SkipIfZero tested skip) s addr value h = cc
-
--- so none is a program's next operation
-pub next_is_no_swap : (p : List Instruction) (s : State) (addr value : ℕ) → next_op p s ≡ Some (op.Swap addr value) → ⊥
-next_is_no_swap p s addr value h =
-    let w = waits p s (op.Swap addr value) h in
-    no_swap_issued w.instruction s addr value w.issues
-
 pub answered-is : (p : List Instruction) (s : State) (x : ℕ) (i : Instruction) → slice_get p s.position ≡ Some i → answered p x s ≡ at_rest p (after i x s)
 answered-is p s x i e = ap (λ o. option_map_or (λ j. at_rest p (after j x s)) o s) e
 
@@ -165,6 +158,9 @@ after-performed (Store addr value) s a x h = refl
 after-performed (StoreRegister addr from) s a x h = refl
 after-performed (Add to from value) s a x h = refl
 after-performed (SkipIfZero tested skip) s a x h = refl
+after-performed (Swap to addr value) s (op.Load b) x h = cc
+after-performed (Swap to addr value) s (op.Store b w) x h = cc
+after-performed (Swap to addr value) s (op.Swap b w) x h = refl
 
 -- an answer leads on by the operation that it answers
 pub answer-path : (p : List Instruction) (s t : State) (i : Instruction) (x : ℕ) → slice_get p s.position ≡ Some i → t ≡ at_rest p (after i x s) → IfSome (next_op p s) (λ a. Path p s (performed a x ∷ []) t)

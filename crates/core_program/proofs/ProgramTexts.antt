@@ -2,11 +2,12 @@
 use Rattle.std.proofs.Common.{◌≡◌, ℕ, ◌+◌, ◌<◌, List, [], ◌∷◌, ◌++◌, length, take, drop, refl, sym, ap, subst, ◌∙◌, arith, append_assoc, append-nil, length-append}
 use Rattle.std.proofs.lemmas.List.{length-map, map-append, take-append-drop, length-take-le, length-drop}
 use Rattle.std.proofs.Math.Seq.{take-length}
+use Rattle.core_program.specs.declared.format.Format.{Format}
 use Rattle.core_program.specs.declared.instruction.Instruction.{Instruction}
 use Rattle.core_program.specs.declared.fault.ProgramFault.{ProgramFault}
 use Rattle.core_program.specs.declared.fault.ProgramFault.TheVariants.{BadLine, TooLong, SkipPastEnd, OutOfMemory}
 use Rattle.core_program.specs.Answers.{ProgramLines, IsBadLine, IsTooLong, IsProgramFault}
-use Rattle.core_program.specs.Grammar.{instruction_text, program_lines, Fits, EachFits, IsSection}
+use Rattle.core_program.specs.Grammar.{instruction_text, program_lines, FitsIn, EachFits, IsSection}
 use Rattle.core_program.specs.Lines.{text_of}
 use Rattle.core_program.specs.inner.Sections.{IsSectionFault}
 use Rattle.core_program.specs.Sections.{NoInstructionInFront}
@@ -18,49 +19,49 @@ pub program_lines_no_lf : (program : List Instruction) → EachNoLf (program_lin
 program_lines_no_lf [] = tt
 program_lines_no_lf (i ∷ program) = (instruction_no_lf i, program_lines_no_lf program)
 
-has_lines : (Section : List Instruction → Type 0) → HasLines (ProgramLines Section)
-has_lines Section lines g = subst EachNoLf (sym g.1.1) (program_lines_no_lf g.0)
+has_lines : (format : Format) (Section : Format → List Instruction → Type 0) → HasLines (ProgramLines format Section)
+has_lines format Section lines g = subst EachNoLf (sym g.1.1) (program_lines_no_lf g.0)
 
 -- each line of instructions is an instruction's
-pub line_of_program : (program : List Instruction) (front : List (List ℕ)) (next : List ℕ) (more : List (List ℕ)) → EachFits program
-    → front ++ next ∷ more ≡ program_lines program → (i : Instruction) × (Fits i × (next ≡ instruction_text i))
-line_of_program [] [] next more fits e = absurd cc
-line_of_program [] (l ∷ front) next more fits e = absurd cc
-line_of_program (i ∷ program) [] next more fits e = (i, (fits.0, cc))
-line_of_program (i ∷ program) (l ∷ front) next more fits e = line_of_program program front next more fits.1 cc
+pub line_of_program : (format : Format) (program : List Instruction) (front : List (List ℕ)) (next : List ℕ) (more : List (List ℕ)) → EachFits format program
+    → front ++ next ∷ more ≡ program_lines program → (i : Instruction) × (FitsIn format i × (next ≡ instruction_text i))
+line_of_program format [] [] next more fits e = absurd cc
+line_of_program format [] (l ∷ front) next more fits e = absurd cc
+line_of_program format (i ∷ program) [] next more fits e = (i, (fits.0, cc))
+line_of_program format (i ∷ program) (l ∷ front) next more fits e = line_of_program format program front next more fits.1 cc
 
 -- where no instruction comes first, no line of a program does
-none_follows : (Section : List Instruction → Type 0) → ((p : List Instruction) → Section p → EachFits p) → (front : List (List ℕ)) (rest : List ℕ)
-    → NoInstructionInFront rest → NoneFollows (ProgramLines Section) front rest
-none_follows Section fits front rest none = λ next more behind g is.
-    let there = line_of_program g.0 front next more (fits g.0 g.1.0) g.1.1 in
+none_follows : (format : Format) (Section : Format → List Instruction → Type 0) → ((p : List Instruction) → Section format p → EachFits format p) → (front : List (List ℕ)) (rest : List ℕ)
+    → NoInstructionInFront format rest → NoneFollows (ProgramLines format Section) front rest
+none_follows format Section fits front rest none = λ next more behind g is.
+    let there = line_of_program format g.0 front next more (fits g.0 g.1.0) g.1.1 in
     none there.0 behind (there.1.0, is ∙ ap (λ (l : List ℕ). l ++ 10 ∷ behind) there.1.1)
 
-pub bad_line : (text rest : List ℕ) (program : List Instruction) (k : ℕ) → IsSection program → text ≡ text_of (program_lines program) ++ rest
-    → NoInstructionInFront rest → 0 < length rest → k ≡ length program + 1 → IsBadLine ProgramLines text k
-bad_line text rest program k section is none more k-is =
+pub bad_line : (format : Format) (text rest : List ℕ) (program : List Instruction) (k : ℕ) → IsSection format program → text ≡ text_of (program_lines program) ++ rest
+    → NoInstructionInFront format rest → 0 < length rest → k ≡ length program + 1 → IsBadLine (ProgramLines format) text k
+bad_line format text rest program k section is none more k-is =
     let counted : k ≡ length (program_lines program) + 1 = k-is ∙ ap (λ (n : ℕ). n + 1) (sym (length-map program instruction_text)) in
-    let wrong = wrong_behind (ProgramLines EachFits) (program_lines program) text rest k (has_lines EachFits) is counted
+    let wrong = wrong_behind (ProgramLines format EachFits) (program_lines program) text rest k (has_lines format EachFits) is counted
     ([], (program, (section.each_fits, append-nil (program_lines program))))
-    (none_follows EachFits (λ p fits. fits) (program_lines program) rest none) (λ e g. omega (arith, ap length e)) in (
-      wrong_behind (ProgramLines IsSection) (program_lines program) text rest k (has_lines IsSection) is counted
+    (none_follows format EachFits (λ p fits. fits) (program_lines program) rest none) (λ e g. omega (arith, ap length e)) in (
+      wrong_behind (ProgramLines format IsSection) (program_lines program) text rest k (has_lines format IsSection) is counted
           ([], (program, (section, append-nil (program_lines program))))
-          (none_follows IsSection (λ p s. s.each_fits) (program_lines program) rest none) (λ e g. omega (arith, ap length e)),
+          (none_follows format IsSection (λ p s. s.each_fits) (program_lines program) rest none) (λ e g. omega (arith, ap length e)),
       wrong.wrong,
     )
 
-each_fits_take : (n : ℕ) (program : List Instruction) → EachFits program → EachFits (take n program)
-each_fits_take n program fits = each_fits_front (take n program) (drop n program) (subst EachFits (sym (take-append-drop n program)) fits)
+each_fits_take : (format : Format) (n : ℕ) (program : List Instruction) → EachFits format program → EachFits format (take n program)
+each_fits_take format n program fits = each_fits_front (take n program) (drop n program) (subst (EachFits format) (sym (take-append-drop n program)) fits)
   where
-    each_fits_front : (front back : List Instruction) → EachFits (front ++ back) → EachFits front
+    each_fits_front : (front back : List Instruction) → EachFits format (front ++ back) → EachFits format front
     each_fits_front [] back fits = tt
     each_fits_front (i ∷ front) back fits = (fits.0, each_fits_front front back fits.1)
 
 -- the first 4,096 of more instructions
-pub first_section : (program : List Instruction) → EachFits program → length program ≡ 4097 → IsSection (take 4096 program)
-first_section program fits long = record {
+pub first_section : (format : Format) (program : List Instruction) → EachFits format program → length program ≡ 4097 → IsSection format (take 4096 program)
+first_section format program fits long = record {
   few = omega (arith, length-take-le 4096 program (omega (arith, long)));
-  each_fits = each_fits_take 4096 program fits;
+  each_fits = each_fits_take format 4096 program fits;
 }
 
 -- the lines of the first 4,096 instructions, and those after them
@@ -80,14 +81,14 @@ some_bytes (i ∷ program) rest some e =
     let is : instruction_text i ++ 10 ∷ (text_of (program_lines program) ++ rest) ≡ [] = sym (text_of-cons (instruction_text i) (program_lines program) rest) ∙ e in
     omega (arith, ap length is, length-append (instruction_text i) (10 ∷ (text_of (program_lines program) ++ rest)))
 
-pub too_long : (text rest : List ℕ) (program : List Instruction) → EachFits program → length program ≡ 4097
-    → text ≡ text_of (program_lines program) ++ rest → IsTooLong ProgramLines text 4097
-too_long text rest program fits long is =
+pub too_long : (format : Format) (text rest : List ℕ) (program : List Instruction) → EachFits format program → length program ≡ 4097
+    → text ≡ text_of (program_lines program) ++ rest → IsTooLong (ProgramLines format) text 4097
+too_long format text rest program fits long is =
     let front = program_lines (take 4096 program) in
     let back = text_of (program_lines (drop 4096 program)) ++ rest in
     let counted : length front ≡ 4096 = length-map (take 4096 program) instruction_text ∙ length-take-le 4096 program (omega (arith, long)) in (
-      wrong_behind (ProgramLines IsSection) front text back 4097 (has_lines IsSection) (is ∙ cut_lines program rest)
-          (omega (arith, counted)) ([], (take 4096 program, (first_section program fits long, append-nil front)))
+      wrong_behind (ProgramLines format IsSection) front text back 4097 (has_lines format IsSection) (is ∙ cut_lines program rest)
+          (omega (arith, counted)) ([], (take 4096 program, (first_section format program fits long, append-nil front)))
           (λ next more behind g e. omega (arith, g.1.0.few, ap length g.1.1, length-append front (next ∷ more), length-map g.0 instruction_text, counted))
           (λ e g. some_bytes (drop 4096 program) rest (omega (arith, length-drop 4096 program, long)) e),
       record {
@@ -101,9 +102,9 @@ too_long text rest program fits long is =
       },
     )
 
-pub section_refused : (text : List ℕ) (fault : ProgramFault) → IsSectionFault 1 text fault → IsProgramFault text fault
-section_refused text (BadLine k) h = absurd h
-section_refused text (TooLong k) (at, many) =
-    subst (IsTooLong ProgramLines text) (sym at) (too_long text many.rest many.program many.each_fits many.long many.text)
-section_refused text (SkipPastEnd k) h = absurd h
-section_refused text OutOfMemory h = tt
+pub section_refused : (format : Format) (text : List ℕ) (fault : ProgramFault) → IsSectionFault format 1 text fault → IsProgramFault format text fault
+section_refused format text (BadLine k) h = absurd h
+section_refused format text (TooLong k) (at, many) =
+    subst (IsTooLong (ProgramLines format) text) (sym at) (too_long format text many.rest many.program many.each_fits many.long many.text)
+section_refused format text (SkipPastEnd k) h = absurd h
+section_refused format text OutOfMemory h = tt

@@ -5,7 +5,7 @@ use Rattle.std.proofs.Common.{sym, ◌∙◌, ap, arith, inl, inr}
 use Rattle.std.proofs.lemmas.Option.{slice_get_past, slice_get_within, slice_get_cases}
 use Rattle.mem_op.specs.declared.id.Op.{Op}
 use Rattle.core_program.specs.declared.instruction.Instruction.{Instruction}
-use Rattle.core_program.specs.declared.instruction.Instruction.TheVariants.{Load, Store, StoreRegister, Add, SkipIfZero}
+use Rattle.core_program.specs.declared.instruction.Instruction.TheVariants.{Load, Store, StoreRegister, Add, SkipIfZero, Swap}
 use Rattle.core_program.specs.State.{State, reg}
 use Rattle.core_program.specs.Shape.{IsProgram, skips_past, touches_memory}
 use Rattle.core_program.specs.Running.{issued, after, next_op, IsAtRest, rest_within, at_rest}
@@ -16,6 +16,7 @@ leads_on (Load to addr) x s = omega arith
 leads_on (Store addr value) x s = omega arith
 leads_on (StoreRegister addr from) x s = omega arith
 leads_on (Add to from value) x s = omega arith
+leads_on (Swap to addr value) x s = omega arith
 leads_on (SkipIfZero tested skip) x s = go (reg s tested == 0)
   where
     go : (b : Bool) → s.position + 1 ≤ s.position + (if b then 1 + skip else 1)
@@ -31,6 +32,7 @@ leads_inside p (Load to addr) x s h e = let inside : s.position < length p = sli
 leads_inside p (Store addr value) x s h e = let inside : s.position < length p = slice_get_within p s.position _ e in omega arith
 leads_inside p (StoreRegister addr from) x s h e = let inside : s.position < length p = slice_get_within p s.position _ e in omega arith
 leads_inside p (Add to from value) x s h e = let inside : s.position < length p = slice_get_within p s.position _ e in omega arith
+leads_inside p (Swap to addr value) x s h e = let inside : s.position < length p = slice_get_within p s.position _ e in omega arith
 leads_inside p (SkipIfZero tested skip) x s h e =
     let inside : s.position < length p = slice_get_within p s.position _ e in
     let far : skips_past (length p) s.position (SkipIfZero tested skip) ≡ false = sym (ap (λ o. option_map_or (skips_past (length p) s.position) o false) e) ∙ h.inside s.position in
@@ -123,6 +125,7 @@ silent (Store addr value) s h = cc
 silent (StoreRegister addr from) s h = cc
 silent (Add to from value) s h = refl
 silent (SkipIfZero tested skip) s h = refl
+silent (Swap to addr value) s h = cc
 
 -- where the program has ended, the core rests
 pub ended-rests : (p : List Instruction) (s : State) → s.position ≤ length p → None ≡ slice_get p s.position → IsAtRest p s

@@ -2,12 +2,12 @@
 use Rattle.std.specs.Prelude.{◌≡◌, ◌+◌, ◌≤◌, Bool, true, false, ◌==◌, if◌then◌else◌, List, [], ◌∷◌, ◌++◌, length, Some, None, IsSome, option_and_then, slice_get, refl}
 use Rattle.std.proofs.Common.{◌∙◌, ap, subst, arith, length-append}
 use Rattle.std.proofs.lemmas.Bool.{eq-eqb, ne_eqb}
-use Rattle.mem_op.specs.Consistency.{Operation, Loaded, Stored, word_answered}
+use Rattle.mem_op.specs.Consistency.{Operation, Loaded, Stored, Swapped, word_answered}
 use Rattle.core_program.specs.declared.instruction.Instruction.{Instruction}
-use Rattle.core_program.specs.declared.instruction.Instruction.TheVariants.{Load, Store, StoreRegister, Add, SkipIfZero}
+use Rattle.core_program.specs.declared.instruction.Instruction.TheVariants.{Load, Store, StoreRegister, Add, SkipIfZero, Swap}
 use Rattle.core_program.specs.State.{State, start, reg, further}
 use Rattle.core_program.specs.Shape.{IsProgram}
-use Rattle.core_program.specs.Meaning.{Path, stays, loads, stores, stores_register, adds, skips, goes_on}
+use Rattle.core_program.specs.Meaning.{Path, stays, loads, stores, stores_register, swaps, adds, skips, goes_on}
 use Rattle.core_program.specs.Running.{op_of, is_issued, issued, after, next_op, IsAtRest, at_rest, answered, run_from, start_of, state_after}
 use Rattle.core_program.specs.Conforming.{Reaches}
 use Rattle.core_program.proofs.Rests.{at_rest-moves, at_rest-waits, at_rest-stays, at_rest-rests, leads_inside}
@@ -78,6 +78,7 @@ path-run p s t xs stays = refl
 path-run p s t xs (loads done v to addr value h e) = performs p s v done (Load to addr) (Loaded addr value) (path-run p s v done h) e refl
 path-run p s t xs (stores done v addr value h e) = performs p s v done (Store addr value) (Stored addr value) (path-run p s v done h) e refl
 path-run p s t xs (stores_register done v addr from h e) = performs p s v done (StoreRegister addr from) (Stored addr (reg v from)) (path-run p s v done h) e refl
+path-run p s t xs (swaps done v to addr value read h e) = performs p s v done (Swap to addr value) (Swapped addr read value) (path-run p s v done h) e refl
 path-run p s t xs (adds done v to from value h e) = moves p s v done (Add to from value) (path-run p s v done h) e refl
 path-run p s t xs (skips done v tested skip h e is_zero) =
     let lead : after (SkipIfZero tested skip) 0 v ≡ further (1 + skip) v = ap (λ b. further (if b then 1 + skip else 1) v) (eq-eqb (reg v tested) 0 is_zero) in
@@ -127,6 +128,7 @@ path-length p s t xs stays = omega arith
 path-length p s t xs (loads done v to addr value h e) = omega (arith, path-length p s v done h, snoc_length done (Loaded addr value))
 path-length p s t xs (stores done v addr value h e) = omega (arith, path-length p s v done h, snoc_length done (Stored addr value))
 path-length p s t xs (stores_register done v addr from h e) = omega (arith, path-length p s v done h, snoc_length done (Stored addr (reg v from)))
+path-length p s t xs (swaps done v to addr value read h e) = omega (arith, path-length p s v done h, snoc_length done (Swapped addr read value))
 path-length p s t xs (adds done v to from value h e) = omega (arith, path-length p s v done h)
 path-length p s t xs (skips done v tested skip h e is_zero) = omega (arith, path-length p s v done h)
 path-length p s t xs (goes_on done v tested skip h e other) = omega (arith, path-length p s v done h)
@@ -137,6 +139,7 @@ path-within p s t xs program within stays = within
 path-within p s t xs program within (loads done v to addr value h e) = leads_inside p (Load to addr) value v program e
 path-within p s t xs program within (stores done v addr value h e) = leads_inside p (Store addr value) 0 v program e
 path-within p s t xs program within (stores_register done v addr from h e) = leads_inside p (StoreRegister addr from) 0 v program e
+path-within p s t xs program within (swaps done v to addr value read h e) = leads_inside p (Swap to addr value) read v program e
 path-within p s t xs program within (adds done v to from value h e) = leads_inside p (Add to from value) 0 v program e
 path-within p s t xs program within (skips done v tested skip h e is_zero) =
     let lead : (reg v tested == 0) ≡ true = eq-eqb (reg v tested) 0 is_zero in

@@ -1,8 +1,9 @@
 -- Texts that have sections after their first line, and the first line that is wrong in the sections.
-use Rattle.std.proofs.Common.{◌≡◌, ℕ, ◌+◌, ◌<◌, ◌≤◌, List, [], ◌∷◌, ◌++◌, length, take, drop, zero-add, refl, sym, ap, subst, ◌∙◌, arith, append_assoc, length-append}
+use Rattle.std.proofs.Common.{◌≡◌, ℕ, ◌+◌, ◌<◌, ◌≤◌, List, [], ◌∷◌, ◌++◌, length, take, drop, zero-add, sym, ap, subst, ◌∙◌, arith, append_assoc, length-append}
 use Rattle.std.specs.List.{AllByRecursion}
 use Rattle.std.proofs.lemmas.List.{length-map, length-drop, length-take-le}
 use Rattle.decimal_text.proofs.Lines.{NoLf}
+use Rattle.core_program.specs.declared.format.Format.{Format}
 use Rattle.core_program.specs.declared.instruction.Instruction.{Instruction}
 use Rattle.core_program.specs.Grammar.{instruction_text, core_text, program_lines, sections, EachFits, IsSection}
 use Rattle.core_program.specs.Lines.{text_of, BeginsText, IsFirstWrong}
@@ -14,43 +15,43 @@ use Rattle.core_program.proofs.TextLines.{text_of-append, text_of-cons, line_onc
 use Rattle.core_program.proofs.Wrong.{HasLines, CanGoOn, NoneFollows, begins, wrong_behind}
 
 -- texts of a grammar that have this first line, then sections of so many cores, and then a last part
-pub record HasSections (Grammar : List (List ℕ) → Type 0) (Section : List Instruction → Type 0) (Last : List ℕ → List (List ℕ) → Type 0) (header : List ℕ) (cores : ℕ) : Type 0 where
+pub record HasSections (format : Format) (Grammar : List (List ℕ) → Type 0) (Section : List Instruction → Type 0) (Last : List ℕ → List (List ℕ) → Type 0) (header : List ℕ) (cores : ℕ) : Type 0 where
   pub lines : HasLines Grammar
-  pub fits : (p : List Instruction) → Section p → EachFits p
+  pub fits : (p : List Instruction) → Section p → EachFits format p
   pub can : (programs : List (List Instruction)) → length programs ≤ cores → AllByRecursion Section programs → CanGoOn Grammar (begun header programs)
-  pub next : (programs : List (List Instruction)) (next : List ℕ) (more : List (List ℕ)) → AllByRecursion EachFits programs
-      → Grammar (begun header programs ++ next ∷ more) → Next Section Last cores 0 programs next more
+  pub next : (programs : List (List Instruction)) (next : List ℕ) (more : List (List ℕ)) → AllByRecursion (EachFits format) programs
+      → Grammar (begun header programs ++ next ∷ more) → Next format Section Last cores 0 programs next more
   pub unended : (programs : List (List Instruction)) → Grammar (begun header programs) → ⊥
   pub last_no_lf : (next : List ℕ) (more : List (List ℕ)) → Last next more → NoLf next
   pub last_other : (next : List ℕ) (more : List (List ℕ)) → Last next more → (i : Instruction) → instruction_text i ≡ next → ⊥
 
 -- the sections of these programs were read, and this line is the next
-pub record AfterSections (header : List ℕ) (cores : ℕ) (text : List ℕ) (programs : List (List Instruction)) (rest : List ℕ) (line : ℕ) : Type 0 where
+pub record AfterSections (format : Format) (header : List ℕ) (cores : ℕ) (text : List ℕ) (programs : List (List Instruction)) (rest : List ℕ) (line : ℕ) : Type 0 where
   pub within : length programs ≤ cores
-  pub each : AllByRecursion IsSection programs
+  pub each : AllByRecursion (IsSection format) programs
   pub text_is : text ≡ text_of (begun header programs) ++ rest
   pub line_is : line ≡ length (sections 0 programs) + 2
-  pub all : 0 < length programs → NoInstructionInFront rest
+  pub all : 0 < length programs → NoInstructionInFront format rest
 
 -- neither the line of the next core, where there is one, nor the last part, where there is none, begins the rest
 pub record NotNext (Last : List ℕ → List (List ℕ) → Type 0) (cores : ℕ) (programs : List (List Instruction)) (rest : List ℕ) : Type 0 where
   pub no_core : length programs < cores → (behind : List ℕ) → rest ≡ core_text (length programs) ++ 10 ∷ behind → ⊥
   pub no_last : length programs ≡ cores → (next : List ℕ) (more : List (List ℕ)) (behind : List ℕ) → Last next more → rest ≡ next ++ 10 ∷ behind → ⊥
 
-pub each_fits_of : (programs : List (List Instruction)) → AllByRecursion IsSection programs → AllByRecursion EachFits programs
-each_fits_of [] each = tt
-each_fits_of (program ∷ programs) each = (each.0.each_fits, each_fits_of programs each.1)
+pub each_fits_of : (format : Format) (programs : List (List Instruction)) → AllByRecursion (IsSection format) programs → AllByRecursion (EachFits format) programs
+each_fits_of format [] each = tt
+each_fits_of format (program ∷ programs) each = (each.0.each_fits, each_fits_of format programs each.1)
 
 -- ---- a line that is wrong
 
-pub line_wrong : (Grammar : List (List ℕ) → Type 0) (Section : List Instruction → Type 0) (Last : List ℕ → List (List ℕ) → Type 0) (header : List ℕ) (cores : ℕ)
-    → HasSections Grammar Section Last header cores → (text rest : List ℕ) (line : ℕ) (programs : List (List Instruction)) → AllByRecursion Section programs
-    → AfterSections header cores text programs rest line → NotNext Last cores programs rest → IsFirstWrong Grammar text line
-line_wrong Grammar Section Last header cores has text rest line programs each stands others =
+pub line_wrong : (format : Format) (Grammar : List (List ℕ) → Type 0) (Section : List Instruction → Type 0) (Last : List ℕ → List (List ℕ) → Type 0) (header : List ℕ) (cores : ℕ)
+    → HasSections format Grammar Section Last header cores → (text rest : List ℕ) (line : ℕ) (programs : List (List Instruction)) → AllByRecursion Section programs
+    → AfterSections format header cores text programs rest line → NotNext Last cores programs rest → IsFirstWrong Grammar text line
+line_wrong format Grammar Section Last header cores has text rest line programs each stands others =
     wrong_behind Grammar (begun header programs) text rest line has.lines stands.text_is (omega (arith, stands.line_is))
     (has.can programs stands.within each) follows (λ e g. has.unended programs g)
   where
-    by_next : (next : List ℕ) (more : List (List ℕ)) (behind : List ℕ) → rest ≡ next ++ 10 ∷ behind → Next Section Last cores 0 programs next more → ⊥
+    by_next : (next : List ℕ) (more : List (List ℕ)) (behind : List ℕ) → rest ≡ next ++ 10 ∷ behind → Next format Section Last cores 0 programs next more → ⊥
     by_next next more behind is (goes_on i before last longer fit next-is at section less) =
         stands.all (omega (arith, ap length at, length-append before (last ∷ []))) i behind
         (fit, is ∙ ap (λ (l : List ℕ). l ++ 10 ∷ behind) next-is)
@@ -61,7 +62,7 @@ line_wrong Grammar Section Last header cores has text rest line programs each st
 
     follows : NoneFollows Grammar (begun header programs) rest
     follows next more behind g is =
-        by_next next more behind is (has.next programs next more (each_fits_of programs stands.each) g)
+        by_next next more behind is (has.next programs next more (each_fits_of format programs stands.each) g)
 
 -- ---- one more section
 
@@ -91,10 +92,10 @@ length-begun programs program =
     let pushed : length (begun [] (programs ++ program ∷ [])) ≡ length (begun [] programs ++ core_text (length programs) ∷ program_lines program) = ap length (begun_push [] programs program) in
     omega (arith, pushed, length-append (begun [] programs) (core_text (length programs) ∷ program_lines program), length-map program instruction_text)
 
-pub each_push : (programs : List (List Instruction)) (program : List Instruction) → AllByRecursion IsSection programs → IsSection program
-    → AllByRecursion IsSection (programs ++ program ∷ [])
-each_push [] program each section = (section, tt)
-each_push (p ∷ programs) program each section = (each.0, each_push programs program each.1 section)
+pub each_push : (format : Format) (programs : List (List Instruction)) (program : List Instruction) → AllByRecursion (IsSection format) programs → IsSection format program
+    → AllByRecursion (IsSection format) (programs ++ program ∷ [])
+each_push format [] program each section = (section, tt)
+each_push format (p ∷ programs) program each section = (each.0, each_push format programs program each.1 section)
 
 -- ---- a section that is too long
 
@@ -113,21 +114,21 @@ first_instruction (i ∷ program) rest line behind some other none e =
     (line_once (instruction_text i) line (text_of (program_lines program) ++ rest) behind (instruction_no_lf i) none
     (sym (text_of-cons (instruction_text i) (program_lines program) rest) ∙ e)).0
 
-fits_push : (programs : List (List Instruction)) (program : List Instruction) → AllByRecursion EachFits programs → EachFits program → AllByRecursion EachFits (programs ++ program ∷ [])
-fits_push [] program each fits = (fits, tt)
-fits_push (p ∷ programs) program each fits = (each.0, fits_push programs program each.1 fits)
+fits_push : (format : Format) (programs : List (List Instruction)) (program : List Instruction) → AllByRecursion (EachFits format) programs → EachFits format program → AllByRecursion (EachFits format) (programs ++ program ∷ [])
+fits_push format [] program each fits = (fits, tt)
+fits_push format (p ∷ programs) program each fits = (each.0, fits_push format programs program each.1 fits)
 
-module _ (Last : List ℕ → List (List ℕ) → Type 0) (header : List ℕ) (cores : ℕ) (text rest behind : List ℕ) (line k : ℕ) (programs : List (List Instruction)) (program : List Instruction)
-    (stands : AfterSections header cores text programs rest line) (is : FromSection rest program (length programs) behind) (more : length programs < cores)
-    (fits : EachFits program) (long : length program ≡ 4097) (k-is : k ≡ line + 1 + 4096) where
+module _ (format : Format) (Last : List ℕ → List (List ℕ) → Type 0) (header : List ℕ) (cores : ℕ) (text rest behind : List ℕ) (line k : ℕ) (programs : List (List Instruction)) (program : List Instruction)
+    (stands : AfterSections format header cores text programs rest line) (is : FromSection rest program (length programs) behind) (more : length programs < cores)
+    (fits : EachFits format program) (long : length program ≡ 4097) (k-is : k ≡ line + 1 + 4096) where
   abbrev front : List Instruction
   front = take 4096 program
 
   abbrev back : List ℕ
   back = text_of (program_lines (drop 4096 program)) ++ behind
 
-  section : IsSection front
-  section = first_section program fits long
+  section : IsSection format front
+  section = first_section format program fits long
 
   counted : length front ≡ 4096
   counted = length-take-le 4096 program (omega (arith, long))
@@ -139,14 +140,14 @@ module _ (Last : List ℕ → List (List ℕ) → Type 0) (header : List ℕ) (c
   some-left = omega (arith, length-drop 4096 program, long)
 
   -- with sections of a limited length no line follows
-  pub too_long_wrong : (Grammar : List (List ℕ) → Type 0) → HasSections Grammar IsSection Last header cores → IsFirstWrong Grammar text k
+  pub too_long_wrong : (Grammar : List (List ℕ) → Type 0) → HasSections format Grammar (IsSection format) Last header cores → IsFirstWrong Grammar text k
   too_long_wrong Grammar has =
       wrong_behind Grammar (begun header (programs ++ front ∷ [])) text back k has.lines
       (with_section header text rest back programs front stands.text_is cut) (omega (arith, length-begun programs front, counted, stands.line_is, k-is))
-      (has.can (programs ++ front ∷ []) (omega (arith, more, length-append programs (front ∷ []))) (each_push programs front stands.each section))
+      (has.can (programs ++ front ∷ []) (omega (arith, more, length-append programs (front ∷ []))) (each_push format programs front stands.each section))
       follows (λ e g. some_bytes (drop 4096 program) behind (omega (arith, length-drop 4096 program, long)) e)
     where
-      by_next : (next : List ℕ) (others : List (List ℕ)) (after : List ℕ) → back ≡ next ++ 10 ∷ after → Next IsSection Last cores 0 (programs ++ front ∷ []) next others → ⊥
+      by_next : (next : List ℕ) (others : List (List ℕ)) (after : List ℕ) → back ≡ next ++ 10 ∷ after → Next format (IsSection format) Last cores 0 (programs ++ front ∷ []) next others → ⊥
       by_next next others after there (goes_on i before last longer fit next-is at longer-section less) =
           omega (arith, ap length (last_is before programs last front at), counted, longer-section.few, less)
       by_next next others after there (next_core next-is less) =
@@ -159,12 +160,12 @@ module _ (Last : List ℕ → List (List ℕ) → Type 0) (header : List ℕ) (c
       follows : NoneFollows Grammar (begun header (programs ++ front ∷ [])) back
       follows next others after g there =
           by_next next others after there
-          (has.next (programs ++ front ∷ []) next others (each_fits_of (programs ++ front ∷ []) (each_push programs front stands.each section)) g)
+          (has.next (programs ++ front ∷ []) next others (each_fits_of format (programs ++ front ∷ []) (each_push format programs front stands.each section)) g)
 
   -- with sections of any length it is right
-  pub too_long_right : (Grammar : List (List ℕ) → Type 0) → HasSections Grammar EachFits Last header cores → BeginsText Grammar text k
+  pub too_long_right : (Grammar : List (List ℕ) → Type 0) → HasSections format Grammar (EachFits format) Last header cores → BeginsText Grammar text k
   too_long_right Grammar has =
       subst (BeginsText Grammar text) (omega (arith, length-begun programs program, stands.line_is, k-is, long))
       (begins Grammar (begun header (programs ++ program ∷ [])) text behind (with_section header text rest behind programs program stands.text_is is)
       (has.can (programs ++ program ∷ []) (omega (arith, more, length-append programs (program ∷ [])))
-      (fits_push programs program (each_fits_of programs stands.each) fits)))
+      (fits_push format programs program (each_fits_of format programs stands.each) fits)))

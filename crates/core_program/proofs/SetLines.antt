@@ -4,17 +4,18 @@ use Rattle.std.specs.Prelude.{codes, replicate}
 use Rattle.std.specs.List.{AllByRecursion}
 use Rattle.std.proofs.lemmas.List.{append_cancel_left, length-replicate}
 use Rattle.decimal_text.specs.Numbers.{numeral}
-use Rattle.decimal_text.specs.Reading.{last_number}
 use Rattle.decimal_text.proofs.Lines.{NoLf, NoLf-append, numeral_no_lf, const_no_lf}
-use Rattle.decimal_text.proofs.Reading.{some_is, last_again}
 use Rattle.core_program.specs.declared.instruction.Instruction.{Instruction}
-use Rattle.core_program.specs.declared.instruction.Instruction.TheVariants.{Load, Store, StoreRegister, Add, SkipIfZero}
+use Rattle.core_program.specs.declared.instruction.Instruction.TheVariants.{Load, Store, StoreRegister, Add, SkipIfZero, Swap}
+use Rattle.core_program.specs.declared.format.Format.{Format}
 use Rattle.core_program.specs.Answers.{SetLines}
-use Rattle.core_program.specs.Grammar.{instruction_text, header_text, core_text, end_text, program_lines, sections, set_lines, Fits, EachFits}
+use Rattle.core_program.specs.Grammar.{instruction_text, header_text, core_text, end_text, format_number, program_lines, sections, set_lines, FitsIn, EachFits}
+use Rattle.core_program.specs.SetParts.{SetParts}
+use Rattle.core_program.proofs.Headers.{header_once}
 use Rattle.core_program.proofs.Instructions.{instruction_once}
 use Rattle.core_program.proofs.ProgramTexts.{program_lines_no_lf}
 use Rattle.core_program.proofs.TextLines.{EachNoLf}
-use Rattle.core_program.proofs.Wrong.{HasLines, CanGoOn}
+use Rattle.core_program.proofs.Wrong.{HasLines}
 
 -- ---- no line feed
 
@@ -38,13 +39,13 @@ sections_no_lf core [] = tt
 sections_no_lf core (program ∷ programs) =
     (core_no_lf core, EachNoLf-append (program_lines program) (sections (suc core) programs) (program_lines_no_lf program) (sections_no_lf (suc core) programs))
 
-pub set_no_lf : (set : List (List Instruction)) → EachNoLf (set_lines set)
+pub set_no_lf : (set : SetParts) → EachNoLf (set_lines set)
 set_no_lf set = (
-  header_no_lf 1 (length set),
-  EachNoLf-append (sections 0 set) (end_text ∷ []) (sections_no_lf 0 set) (const_no_lf end_text refl, tt),
+  header_no_lf (format_number set.format) (length set.programs),
+  EachNoLf-append (sections 0 set.programs) (end_text ∷ []) (sections_no_lf 0 set.programs) (const_no_lf end_text refl, tt),
 )
 
-pub has_lines : (Section : List Instruction → Type 0) → HasLines (SetLines Section)
+pub has_lines : (Section : Format → List Instruction → Type 0) → HasLines (SetLines Section)
 has_lines Section lines g = subst EachNoLf (sym g.1.1) (set_no_lf g.0)
 
 -- ---- lines of different kinds
@@ -62,6 +63,7 @@ instruction_first (Store addr value) = (λ e. omega (arith, e), λ e. omega (ari
 instruction_first (StoreRegister addr from) = (λ e. omega (arith, e), λ e. omega (arith, e))
 instruction_first (Add to from value) = (λ e. omega (arith, e), λ e. omega (arith, e))
 instruction_first (SkipIfZero tested skip) = (λ e. omega (arith, e), λ e. omega (arith, e))
+instruction_first (Swap to addr value) = (λ e. omega (arith, e), λ e. omega (arith, e))
 
 core_first : (core : ℕ) → first_of (core_text core) ≡ 99
 unfolding core_text
@@ -76,17 +78,6 @@ instruction_no_end i e = (instruction_first i).1 (ap first_of e)
 pub core_no_end : (core : ℕ) → core_text core ≡ end_text → ⊥
 core_no_end core e = omega (arith, ap first_of e, core_first core)
 
-pub numeral_once : (m n : ℕ) → numeral m ≡ numeral n → m ≡ n
-numeral_once m n e = some_is m n (sym (last_again m) ∙ ap last_number e ∙ last_again n)
-
-pub header_once : (m n : ℕ) → header_text 1 m ≡ header_text 1 n → m ≡ n
-unfolding header_text
-header_once m n e =
-    numeral_once m n
-    (append_cancel_left (codes " cores ") (numeral m) (numeral n)
-    (append_cancel_left (numeral 1) (codes " cores " ++ numeral m) (codes " cores " ++ numeral n)
-    (append_cancel_left (codes "tardis-programs ") (numeral 1 ++ (codes " cores " ++ numeral m)) (numeral 1 ++ (codes " cores " ++ numeral n)) e)))
-
 -- ---- what may come after sections
 
 pub sections-append : (core : ℕ) (front back : List (List Instruction)) → sections core (front ++ back) ≡ sections core front ++ sections (core + length front) back
@@ -98,37 +89,38 @@ sections-append core (program ∷ front) back =
     (sym (append_assoc (program_lines program) (sections (suc core) front) (sections (core + suc (length front)) back)))
 
 -- what two programs have in common at their fronts: they are one, or one goes on where the other ends
-pub data Compared (p q : List Instruction) (xs ys : List (List ℕ)) : Type 0 where
-  equal : p ≡ q → xs ≡ ys → Compared p q xs ys
-  first_longer : (i : Instruction) (more : List (List ℕ)) → Fits i → length q < length p → ys ≡ instruction_text i ∷ more → Compared p q xs ys
-  second_longer : (i : Instruction) (more : List (List ℕ)) → length p < length q → xs ≡ instruction_text i ∷ more → Compared p q xs ys
+pub data Compared (format : Format) (p q : List Instruction) (xs ys : List (List ℕ)) : Type 0 where
+  equal : p ≡ q → xs ≡ ys → Compared format p q xs ys
+  first_longer : (i : Instruction) (more : List (List ℕ)) → FitsIn format i → length q < length p → ys ≡ instruction_text i ∷ more → Compared format p q xs ys
+  second_longer : (i : Instruction) (more : List (List ℕ)) → length p < length q → xs ≡ instruction_text i ∷ more → Compared format p q xs ys
 
-pub compared : (p q : List Instruction) (xs ys : List (List ℕ)) → EachFits p → EachFits q → program_lines p ++ xs ≡ program_lines q ++ ys → Compared p q xs ys
-compared [] [] xs ys f g e = equal refl e
-compared [] (j ∷ q) xs ys f g e = second_longer j (program_lines q ++ ys) (omega arith) e
-compared (i ∷ p) [] xs ys f g e = first_longer i (program_lines p ++ xs) f.0 (omega arith) (sym e)
-compared (i ∷ p) (j ∷ q) xs ys f g e = elim (compared p q xs ys f.1 g.1 cc) [
-  | equal p-is xs-is ↦ (let first : i ≡ j = instruction_once i j f.0 g.0 cc in equal (cc) xs-is)
+pub compared : (format : Format) (p q : List Instruction) (xs ys : List (List ℕ)) → EachFits format p → EachFits format q → program_lines p ++ xs ≡ program_lines q ++ ys
+    → Compared format p q xs ys
+compared format [] [] xs ys f g e = equal refl e
+compared format [] (j ∷ q) xs ys f g e = second_longer j (program_lines q ++ ys) (omega arith) e
+compared format (i ∷ p) [] xs ys f g e = first_longer i (program_lines p ++ xs) f.0 (omega arith) (sym e)
+compared format (i ∷ p) (j ∷ q) xs ys f g e = elim (compared format p q xs ys f.1 g.1 cc) [
+  | equal p-is xs-is ↦ (let first : i ≡ j = instruction_once i j f.0.numbers g.0.numbers cc in equal (cc) xs-is)
   | first_longer k more fits longer is ↦ first_longer k more fits (omega arith) is
   | second_longer k more longer is ↦ second_longer k more (omega arith) is
 ]
 
 -- What may come after the sections of these programs, where `count` sections come before a last part of a text: one more
 -- instruction of the last of them, the line of the next core, or the first line of the last part and what is behind it.
-pub data Next (Section : List Instruction → Type 0) (Last : List ℕ → List (List ℕ) → Type 0) (count core : ℕ) (programs : List (List Instruction)) (next : List ℕ) (more : List (List ℕ)) : Type 0 where
-  goes_on : (i : Instruction) (before : List (List Instruction)) (last longer : List Instruction) → Fits i → next ≡ instruction_text i
-      → programs ≡ before ++ last ∷ [] → Section longer → length last < length longer → Next Section Last count core programs next more
-  next_core : next ≡ core_text (core + length programs) → length programs < count → Next Section Last count core programs next more
-  last_line : Last next more → length programs ≡ count → Next Section Last count core programs next more
+pub data Next (format : Format) (Section : List Instruction → Type 0) (Last : List ℕ → List (List ℕ) → Type 0) (count core : ℕ) (programs : List (List Instruction)) (next : List ℕ) (more : List (List ℕ)) : Type 0 where
+  goes_on : (i : Instruction) (before : List (List Instruction)) (last longer : List Instruction) → FitsIn format i → next ≡ instruction_text i
+      → programs ≡ before ++ last ∷ [] → Section longer → length last < length longer → Next format Section Last count core programs next more
+  next_core : next ≡ core_text (core + length programs) → length programs < count → Next format Section Last count core programs next more
+  last_line : Last next more → length programs ≡ count → Next format Section Last count core programs next more
 
 -- after one more program
-next_behind : (Section : List Instruction → Type 0) (Last : List ℕ → List (List ℕ) → Type 0) (count core : ℕ) (program : List Instruction) (programs : List (List Instruction)) (next : List ℕ) (more : List (List ℕ))
-    → Next Section Last count (suc core) programs next more → Next Section Last (suc count) core (program ∷ programs) next more
-next_behind Section Last count core program programs next more (goes_on i before last longer fits is at section less) =
+next_behind : (format : Format) (Section : List Instruction → Type 0) (Last : List ℕ → List (List ℕ) → Type 0) (count core : ℕ) (program : List Instruction) (programs : List (List Instruction)) (next : List ℕ) (more : List (List ℕ))
+    → Next format Section Last count (suc core) programs next more → Next format Section Last (suc count) core (program ∷ programs) next more
+next_behind format Section Last count core program programs next more (goes_on i before last longer fits is at section less) =
     goes_on i (program ∷ before) last longer fits is (ap (λ (ps : List (List Instruction)). program ∷ ps) at) section less
-next_behind Section Last count core program programs next more (next_core is less) =
+next_behind format Section Last count core program programs next more (next_core is less) =
     next_core (is ∙ ap core_text (omega arith)) (omega arith)
-next_behind Section Last count core program programs next more (last_line is count-is) = last_line is (omega arith)
+next_behind format Section Last count core program programs next more (last_line is count-is) = last_line is (omega arith)
 
 -- a line that is neither an instruction's nor a core's
 pub record IsOther (line : List ℕ) : Type 0 where
@@ -138,22 +130,22 @@ pub record IsOther (line : List ℕ) : Type 0 where
 pub end_is_other : IsOther end_text
 end_is_other = record { no_instruction = instruction_no_end; no_core = core_no_end }
 
-pub next_of : (Section : List Instruction → Type 0) → ((p : List Instruction) → Section p → EachFits p) → (Last : List ℕ → List (List ℕ) → Type 0)
+pub next_of : (format : Format) (Section : List Instruction → Type 0) → ((p : List Instruction) → Section p → EachFits format p) → (Last : List ℕ → List (List ℕ) → Type 0)
     → (line : List ℕ) (others : List (List ℕ)) → IsOther line → Last line others → (core : ℕ)
     → (set programs : List (List Instruction)) (next : List ℕ) (more : List (List ℕ)) → AllByRecursion Section set
-    → AllByRecursion EachFits programs → sections core set ++ line ∷ others ≡ sections core programs ++ next ∷ more
-    → Next Section Last (length set) core programs next more
-next_of Section fits Last line others other is core [] [] next more all each e =
+    → AllByRecursion (EachFits format) programs → sections core set ++ line ∷ others ≡ sections core programs ++ next ∷ more
+    → Next format Section Last (length set) core programs next more
+next_of format Section fits Last line others other is core [] [] next more all each e =
     let line-is : line ≡ next = cc in
     let others-is : others ≡ more = cc in
     last_line (subst (λ (l : List ℕ). Last l more) line-is (subst (λ (ls : List (List ℕ)). Last line ls) others-is is)) refl
-next_of Section fits Last line others other is core (p ∷ set) [] next more all each e =
+next_of format Section fits Last line others other is core (p ∷ set) [] next more all each e =
     let here : core_text core ≡ next = cc in
     next_core (sym here ∙ ap core_text (omega arith)) (omega arith)
-next_of Section fits Last line others other is core [] (q ∷ programs) next more all each e = absurd (other.no_core core cc)
-next_of Section fits Last line others other is core (p ∷ set) (q ∷ programs) next more all each e =
-    by_compared (compared p q (sections (suc core) set ++ line ∷ others) (sections (suc core) programs ++ next ∷ more) (fits p all.0) each.0 tails)
-    (λ rest-is. next_behind Section Last (length set) core q programs next more (next_of Section fits Last line others other is (suc core) set programs next more all.1 each.1 rest-is))
+next_of format Section fits Last line others other is core [] (q ∷ programs) next more all each e = absurd (other.no_core core cc)
+next_of format Section fits Last line others other is core (p ∷ set) (q ∷ programs) next more all each e =
+    by_compared (compared format p q (sections (suc core) set ++ line ∷ others) (sections (suc core) programs ++ next ∷ more) (fits p all.0) each.0 tails)
+    (λ rest-is. next_behind format Section Last (length set) core q programs next more (next_of format Section fits Last line others other is (suc core) set programs next more all.1 each.1 rest-is))
   where
     tails : program_lines p ++ (sections (suc core) set ++ line ∷ others) ≡ program_lines q ++ (sections (suc core) programs ++ next ∷ more)
     tails =
@@ -162,8 +154,8 @@ next_of Section fits Last line others other is core (p ∷ set) (q ∷ programs)
         ∙ append_assoc (program_lines q) (sections (suc core) programs) (next ∷ more)
 
     -- the first line after the section of q
-    first_behind : (rest : List (List Instruction)) (i : Instruction) (lines : List (List ℕ)) → programs ≡ rest → Fits i → length q < length p
-        → sections (suc core) rest ++ next ∷ more ≡ instruction_text i ∷ lines → Next Section Last (suc (length set)) core (q ∷ programs) next more
+    first_behind : (rest : List (List Instruction)) (i : Instruction) (lines : List (List ℕ)) → programs ≡ rest → FitsIn format i → length q < length p
+        → sections (suc core) rest ++ next ∷ more ≡ instruction_text i ∷ lines → Next format Section Last (suc (length set)) core (q ∷ programs) next more
     first_behind [] i lines none fit less is-i = goes_on i [] q p fit (cc) (ap (λ (ps : List (List Instruction)). q ∷ ps) none) all.0 less
     first_behind (r ∷ rest) i lines at fit less is-i = absurd (instruction_no_core i (suc core) cc)
 
@@ -172,9 +164,9 @@ next_of Section fits Last line others other is core (p ∷ set) (q ∷ programs)
     no_instruction [] i lines is-i = other.no_instruction i cc
     no_instruction (r ∷ rest) i lines is-i = instruction_no_core i (suc core) cc
 
-    by_compared : Compared p q (sections (suc core) set ++ line ∷ others) (sections (suc core) programs ++ next ∷ more)
-        → (sections (suc core) set ++ line ∷ others ≡ sections (suc core) programs ++ next ∷ more → Next Section Last (suc (length set)) core (q ∷ programs) next more)
-        → Next Section Last (suc (length set)) core (q ∷ programs) next more
+    by_compared : Compared format p q (sections (suc core) set ++ line ∷ others) (sections (suc core) programs ++ next ∷ more)
+        → (sections (suc core) set ++ line ∷ others ≡ sections (suc core) programs ++ next ∷ more → Next format Section Last (suc (length set)) core (q ∷ programs) next more)
+        → Next format Section Last (suc (length set)) core (q ∷ programs) next more
     by_compared (equal p-is rest-is) again = again rest-is
     by_compared (first_longer i lines fit less is-i) again = first_behind programs i lines refl fit less is-i
     by_compared (second_longer i lines less is-i) again = absurd (no_instruction set i lines is-i)
@@ -229,9 +221,11 @@ pub sections_no_other : (line : List ℕ) → IsOther line → (programs : List 
 sections_no_other line other programs front more e = is_among line front more (subst (NoneIs line) e (sections_have_none line other 0 programs))
 
 -- the lines after the header
-pub behind_header : (cores : ℕ) (set : List (List Instruction)) (lines : List (List ℕ)) → header_text 1 cores ∷ lines ≡ set_lines set
-    → (cores ≡ length set) × (lines ≡ sections 0 set ++ end_text ∷ [])
-behind_header cores set lines e = (header_once cores (length set) cc, cc)
+pub behind_header : (format : Format) (cores : ℕ) (set : SetParts) (lines : List (List ℕ)) → header_text (format_number format) cores ∷ lines ≡ set_lines set
+    → (format ≡ set.format) × (cores ≡ length set.programs) × (lines ≡ sections 0 set.programs ++ end_text ∷ [])
+behind_header format cores set lines e =
+    let once = header_once format set.format cores (length set.programs) cc in
+    (once.0, once.1, cc)
 
 -- the lines of one more section
 pub sections_push : (programs : List (List Instruction)) (program : List Instruction)

@@ -5,11 +5,14 @@ use Rattle.std.proofs.lemmas.List.{length-drop, map_push}
 use Rattle.std.proofs.Math.Seq.{take-length}
 use Rattle.std.specs.Global.{Vec}
 use Rattle.decimal_text.proofs.Lines.{NoLf, const_no_lf}
+use Rattle.core_program.specs.declared.format.Format.{Format}
+use Rattle.core_program.specs.declared.format.Format.TheVariants.{One}
 use Rattle.core_program.specs.declared.instruction.Instruction.{Instruction}
 use Rattle.core_program.specs.declared.fault.ProgramFault.{ProgramFault}
 use Rattle.core_program.specs.declared.fault.ProgramFault.TheVariants.{BadLine, TooLong, SkipPastEnd, OutOfMemory}
-use Rattle.core_program.specs.Answers.{SetLines, IsBadLine, IsTooLong, SpellsSet}
-use Rattle.core_program.specs.Grammar.{instruction_text, header_text, core_text, end_text, sections, set_lines, EachFits, IsSection, IsSetOf}
+use Rattle.core_program.specs.Answers.{SetLines, IsBadLine, SpellsSet}
+use Rattle.core_program.specs.Grammar.{format_number, header_text, core_text, end_text, sections, set_lines, EachFits, IsSection, IsSetOf}
+use Rattle.core_program.specs.SetParts.{SetParts}
 use Rattle.core_program.specs.Lines.{text_of, IsFirstWrong}
 use Rattle.core_program.specs.Sections.{SectionsInFront, IsSectionsFault, section_lists}
 use Rattle.core_program.specs.inner.Sections.{HeaderInFront, IsLineFault}
@@ -22,83 +25,93 @@ use Rattle.core_program.proofs.Wrong.{CanGoOn, NoneFollows, wrong_behind}
 abbrev pub IsLast : List ℕ → List (List ℕ) → Type 0
 IsLast next more = (next ≡ end_text) × (more ≡ [])
 
-empty_section : IsSection []
-empty_section = record { few = omega arith; each_fits = tt }
+empty_section : (format : Format) → IsSection format []
+empty_section format = record { few = omega arith; each_fits = tt }
 
 -- ---- the sections of a set
 
-begun_goes_on : (Section : List Instruction → Type 0) → Section [] → (cores : ℕ) (programs : List (List Instruction)) → 1 ≤ cores → cores ≤ 64
-    → length programs ≤ cores → AllByRecursion Section programs → CanGoOn (SetLines Section) (begun (header_text 1 cores) programs)
-begun_goes_on Section none cores programs some few within each =
-    let full = filled_up Section none cores programs within each in
+begun_goes_on : (format : Format) (Section : Format → List Instruction → Type 0) → Section format [] → (cores : ℕ) (programs : List (List Instruction)) → 1 ≤ cores → cores ≤ 64
+    → length programs ≤ cores → AllByRecursion (Section format) programs → CanGoOn (SetLines Section) (begun (header_text (format_number format) cores) programs)
+begun_goes_on format Section none cores programs some few within each =
+    let full = filled_up (Section format) none cores programs within each in
     let set = programs ++ full.0 in
     let more = sections (0 + length programs) full.0 ++ end_text ∷ [] in (
       more,
       (
-        set,
+        record { format = format; programs = set },
         (
           record { some = omega (arith, some, full.1); few = omega (arith, few, full.1); each = full.2 },
-          ap (λ (ls : List (List ℕ)). header_text 1 cores ∷ ls)
+          ap (λ (ls : List (List ℕ)). header_text (format_number format) cores ∷ ls)
               (sym (append_assoc (sections 0 programs) (sections (0 + length programs) full.0) (end_text ∷ []))
               ∙ ap (λ (ls : List (List ℕ)). ls ++ end_text ∷ []) (sym (sections-append 0 programs full.0)))
-              ∙ ap (λ (n : ℕ). header_text 1 n ∷ (sections 0 set ++ end_text ∷ [])) (sym full.1),
+              ∙ ap (λ (n : ℕ). header_text (format_number format) n ∷ (sections 0 set ++ end_text ∷ [])) (sym full.1),
         ),
       ),
     )
 
-next_of_begun : (Section : List Instruction → Type 0) → ((p : List Instruction) → Section p → EachFits p) → (cores : ℕ)
-    (programs : List (List Instruction)) (next : List ℕ) (more : List (List ℕ)) → AllByRecursion EachFits programs
-    → SetLines Section (begun (header_text 1 cores) programs ++ next ∷ more) → Next Section IsLast cores 0 programs next more
-next_of_begun Section fits cores programs next more each (set, p) =
-    let b = behind_header cores set (sections 0 programs ++ next ∷ more) p.1 in
-    subst (λ (n : ℕ). Next Section IsLast n 0 programs next more) (sym b.0)
-    (next_of Section fits IsLast end_text [] end_is_other (refl, refl) 0 set programs next more p.0.each each (sym b.1))
+next_of_begun : (format : Format) (Section : Format → List Instruction → Type 0) → ((p : List Instruction) → Section format p → EachFits format p) → (cores : ℕ)
+    (programs : List (List Instruction)) (next : List ℕ) (more : List (List ℕ)) → AllByRecursion (EachFits format) programs
+    → SetLines Section (begun (header_text (format_number format) cores) programs ++ next ∷ more) → Next format (Section format) IsLast cores 0 programs next more
+next_of_begun format Section fits cores programs next more each (set, p) =
+    let b = behind_header format cores set (sections 0 programs ++ next ∷ more) p.1 in
+    let all : AllByRecursion (Section format) set.programs = subst (λ (f : Format). AllByRecursion (Section f) set.programs) (sym b.0) p.0.each in
+    subst (λ (n : ℕ). Next format (Section format) IsLast n 0 programs next more) (sym b.1)
+    (next_of format (Section format) fits IsLast end_text [] end_is_other (refl, refl) 0 set.programs programs next more all each (sym b.2))
 
 -- lines that begin a set aren't the lines of a whole one
-begun_no_set : (Section : List Instruction → Type 0) (cores : ℕ) (programs : List (List Instruction)) → SetLines Section (begun (header_text 1 cores) programs) → ⊥
-begun_no_set Section cores programs (set, p) = sections_no_other end_text end_is_other programs (sections 0 set) [] (behind_header cores set (sections 0 programs) p.1).1
+begun_no_set : (format : Format) (Section : Format → List Instruction → Type 0) (cores : ℕ) (programs : List (List Instruction))
+    → SetLines Section (begun (header_text (format_number format) cores) programs) → ⊥
+begun_no_set format Section cores programs (set, p) =
+    sections_no_other end_text end_is_other programs (sections 0 set.programs) [] (behind_header format cores set (sections 0 programs) p.1).2
 
--- a set of so many cores is a text with sections
-pub set_has : (Section : List Instruction → Type 0) → Section [] → ((p : List Instruction) → Section p → EachFits p) → (cores : ℕ) → 1 ≤ cores → cores ≤ 64
-    → HasSections (SetLines Section) Section IsLast (header_text 1 cores) cores
-set_has Section empty fit cores some few = record {
+-- a set of this format and so many cores is a text with sections
+pub set_has : (format : Format) (Section : Format → List Instruction → Type 0) → Section format [] → ((p : List Instruction) → Section format p → EachFits format p)
+    → (cores : ℕ) → 1 ≤ cores → cores ≤ 64
+    → HasSections format (SetLines Section) (Section format) IsLast (header_text (format_number format) cores) cores
+set_has format Section empty fit cores some few = record {
   lines = has_lines Section;
   fits = fit;
-  can = λ programs within each. begun_goes_on Section empty cores programs some few within each;
-  next = λ programs next more each g. next_of_begun Section fit cores programs next more each g;
-  unended = λ programs g. begun_no_set Section cores programs g;
+  can = λ programs within each. begun_goes_on format Section empty cores programs some few within each;
+  next = λ programs next more each g. next_of_begun format Section fit cores programs next more each g;
+  unended = λ programs g. begun_no_set format Section cores programs g;
   last_no_lf = λ next more is. subst NoLf (sym is.0) (const_no_lf end_text refl);
   last_other = λ next more is i e. instruction_no_end i (e ∙ is.0);
 }
 
-limited : (cores : ℕ) → 1 ≤ cores → cores ≤ 64 → HasSections (SetLines IsSection) IsSection IsLast (header_text 1 cores) cores
-limited cores some few = set_has IsSection empty_section (λ p s. s.each_fits) cores some few
+limited : (format : Format) (cores : ℕ) → 1 ≤ cores → cores ≤ 64
+    → HasSections format (SetLines IsSection) (IsSection format) IsLast (header_text (format_number format) cores) cores
+limited format cores some few = set_has format IsSection (empty_section format) (λ p s. s.each_fits) cores some few
 
-unlimited : (cores : ℕ) → 1 ≤ cores → cores ≤ 64 → HasSections (SetLines EachFits) EachFits IsLast (header_text 1 cores) cores
-unlimited cores some few = set_has EachFits tt (λ p fits. fits) cores some few
+unlimited : (format : Format) (cores : ℕ) → 1 ≤ cores → cores ≤ 64
+    → HasSections format (SetLines EachFits) (EachFits format) IsLast (header_text (format_number format) cores) cores
+unlimited format cores some few = set_has format EachFits tt (λ p fits. fits) cores some few
 
 -- ---- the header
 
-header_wrong : (Section : List Instruction → Type 0) → Section [] → (text : List ℕ) → ((cores : ℕ) (rest : List ℕ) → HeaderInFront cores text rest → ⊥)
-    → IsFirstWrong (SetLines Section) text 1
+-- a set of one program of nothing
+abbrev one_empty : SetParts
+one_empty = record { format = One; programs = [] ∷ [] }
+
+header_wrong : (Section : Format → List Instruction → Type 0) → Section One [] → (text : List ℕ)
+    → ((format : Format) (cores : ℕ) (rest : List ℕ) → HeaderInFront format cores text rest → ⊥) → IsFirstWrong (SetLines Section) text 1
 header_wrong Section empty text none =
     wrong_behind (SetLines Section) [] text text 1 (has_lines Section) refl refl
-    (set_lines ([] ∷ []), ([] ∷ [], (record { some = omega arith; few = omega arith; each = (empty, tt) }, refl))) follows (λ e g. cc)
+    (set_lines one_empty, (one_empty, (record { some = omega arith; few = omega arith; each = (empty, tt) }, refl))) follows (λ e g. cc)
   where
     follows : NoneFollows (SetLines Section) [] text
     follows next more behind (set, p) is =
-        let first : next ≡ header_text 1 (length set) = cc in
-        none (length set) behind (p.0.some, p.0.few, is ∙ ap (λ (l : List ℕ). l ++ 10 ∷ behind) first)
+        let first : next ≡ header_text (format_number set.format) (length set.programs) = cc in
+        none set.format (length set.programs) behind (p.0.some, p.0.few, is ∙ ap (λ (l : List ℕ). l ++ 10 ∷ behind) first)
 
-pub bad_header : (text : List ℕ) → ((cores : ℕ) (rest : List ℕ) → HeaderInFront cores text rest → ⊥) → IsBadLine SetLines text 1
-bad_header text none = (header_wrong IsSection empty_section text none, (header_wrong EachFits tt text none).wrong)
+pub bad_header : (text : List ℕ) → ((format : Format) (cores : ℕ) (rest : List ℕ) → HeaderInFront format cores text rest → ⊥) → IsBadLine SetLines text 1
+bad_header text none = (header_wrong IsSection (empty_section One) text none, (header_wrong EachFits tt text none).wrong)
 
 -- ---- the line of a core, and the last line
 
 -- the sections that come after a header
-pub after_header : (text body rest : List ℕ) (header : List ℕ) (cores line : ℕ) (programs : List (List Instruction)) → text ≡ header ++ 10 ∷ body
-    → SectionsInFront cores body programs rest → line ≡ 2 + length (sections 0 programs) → AfterSections header cores text programs rest line
-after_header text body rest header cores line programs is there line-is = record {
+pub after_header : (format : Format) (text body rest : List ℕ) (header : List ℕ) (cores line : ℕ) (programs : List (List Instruction)) → text ≡ header ++ 10 ∷ body
+    → SectionsInFront format cores body programs rest → line ≡ 2 + length (sections 0 programs) → AfterSections format header cores text programs rest line
+after_header format text body rest header cores line programs is there line-is = record {
   within = there.within;
   each = there.each;
   text_is = is ∙ ap (λ (xs : List ℕ). header ++ 10 ∷ xs) there.text ∙ sym (text_of-cons header (sections 0 programs) rest);
@@ -106,29 +119,30 @@ after_header text body rest header cores line programs is there line-is = record
   all = there.whole;
 }
 
-pub bad_line_of_set : (text rest : List ℕ) (cores line : ℕ) (programs : List (List Instruction)) → 1 ≤ cores → cores ≤ 64
-    → AfterSections (header_text 1 cores) cores text programs rest line → NotNext IsLast cores programs rest → IsBadLine SetLines text line
-bad_line_of_set text rest cores line programs some few stands others = (
-  line_wrong (SetLines IsSection) IsSection IsLast (header_text 1 cores) cores (limited cores some few) text rest line programs stands.each stands others,
-  (line_wrong (SetLines EachFits) EachFits IsLast (header_text 1 cores) cores (unlimited cores some few) text rest line programs (each_fits_of programs stands.each) stands others).wrong,
+pub bad_line_of_set : (format : Format) (text rest : List ℕ) (cores line : ℕ) (programs : List (List Instruction)) → 1 ≤ cores → cores ≤ 64
+    → AfterSections format (header_text (format_number format) cores) cores text programs rest line → NotNext IsLast cores programs rest → IsBadLine SetLines text line
+bad_line_of_set format text rest cores line programs some few stands others = (
+  line_wrong format (SetLines IsSection) (IsSection format) IsLast (header_text (format_number format) cores) cores (limited format cores some few) text rest line programs stands.each stands others,
+  (line_wrong format (SetLines EachFits) (EachFits format) IsLast (header_text (format_number format) cores) cores (unlimited format cores some few) text rest line programs
+      (each_fits_of format programs stands.each) stands others).wrong,
 )
 
 -- the line of a core is missing
-pub no_core_line : (text rest : List ℕ) (cores line : ℕ) (programs : List (List Instruction)) → 1 ≤ cores → cores ≤ 64
-    → AfterSections (header_text 1 cores) cores text programs rest line → length programs < cores
+pub no_core_line : (format : Format) (text rest : List ℕ) (cores line : ℕ) (programs : List (List Instruction)) → 1 ≤ cores → cores ≤ 64
+    → AfterSections format (header_text (format_number format) cores) cores text programs rest line → length programs < cores
     → ((behind : List ℕ) → rest ≡ core_text (length programs) ++ 10 ∷ behind → ⊥) → IsBadLine SetLines text line
-no_core_line text rest cores line programs some few stands less none =
-    bad_line_of_set text rest cores line programs some few stands (record {
+no_core_line format text rest cores line programs some few stands less none =
+    bad_line_of_set format text rest cores line programs some few stands (record {
       no_core = λ l behind is. none behind is;
       no_last = λ same next more behind last is. absurd (omega (arith, less, same));
     })
 
 -- the last line is
-pub no_last_line : (text rest : List ℕ) (cores line : ℕ) (programs : List (List Instruction)) → 1 ≤ cores → cores ≤ 64
-    → AfterSections (header_text 1 cores) cores text programs rest line → length programs ≡ cores
+pub no_last_line : (format : Format) (text rest : List ℕ) (cores line : ℕ) (programs : List (List Instruction)) → 1 ≤ cores → cores ≤ 64
+    → AfterSections format (header_text (format_number format) cores) cores text programs rest line → length programs ≡ cores
     → ((behind : List ℕ) → rest ≡ end_text ++ 10 ∷ behind → ⊥) → IsBadLine SetLines text line
-no_last_line text rest cores line programs some few stands count none =
-    bad_line_of_set text rest cores line programs some few stands (record {
+no_last_line format text rest cores line programs some few stands count none =
+    bad_line_of_set format text rest cores line programs some few stands (record {
       no_core = λ less behind is. absurd (omega (arith, less, count));
       no_last = λ same next more behind last is. none behind (is ∙ ap (λ (l : List ℕ). l ++ 10 ∷ behind) last.0);
     })
@@ -136,46 +150,47 @@ no_last_line text rest cores line programs some few stands count none =
 -- ---- the last line
 
 -- the sections of all cores and the last line
-whole : (text rest behind : List ℕ) (cores line : ℕ) (programs : List (List Instruction)) → AfterSections (header_text 1 cores) cores text programs rest line
-    → rest ≡ end_text ++ 10 ∷ behind → text ≡ text_of (begun (header_text 1 cores) programs ++ end_text ∷ []) ++ behind
-whole text rest behind cores line programs stands is =
-    let front = begun (header_text 1 cores) programs in
+whole : (format : Format) (text rest behind : List ℕ) (cores line : ℕ) (programs : List (List Instruction)) → AfterSections format (header_text (format_number format) cores) cores text programs rest line
+    → rest ≡ end_text ++ 10 ∷ behind → text ≡ text_of (begun (header_text (format_number format) cores) programs ++ end_text ∷ []) ++ behind
+whole format text rest behind cores line programs stands is =
+    let front = begun (header_text (format_number format) cores) programs in
     stands.text_is ∙ ap (λ (xs : List ℕ). text_of front ++ xs) (is ∙ sym (text_of-cons end_text [] behind))
     ∙ sym (append_assoc (text_of front) (text_of (end_text ∷ [])) behind)
     ∙ ap (λ (xs : List ℕ). xs ++ behind) (sym (text_of-append front (end_text ∷ [])))
 
-lines_of_set : (cores : ℕ) (programs : List (List Instruction)) → length programs ≡ cores → begun (header_text 1 cores) programs ++ end_text ∷ [] ≡ set_lines programs
-lines_of_set cores programs count = ap (λ (n : ℕ). header_text 1 n ∷ (sections 0 programs ++ end_text ∷ [])) (sym count)
+lines_of_set : (format : Format) (cores : ℕ) (programs : List (List Instruction)) → length programs ≡ cores
+    → begun (header_text (format_number format) cores) programs ++ end_text ∷ [] ≡ set_lines (record { format = format; programs = programs })
+lines_of_set format cores programs count = ap (λ (n : ℕ). header_text (format_number format) n ∷ (sections 0 programs ++ end_text ∷ [])) (sym count)
 
 set_of : (Section : List Instruction → Type 0) (cores : ℕ) (programs : List (List Instruction)) → 1 ≤ cores → cores ≤ 64
     → AllByRecursion Section programs → length programs ≡ cores → IsSetOf Section programs
 set_of Section cores programs some few each count = record { some = omega (arith, some, count); few = omega (arith, few, count); each = each }
 
-pub set_spelled : (text rest behind : List ℕ) (cores line : ℕ) (programs : List (List Instruction)) → 1 ≤ cores → cores ≤ 64
-    → AfterSections (header_text 1 cores) cores text programs rest line
-    → length programs ≡ cores → rest ≡ end_text ++ 10 ∷ behind → behind ≡ [] → SpellsSet text programs
-set_spelled text rest behind cores line programs some few stands count is none =
-    let front = begun (header_text 1 cores) programs in (
-      set_of IsSection cores programs some few stands.each count,
-      whole text rest behind cores line programs stands is
+pub set_spelled : (format : Format) (text rest behind : List ℕ) (cores line : ℕ) (programs : List (List Instruction)) → 1 ≤ cores → cores ≤ 64
+    → AfterSections format (header_text (format_number format) cores) cores text programs rest line
+    → length programs ≡ cores → rest ≡ end_text ++ 10 ∷ behind → behind ≡ [] → SpellsSet text (record { format = format; programs = programs })
+set_spelled format text rest behind cores line programs some few stands count is none =
+    let front = begun (header_text (format_number format) cores) programs in (
+      set_of (IsSection format) cores programs some few stands.each count,
+      whole format text rest behind cores line programs stands is
           ∙ ap (λ (xs : List ℕ). text_of (front ++ end_text ∷ []) ++ xs) none
           ∙ append-nil (text_of (front ++ end_text ∷ []))
-          ∙ ap text_of (lines_of_set cores programs count),
+          ∙ ap text_of (lines_of_set format cores programs count),
     )
 
-more_wrong : (Section : List Instruction → Type 0) → ((p : List Instruction) → Section p → EachFits p) → (text rest behind : List ℕ) (cores line k : ℕ)
-    (programs : List (List Instruction)) → 1 ≤ cores → cores ≤ 64 → AllByRecursion Section programs → AfterSections (header_text 1 cores) cores text programs rest line
+more_wrong : (format : Format) (Section : Format → List Instruction → Type 0) → ((p : List Instruction) → Section format p → EachFits format p) → (text rest behind : List ℕ) (cores line k : ℕ)
+    (programs : List (List Instruction)) → 1 ≤ cores → cores ≤ 64 → AllByRecursion (Section format) programs → AfterSections format (header_text (format_number format) cores) cores text programs rest line
     → length programs ≡ cores → rest ≡ end_text ++ 10 ∷ behind → 0 < length behind → k ≡ line + 1 → IsFirstWrong (SetLines Section) text k
-more_wrong Section fits text rest behind cores line k programs some few each stands count is more k-is =
-    wrong_behind (SetLines Section) front text behind k (has_lines Section) (whole text rest behind cores line programs stands is)
-    (omega (arith, length-append (begun (header_text 1 cores) programs) (end_text ∷ []), stands.line_is, k-is))
-    ([], (programs, (set_of Section cores programs some few each count, append-nil front ∙ lines_of_set cores programs count)))
+more_wrong format Section fits text rest behind cores line k programs some few each stands count is more k-is =
+    wrong_behind (SetLines Section) front text behind k (has_lines Section) (whole format text rest behind cores line programs stands is)
+    (omega (arith, length-append (begun (header_text (format_number format) cores) programs) (end_text ∷ []), stands.line_is, k-is))
+    ([], (record { format = format; programs = programs }, (set_of (Section format) cores programs some few each count, append-nil front ∙ lines_of_set format cores programs count)))
     follows (λ e g. omega (arith, ap length e))
   where
     front : List (List ℕ)
-    front = begun (header_text 1 cores) programs ++ end_text ∷ []
+    front = begun (header_text (format_number format) cores) programs ++ end_text ∷ []
 
-    by_next : (next : List ℕ) (others : List (List ℕ)) → Next Section IsLast cores 0 programs end_text (next ∷ others) → ⊥
+    by_next : (next : List ℕ) (others : List (List ℕ)) → Next format (Section format) IsLast cores 0 programs end_text (next ∷ others) → ⊥
     by_next next others (goes_on i before last longer fit next-is at section less) = instruction_no_end i (sym next-is)
     by_next next others (next_core next-is less) = core_no_end (0 + length programs) (sym next-is)
     by_next next others (last_line last same) = let wrong : next ∷ others ≡ [] = last.1 in cc
@@ -183,32 +198,33 @@ more_wrong Section fits text rest behind cores line k programs some few each sta
     follows : NoneFollows (SetLines Section) front behind
     follows next others after g there =
         by_next next others
-        (next_of_begun Section fits cores programs end_text (next ∷ others) (each_fits_of programs stands.each)
-        (subst (SetLines Section) (append_assoc (begun (header_text 1 cores) programs) (end_text ∷ []) (next ∷ others)) g))
+        (next_of_begun format Section fits cores programs end_text (next ∷ others) (each_fits_of format programs stands.each)
+        (subst (SetLines Section) (append_assoc (begun (header_text (format_number format) cores) programs) (end_text ∷ []) (next ∷ others)) g))
 
-pub more_behind : (text rest behind : List ℕ) (cores line k : ℕ) (programs : List (List Instruction)) → 1 ≤ cores → cores ≤ 64
-    → AfterSections (header_text 1 cores) cores text programs rest line
+pub more_behind : (format : Format) (text rest behind : List ℕ) (cores line k : ℕ) (programs : List (List Instruction)) → 1 ≤ cores → cores ≤ 64
+    → AfterSections format (header_text (format_number format) cores) cores text programs rest line
     → length programs ≡ cores → rest ≡ end_text ++ 10 ∷ behind → 0 < length behind → k ≡ line + 1 → IsBadLine SetLines text k
-more_behind text rest behind cores line k programs some few stands count is more k-is = (
-  more_wrong IsSection (λ p s. s.each_fits) text rest behind cores line k programs some few stands.each stands count is more k-is,
-  (more_wrong EachFits (λ p fits. fits) text rest behind cores line k programs some few (each_fits_of programs stands.each) stands count is more k-is).wrong,
+more_behind format text rest behind cores line k programs some few stands count is more k-is = (
+  more_wrong format IsSection (λ p s. s.each_fits) text rest behind cores line k programs some few stands.each stands count is more k-is,
+  (more_wrong format EachFits (λ p fits. fits) text rest behind cores line k programs some few (each_fits_of format programs stands.each) stands count is more k-is).wrong,
 )
 
 -- ---- what a reader of sections refuses
 
-pub sections_refused : (text body : List ℕ) (cores : ℕ) (fault : ProgramFault) → HeaderInFront cores text body → IsSectionsFault cores body fault → IsLineFault text fault
-sections_refused text body cores (BadLine k) there h = absurd h
-sections_refused text body cores (SkipPastEnd k) there h = absurd h
-sections_refused text body cores OutOfMemory there h = tt
-sections_refused text body cores (TooLong k) (some, few, is) h =
-    let header = header_text 1 cores in
+pub sections_refused : (format : Format) (text body : List ℕ) (cores : ℕ) (fault : ProgramFault) → HeaderInFront format cores text body
+    → IsSectionsFault format cores body fault → IsLineFault text fault
+sections_refused format text body cores (BadLine k) there h = absurd h
+sections_refused format text body cores (SkipPastEnd k) there h = absurd h
+sections_refused format text body cores OutOfMemory there h = tt
+sections_refused format text body cores (TooLong k) (some, few, is) h =
+    let header = header_text (format_number format) cores in
     let line = 2 + length (sections 0 h.before) in
-    let stands : AfterSections header cores text h.before h.rest line = after_header text body h.rest header cores line h.before is h.in_front refl in
+    let stands : AfterSections format header cores text h.before h.rest line = after_header format text body h.rest header cores line h.before is h.in_front refl in
     let from = h.core ∙ ap (λ (xs : List ℕ). core_text (length h.before) ++ 10 ∷ xs) h.many.text in (
-      too_long_wrong IsLast header cores text h.rest h.many.rest line k h.before h.many.program stands from h.more h.many.each_fits h.many.long (omega (arith, h.line))
-          (SetLines IsSection) (limited cores some few),
-      too_long_right IsLast header cores text h.rest h.many.rest line k h.before h.many.program stands from h.more h.many.each_fits h.many.long (omega (arith, h.line))
-          (SetLines EachFits) (unlimited cores some few),
+      too_long_wrong format IsLast header cores text h.rest h.many.rest line k h.before h.many.program stands from h.more h.many.each_fits h.many.long (omega (arith, h.line))
+          (SetLines IsSection) (limited format cores some few),
+      too_long_right format IsLast header cores text h.rest h.many.rest line k h.before h.many.program stands from h.more h.many.each_fits h.many.long (omega (arith, h.line))
+          (SetLines EachFits) (unlimited format cores some few),
     )
 
 -- ---- lists that vectors hold

@@ -1,29 +1,33 @@
 -- The faults of programs and of sets of programs, and what their parsers answer.
 use Rattle.std.specs.Prelude.{◌≡◌, ℕ, ◌+◌, ◌≤◌, true, List, length, take, slice_get, Some}
 use Rattle.core_program.specs.declared.instruction.Instruction.{Instruction}
+use Rattle.core_program.specs.declared.format.Format.{Format}
 use Rattle.core_program.specs.declared.fault.ProgramFault.{ProgramFault}
 use Rattle.core_program.specs.declared.fault.ProgramFault.TheVariants.{BadLine, TooLong, SkipPastEnd, OutOfMemory}
 use Rattle.core_program.specs.Grammar.{program_lines, sections, set_lines, EachFits, IsSection, IsSetOf}
 use Rattle.core_program.specs.Lines.{text_of, BeginsText, IsFirstWrong}
+use Rattle.core_program.specs.SetParts.{SetParts}
 use Rattle.core_program.specs.Shape.{is_skip_past_end}
 
 -- ---- lines
 
--- lines of a program whose instructions are such a section
-abbrev pub ProgramLines : (List Instruction → Type 0) → List (List ℕ) → Type 0
-ProgramLines Section lines = (program : List Instruction) × (Section program × (lines ≡ program_lines program))
+-- Texts are told by what their sections are in each format: limited in length, or of any length.
 
--- lines of a set whose sections are such
-abbrev pub SetLines : (List Instruction → Type 0) → List (List ℕ) → Type 0
-SetLines Section lines = (set : List (List Instruction)) × (IsSetOf Section set × (lines ≡ set_lines set))
+-- lines of a program of this format whose instructions are such a section
+abbrev pub ProgramLines : Format → (Format → List Instruction → Type 0) → List (List ℕ) → Type 0
+ProgramLines format Section lines = (program : List Instruction) × (Section format program × (lines ≡ program_lines program))
+
+-- lines of a set whose sections are such in the set's format
+abbrev pub SetLines : (Format → List Instruction → Type 0) → List (List ℕ) → Type 0
+SetLines Section lines = (set : SetParts) × (IsSetOf (Section set.format) set.programs × (lines ≡ set_lines set))
 
 -- Line k is the first that is wrong, and would be so if sections had no limit.
-abbrev pub IsBadLine : ((List Instruction → Type 0) → List (List ℕ) → Type 0) → List ℕ → ℕ → Type 0
+abbrev pub IsBadLine : ((Format → List Instruction → Type 0) → List (List ℕ) → Type 0) → List ℕ → ℕ → Type 0
 IsBadLine Lines bytes k = IsFirstWrong (Lines IsSection) bytes k × (BeginsText (Lines EachFits) bytes k → ⊥)
 
 -- Line k is the first that is wrong, and would be right if sections had no limit: it is the 4,097th instruction
 -- of its section.
-abbrev pub IsTooLong : ((List Instruction → Type 0) → List (List ℕ) → Type 0) → List ℕ → ℕ → Type 0
+abbrev pub IsTooLong : ((Format → List Instruction → Type 0) → List (List ℕ) → Type 0) → List ℕ → ℕ → Type 0
 IsTooLong Lines bytes k = IsFirstWrong (Lines IsSection) bytes k × BeginsText (Lines EachFits) bytes k
 
 -- ---- jumps past the end
@@ -57,24 +61,24 @@ IsJumpFault set (TooLong k) = ⊥
 
 -- ---- answers
 
--- the bytes are the text of this program
-abbrev pub SpellsProgram : List ℕ → List Instruction → Type 0
-SpellsProgram bytes program = IsSection program × (bytes ≡ text_of (program_lines program))
+-- the bytes are the text of this program, in this format
+abbrev pub SpellsProgram : Format → List ℕ → List Instruction → Type 0
+SpellsProgram format bytes program = IsSection format program × (bytes ≡ text_of (program_lines program))
 
--- the bytes are the text of this set
-abbrev pub SpellsSet : List ℕ → List (List Instruction) → Type 0
-SpellsSet bytes set = IsSetOf IsSection set × (bytes ≡ text_of (set_lines set))
+-- the bytes are the text of this set, in the format that their first line says
+abbrev pub SpellsSet : List ℕ → SetParts → Type 0
+SpellsSet bytes set = IsSetOf (IsSection set.format) set.programs × (bytes ≡ text_of (set_lines set))
 
--- Why bytes aren't the text of a program. Lack of memory may come instead of a program and of every other fault.
-abbrev pub IsProgramFault : List ℕ → ProgramFault → Type 0
-IsProgramFault bytes (BadLine k) = IsBadLine ProgramLines bytes k
-IsProgramFault bytes (TooLong k) = IsTooLong ProgramLines bytes k
-IsProgramFault bytes (SkipPastEnd k) = (program : List Instruction) × (SpellsProgram bytes program × IsLeast (SkipsAt program) k)
-IsProgramFault bytes OutOfMemory = Unit {0}
+-- Why bytes aren't the text of a program of this format. Lack of memory may come instead of a program and of every other fault.
+abbrev pub IsProgramFault : Format → List ℕ → ProgramFault → Type 0
+IsProgramFault format bytes (BadLine k) = IsBadLine (ProgramLines format) bytes k
+IsProgramFault format bytes (TooLong k) = IsTooLong (ProgramLines format) bytes k
+IsProgramFault format bytes (SkipPastEnd k) = (program : List Instruction) × (SpellsProgram format bytes program × IsLeast (SkipsAt program) k)
+IsProgramFault format bytes OutOfMemory = Unit {0}
 
 -- why bytes aren't the text of a set
 abbrev pub IsSetFault : List ℕ → ProgramFault → Type 0
 IsSetFault bytes (BadLine k) = IsBadLine SetLines bytes k
 IsSetFault bytes (TooLong k) = IsTooLong SetLines bytes k
-IsSetFault bytes (SkipPastEnd k) = (set : List (List Instruction)) × (SpellsSet bytes set × IsLeast (SkipsInSetAt set) k)
+IsSetFault bytes (SkipPastEnd k) = (set : SetParts) × (SpellsSet bytes set × IsLeast (SkipsInSetAt set.programs) k)
 IsSetFault bytes OutOfMemory = Unit {0}

@@ -1,9 +1,18 @@
 -- The texts of instructions, programs and sets of programs, and what has such a text.
-use Rattle.std.specs.Prelude.{ℕ, suc, ◌<◌, ◌≤◌, ◌^◌, List, [], ◌∷◌, ◌++◌, length, map, codes}
+use Rattle.std.specs.Prelude.{ℕ, suc, ◌<◌, ◌≤◌, ◌^◌, IsTrue, List, [], ◌∷◌, ◌++◌, length, map, codes}
 use Rattle.std.specs.List.{join_with_byte, AllByRecursion}
 use Rattle.decimal_text.specs.Numbers.{numeral}
 use Rattle.core_program.specs.declared.instruction.Instruction.{Instruction}
-use Rattle.core_program.specs.declared.instruction.Instruction.TheVariants.{Load, Store, StoreRegister, Add, SkipIfZero}
+use Rattle.core_program.specs.declared.instruction.Instruction.TheVariants.{Load, Store, StoreRegister, Add, SkipIfZero, Swap}
+use Rattle.core_program.specs.declared.format.Format.{Format}
+use Rattle.core_program.specs.declared.format.Format.TheVariants.{One, Two}
+use Rattle.core_program.specs.SetParts.{SetParts}
+use Rattle.core_program.specs.Shape.{has_instruction}
+
+-- the number of a format
+abbrev pub format_number : Format → ℕ
+format_number One = 1
+format_number Two = 2
 
 -- ---- the texts
 
@@ -18,6 +27,7 @@ fields_of (Store addr value) = codes "st" ∷ numeral addr ∷ numeral value ∷
 fields_of (StoreRegister addr from) = codes "sr" ∷ numeral addr ∷ register_text from ∷ []
 fields_of (Add to from value) = codes "ai" ∷ register_text to ∷ register_text from ∷ numeral value ∷ []
 fields_of (SkipIfZero tested skip) = codes "jz" ∷ register_text tested ∷ numeral skip ∷ []
+fields_of (Swap to addr value) = codes "sw" ∷ register_text to ∷ numeral addr ∷ numeral value ∷ []
 
 -- an instruction's line: its fields, with a space between each two
 unfoldable pub instruction_text : Instruction → List ℕ
@@ -43,8 +53,8 @@ abbrev pub sections : ℕ → List (List Instruction) → List (List ℕ)
 sections core [] = []
 sections core (program ∷ programs) = core_text core ∷ (program_lines program ++ sections (suc core) programs)
 
-abbrev pub set_lines : List (List Instruction) → List (List ℕ)
-set_lines set = header_text 1 (length set) ∷ (sections 0 set ++ end_text ∷ [])
+abbrev pub set_lines : SetParts → List (List ℕ)
+set_lines set = header_text (format_number set.format) (length set.programs) ∷ (sections 0 set.programs ++ end_text ∷ [])
 
 -- ---- what has a text
 
@@ -55,15 +65,21 @@ Fits (Store addr value) = (addr < 65536) × (value < 2 ^ 64)
 Fits (StoreRegister addr from) = (addr < 65536) × (from < 16)
 Fits (Add to from value) = (to < 16) × (from < 16) × (value < 2 ^ 64)
 Fits (SkipIfZero tested skip) = (tested < 16) × (1 ≤ skip) × (skip ≤ 4095)
+Fits (Swap to addr value) = (to < 16) × (addr < 65536) × (value < 2 ^ 64)
 
--- instructions as a section has them, however many
-abbrev pub EachFits : List Instruction → Type 0
-EachFits program = AllByRecursion Fits program
+-- a program of this format may have the instruction, and its numbers are in range
+pub record FitsIn (format : Format) (instruction : Instruction) : Type 0 where
+  pub has : IsTrue (has_instruction format instruction)
+  pub numbers : Fits instruction
 
--- the instructions of a section: at most 4,096
-pub record IsSection (program : List Instruction) : Type 0 where
+-- instructions as a section of this format has them, however many
+abbrev pub EachFits : Format → List Instruction → Type 0
+EachFits format program = AllByRecursion (FitsIn format) program
+
+-- the instructions of a section of this format: at most 4,096
+pub record IsSection (format : Format) (program : List Instruction) : Type 0 where
   pub few : length program ≤ 4096
-  pub each_fits : EachFits program
+  pub each_fits : EachFits format program
 
 -- a section each for 1..64 cores
 pub record IsSetOf (Section : List Instruction → Type 0) (set : List (List Instruction)) : Type 0 where

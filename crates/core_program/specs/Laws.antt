@@ -1,9 +1,10 @@
 -- What holds of all programs.
-use Rattle.std.specs.Prelude.{◌≡◌, ◌↔◌, ℕ, ◌≤◌, List, length, Some, None}
-use Rattle.mem_op.specs.Consistency.{Operation}
+use Rattle.std.specs.Prelude.{◌≡◌, ◌≢◌, ◌↔◌, ℕ, ◌≤◌, List, length, Some, None, slice_get}
+use Rattle.mem_op.specs.Consistency.{Operation, Swapped}
+use Rattle.core_program.specs.declared.format.Format.TheVariants.{One}
 use Rattle.core_program.specs.declared.instruction.Instruction.{Instruction}
 use Rattle.core_program.specs.State.{State}
-use Rattle.core_program.specs.Shape.{IsProgram}
+use Rattle.core_program.specs.Shape.{IsOfFormat, IsProgram}
 use Rattle.core_program.specs.Meaning.{Path}
 use Rattle.core_program.specs.Running.{IsAtRest, run_from}
 use Rattle.core_program.specs.Conforming.{Reaches, Conforms, DiffersAt, program_fault}
@@ -31,3 +32,9 @@ abbrev pub FewOperations : Type 0
 FewOperations =
     (program : List Instruction) (operations : List Operation) (s : State) →
     IsProgram program → Reaches program operations s → length operations ≤ 4096
+
+-- a program of format 1 performs no swap
+abbrev pub NoSwapsInFormatOne : Type 0
+NoSwapsInFormatOne =
+    (program : List Instruction) (operations : List Operation) (s : State) (i addr read stored : ℕ) →
+    IsOfFormat One program → Reaches program operations s → slice_get operations i ≢ Some (Swapped addr read stored)

@@ -5,7 +5,7 @@ use Rattle.mem_op.specs.declared.id.Op.{Op}
 use Rattle.mem_op.specs.declared.id.Op.TheVariants as op
 use Rattle.mem_op.specs.Consistency.{Operation, Loaded, Stored, Swapped, word_answered}
 use Rattle.core_program.specs.declared.instruction.Instruction.{Instruction}
-use Rattle.core_program.specs.declared.instruction.Instruction.TheVariants.{Load, Store, StoreRegister, Add, SkipIfZero}
+use Rattle.core_program.specs.declared.instruction.Instruction.TheVariants.{Load, Store, StoreRegister, Add, SkipIfZero, Swap}
 use Rattle.core_program.specs.State.{State, start, reg, with_reg, further}
 
 -- ---- operations before and after their answer
@@ -44,14 +44,16 @@ issued (Store addr value) s = Some (op.Store addr value)
 issued (StoreRegister addr from) s = Some (op.Store addr (reg s from))
 issued (Add to from value) s = None
 issued (SkipIfZero tested skip) s = None
+issued (Swap to addr value) s = Some (op.Swap addr value)
 
--- the state after an instruction, which reads the answer if it is a load
+-- the state after an instruction, which reads the answer if it is a load or a swap
 abbrev pub after : Instruction → ℕ → State → State
 after (Load to addr) answer s = further 1 (with_reg s to answer)
 after (Store addr value) answer s = further 1 s
 after (StoreRegister addr from) answer s = further 1 s
 after (Add to from value) answer s = further 1 (with_reg s to ((reg s from + value) % 2 ^ 64))
 after (SkipIfZero tested skip) answer s = further (if reg s tested == 0 then 1 + skip else 1) s
+after (Swap to addr value) answer s = further 1 (with_reg s to answer)
 
 -- ---- states at rest
 

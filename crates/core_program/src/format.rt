@@ -1,8 +1,31 @@
-//! Formats of the texts.
+//! The formats of programs and of sets of programs.
 
-/// A format of programs and of sets of programs.
-#[derive(Clone, Copy)]
-pub(crate) enum Format {
-    /// The first: it has the instructions `ld`, `st`, `sr`, `ai` and `jz`.
-    First,
+ghost use Rattle.std.specs.Prelude.{◌≡◌};
+ghost use Rattle.core_program.specs.Shape.{has_instruction};
+
+use super::instruction::Instruction;
+
+/// A format of programs and of sets of programs. A set says its own in its first line.
+#[derive(Clone, Copy, Debug, PartialEq, Eq)]
+pub enum Format {
+    /// Format 1, which has no swaps.
+    One,
+    /// Format 2, which has them.
+    Two,
+}
+
+impl Format {
+    /// Whether a program of this format may have this instruction.
+    pub fn has_instruction(self, instruction: &Instruction) -> bool
+        ensures { result ≡ has_instruction self instruction.now }
+    {
+        match instruction {
+            Instruction::Load(..)
+            | Instruction::Store(..)
+            | Instruction::StoreRegister(..)
+            | Instruction::Add(..)
+            | Instruction::SkipIfZero(..) => true,
+            Instruction::Swap(..) => self == Format::Two,
+        }
+    }
 }

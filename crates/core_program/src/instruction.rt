@@ -20,15 +20,21 @@ pub enum Instruction {
     Add(Register, Register, Word),
     /// `jz rN k`: where the register is 0, skips the next k instructions.
     SkipIfZero(Register, Skip),
+    /// `sw rN a K`: loads the word at an address into a register and stores a word there, in one
+    /// step. Format 1 has none.
+    Swap(Register, Addr, Word),
 }
 
 impl Instruction {
-    // Whether it is a load or a store.
+    // Whether it is a load, a store or a swap.
     pub(crate) fn touches_memory(&self) -> bool
         ensures { result ≡ touches_memory self.now }
     {
         match self {
-            Instruction::Load(..) | Instruction::Store(..) | Instruction::StoreRegister(..) => true,
+            Instruction::Load(..)
+            | Instruction::Store(..)
+            | Instruction::StoreRegister(..)
+            | Instruction::Swap(..) => true,
             Instruction::Add(..) | Instruction::SkipIfZero(..) => false,
         }
     }

@@ -3,7 +3,7 @@
 ghost use Rattle.std.specs.Prelude.{◌≡◌};
 ghost use Rattle.decimal_text.specs.Reading.{front_now};
 ghost use Rattle.core_program.specs.inner.Reading.{register_at, addr_at, last_register, last_addr, last_word, last_skip};
-ghost use Rattle.core_program.specs.inner.Reading.{load_of, store_of, store_register_of, add_of, skip_of, instruction_of};
+ghost use Rattle.core_program.specs.inner.Reading.{load_of, store_of, store_register_of, add_of, skip_of, swap_of, instruction_of};
 
 use super::format::Format;
 use super::instruction::Instruction;
@@ -120,10 +120,24 @@ fn skip(fields: &[u8]) -> Option<Instruction>
     Some(Instruction::SkipIfZero(tested, last_skip(rest)?))
 }
 
+/// The fields of `sw rN a K`.
+#[tactic(auto, unfolding(crate::specs::inner::Reading::swap_of))]
+fn swap(fields: &[u8]) -> Option<Instruction>
+    ensures { result ≡ swap_of fields.now }
+{
+    let Some((to, rest)) = register(fields) else {
+        return None;
+    };
+    let Some((addr, rest)) = addr(rest) else {
+        return None;
+    };
+    Some(Instruction::Swap(to, addr, last_word(rest)?))
+}
+
 /// The instruction whose line this is in a format, without its line feed.
 #[tactic(auto, unfolding(crate::specs::inner::Reading::instruction_of, decimal_text::specs::Reading::after))]
 pub(crate) fn read_instruction(format: Format, line: &[u8]) -> Option<Instruction>
-    ensures { result ≡ instruction_of line.now }
+    ensures { result ≡ instruction_of format line.now }
 {
     match (format, line) {
         (_, [b'l', b'd', b' ', fields @ ..]) => load(fields),
@@ -131,6 +145,7 @@ pub(crate) fn read_instruction(format: Format, line: &[u8]) -> Option<Instructio
         (_, [b's', b'r', b' ', fields @ ..]) => store_register(fields),
         (_, [b'a', b'i', b' ', fields @ ..]) => add(fields),
         (_, [b'j', b'z', b' ', fields @ ..]) => skip(fields),
-        (Format::First, _) => None,
+        (Format::Two, [b's', b'w', b' ', fields @ ..]) => swap(fields),
+        _ => None,
     }
 }

@@ -1,7 +1,7 @@
 //! Laws of programs. Each function does nothing: its contract is the law.
 
 ghost use Rattle.core_program.specs.Laws.{ConformingIsNoFault, FaultIsWhereLogDiffers};
-ghost use Rattle.core_program.specs.Laws.{FewOperations, RunsArePaths};
+ghost use Rattle.core_program.specs.Laws.{FewOperations, NoSwapsInFormatOne, RunsArePaths};
 
 /// Between states at rest, operations lead to a state just where a path of the program does.
 pub fn runs_are_paths()
@@ -21,4 +21,9 @@ pub fn fault_is_where_log_differs()
 /// A program issues at most 4,096 operations.
 pub fn few_operations()
     ensures { FewOperations }
+{}
+
+/// A program of format 1 performs no swap.
+pub fn no_swaps_in_format_one()
+    ensures { NoSwapsInFormatOne }
 {}

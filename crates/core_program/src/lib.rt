@@ -18,9 +18,11 @@ mod state;
 mod text_laws;
 
 pub use fault::ProgramFault;
+pub use format::Format;
 pub use instruction::Instruction;
 pub use laws::{
-    conforming_is_no_fault, fault_is_where_log_differs, few_operations, runs_are_paths,
+    conforming_is_no_fault, fault_is_where_log_differs, few_operations, no_swaps_in_format_one,
+    runs_are_paths,
 };
 pub use program::Program;
 pub use program_set::ProgramSet;

@@ -1,44 +1,60 @@
 //! Sets of programs.
 
-ghost use Rattle.std.specs.Prelude.{◌≡◌, ◌≤◌, ◌⊎◌, length, slice_get, All, MatchOption};
+ghost use Rattle.std.specs.Prelude.{◌≡◌, ◌≤◌, ◌⊎◌, length, slice_get, All, MatchBool, MatchOption};
 ghost use Rattle.std.specs.Option.{option_copied};
-ghost use Rattle.core_program.specs.Shape.{IsProgram};
+ghost use Rattle.core_program.specs.Shape.{IsOfFormat, IsProgram};
 
+use super::format::Format;
+use super::instruction::Instruction;
 use super::program::Program;
 use mem_op::CoreId;
 use std::marker::Model;
 
-/// The programs of 1..64 cores, one a core.
+/// The programs of 1..64 cores, one a core, and their format.
 #[derive(Drop)]
 pub struct ProgramSet {
+    format: Format,
     programs: Vec<Program>,
 }
 
 impl Model for ProgramSet {
     ghost use Rattle.std.specs.Prelude.{◌≤◌, length, All};
     ghost use Rattle.core_program.specs.SetParts.{SetParts};
-    ghost use Rattle.core_program.specs.Shape.{IsProgram};
+    ghost use Rattle.core_program.specs.Shape.{IsOfFormat, IsProgram};
 
     ghost Value = { SetParts };
 
-    ghost view = { λ set. record { programs = set.programs.items } };
+    ghost view = { λ set. record { format = set.format; programs = set.programs.items } };
 
     ghost invariant = { λ set. (1 ≤ length set.programs.items) × (length set.programs.items ≤ 64)
-        × All IsProgram set.programs.items };
+        × All IsProgram set.programs.items × All (IsOfFormat set.format) set.programs.items };
 }
 
 impl ProgramSet {
-    /// The set of these programs; none where they aren't 1..64.
-    pub fn new(programs: Vec<Program>) -> Option<ProgramSet>
+    /// The set of these programs, of a format; none where they aren't 1..64, or one of them has an
+    /// instruction that the format hasn't.
+    pub fn new(format: Format, programs: Vec<Program>) -> Option<ProgramSet>
         ensures { MatchOption result
-            ((length programs.items ≡ 0) ⊎ (65 ≤ length programs.items))
-            (λ set. (set.programs ≡ programs.items) × (1 ≤ length programs.items) × (length programs.items ≤ 64)) }
+            ((length programs.items ≡ 0) ⊎ (65 ≤ length programs.items) ⊎ (¬ All (IsOfFormat format) programs.items))
+            (λ set. (set ≡ record { format = format; programs = programs.items })
+            × (1 ≤ length programs.items) × (length programs.items ≤ 64) × All (IsOfFormat format) programs.items) }
     {
         if programs.is_empty() || programs.len() > 64 {
             return None;
         }
+        if !each_is_of_format(format, &programs) {
+            return None;
+        }
         each_is_program(&programs);
-        Some(ProgramSet { programs })
+        Some(ProgramSet { format, programs })
+    }
+
+    /// The format of its programs.
+    pub fn format(&self) -> Format
+        ensures value { result ≡ self.now.format }
+        ensures programs { All (IsOfFormat self.now.format) self.now.programs }
+    {
+        self.format
     }
 
     /// How many cores there are, 1..64.
@@ -56,6 +72,30 @@ impl ProgramSet {
     {
         self.programs.get(core.get() as usize)
     }
+}
+
+/// Whether a format has each of these instructions.
+fn is_of_format(format: Format, instructions: &[Instruction]) -> bool
+    ensures { MatchBool result (IsOfFormat format instructions.now) (¬ IsOfFormat format instructions.now) }
+{
+    for instruction in instructions {
+        if !format.has_instruction(instruction) {
+            return false;
+        }
+    }
+    true
+}
+
+/// Whether a format has each instruction of these programs.
+fn each_is_of_format(format: Format, programs: &[Program]) -> bool
+    ensures { MatchBool result (All (IsOfFormat format) programs.now) (¬ All (IsOfFormat format) programs.now) }
+{
+    for program in programs {
+        if !is_of_format(format, program.instructions()) {
+            return false;
+        }
+    }
+    true
 }
 
 /// Does nothing: each program of a list is one by its type.

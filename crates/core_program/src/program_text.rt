@@ -4,6 +4,7 @@ ghost use Rattle.std.specs.Prelude.{◌≡◌, IfOk, MatchResult, string_bytes};
 ghost use Rattle.core_program.specs.Answers.{IsProgramFault, SpellsProgram};
 ghost use Rattle.core_program.specs.Grammar.{instruction_text, Fits};
 ghost use Rattle.core_program.specs.Shape.{IsProgram};
+ghost use Rattle.core_program.specs.declared.format.Format.TheVariants.{Two};
 
 use super::fault::ProgramFault;
 use super::format::Format;
@@ -13,16 +14,26 @@ use super::section::read_section;
 use std::alloc::{AllocError, Global};
 
 impl Program {
-    /// The program whose text this is: a line for each instruction, each ended by a line feed.
-    /// BadLine at the first line that isn't an instruction's or has no line feed, TooLong at the line
-    /// of the 4,097th instruction, whichever comes first; where there is neither, SkipPastEnd at
-    /// the first jump past the end.
+    /// The program whose text this is, in format 2, which has all instructions; else as `parse_in`
+    /// says.
     pub fn parse(alloc: Global, text: &[u8]) -> Result<Program, ProgramFault>
         ensures { MatchResult result
-            (λ program. SpellsProgram text.now program × IsProgram program)
-            (λ fault. IsProgramFault text.now fault) }
+            (λ program. SpellsProgram Two text.now program × IsProgram program)
+            (λ fault. IsProgramFault Two text.now fault) }
     {
-        let section = read_section(alloc, Format::First, text, 1)?;
+        Program::parse_in(alloc, Format::Two, text)
+    }
+
+    /// The program whose text this is in a format: a line for each instruction, each ended by a line
+    /// feed. BadLine at the first line that isn't an instruction's there or has no line feed, TooLong
+    /// at the line of the 4,097th instruction, whichever comes first; where there is neither,
+    /// SkipPastEnd at the first jump past the end.
+    pub fn parse_in(alloc: Global, format: Format, text: &[u8]) -> Result<Program, ProgramFault>
+        ensures { MatchResult result
+            (λ program. SpellsProgram format text.now program × IsProgram program)
+            (λ fault. IsProgramFault format text.now fault) }
+    {
+        let section = read_section(alloc, format, text, 1)?;
         let instructions = section.instructions;
         if section.taken < text.len() {
             return Err(ProgramFault::BadLine(instructions.len() as u64 + 1));
@@ -33,9 +44,9 @@ impl Program {
         }
     }
 
-    /// The text of the program.
+    /// The text of the program, which `parse` reads.
     pub fn print(&self, alloc: Global) -> Result<Vec<u8>, AllocError>
-        ensures { IfOk result (λ text. SpellsProgram text.items self.now) }
+        ensures { IfOk result (λ text. SpellsProgram Two text.items self.now) }
     {
         let mut text = Vec::new(alloc);
         for instruction in self.instructions() {
@@ -79,6 +90,12 @@ pub fn print_instruction(alloc: Global, instruction: &Instruction) -> Result<Str
             let tested = tested.get();
             let skip = skip.get();
             format!(in alloc; "jz r{tested} {skip}")
+        }
+        Instruction::Swap(to, addr, value) => {
+            let to = to.get();
+            let addr = addr.get();
+            let value = *value;
+            format!(in alloc; "sw r{to} {addr} {value}")
         }
     }
 }

@@ -35,10 +35,10 @@ pub fn next_line(text: &[u8]) -> Option<(&[u8], &[u8])>
 }
 
 /// The instruction whose line is the first, and the bytes after it; None where the first line isn't
-/// an instruction's, or has no line feed.
+/// an instruction's in this format, or has no line feed.
 fn next_instruction(format: Format, text: &[u8]) -> Option<(Instruction, &[u8])>
-    ensures found { IfSome result (λ read. InstructionInFront read.0 text.now read.1.now) }
-    ensures none { IsNone result → NoInstructionInFront text.now }
+    ensures found { IfSome result (λ read. InstructionInFront format read.0 text.now read.1.now) }
+    ensures none { IsNone result → NoInstructionInFront format text.now }
 {
     let (line, rest) = next_line(text)?;
     Some((read_instruction(format, line)?, rest))
@@ -54,8 +54,8 @@ pub(crate) fn read_section(
     first: u64,
 ) -> Result<Section, ProgramFault>
     requires { first < 2 ^ 32 }
-    ensures found { IfOk result (IsSectionOf text.now) }
-    ensures too_long { IfErr result (IsSectionFault first text.now) }
+    ensures found { IfOk result (IsSectionOf format text.now) }
+    ensures too_long { IfErr result (IsSectionFault format first text.now) }
 {
     let mut instructions = Vec::new(alloc);
     let mut rest = text;

@@ -44,13 +44,18 @@ fn after_core_line(core: u64, text: &[u8]) -> Option<&[u8]>
     }
 }
 
-/// The sections of core 0, core 1, and so on that a text begins with, of `cores` at most: all that are
-/// there, each with all its instructions. Lines are counted as if the text's first line were line 2.
-/// TooLong at the line of a section's 4,097th instruction.
-pub fn read_sections(alloc: Global, cores: u64, text: &[u8]) -> Result<Sections, ProgramFault>
+/// The sections of core 0, core 1, and so on that a text begins with in a format, of `cores` at most: all
+/// that are there, each with all its instructions. Lines are counted as if the text's first line were
+/// line 2. TooLong at the line of a section's 4,097th instruction.
+pub fn read_sections(
+    alloc: Global,
+    format: Format,
+    cores: u64,
+    text: &[u8],
+) -> Result<Sections, ProgramFault>
     requires { cores ≤ 64 }
-    ensures found { IfOk result (AreSectionsOf cores text.now) }
-    ensures refused { IfErr result (IsSectionsFault cores text.now) }
+    ensures found { IfOk result (AreSectionsOf format cores text.now) }
+    ensures refused { IfErr result (IsSectionsFault format cores text.now) }
 {
     let mut programs = Vec::new(alloc);
     let mut rest = text;
@@ -63,7 +68,7 @@ pub fn read_sections(alloc: Global, cores: u64, text: &[u8]) -> Result<Sections,
                 line,
             });
         };
-        let section = read_section(alloc, Format::First, behind, line + 1)?;
+        let section = read_section(alloc, format, behind, line + 1)?;
         rest = &behind[section.taken..];
         line += 1 + section.instructions.len() as u64;
         programs.push(section.instructions)?;

@@ -1,13 +1,13 @@
 //! The text of a set of programs, read.
 
-ghost use Rattle.std.specs.Prelude.{◌≡◌, ℕ, List, codes, IfSome, IsNone, MatchResult};
+ghost use Rattle.std.specs.Prelude.{◌≡◌, ℕ, List, IfSome, IsNone, MatchResult};
 ghost use Rattle.std.specs.List.{AllByRecursion};
-ghost use Rattle.core_program.specs.Answers.{IsSetFault, SpellsSet};
+ghost use Rattle.core_program.specs.Answers.{IsJumpFault, IsSetFault, SpellsSet};
 ghost use Rattle.core_program.specs.Grammar.{IsSection, IsSetOf};
-ghost use Rattle.core_program.specs.inner.Reading.{cores_of};
-ghost use Rattle.core_program.specs.inner.Sections.{HeaderInFront, IsLineFault};
+ghost use Rattle.core_program.specs.inner.Reading.{cores_of, first_words, header_of};
+ghost use Rattle.core_program.specs.inner.Sections.{HeaderInFront, IsLineFault, parts_of};
+ghost use Rattle.decimal_text.specs.Reading.{front_now};
 ghost use Rattle.core_program.specs.Sections.{section_lists};
-ghost use Rattle.core_program.specs.Answers.{IsJumpFault};
 ghost use Rattle.core_program.specs.Shape.{IsProgram};
 
 use super::fault::ProgramFault;
@@ -23,66 +23,91 @@ use std::alloc::Global;
 /// The most cores of a set.
 const CORE_LIMIT: u64 = 64;
 
-/// The first words of a set of programs of a format.
-fn first_words(format: Format) -> &'static [u8]
-    ensures { result.now ≡ codes "tardis-programs 1 cores " }
+/// The format that a header's first words say, and the bytes after them.
+#[tactic(auto, unfolding(crate::specs::inner::Reading::first_words))]
+fn format_of(line: &[u8]) -> Option<(Format, &[u8])>
+    ensures { front_now result ≡ first_words line.now }
 {
-    match format {
-        Format::First => b"tardis-programs 1 cores ",
+    if let Some(rest) = after_text(b"tardis-programs 1 cores ", line) {
+        return Some((Format::One, rest));
     }
+    let rest = after_text(b"tardis-programs 2 cores ", line)?;
+    Some((Format::Two, rest))
 }
 
-/// The number of cores that a header tells, 1..64.
+/// The number of cores after a header's first words, 1..64.
 #[tactic(auto, unfolding(crate::specs::inner::Reading::cores_of))]
-fn cores_of(format: Format, line: &[u8]) -> Option<u64>
-    ensures { result ≡ cores_of line.now }
+fn cores_of(bytes: &[u8]) -> Option<u64>
+    ensures { result ≡ cores_of bytes.now }
 {
-    let cores = read_last(after_text(first_words(format), line)?)??;
+    let cores = read_last(bytes)??;
     if cores == 0 || cores > CORE_LIMIT {
         return None;
     }
     Some(cores)
 }
 
-/// The number of cores that the first line tells, and the bytes after that line; None where it isn't
-/// a header with such a number.
-fn after_header(format: Format, text: &[u8]) -> Option<(u64, &[u8])>
-    ensures found { IfSome result (λ read. HeaderInFront read.0 text.now read.1.now) }
-    ensures none { IsNone result →
-        (cores : ℕ) (rest : List ℕ) → ¬ HeaderInFront cores text.now rest }
+/// The format and the number of cores that a header tells.
+#[tactic(auto, unfolding(crate::specs::inner::Reading::header_of))]
+fn header_of(line: &[u8]) -> Option<(Format, u64)>
+    ensures { result ≡ header_of line.now }
 {
-    let (line, rest) = next_line(text)?;
-    Some((cores_of(format, line)?, rest))
+    let (format, rest) = format_of(line)?;
+    let cores = cores_of(rest)?;
+    Some((format, cores))
 }
 
-/// The sections of a set's text. A fault is that of the first line that isn't as it should be.
-fn read_set(
-    alloc: Global,
+/// The format and the number of cores that the first line tells, and the bytes after that line; None
+/// where it isn't a header with such a number.
+fn after_header(text: &[u8]) -> Option<(Format, u64, &[u8])>
+    ensures found { IfSome result (λ read. HeaderInFront read.0 read.1 text.now read.2.now) }
+    ensures none { IsNone result →
+        (format : Format) (cores : ℕ) (rest : List ℕ) → ¬ HeaderInFront format cores text.now rest }
+{
+    let (line, rest) = next_line(text)?;
+    let (format, cores) = header_of(line)?;
+    Some((format, cores, rest))
+}
+
+/// A set's format, and its sections.
+#[derive(Drop)]
+struct Parts {
     format: Format,
-    text: &[u8],
-) -> Result<Vec<Vec<Instruction>>, ProgramFault>
+    sections: Vec<Vec<Instruction>>,
+}
+
+/// The format and the sections of a set's text. A fault is that of the first line that isn't as it
+/// should be.
+fn read_set(alloc: Global, text: &[u8]) -> Result<Parts, ProgramFault>
     ensures { MatchResult result
-        (λ sections. SpellsSet text.now (section_lists sections.items))
+        (λ parts. SpellsSet text.now (parts_of parts))
         (λ fault. IsLineFault text.now fault) }
 {
-    let Some((cores, body)) = after_header(format, text) else {
+    let Some((format, cores, body)) = after_header(text) else {
         return Err(ProgramFault::BadLine(1));
     };
-    let sections = read_sections(alloc, cores, body)?;
+    let sections = read_sections(alloc, format, cores, body)?;
     if (sections.programs.len() as u64) < cores {
         return Err(ProgramFault::BadLine(sections.line));
     }
     match after_text(b"end\n", &body[sections.taken..]) {
         None => Err(ProgramFault::BadLine(sections.line)),
-        Some([]) => Ok(sections.programs),
+        Some([]) => Ok(Parts {
+            format,
+            sections: sections.programs,
+        }),
         Some(_) => Err(ProgramFault::BadLine(sections.line + 1)),
     }
 }
 
 /// The programs of a set's sections. SkipPastEnd at the line of the first jump past the end of its
 /// program.
-fn programs_of(alloc: Global, sections: Vec<Vec<Instruction>>) -> Result<Vec<Program>, ProgramFault>
-    requires { IsSetOf IsSection (section_lists sections.items) }
+fn programs_of(
+    alloc: Global,
+    format: Format,
+    sections: Vec<Vec<Instruction>>,
+) -> Result<Vec<Program>, ProgramFault>
+    requires { IsSetOf (IsSection format) (section_lists sections.items) }
     ensures { MatchResult result
         (λ programs. (programs.items ≡ section_lists sections.items)
         × AllByRecursion IsProgram programs.items)
@@ -102,31 +127,35 @@ fn programs_of(alloc: Global, sections: Vec<Vec<Instruction>>) -> Result<Vec<Pro
 
 impl ProgramSet {
     /// The set whose text this is: a header, a section for each core, `end`, each line ended by a
-    /// line feed, and nothing after. BadLine at the first line that isn't so, or is missing,
-    /// TooLong at the line of a section's 4,097th instruction, whichever comes first; where there
-    /// is neither, SkipPastEnd at the first jump past the end of its program.
+    /// line feed, and nothing after. The header says the format, and each instruction is one that
+    /// the format has. BadLine at the first line that isn't so, or is missing, TooLong at the line of
+    /// a section's 4,097th instruction, whichever comes first; where there is neither, SkipPastEnd at
+    /// the first jump past the end of its program.
     pub fn parse(alloc: Global, text: &[u8]) -> Result<ProgramSet, ProgramFault>
         ensures { MatchResult result
-            (λ set. SpellsSet text.now set.programs × AllByRecursion IsProgram set.programs)
+            (λ set. SpellsSet text.now set × AllByRecursion IsProgram set.programs)
             (λ fault. IsSetFault text.now fault) }
     {
-        let sections = read_set(alloc, Format::First, text)?;
-        ProgramSet::of_sections(alloc, sections)
+        let parts = read_set(alloc, text)?;
+        ProgramSet::of_sections(alloc, parts.format, parts.sections)
     }
 
-    /// The set of these sections, of 1..64 cores, each of at most 4,096 instructions in range.
-    /// SkipPastEnd at the first jump past the end of its program, where core 0's line is line 2.
+    /// The set of these sections, of 1..64 cores, each of at most 4,096 instructions that the format
+    /// has, in range. SkipPastEnd at the first jump past the end of its program, where core 0's line
+    /// is line 2.
     pub fn of_sections(
         alloc: Global,
+        format: Format,
         sections: Vec<Vec<Instruction>>,
     ) -> Result<ProgramSet, ProgramFault>
-        requires { IsSetOf IsSection (section_lists sections.items) }
+        requires { IsSetOf (IsSection format) (section_lists sections.items) }
         ensures { MatchResult result
-            (λ set. (set.programs ≡ section_lists sections.items) × AllByRecursion IsProgram set.programs)
+            (λ set. (set ≡ record { format = format; programs = section_lists sections.items })
+            × AllByRecursion IsProgram set.programs)
             (λ fault. IsJumpFault (section_lists sections.items) fault) }
     {
-        let programs = programs_of(alloc, sections)?;
-        match ProgramSet::new(programs) {
+        let programs = programs_of(alloc, format, sections)?;
+        match ProgramSet::new(format, programs) {
             Some(set) => Ok(set),
             None => unreachable!(),
         }

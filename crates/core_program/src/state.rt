@@ -57,13 +57,14 @@ impl ProgramState {
             Instruction::Load(_, addr) => Some(Op::Load(*addr)),
             Instruction::Store(addr, value) => Some(Op::Store(*addr, *value)),
             Instruction::StoreRegister(addr, from) => Some(Op::Store(*addr, self.reg(*from))),
+            Instruction::Swap(_, addr, value) => Some(Op::Swap(*addr, *value)),
             Instruction::Add(..) | Instruction::SkipIfZero(..) => None,
         }
     }
 
-    /// Performs the next operation and moves on. A load puts this word into its register; a store
-    /// has no use for it. The state is one of this program, and an operation is left. Takes no
-    /// memory.
+    /// Performs the next operation and moves on. A load and a swap put this word into their register;
+    /// a store has no use for it. The state is one of this program, and an operation is left. Takes
+    /// no memory.
     pub fn answer(&mut self, program: &Program, word: Word)
         requires own { IsAtRest program.now self.old }
         requires left { IsSome (next_op program.now self.old) }
@@ -100,13 +101,13 @@ impl ProgramState {
         program.instructions().get(usize::from(self.position))
     }
 
-    // Performs an instruction. A load reads this word.
+    // Performs an instruction. A load and a swap read this word.
     fn perform(&mut self, instruction: &Instruction, word: Word)
         requires { self.old.position ≤ 4096 }
         ensures { self.new ≡ after instruction.now word self.old }
     {
         match instruction {
-            Instruction::Load(to, _) => self.set_reg(*to, word),
+            Instruction::Load(to, _) | Instruction::Swap(to, _, _) => self.set_reg(*to, word),
             Instruction::Store(..) | Instruction::StoreRegister(..) => {}
             Instruction::Add(to, from, value) => {
                 self.set_reg(*to, self.reg(*from).wrapping_add(*value));

@@ -3,7 +3,9 @@
 use Rattle.std.specs.Prelude.{ℕ, ◌^◌, ◌==◌, nat_lt, if◌then◌else◌, List, Option, Some, None, is_some, codes}
 use Rattle.decimal_text.specs.Reading.{◌>>=◌, after, field_at, last_number}
 use Rattle.core_program.specs.declared.instruction.Instruction.{Instruction}
-use Rattle.core_program.specs.declared.instruction.Instruction.TheVariants.{Load, Store, StoreRegister, Add, SkipIfZero}
+use Rattle.core_program.specs.declared.instruction.Instruction.TheVariants.{Load, Store, StoreRegister, Add, SkipIfZero, Swap}
+use Rattle.core_program.specs.declared.format.Format.{Format}
+use Rattle.core_program.specs.declared.format.Format.TheVariants.{One, Two}
 
 -- the number, where it is less than this, and the bytes after it
 abbrev pub front_below : ℕ → ℕ × List ℕ → Option (ℕ × List ℕ)
@@ -50,22 +52,40 @@ add_of bytes = register_at bytes >>= λ to. register_at to.1 >>= λ from. last_w
 unfoldable pub skip_of : List ℕ → Option Instruction
 skip_of bytes = register_at bytes >>= λ tested. last_skip tested.1 >>= λ skip. Some (SkipIfZero tested.0 skip)
 
+unfoldable pub swap_of : List ℕ → Option Instruction
+swap_of bytes = register_at bytes >>= λ to. addr_at to.1 >>= λ addr. last_word addr.1 >>= λ value. Some (Swap to.0 addr.0 value)
+
 -- what a reading of the fields makes of a line that begins with this name, else what another reading makes of it
 abbrev pub named : List ℕ → (List ℕ → Option Instruction) → List ℕ → Option Instruction → Option Instruction
 named name fields line other = if is_some (after name line) then (after name line >>= fields) else other
 
--- the instruction whose line this is
-unfoldable pub instruction_of : List ℕ → Option Instruction
-instruction_of line =
+-- the swap whose line this is in a format that has swaps
+abbrev pub swap_in : Format → List ℕ → Option Instruction
+swap_in One line = None
+swap_in Two line = named (codes "sw ") swap_of line None
+
+-- the instruction of this format whose line this is
+unfoldable pub instruction_of : Format → List ℕ → Option Instruction
+instruction_of format line =
     named (codes "ld ") load_of line
     (named (codes "st ") store_of line
     (named (codes "sr ") store_register_of line
     (named (codes "ai ") add_of line
-    (named (codes "jz ") skip_of line None))))
+    (named (codes "jz ") skip_of line (swap_in format line)))))
 
--- the number of cores of a header
+-- the format that the first words of a header say, and the bytes after them
+unfoldable pub first_words : List ℕ → Option (Format × List ℕ)
+first_words line =
+    if is_some (after (codes "tardis-programs 1 cores ") line) then (after (codes "tardis-programs 1 cores ") line >>= λ rest. Some (One, rest))
+    else (after (codes "tardis-programs 2 cores ") line >>= λ rest. Some (Two, rest))
+
+-- the number of cores after them
 unfoldable pub cores_of : List ℕ → Option ℕ
-cores_of line = after (codes "tardis-programs 1 cores ") line >>= last_number >>= λ n. if n == 0 then None else below 65 n
+cores_of bytes = last_number bytes >>= λ n. if n == 0 then None else below 65 n
+
+-- the format and the number of cores of a header
+unfoldable pub header_of : List ℕ → Option (Format × ℕ)
+header_of line = first_words line >>= λ front. cores_of front.1 >>= λ cores. Some (front.0, cores)
 
 -- the core whose section a line begins
 unfoldable pub core_of : List ℕ → Option ℕ

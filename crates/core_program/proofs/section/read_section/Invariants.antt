@@ -4,7 +4,7 @@ use Rattle.core_program.proofs.SectionTexts.{SoFar}
 use Rattle.core_program.proofs.section.read_section.Given as goal
 
 abbrev pub invariant-loop-instruction : goal.invariant-loop-instruction
-invariant-loop-instruction l = SoFar l.text l.instructions.items l.rest
+invariant-loop-instruction l = SoFar l.format l.text l.instructions.items l.rest
 
 abbrev pub decreases-loop-instruction : goal.decreases-loop-instruction
 decreases-loop-instruction l = length l.rest

@@ -5,12 +5,12 @@ use Rattle.core_program.proofs.set_text.after_header.Goals as goal
 pub returns-in_err-line-clause-none : goal.returns-in_err-line-clause-none
 returns-in_err-line-clause-none c = λ _. no_header_without_feed c.args.text.now (c.in_err-line.ensures.none refl)
 
-pub returns-in_err-cores_of-clause-none : goal.returns-in_err-cores_of-clause-none
-returns-in_err-cores_of-clause-none c = λ _.
+pub returns-in_err-format-clause-none : goal.returns-in_err-format-clause-none
+returns-in_err-format-clause-none c = λ _.
     let found = c.in_ok-line.ensures.found in
-    no_header_of_other c.args.text.now c.in_ok-line.line.now c.in_ok-line.rest.now found.0 found.1 c.in_err-cores_of.ensures
+    no_header_of_other c.args.text.now c.in_ok-line.line.now c.in_ok-line.rest.now found.0 found.1 c.in_err-format.ensures
 
 pub returns-clause-found : goal.returns-clause-found
 returns-clause-found c =
     let found = c.in_ok-line.ensures.found in
-    header_in_front c.args.text.now c.in_ok-line.line.now c.in_ok-line.rest.now c.in_ok-cores_of.field-0 found.1 c.in_ok-cores_of.ensures
+    header_in_front c.args.text.now c.in_ok-line.line.now c.in_ok-line.rest.now c.in_ok-format.format c.in_ok-format.cores found.1 c.in_ok-format.ensures

@@ -13,7 +13,7 @@ skip_past_end-requires c =
     let all = c.args.sections.items in
     let n = length c.loop-instructions.yielded in
     let section = c.in-Some.instructions in
-    let next = next_section all n section c.requires.each
+    let next = next_section c.args.format all n section c.requires.each
     (YieldsList-turn (YieldsList-from_vec all (cc) (cc)) c.loop-instructions.yielded _ c.loop-instructions.yielded_by _ c.next.new.self section c.in-Some.is c.next.ensures.steps) in
     rw c.as_slice.ensures.value next.1.few
 
@@ -22,7 +22,7 @@ returns-in-Some-skip_past_end c =
     let all = c.args.sections.items in
     let n = length c.loop-instructions.yielded in
     let section = c.in-Some.instructions in
-    let next = next_section all n section c.requires.each
+    let next = next_section c.args.format all n section c.requires.each
     (YieldsList-turn (YieldsList-from_vec all (cc) (cc)) c.loop-instructions.yielded _ c.loop-instructions.yielded_by _ c.next.new.self section c.in-Some.is c.next.ensures.steps) in
     let so-far = c.loop-instructions.invariant in
     let found = c.in-Some-skip_past_end.ensures in
@@ -35,7 +35,7 @@ of_checked-requires c =
     let all = c.args.sections.items in
     let n = length c.loop-instructions.yielded in
     let section = c.in-Some.instructions in
-    let next = next_section all n section c.requires.each
+    let next = next_section c.args.format all n section c.requires.each
     (YieldsList-turn (YieldsList-from_vec all (cc) (cc)) c.loop-instructions.yielded _ c.loop-instructions.yielded_by _ c.next.new.self section c.in-Some.is c.next.ensures.steps) in
     record { short = next.1.few; inside = rw c.as_slice.ensures.value at c.in_default.ensures.least }
 
@@ -44,7 +44,7 @@ loop-instructions-preserved c =
     let all = c.args.sections.items in
     let n = length c.loop-instructions.yielded in
     let section = c.in-Some.instructions in
-    let next = next_section all n section c.requires.each
+    let next = next_section c.args.format all n section c.requires.each
     (YieldsList-turn (YieldsList-from_vec all (cc) (cc)) c.loop-instructions.yielded _ c.loop-instructions.yielded_by _ c.next.new.self section c.in-Some.is c.next.ensures.steps) in
     let is : IsProgram section.items = record { short = next.1.few; inside = rw c.as_slice.ensures.value at c.in_default.ensures.least } in
     one_more_program (section_lists all) c.loop-instructions.programs.items c.push.new.self.items n _ c.loop-instructions.line (c.loop-instructions.line + (c.len.result + 1)) section.items

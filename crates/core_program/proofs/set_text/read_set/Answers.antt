@@ -1,19 +1,20 @@
 -- The first line that is wrong, wherever the reader meets it.
-use Rattle.std.proofs.Common.{◌≡◌, ℕ, List, ◌+◌, ◌<◌, refl, sym, ap, subst, ◌∙◌, arith, length, drop}
+use Rattle.std.proofs.Common.{ℕ, List, ◌+◌, ◌<◌, refl, sym, ◌∙◌, arith, length, drop}
 use Rattle.std.proofs.lemmas.Result.{err_from_is_err_and}
 use Rattle.std.proofs.lemmas.List.{length-map}
+use Rattle.core_program.specs.declared.format.Format.{Format}
 use Rattle.core_program.specs.declared.sections.Sections.{Sections}
-use Rattle.core_program.specs.Grammar.{header_text}
+use Rattle.core_program.specs.Grammar.{format_number, header_text}
 use Rattle.core_program.specs.Sections.{AreSectionsOf, section_lists}
 use Rattle.core_program.specs.inner.Sections.{HeaderInFront}
 use Rattle.core_program.proofs.SectionsOf.{AfterSections}
-use Rattle.core_program.proofs.SetTexts.{after_header, bad_header, more_behind, no_core_line, no_last_line, rest_is, sections_refused, set_spelled}
+use Rattle.core_program.proofs.SetTexts.{after_header, bad_header, more_behind, no_core_line, no_last_line, rest_is, sections_refused}
 use Rattle.core_program.proofs.set_text.read_set.Goals as goal
 
-stands : (text body : List ℕ) (cores : ℕ) (found : Sections) → HeaderInFront cores text body → AreSectionsOf cores body found
-    → AfterSections (header_text 1 cores) cores text (section_lists found.programs.items) (drop found.taken body) found.line
-stands text body cores found there are =
-    after_header text body (drop found.taken body) (header_text 1 cores) cores found.line (section_lists found.programs.items) there.2 are.in_front are.line
+stands : (format : Format) (text body : List ℕ) (cores : ℕ) (found : Sections) → HeaderInFront format cores text body → AreSectionsOf format cores body found
+    → AfterSections format (header_text (format_number format) cores) cores text (section_lists found.programs.items) (drop found.taken body) found.line
+stands format text body cores found there are =
+    after_header format text body (drop found.taken body) (header_text (format_number format) cores) cores found.line (section_lists found.programs.items) there.2 are.in_front are.line
 
 pub returns-in_default : goal.returns-in_default
 returns-in_default c = bad_header c.args.text.now (c.in_default.ensures.none refl)
@@ -21,7 +22,7 @@ returns-in_default c = bad_header c.args.text.now (c.in_default.ensures.none ref
 pub returns-in_err-sections : goal.returns-in_err-sections
 returns-in_err-sections c =
     let p = err_from_is_err_and c.from_residual.result c.from_residual.ensures.1 in
-    rw (p.1, p.2) (sections_refused c.args.text.now c.in-Some.body.now c.in-Some.cores c.in_err-sections.field-0.0 c.in-Some.ensures.found c.in_err-sections.ensures.refused)
+    rw (p.1, p.2) (sections_refused c.in-Some.format c.args.text.now c.in-Some.body.now c.in-Some.cores c.in_err-sections.field-0.0 c.in-Some.ensures.found c.in_err-sections.ensures.refused)
 
 pub returns-then-len-cores : goal.returns-then-len-cores
 returns-then-len-cores c =
@@ -29,16 +30,16 @@ returns-then-len-cores c =
     let there = c.in-Some.ensures.found in
     let are = c.in_ok-sections.ensures.found in
     let less : length (section_lists found.programs.items) < c.in-Some.cores = omega (arith, length-map found.programs.items (λ section. section.items), c.if-len-cores.true) in
-    no_core_line c.args.text.now (drop found.taken c.in-Some.body.now) c.in-Some.cores found.line (section_lists found.programs.items) there.0 there.1
-    (stands c.args.text.now c.in-Some.body.now c.in-Some.cores found there are) less (are.all less)
+    no_core_line c.in-Some.format c.args.text.now (drop found.taken c.in-Some.body.now) c.in-Some.cores found.line (section_lists found.programs.items) there.0 there.1
+    (stands c.in-Some.format c.args.text.now c.in-Some.body.now c.in-Some.cores found there are) less (are.all less)
 
 pub returns-in-None : goal.returns-in-None
 returns-in-None c =
     let found = c.in_ok-sections.sections in
     let there = c.in-Some.ensures.found in
     let are = c.in_ok-sections.ensures.found in
-    no_last_line c.args.text.now (drop found.taken c.in-Some.body.now) c.in-Some.cores found.line (section_lists found.programs.items) there.0 there.1
-    (stands c.args.text.now c.in-Some.body.now c.in-Some.cores found there are)
+    no_last_line c.in-Some.format c.args.text.now (drop found.taken c.in-Some.body.now) c.in-Some.cores found.line (section_lists found.programs.items) there.0 there.1
+    (stands c.in-Some.format c.args.text.now c.in-Some.body.now c.in-Some.cores found there are)
     (omega (arith, length-map found.programs.items (λ section. section.items), c.if-len-cores.false, are.in_front.within))
     (λ behind is. c.in-None.ensures.none refl behind (sym (rest_is c.in-Some.body.now found.taken) ∙ is))
 
@@ -47,7 +48,7 @@ returns-in-Some-after_text c =
     let found = c.in_ok-sections.sections in
     let there = c.in-Some.ensures.found in
     let are = c.in_ok-sections.ensures.found in
-    more_behind c.args.text.now (drop found.taken c.in-Some.body.now) c.in-Some-after_text.field-0.now c.in-Some.cores found.line (found.line + 1)
-    (section_lists found.programs.items) there.0 there.1 (stands c.args.text.now c.in-Some.body.now c.in-Some.cores found there are)
+    more_behind c.in-Some.format c.args.text.now (drop found.taken c.in-Some.body.now) c.in-Some-after_text.field-0.now c.in-Some.cores found.line (found.line + 1)
+    (section_lists found.programs.items) there.0 there.1 (stands c.in-Some.format c.args.text.now c.in-Some.body.now c.in-Some.cores found there are)
     (omega (arith, length-map found.programs.items (λ section. section.items), c.if-len-cores.false, are.in_front.within))
     (rest_is c.in-Some.body.now found.taken ∙ c.in-Some-after_text.ensures.found) (omega (arith, c.in-Some-after_text.len_at_least)) refl
