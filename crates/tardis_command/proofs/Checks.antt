@@ -6,6 +6,8 @@ use Rattle.std.specs.Borrow.{Bor}
 use Rattle.command_line.specs.declared.request.Check.{Check}
 use Rattle.log_record.specs.declared.record.Record.{Record}
 use Rattle.core_program.specs.Answers.{SpellsSet}
+use Rattle.core_program.specs.declared.format.Format.{Format}
+use Rattle.core_program.specs.SetParts.{SetParts}
 use Rattle.core_program.specs.declared.instruction.Instruction.{Instruction}
 use Rattle.log_file.specs.Devices.{Tells}
 use Rattle.log_file.specs.Sets.{TellEach}
@@ -92,16 +94,21 @@ against told asked (Err OutOfMemory) h = tt
 pub against_none : (told : List ℕ → Option (List ℕ)) (asked : Check) (Holds : Option (List (List Instruction)) → Type 0) → asked.program ≡ None → Holds None → Against told asked.program Holds
 against_none told asked Holds none h = subst (λ name. Against told name Holds) (sym none) (None, tt, h)
 
+-- a set of programs that was read has some format
+pub of_format : {told : List ℕ → Option (List ℕ)} {name : List ℕ} (set : SetParts) → (text : List ℕ) × Tells (told name) text × SpellsSet text set
+    → (text : List ℕ) × Tells (told name) text × (format : Format) × SpellsSet text (record { format = format; programs = set.programs })
+of_format set (text, tells, spells) = (text, tells, set.format, spells)
+
 -- where their file was read
 pub against_some : (told : List ℕ → Option (List ℕ)) (asked : Check) (name : Bor (List ℕ)) (programs : List (List Instruction)) (Holds : Option (List (List Instruction)) → Type 0) → asked.program ≡ Some name
-    → (text : List ℕ) × Tells (told name.now) text × SpellsSet text programs → Holds (Some programs) → Against told asked.program Holds
+    → (text : List ℕ) × Tells (told name.now) text × (format : Format) × SpellsSet text (record { format = format; programs = programs }) → Holds (Some programs) → Against told asked.program Holds
 against_some told asked name programs Holds some read h = subst (λ n. Against told n Holds) (sym some) (Some programs, read, h)
 
 pub checked_none : (told : List ℕ → Option (List ℕ)) (asked : Check) (answer : Result Verdict JudgeFault) → asked.program ≡ None → IsCheckedAgainst told None asked answer → IsChecked told asked (lifted answer)
 checked_none told asked answer none h = against told asked answer (against_none told asked _ none h)
 
 pub checked_some : (told : List ℕ → Option (List ℕ)) (asked : Check) (name : Bor (List ℕ)) (programs : List (List Instruction)) (answer : Result Verdict JudgeFault) → asked.program ≡ Some name
-    → (text : List ℕ) × Tells (told name.now) text × SpellsSet text programs → IsCheckedAgainst told (Some programs) asked answer → IsChecked told asked (lifted answer)
+    → (text : List ℕ) × Tells (told name.now) text × (format : Format) × SpellsSet text (record { format = format; programs = programs }) → IsCheckedAgainst told (Some programs) asked answer → IsChecked told asked (lifted answer)
 checked_some told asked name programs answer some read h = against told asked answer (against_some told asked name programs _ some read h)
 
 -- where there are none

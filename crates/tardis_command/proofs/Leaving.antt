@@ -9,9 +9,10 @@ use Rattle.log_record.specs.declared.record.Record.{Record}
 use Rattle.log_record.specs.Entries.{entries}
 use Rattle.log_file.specs.Devices.{Tells}
 use Rattle.log_file.specs.Log.{Spells, SpellsIn}
-use Rattle.log_record.specs.declared.format.Format.TheVariants.{One}
+use Rattle.log_record.specs.declared.format.Format.{Format}
 use Rattle.log_file.specs.Sets.{SpellFrom}
 use Rattle.core_program.specs.declared.instruction.Instruction.{Instruction}
+use Rattle.core_program.specs.SetParts.{SetParts}
 use Rattle.manager_slice.specs.Parts.{SliceParts}
 use Rattle.core_unit.specs.Core.{Core}
 use Rattle.core_unit.specs.Parts.{UnitParts, core_of}
@@ -33,7 +34,7 @@ use Rattle.litmus.proofs.Judged.{spell_push}
 use Rattle.tardis_command.specs.Files.{Files}
 use Rattle.tardis_command.specs.Leaving.{AreLogTexts, LeavesYes}
 use Rattle.tardis_command.specs.Logs.{TellsFirst, log_name}
-use Rattle.tardis_command.specs.Programmed.{AreProgramsIn, config_of}
+use Rattle.tardis_command.specs.Programmed.{AreProgramsIn, config_of, log_format}
 use Rattle.tardis_command.specs.Running.{IsThreadRun}
 use Rattle.tardis_command.specs.Simulating as simulating
 use Rattle.tardis_command.specs.declared.answer.Answer.{Answer}
@@ -55,40 +56,40 @@ one_more_told told out texts text n count each tells c t at = elim (found_in_pus
   | inr new ↦ subst (λ (x : List ℕ). Tells (told (log_name out c)) x) (sym new.1) (subst (λ m. Tells (told (log_name out m)) text) (sym (new.0 ∙ count)) tells)
 ]
 
-texts_below : (told : List ℕ → Option (List ℕ)) (out : List ℕ) (cores : ℕ) (w : World) (n : ℕ) → TellsFirst One told out cores (log_at w) n → TextsBelow told out cores w n
-texts_below told out cores w zero first = record { texts = []; spell = tt; count = refl; told_each = λ c text at. absurd cc }
-texts_below told out cores w (suc n) first =
-    let before = texts_below told out cores w n (λ c below. first c (omega arith)) in
+texts_below : (format : Format) (told : List ℕ → Option (List ℕ)) (out : List ℕ) (cores : ℕ) (w : World) (n : ℕ) → TellsFirst format told out cores (log_at w) n → TextsBelow told out cores w n
+texts_below format told out cores w zero first = record { texts = []; spell = tt; count = refl; told_each = λ c text at. absurd cc }
+texts_below format told out cores w (suc n) first =
+    let before = texts_below format told out cores w n (λ c below. first c (omega arith)) in
     let (text, tells, spells) = first n (omega arith) in
     let at : n ≡ 0 + n = omega arith in
     record {
       texts = before.texts ++ text ∷ [];
-      spell = spell_push 0 cores n before.texts (logs_below w n) text (log_at w n) before.spell before.count (subst (λ (c : ℕ). Spells c cores text (log_at w n)) at (One, spells));
+      spell = spell_push 0 cores n before.texts (logs_below w n) text (log_at w n) before.spell before.count (subst (λ (c : ℕ). Spells c cores text (log_at w n)) at (format, spells));
       count = omega (arith, length-append before.texts (text ∷ []), before.count);
       told_each = one_more_told told out before.texts text n before.count before.told_each tells;
     }
 
 -- logs that get Yes against the programs are left
-leaves : (told told' : List ℕ → Option (List ℕ)) (name out : List ℕ) (programs : List (List Instruction)) (w : World) → AreProgramsIn told name programs
-    → TellsFirst One told' out (length programs) (log_at w) (length programs) → GetYesBy programs (logs_below w (length programs)) → LeavesYes told told' name out
-leaves told told' name out programs w read first gets_yes =
-    let below = texts_below told' out (length programs) w (length programs) first in
-    let spell = subst (λ n. SpellFrom 0 n below.texts (logs_below w (length programs))) (sym below.count) below.spell in
-    (programs, read, below.texts, below.count, below.told_each, length (entries (logs_below w (length programs))), (logs_below w (length programs), spell, sym gets_yes))
+leaves : (told told' : List ℕ → Option (List ℕ)) (name out : List ℕ) (set : SetParts) (w : World) → AreProgramsIn told name set
+    → TellsFirst (log_format set.format) told' out (length set.programs) (log_at w) (length set.programs) → GetYesBy set.programs (logs_below w (length set.programs)) → LeavesYes told told' name out
+leaves told told' name out set w read first gets_yes =
+    let below = texts_below (log_format set.format) told' out (length set.programs) w (length set.programs) first in
+    let spell = subst (λ n. SpellFrom 0 n below.texts (logs_below w (length set.programs))) (sym below.count) below.spell in
+    (set, read, below.texts, below.count, below.told_each, length (entries (logs_below w (length set.programs))), (logs_below w (length set.programs), spell, sym gets_yes))
 
 -- ---- a simulation
 
-at_most_64 : (told : List ℕ → Option (List ℕ)) (name : List ℕ) (programs : List (List Instruction)) → AreProgramsIn told name programs → length programs ≤ 64
-at_most_64 told name programs (text, tells, spells) = spells.0.few
+at_most_64 : (told : List ℕ → Option (List ℕ)) (name : List ℕ) (set : SetParts) → AreProgramsIn told name set → length set.programs ≤ 64
+at_most_64 told name set (text, tells, spells) = spells.0.few
 
 pub sim_leaves : (old new : Files) (asked : AskedSim) (count : ℕ) → simulating.IsRun old new asked (Ok count) → LeavesYes old.told new.told asked.programs.now asked.out.now
-sim_leaves old new asked count (sound, programs, read, (commands, parsed, (q, did, (counted, put)))) =
+sim_leaves old new asked count (sound, set, read, (commands, parsed, (q, did, (counted, put)))) =
     let g = config_of asked.limits in
-    let start = opening_parts programs g in
+    let start = opening_parts set.programs g in
     let run = simulated_run commands asked.seed start q did in
-    let led = subst (λ (w : World). Run g w (simulated_events commands asked.seed start q did) (world q)) (opening_world programs g) run.run in
-    leaves old.told new.told asked.programs.now asked.out.now programs (world q) read put.0.logs
-    (ended_below_get_yes programs g (world q) (at_most_64 old.told asked.programs.now programs read) (simulated_events commands asked.seed start q did, led) (simulated_ended commands asked.seed start q did))
+    let led = subst (λ (w : World). Run g w (simulated_events commands asked.seed start q did) (world q)) (opening_world set.programs g) run.run in
+    leaves old.told new.told asked.programs.now asked.out.now set (world q) read put.0.logs
+    (ended_below_get_yes set.programs g (world q) (at_most_64 old.told asked.programs.now set read) (simulated_events commands asked.seed start q did, led) (simulated_ended commands asked.seed start q did))
 
 -- ---- a run in threads
 
@@ -102,12 +103,12 @@ kept_is programs g us ss run c = rw (slice_get-map (λ (u : UnitParts). core_of 
     go (Some u) at = ap (λ b. if b then u.log else []) (eq-eqb u.core c (run.units c u at).core)
 
 pub run_leaves : (old new : Files) (asked : AskedRun) (count : ℕ) → IsThreadRun old new asked (Ok count) → LeavesYes old.told new.told asked.programs.now asked.out.now
-run_leaves old new asked count (sound, programs, read, (us, ss, run, events, (counted, put))) =
+run_leaves old new asked count (sound, set, read, (us, ss, run, events, (counted, put))) =
     let g = config_of asked.limits in
     let w : World = world_of (map (λ u. core_of u None) us) ss in
-    leaves old.told new.told asked.programs.now asked.out.now programs w read
-    (λ c below. subst (λ (log : List Record). (text : List ℕ) × Tells (new.told (log_name asked.out.now c)) text × SpellsIn One c (length programs) text log) (kept_is programs g us ss run c) (put.0.logs c below))
-    (whole_below_get_yes programs g us ss run)
+    leaves old.told new.told asked.programs.now asked.out.now set w read
+    (λ c below. subst (λ (log : List Record). (text : List ℕ) × Tells (new.told (log_name asked.out.now c)) text × SpellsIn (log_format set.format) c (length set.programs) text log) (kept_is set.programs g us ss run c) (put.0.logs c below))
+    (whole_below_get_yes set.programs g us ss run)
 
 -- ---- whatever is answered
 

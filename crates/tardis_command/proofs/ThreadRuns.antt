@@ -4,6 +4,7 @@ use Rattle.std.specs.Prelude.{Option, None, Result, Ok, Err, IfOk, IfErr, OnOk}
 use Rattle.command_line.specs.declared.request.Run.{Run as Asked}
 use Rattle.lease_rule.specs.Ranges.{first_bad}
 use Rattle.core_program.specs.declared.instruction.Instruction.{Instruction}
+use Rattle.core_program.specs.SetParts.{SetParts}
 use Rattle.manager_slice.specs.Parts.{SliceParts}
 use Rattle.core_unit.specs.Parts.{UnitParts}
 use Rattle.audit.specs.Runs.{IsRun, IsUnitLog, StoppedShort, kept_log}
@@ -11,26 +12,25 @@ use Rattle.audit.specs.declared.machine_fault.Cause.{Cause}
 use Rattle.audit.specs.declared.machine_fault.Cause.TheVariants.{GaveUp, Stopped}
 use Rattle.machine.specs.Runs.{IsMachineRun}
 use Rattle.machine.specs.declared.fault.RunFault.{RunFault}
-use Rattle.log_record.specs.declared.format.Format.TheVariants.{One}
 use Rattle.tardis_command.specs.Files.{Files}
 use Rattle.tardis_command.specs.Logs.{ArePut, ArePutAsFar, ArePutUpTo, IsUnwritten, performed_below}
-use Rattle.tardis_command.specs.Programmed.{AreProgramsIn, config_of}
+use Rattle.tardis_command.specs.Programmed.{AreProgramsIn, config_of, log_format}
 use Rattle.tardis_command.specs.Running.{AreLeft, IsThreadRun}
 use Rattle.tardis_command.specs.declared.fault.CommandFault.{CommandFault}
 use Rattle.tardis_command.specs.declared.fault.CommandFault.TheVariants.{Judge, Config, Programs, ProgramsUnread, Schedule, ScheduleUnread, Simulation, Run, Test, TestUnread, Collect, LogUnwritten, PictureUnwritten, Output, OutOfMemory}
 
-module _ (old new : Files) (asked : Asked) (programs : List (List Instruction)) (us : List UnitParts)
-    (sound : first_bad (config_of asked.limits) ≡ None) (read : AreProgramsIn old.told asked.programs.now programs) where
-  pub left : (fault : RunFault) → AreLeft programs fault us → ArePutAsFar One old new asked.out.now (length programs) (kept_log us)
+module _ (old new : Files) (asked : Asked) (set : SetParts) (us : List UnitParts)
+    (sound : first_bad (config_of asked.limits) ≡ None) (read : AreProgramsIn old.told asked.programs.now set) where
+  pub left : (fault : RunFault) → AreLeft set.programs fault us → ArePutAsFar (log_format set.format) old new asked.out.now (length set.programs) (kept_log us)
       → IsThreadRun old new asked (Err (Run fault))
-  left fault are far = (sound, programs, read, (us, are, far))
+  left fault are far = (sound, set, read, (us, are, far))
 
-  pub whole : (ss : List SliceParts) → IsRun programs (config_of asked.limits) us ss → IsMachineRun programs (config_of asked.limits) us ss
-      → (written : Result ℕ CommandFault) → IfOk written (λ count. count ≡ performed_below (kept_log us) (length programs))
-      → OnOk written (ArePut One old new asked.out.now (length programs) (kept_log us))
-      → IfErr written (IsUnwritten (ArePutUpTo One old new asked.out.now (length programs) (kept_log us))) → IsThreadRun old new asked written
-  whole ss is events (Ok count) counted put unwritten = (sound, programs, read, (us, ss, is, events, (counted, put)))
-  whole ss is events (Err (LogUnwritten file)) counted put unwritten = (sound, programs, read, (us, ss, is, events, unwritten))
+  pub whole : (ss : List SliceParts) → IsRun set.programs (config_of asked.limits) us ss → IsMachineRun set.programs (config_of asked.limits) us ss
+      → (written : Result ℕ CommandFault) → IfOk written (λ count. count ≡ performed_below (kept_log us) (length set.programs))
+      → OnOk written (ArePut (log_format set.format) old new asked.out.now (length set.programs) (kept_log us))
+      → IfErr written (IsUnwritten (ArePutUpTo (log_format set.format) old new asked.out.now (length set.programs) (kept_log us))) → IsThreadRun old new asked written
+  whole ss is events (Ok count) counted put unwritten = (sound, set, read, (us, ss, is, events, (counted, put)))
+  whole ss is events (Err (LogUnwritten file)) counted put unwritten = (sound, set, read, (us, ss, is, events, unwritten))
   whole ss is events (Err PictureUnwritten) counted put unwritten = absurd unwritten
   whole ss is events (Err OutOfMemory) counted put unwritten = tt
   whole ss is events (Err (Judge fault)) counted put unwritten = absurd unwritten

@@ -1,6 +1,6 @@
 -- What the judge says of the logs that a run leaves in the folder.
 use Rattle.std.specs.Prelude.{◌≡◌, ℕ, List, length, Option, Some, Ok, slice_get}
-use Rattle.core_program.specs.declared.instruction.Instruction.{Instruction}
+use Rattle.core_program.specs.SetParts.{SetParts}
 use Rattle.log_file.specs.Devices.{Tells}
 use Rattle.verdict.specs.Judgement.{IsRunAnswerTo}
 use Rattle.verdict.specs.declared.answer.Verdict.TheVariants.{Yes}
@@ -15,5 +15,5 @@ AreLogTexts told out texts = (c : ℕ) (text : List ℕ) → slice_get texts c �
 -- programs. The folder told `told` before, and tells `told'` after.
 abbrev pub LeavesYes : (List ℕ → Option (List ℕ)) → (List ℕ → Option (List ℕ)) → List ℕ → List ℕ → Type 0
 LeavesYes told told' name out =
-    (programs : List (List Instruction)) × AreProgramsIn told name programs × (texts : List (List ℕ)) × (length texts ≡ length programs)
-    × AreLogTexts told' out texts × (count : ℕ) × IsRunAnswerTo programs texts (Ok (Yes count))
+    (set : SetParts) × AreProgramsIn told name set × (texts : List (List ℕ)) × (length texts ≡ length set.programs)
+    × AreLogTexts told' out texts × (count : ℕ) × IsRunAnswerTo set.programs texts (Ok (Yes count))

@@ -4,7 +4,11 @@ use Rattle.command_line.specs.declared.request.Limits.{Limits}
 use Rattle.lease_rule.specs.ConfigParts.{ConfigParts}
 use Rattle.lease_rule.specs.Ranges.{first_bad}
 use Rattle.core_program.specs.Answers.{SpellsSet}
-use Rattle.core_program.specs.declared.instruction.Instruction.{Instruction}
+use Rattle.core_program.specs.SetParts.{SetParts}
+use Rattle.core_program.specs.declared.format.Format.{Format as ProgramFormat}
+use Rattle.core_program.specs.declared.format.Format.TheVariants as of_programs
+use Rattle.log_record.specs.declared.format.Format.{Format as LogFormat}
+use Rattle.log_record.specs.declared.format.Format.TheVariants as of_logs
 use Rattle.log_file.specs.Devices.{Tells}
 
 -- the numbers of the machine; the turns are those that are left to it
@@ -19,11 +23,16 @@ config_of limits = record {
   turns = 10000000;
 }
 
--- these are the programs in the file of this name
-abbrev pub AreProgramsIn : (List ℕ → Option (List ℕ)) → List ℕ → List (List Instruction) → Type 0
-AreProgramsIn told name programs = (text : List ℕ) × Tells (told name) text × SpellsSet text programs
+-- this is the set of programs in the file of this name
+abbrev pub AreProgramsIn : (List ℕ → Option (List ℕ)) → List ℕ → SetParts → Type 0
+AreProgramsIn told name set = (text : List ℕ) × Tells (told name) text × SpellsSet text set
 
--- the configuration is in range, and something holds of the programs
-abbrev pub Programmed : (List ℕ → Option (List ℕ)) → Limits → List ℕ → (List (List Instruction) → Type 0) → Type 0
+-- the format of the logs of programs of this format
+abbrev pub log_format : ProgramFormat → LogFormat
+log_format of_programs.One = of_logs.One
+log_format of_programs.Two = of_logs.Two
+
+-- the configuration is in range, and something holds of the set of programs
+abbrev pub Programmed : (List ℕ → Option (List ℕ)) → Limits → List ℕ → (SetParts → Type 0) → Type 0
 Programmed told limits name Holds =
-    (first_bad (config_of limits) ≡ None) × (programs : List (List Instruction)) × AreProgramsIn told name programs × Holds programs
+    (first_bad (config_of limits) ≡ None) × (set : SetParts) × AreProgramsIn told name set × Holds set

@@ -3,17 +3,17 @@ use Rattle.std.specs.Prelude.{◌≡◌, ◌⊎◌, ⊤, ℕ, List, [], length, 
 use Rattle.command_line.specs.declared.request.Run.{Run}
 use Rattle.lease_rule.specs.Ranges.{first_bad}
 use Rattle.core_program.specs.declared.instruction.Instruction.{Instruction}
+use Rattle.core_program.specs.SetParts.{SetParts}
 use Rattle.manager_slice.specs.Parts.{SliceParts}
 use Rattle.core_unit.specs.Parts.{UnitParts}
 use Rattle.audit.specs.Runs.{IsRun, IsUnitLog, StoppedShort, kept_log}
 use Rattle.audit.specs.declared.machine_fault.Cause.TheVariants.{GaveUp, Stopped}
 use Rattle.machine.specs.Runs.{IsMachineRun}
 use Rattle.machine.specs.declared.fault.RunFault.{RunFault}
-use Rattle.log_record.specs.declared.format.Format.TheVariants.{One}
 use Rattle.tardis_command.specs.Checking.{IsTextFault}
 use Rattle.tardis_command.specs.Files.{Files}
 use Rattle.tardis_command.specs.Logs.{ArePut, ArePutAsFar, ArePutUpTo, performed_below}
-use Rattle.tardis_command.specs.Programmed.{Programmed, config_of}
+use Rattle.tardis_command.specs.Programmed.{Programmed, config_of, log_format}
 use Rattle.tardis_command.specs.declared.fault.CommandFault.{CommandFault}
 use Rattle.tardis_command.specs.declared.fault.CommandFault.TheVariants.{Judge, Config, Programs, ProgramsUnread, Schedule, ScheduleUnread, Simulation, Run as RunRefused, Test, TestUnread, Collect, LogUnwritten, PictureUnwritten, Output, OutOfMemory}
 
@@ -35,18 +35,18 @@ pub record AreLeft (programs : List (List Instruction)) (fault : RunFault) (us :
 -- run all, or those of the first cores.
 abbrev pub IsThreadRun : Files → Files → Run → Result ℕ CommandFault → Type 0
 IsThreadRun old new asked (Ok count) =
-    Programmed old.told asked.limits asked.programs.now (λ programs. Ended asked programs (λ us.
-    (count ≡ performed_below (kept_log us) (length programs)) × ArePut One old new asked.out.now (length programs) (kept_log us)))
+    Programmed old.told asked.limits asked.programs.now (λ set. Ended asked set.programs (λ us.
+    (count ≡ performed_below (kept_log us) (length set.programs)) × ArePut (log_format set.format) old new asked.out.now (length set.programs) (kept_log us)))
 IsThreadRun old new asked (Err (Config fault)) = first_bad (config_of asked.limits) ≡ Some fault
 IsThreadRun old new asked (Err (Programs fault)) =
     (first_bad (config_of asked.limits) ≡ None) × IsTextFault old.told asked.programs.now fault
 IsThreadRun old new asked (Err ProgramsUnread) = first_bad (config_of asked.limits) ≡ None
 IsThreadRun old new asked (Err (RunRefused fault)) =
-    Programmed old.told asked.limits asked.programs.now (λ programs. (us : List UnitParts)
-    × AreLeft programs fault us × ArePutAsFar One old new asked.out.now (length programs) (kept_log us))
+    Programmed old.told asked.limits asked.programs.now (λ set. (us : List UnitParts)
+    × AreLeft set.programs fault us × ArePutAsFar (log_format set.format) old new asked.out.now (length set.programs) (kept_log us))
 IsThreadRun old new asked (Err (LogUnwritten file)) =
-    Programmed old.told asked.limits asked.programs.now (λ programs. Ended asked programs (λ us.
-    ArePutUpTo One old new asked.out.now (length programs) (kept_log us) file))
+    Programmed old.told asked.limits asked.programs.now (λ set. Ended asked set.programs (λ us.
+    ArePutUpTo (log_format set.format) old new asked.out.now (length set.programs) (kept_log us) file))
 IsThreadRun old new asked (Err OutOfMemory) = ⊤
 IsThreadRun old new asked (Err (Judge fault)) = ⊥
 IsThreadRun old new asked (Err (Schedule fault)) = ⊥

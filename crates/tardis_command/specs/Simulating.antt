@@ -4,6 +4,7 @@ use Rattle.std.specs.Borrow.{Bor}
 use Rattle.command_line.specs.declared.request.Sim.{Sim}
 use Rattle.lease_rule.specs.Ranges.{first_bad}
 use Rattle.core_program.specs.declared.instruction.Instruction.{Instruction}
+use Rattle.core_program.specs.SetParts.{SetParts}
 use Rattle.log_file.specs.Devices.{Tells}
 use Rattle.schedule.specs.Answers.{IsFault as IsScheduleFault, Spells as SpellsSchedule}
 use Rattle.schedule.specs.declared.command.Command.{Command}
@@ -12,11 +13,10 @@ use Rattle.core_machine.specs.Opening.{opening_parts}
 use Rattle.core_machine.specs.Parts.{CoreParts, world}
 use Rattle.core_machine.specs.Works.{log_at}
 use Rattle.simulation.specs.Simulating.{IsSimulated, IsSimulationFault}
-use Rattle.log_record.specs.declared.format.Format.TheVariants.{One}
 use Rattle.tardis_command.specs.Checking.{IsTextFault}
 use Rattle.tardis_command.specs.Files.{Files}
 use Rattle.tardis_command.specs.Logs.{ArePut, ArePutAsFar, ArePutUpTo, performed_below}
-use Rattle.tardis_command.specs.Programmed.{Programmed, config_of}
+use Rattle.tardis_command.specs.Programmed.{Programmed, config_of, log_format}
 use Rattle.tardis_command.specs.declared.fault.CommandFault.{CommandFault}
 use Rattle.tardis_command.specs.declared.fault.CommandFault.TheVariants.{Judge, Config, Programs, ProgramsUnread, Schedule, ScheduleUnread, Simulation, Run, Test, TestUnread, Collect, LogUnwritten, PictureUnwritten, Output, OutOfMemory}
 
@@ -53,13 +53,13 @@ IsUnscheduled told name cores Output = ⊥
 -- ---- what it came to
 
 -- the configuration is in range, and something holds of the programs and of the commands of their schedule
-abbrev pub Scheduled : (List ℕ → Option (List ℕ)) → Sim → (List (List Instruction) → List Command → Type 0) → Type 0
+abbrev pub Scheduled : (List ℕ → Option (List ℕ)) → Sim → (SetParts → List Command → Type 0) → Type 0
 Scheduled told asked Holds =
-    Programmed told asked.limits asked.programs.now (λ programs. (commands : List Command) × AreCommandsOf told asked.schedule (length programs) commands × Holds programs commands)
+    Programmed told asked.limits asked.programs.now (λ set. (commands : List Command) × AreCommandsOf told asked.schedule (length set.programs) commands × Holds set commands)
 
 -- this holds of the machine in which the simulation ended
-abbrev pub EndsIn : Sim → List (List Instruction) → List Command → (CoreParts → Type 0) → Type 0
-EndsIn asked programs commands Holds = (q : CoreParts) × IsSimulated commands asked.seed (opening_parts programs (config_of asked.limits)) q × Holds q
+abbrev pub EndsIn : Sim → SetParts → List Command → (CoreParts → Type 0) → Type 0
+EndsIn asked set commands Holds = (q : CoreParts) × IsSimulated commands asked.seed (opening_parts set.programs (config_of asked.limits)) q × Holds q
 
 -- The number of operations that the programs performed, or why there is none. The configuration is looked at first, then
 -- the programs, then the schedule; what a simulation is refused for is told before a log that can't be written. The
@@ -67,20 +67,20 @@ EndsIn asked programs commands Holds = (q : CoreParts) × IsSimulated commands a
 -- can't be written they are those before it, and after a fault of the simulation all, or those of the first cores.
 abbrev pub IsRun : Files → Files → Sim → Result ℕ CommandFault → Type 0
 IsRun old new asked (Ok count) =
-    Scheduled old.told asked (λ programs commands. EndsIn asked programs commands (λ q.
-    (count ≡ performed_below (log_at (world q)) (length programs)) × ArePut One old new asked.out.now (length programs) (log_at (world q))))
+    Scheduled old.told asked (λ set commands. EndsIn asked set commands (λ q.
+    (count ≡ performed_below (log_at (world q)) (length set.programs)) × ArePut (log_format set.format) old new asked.out.now (length set.programs) (log_at (world q))))
 IsRun old new asked (Err (Config fault)) = first_bad (config_of asked.limits) ≡ Some fault
 IsRun old new asked (Err (Programs fault)) = (first_bad (config_of asked.limits) ≡ None) × IsTextFault old.told asked.programs.now fault
 IsRun old new asked (Err ProgramsUnread) = first_bad (config_of asked.limits) ≡ None
-IsRun old new asked (Err (Schedule fault)) = Programmed old.told asked.limits asked.programs.now (λ programs. IsFaultOfSchedule old.told asked.schedule (length programs) fault)
-IsRun old new asked (Err ScheduleUnread) = Programmed old.told asked.limits asked.programs.now (λ programs. IsSome asked.schedule)
+IsRun old new asked (Err (Schedule fault)) = Programmed old.told asked.limits asked.programs.now (λ set. IsFaultOfSchedule old.told asked.schedule (length set.programs) fault)
+IsRun old new asked (Err ScheduleUnread) = Programmed old.told asked.limits asked.programs.now (λ set. IsSome asked.schedule)
 IsRun old new asked (Err (Simulation fault)) =
-    Scheduled old.told asked (λ programs commands. (q : CoreParts)
-    × IsSimulationFault commands asked.seed (opening_parts programs (config_of asked.limits)) q fault
-    × ArePutAsFar One old new asked.out.now (length programs) (log_at (world q)))
+    Scheduled old.told asked (λ set commands. (q : CoreParts)
+    × IsSimulationFault commands asked.seed (opening_parts set.programs (config_of asked.limits)) q fault
+    × ArePutAsFar (log_format set.format) old new asked.out.now (length set.programs) (log_at (world q)))
 IsRun old new asked (Err (LogUnwritten file)) =
-    Scheduled old.told asked (λ programs commands. EndsIn asked programs commands (λ q.
-    ArePutUpTo One old new asked.out.now (length programs) (log_at (world q)) file))
+    Scheduled old.told asked (λ set commands. EndsIn asked set commands (λ q.
+    ArePutUpTo (log_format set.format) old new asked.out.now (length set.programs) (log_at (world q)) file))
 IsRun old new asked (Err OutOfMemory) = ⊤
 IsRun old new asked (Err (Judge fault)) = ⊥
 IsRun old new asked (Err (Run fault)) = ⊥

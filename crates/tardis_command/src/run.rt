@@ -9,9 +9,8 @@ use super::fault::CommandFault;
 use super::folder::Folder;
 use super::text::read_programs;
 use super::watch::{Watch, Watched};
-use super::writing::{UnitLogs, write_logs};
+use super::writing::{UnitLogs, log_format, write_logs};
 use command_line::Run;
-use log_record::Format;
 use machine::{RunFault, run_threads};
 use std::alloc::Global;
 use std::sync::Wait;
@@ -34,14 +33,15 @@ pub(crate) fn run<R: Threads + Wait + Sync, W: Watch + Sync, F: Folder>(
     let programs = read_programs(alloc, folder, asked.programs)?;
     let ran = run_threads(rt, alloc, &programs, &config, &Watched { watch });
     watch.over();
+    let format = log_format(programs.format());
     match ran {
         Ok(end) => {
             let made = UnitLogs { units: &end.units };
-            write_logs(alloc, folder, asked.out, Format::One, &made, programs.len())
+            write_logs(alloc, folder, asked.out, format, &made, programs.len())
         }
         Err(left) => {
             let made = UnitLogs { units: &left.units };
-            let _written = write_logs(alloc, folder, asked.out, Format::One, &made, programs.len());
+            let _written = write_logs(alloc, folder, asked.out, format, &made, programs.len());
             Err(CommandFault::Run(RunFault::of(&left)))
         }
     }

@@ -9,10 +9,9 @@ use super::config::config_of;
 use super::fault::CommandFault;
 use super::folder::Folder;
 use super::text::{read_programs, read_text};
-use super::writing::write_logs;
+use super::writing::{log_format, write_logs};
 use command_line::Sim;
 use log_file::ReadFault;
-use log_record::Format;
 use schedule::{Command, parse};
 use simulation::simulate;
 use std::alloc::Global;
@@ -41,7 +40,7 @@ pub(crate) fn sim<F: Folder>(
         alloc,
         folder,
         asked.out,
-        Format::One,
+        log_format(programs.format()),
         &machine,
         programs.len(),
     );

@@ -32,7 +32,7 @@ pub(crate) fn read_programs<F: Folder>(
     name: &str,
 ) -> Result<ProgramSet, CommandFault>
     ensures ok { IfOk result (λ programs. (text : List ℕ) × Tells (F.told folder.now name.now) text
-        × SpellsSet text programs.programs) }
+        × SpellsSet text programs) }
     ensures err { IfErr result (checking.IsUnprogrammed (F.told folder.now) name.now) }
 {
     let text = match read_text(alloc, folder, name) {

@@ -7,10 +7,12 @@ ghost use Rattle.log_file.specs.Devices.{Tells};
 ghost use Rattle.log_file.specs.Log.{SpellsIn};
 ghost use Rattle.tardis_command.specs.Files.{files_of};
 ghost use Rattle.tardis_command.specs.Logs as logs;
+ghost use Rattle.tardis_command.specs.Programmed.{log_format};
 ghost use Rattle.tardis_command.specs.inner.Putting.{IsUnput};
 
 use super::fault::CommandFault;
 use super::folder::Folder;
+use core_program::Format as ProgramFormat;
 use core_unit::CoreUnit;
 use log_file::{MemSink, write_log};
 use log_record::{Format, Record};
@@ -62,6 +64,16 @@ impl<'a> Logs for UnitLogs<'a> {
             return &[];
         }
         unit.log()
+    }
+}
+
+/// The format of the logs of programs of this format.
+pub(crate) fn log_format(of_programs: ProgramFormat) -> Format
+    ensures { result ≡ log_format of_programs }
+{
+    match of_programs {
+        ProgramFormat::One => Format::One,
+        ProgramFormat::Two => Format::Two,
     }
 }
 

@@ -1,10 +1,10 @@
 -- A path of one operation and more is a path of the one, and then one of the rest.
 use Rattle.std.specs.Prelude.{◌≡◌, List, [], ◌∷◌, ◌++◌, refl}
 use Rattle.std.proofs.Common.{sym, subst, ap}
-use Rattle.mem_op.specs.Consistency.{Operation, Loaded, Stored}
+use Rattle.mem_op.specs.Consistency.{Operation, Loaded, Stored, Swapped}
 use Rattle.core_program.specs.declared.instruction.Instruction.{Instruction}
 use Rattle.core_program.specs.State.{State}
-use Rattle.core_program.specs.Meaning.{Path, stays, loads, stores, stores_register, adds, skips, goes_on}
+use Rattle.core_program.specs.Meaning.{Path, stays, loads, stores, stores_register, swaps, adds, skips, goes_on}
 
 -- a path of the first operation, and one of the rest
 pub record Halves (program : List Instruction) (s : State) (first : Operation) (rest : List Operation) (t : State) : Type 0 where
@@ -52,6 +52,9 @@ halves program s ops u (stores done t addr value path next) first rest e =
 halves program s ops u (stores_register done t addr from path next) first rest e =
     more program s first rest done _ t u (stores_register done t addr from path next) (λ xs m p. stores_register xs t addr from p next)
     (λ ys is. halves program s done t path first ys is) (snoc first rest done _ e)
+halves program s ops u (swaps done t to addr value read path next) first rest e =
+    more program s first rest done (Swapped addr read value) t u (swaps done t to addr value read path next) (λ xs m p. swaps xs t to addr value read p next)
+    (λ ys is. halves program s done t path first ys is) (snoc first rest done (Swapped addr read value) e)
 halves program s ops u (adds done t to from value path next) first rest e =
     let h = halves program s done t path first rest e in
     record { middle = h.middle; before = h.before; behind = adds rest t to from value h.behind next }
