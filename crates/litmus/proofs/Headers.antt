@@ -1,5 +1,5 @@
 -- The first line of a test: what is read as one is one, and no two tests of other names or numbers of cores have one.
-use Rattle.std.proofs.Common.{◌≡◌, ◌≢◌, ℕ, zero, suc, ◌<◌, ◌≤◌, Bool, true, false, cond, ◌&&◌, if◌then◌else◌, eqb, leb, List, [], ◌∷◌, ◌++◌, length, take, drop, Option, Some, None, refl, sym, ap, subst, ◌∙◌, arith, inl, inr, append_assoc}
+use Rattle.std.proofs.Common.{◌≡◌, ◌≢◌, ℕ, zero, suc, ◌<◌, ◌≤◌, Bool, true, false, cond, ◌&&◌, if◌then◌else◌, eqb, leb, List, [], ◌∷◌, ◌++◌, length, take, drop, Option, Some, None, is_some, refl, sym, ap, subst, ◌∙◌, arith, inl, inr, append_assoc}
 use Rattle.std.specs.Prelude.{codes}
 use Rattle.std.specs.List.{AllByRecursion}
 use Rattle.std.proofs.lemmas.Bool.{cases_Bool, cond-true, cond-false, eqb-false, ne_eqb, and_parts}
@@ -9,13 +9,16 @@ use Rattle.decimal_text.specs.Reading.{◌>>=◌, after, last_number}
 use Rattle.decimal_text.proofs.Lines.{NoLf, NoLf-append, const_no_lf, numeral_no_lf}
 use Rattle.decimal_text.proofs.Numbers.{after_again, after_takes}
 use Rattle.decimal_text.proofs.Reading.{bind_some, last_again, last_takes, some_is}
+use Rattle.core_program.specs.declared.format.Format.{Format}
+use Rattle.core_program.specs.declared.format.Format.TheVariants.{One, Two}
+use Rattle.core_program.specs.Grammar.{format_number}
 use Rattle.core_program.specs.Lines.{IsOneLine}
 use Rattle.core_program.specs.inner.Reading.{below}
 use Rattle.core_program.proofs.Instructions.{below_again, below_is}
 use Rattle.core_program.proofs.TextLines.{line_once, no_feed, no_lf_from}
 use Rattle.litmus.specs.Grammar.{header_text, is_name_byte, IsName}
 use Rattle.litmus.specs.inner.Ending.{HeaderInFront}
-use Rattle.litmus.specs.inner.Reading.{cores_at, header_of, name_at, name_len}
+use Rattle.litmus.specs.inner.Reading.{cores_at, first_words, header_of, name_at, name_len}
 
 -- ---- names
 
@@ -44,23 +47,68 @@ name_no_lf : (name : List ℕ) → AllByRecursion (λ b. is_name_byte b ≡ true
 name_no_lf [] each = tt
 name_no_lf (b ∷ name) each = (name_byte_no_lf b each.0, name_no_lf name each.1)
 
-pub header_no_lf : (name : List ℕ) (cores : ℕ) → IsName name → NoLf (header_text name cores)
+pub header_no_lf : (format : ℕ) (name : List ℕ) (cores : ℕ) → IsName name → NoLf (header_text format name cores)
 unfolding header_text
-header_no_lf name cores is =
-    NoLf-append (codes "tardis-litmus 1 ") (name ++ (codes " cores " ++ numeral cores)) (const_no_lf (codes "tardis-litmus 1 ") refl)
+header_no_lf format name cores is =
+    NoLf-append (codes "tardis-litmus ") (numeral format ++ (codes " " ++ (name ++ (codes " cores " ++ numeral cores)))) (const_no_lf (codes "tardis-litmus ") refl)
+    (NoLf-append (numeral format) (codes " " ++ (name ++ (codes " cores " ++ numeral cores))) (numeral_no_lf format)
+    (NoLf-append (codes " ") (name ++ (codes " cores " ++ numeral cores)) (const_no_lf (codes " ") refl)
     (NoLf-append name (codes " cores " ++ numeral cores) (name_no_lf name is.each)
-    (NoLf-append (codes " cores ") (numeral cores) (const_no_lf (codes " cores ") refl) (numeral_no_lf cores)))
+    (NoLf-append (codes " cores ") (numeral cores) (const_no_lf (codes " cores ") refl) (numeral_no_lf cores)))))
+
+-- ---- the first words
+
+-- the words before the name
+abbrev words_of : Format → List ℕ
+words_of One = codes "tardis-litmus 1 "
+words_of Two = codes "tardis-litmus 2 "
+
+numeral_one : numeral 1 ≡ codes "1"
+unfolding numeral
+numeral_one = refl
+
+numeral_two : numeral 2 ≡ codes "2"
+unfolding numeral
+numeral_two = refl
+
+-- a first line from its first words on
+header_text_is : (format : Format) (name : List ℕ) (cores : ℕ)
+    → header_text (format_number format) name cores ≡ words_of format ++ (name ++ (codes " cores " ++ numeral cores))
+unfolding header_text
+header_text_is One name cores = rw numeral_one refl
+header_text_is Two name cores = rw numeral_two refl
+
+words_take : (line : List ℕ) (x : Format × List ℕ) → first_words line ≡ Some x → line ≡ words_of x.0 ++ x.1
+unfolding first_words
+words_take line x e = go (after (codes "tardis-litmus 1 ") line) refl e
+  where
+    second : after (codes "tardis-litmus 2 ") line >>= (λ rest. Some (Two, rest)) ≡ Some x → line ≡ words_of x.0 ++ x.1
+    second e =
+        let b = bind_some (after (codes "tardis-litmus 2 ") line) (λ rest. Some (Two, rest)) x e in
+        subst (λ (y : Format × List ℕ). line ≡ words_of y.0 ++ y.1) (some_is (Two, b.0) x b.2) (after_takes (codes "tardis-litmus 2 ") line b.0 b.1)
+
+    go : (o : Option (List ℕ)) → after (codes "tardis-litmus 1 ") line ≡ o
+        → (if is_some o then (o >>= λ rest. Some (One, rest)) else (after (codes "tardis-litmus 2 ") line >>= λ rest. Some (Two, rest))) ≡ Some x
+        → line ≡ words_of x.0 ++ x.1
+    go (Some rest) is e = subst (λ (y : Format × List ℕ). line ≡ words_of y.0 ++ y.1) (some_is (One, rest) x e) (after_takes (codes "tardis-litmus 1 ") line rest is)
+    go None is e = second e
+
+words_again : (format : Format) (rest : List ℕ) → first_words (words_of format ++ rest) ≡ Some (format, rest)
+unfolding first_words
+words_again One rest = rw (after_again (codes "tardis-litmus 1 ") rest) refl
+words_again Two rest = let other : after (codes "tardis-litmus 1 ") (codes "tardis-litmus 2 " ++ rest) ≡ None = unfold after in refl in
+    rw (other, after_again (codes "tardis-litmus 2 ") rest) refl
 
 -- ---- the line
 
 none_some : {A : Type 0} (x : A) → None ≡ Some x → ⊥
 none_some x e = cc
 
-record IsHeader (line name : List ℕ) (cores : ℕ) : Type 0 where
+record IsHeader (line : List ℕ) (format : Format) (name : List ℕ) (cores : ℕ) : Type 0 where
   pub is_name : IsName name
   pub some : 1 ≤ cores
   pub few : cores ≤ 64
-  pub text : line ≡ header_text name cores
+  pub text : line ≡ header_text (format_number format) name cores
 
 cores_takes : (bytes : List ℕ) (n : ℕ) → cores_at bytes ≡ Some n → (1 ≤ n) × (n ≤ 64) × (bytes ≡ codes " cores " ++ numeral n)
 unfolding cores_at
@@ -124,49 +172,58 @@ name_at_again name rest is =
     low_is_most k le = search arith
 
 -- the line read is one
-header_takes : (line name : List ℕ) (cores : ℕ) → header_of line ≡ Some (name, cores) → IsHeader line name cores
-unfolding header_of header_text
-header_takes line name cores e =
-    let n = bind_some (after (codes "tardis-litmus 1 ") line >>= name_at) (λ n. cores_at n.1 >>= λ c. Some (n.0, c)) (name, cores) e in
-    let a = bind_some (after (codes "tardis-litmus 1 ") line) name_at n.0 n.1 in
-    let c = bind_some (cores_at n.0.1) (λ c. Some (n.0.0, c)) (name, cores) n.2 in
-    let same = some_is (n.0.0, c.0) (name, cores) c.2 in
-    all a.0 n.0.0 n.0.1 c.0 (after_takes (codes "tardis-litmus 1 ") line a.0 a.1) (name_takes a.0 n.0.0 n.0.1 a.2) (cores_takes n.0.1 c.0 c.1) (ap (λ z. z.0) same) (ap (λ z. z.1) same)
+header_takes : (line : List ℕ) (x : Format × List ℕ × ℕ) → header_of line ≡ Some x → IsHeader line x.0 x.1 x.2
+unfolding header_of
+header_takes line x e =
+    let a = bind_some (first_words line) (λ front. name_at front.1 >>= λ n. cores_at n.1 >>= λ c. Some (front.0, n.0, c)) x e in
+    let n = bind_some (name_at a.0.1) (λ n. cores_at n.1 >>= λ c. Some (a.0.0, n.0, c)) x a.2 in
+    let c = bind_some (cores_at n.0.1) (λ c. Some (a.0.0, n.0.0, c)) x n.2 in
+    subst (λ (y : Format × List ℕ × ℕ). IsHeader line y.0 y.1 y.2) {x = (a.0.0, n.0.0, c.0)} (some_is (a.0.0, n.0.0, c.0) x c.2)
+    (all a.0.0 a.0.1 n.0.0 n.0.1 c.0 (words_take line a.0 a.1) (name_takes a.0.1 n.0.0 n.0.1 n.1) (cores_takes n.0.1 c.0 c.1))
   where
-    all : (r own rest : List ℕ) (k : ℕ) → line ≡ codes "tardis-litmus 1 " ++ r → IsName own × (r ≡ own ++ rest)
-        → (1 ≤ k) × (k ≤ 64) × (rest ≡ codes " cores " ++ numeral k) → own ≡ name → k ≡ cores → IsHeader line name cores
-    all r own rest k is named counted own-is k-is = record {
-      is_name = subst IsName own-is named.0;
-      some = omega (arith, counted.0, k-is);
-      few = omega (arith, counted.1, k-is);
+    all : (format : Format) (words name rest : List ℕ) (cores : ℕ) → line ≡ words_of format ++ words → IsName name × (words ≡ name ++ rest)
+        → (1 ≤ cores) × (cores ≤ 64) × (rest ≡ codes " cores " ++ numeral cores) → IsHeader line format name cores
+    all format words name rest cores is named counted = record {
+      is_name = named.0;
+      some = counted.0;
+      few = counted.1;
       text =
-          is ∙ ap (λ (xs : List ℕ). codes "tardis-litmus 1 " ++ xs) (named.1 ∙ ap (λ (xs : List ℕ). own ++ xs) (counted.2 ∙ ap (λ (m : ℕ). codes " cores " ++ numeral m) k-is)
-          ∙ ap (λ (xs : List ℕ). xs ++ (codes " cores " ++ numeral cores)) own-is);
+          is ∙ ap (λ (xs : List ℕ). words_of format ++ xs) (named.1 ∙ ap (λ (xs : List ℕ). name ++ xs) counted.2)
+          ∙ sym (header_text_is format name cores);
     }
 
-pub header_again : (name : List ℕ) (cores : ℕ) → IsName name → 1 ≤ cores → cores ≤ 64 → header_of (header_text name cores) ≡ Some (name, cores)
-unfolding header_of header_text
-header_again name cores is some few =
-    rw (after_again (codes "tardis-litmus 1 ") (name ++ (codes " cores " ++ numeral cores)), name_at_again name (codes "cores " ++ numeral cores) is, cores_again cores some few) refl
+pub header_again : (format : Format) (name : List ℕ) (cores : ℕ) → IsName name → 1 ≤ cores → cores ≤ 64
+    → header_of (header_text (format_number format) name cores) ≡ Some (format, name, cores)
+unfolding header_of
+header_again format name cores is some few =
+    rw (
+      header_text_is format name cores,
+      words_again format (name ++ (codes " cores " ++ numeral cores)),
+      name_at_again name (codes "cores " ++ numeral cores) is,
+      cores_again cores some few,
+    ) refl
 
-pub header_once : (name other : List ℕ) (cores count : ℕ) → IsName name → IsName other → 1 ≤ cores → cores ≤ 64 → 1 ≤ count → count ≤ 64
-    → header_text name cores ≡ header_text other count → (name ≡ other) × (cores ≡ count)
-header_once name other cores count p q some few some' few' e =
-    let same = some_is (name, cores) (other, count) (sym (header_again name cores p some few) ∙ ap header_of e ∙ header_again other count q some' few') in
-    (ap (λ z. z.0) same, ap (λ z. z.1) same)
+pub header_once : (left right : Format) (name other : List ℕ) (cores count : ℕ) → IsName name → IsName other → 1 ≤ cores → cores ≤ 64 → 1 ≤ count → count ≤ 64
+    → header_text (format_number left) name cores ≡ header_text (format_number right) other count → (left ≡ right) × (name ≡ other) × (cores ≡ count)
+header_once left right name other cores count p q some few some' few' e =
+    let same = some_is (left, name, cores) (right, other, count)
+    (sym (header_again left name cores p some few) ∙ ap header_of e ∙ header_again right other count q some' few') in
+    (ap (λ z. z.0) same, ap (λ z. z.1) same, ap (λ z. z.2) same)
 
 -- ---- at the front of bytes
 
-pub no_header_without_feed : (text : List ℕ) → IsOneLine text → (name : List ℕ) (cores : ℕ) (rest : List ℕ) → HeaderInFront name cores text rest → ⊥
-no_header_without_feed text one name cores rest there = no_feed text (header_text name cores) rest (no_lf_from text one) there.3
+pub no_header_without_feed : (text : List ℕ) → IsOneLine text → (format : Format) (name : List ℕ) (cores : ℕ) (rest : List ℕ) → HeaderInFront format name cores text rest → ⊥
+no_header_without_feed text one format name cores rest there = no_feed text (header_text (format_number format) name cores) rest (no_lf_from text one) there.3
 
 pub no_header_of_other : (text line behind : List ℕ) → IsOneLine line → text ≡ line ++ 10 ∷ behind → None ≡ header_of line
-    → (name : List ℕ) (cores : ℕ) (rest : List ℕ) → HeaderInFront name cores text rest → ⊥
-no_header_of_other text line behind one is none name cores rest there =
-    let same = (line_once line (header_text name cores) behind rest (no_lf_from line one) (header_no_lf name cores there.0) (sym is ∙ there.3)).0 in
-    none_some (name, cores) (none ∙ ap header_of same ∙ header_again name cores there.0 there.1 there.2)
+    → (format : Format) (name : List ℕ) (cores : ℕ) (rest : List ℕ) → HeaderInFront format name cores text rest → ⊥
+no_header_of_other text line behind one is none format name cores rest there =
+    let header = header_text (format_number format) name cores in
+    let same = (line_once line header behind rest (no_lf_from line one) (header_no_lf (format_number format) name cores there.0) (sym is ∙ there.3)).0 in
+    none_some (format, name, cores) (none ∙ ap header_of same ∙ header_again format name cores there.0 there.1 there.2)
 
-pub header_in_front : (text line behind name : List ℕ) (cores : ℕ) → text ≡ line ++ 10 ∷ behind → Some (name, cores) ≡ header_of line → HeaderInFront name cores text behind
-header_in_front text line behind name cores is some =
-    let t = header_takes line name cores (sym some) in
+pub header_in_front : (text line behind : List ℕ) (format : Format) (name : List ℕ) (cores : ℕ) → text ≡ line ++ 10 ∷ behind → Some (format, name, cores) ≡ header_of line
+    → HeaderInFront format name cores text behind
+header_in_front text line behind format name cores is some =
+    let t = header_takes line (format, name, cores) (sym some) in
     (t.is_name, t.some, t.few, is ∙ ap (λ (l : List ℕ). l ++ 10 ∷ behind) t.text)

@@ -3,9 +3,10 @@ use Rattle.std.proofs.Common.{◌≡◌, ◌≢◌, ℕ, ◌+◌, ◌<◌, ◌�
 use Rattle.std.specs.List.{AllByRecursion}
 use Rattle.std.proofs.lemmas.List.{length-map}
 use Rattle.decimal_text.proofs.Lines.{NoLf, const_no_lf}
+use Rattle.core_program.specs.declared.format.Format.{Format}
 use Rattle.core_program.specs.declared.instruction.Instruction.{Instruction}
 use Rattle.core_program.specs.Answers.{IsBadLine, IsTooLong}
-use Rattle.core_program.specs.Grammar.{core_text, end_text, instruction_text, sections, EachFits, IsSection, IsSetOf}
+use Rattle.core_program.specs.Grammar.{core_text, end_text, format_number, instruction_text, sections, EachFits, IsSection, IsSetOf}
 use Rattle.core_program.specs.Lines.{text_of, BeginsText, IsFirstWrong}
 use Rattle.core_program.proofs.SectionsOf.{AfterSections, HasSections, NotNext, each_fits_of, line_wrong}
 use Rattle.core_program.proofs.SetLines.{Next, goes_on, next_core, last_line, begun, filled_up, next_of, sections-append, sections_no_lf, sections_no_other, EachNoLf-append}
@@ -24,8 +25,8 @@ IsLast cores next more =
     (shown : List ShownParts) × (forbidden : List (List ℕ)) × AreShown cores shown × AreForbidden (length shown) forbidden
     × (next ≡ show_text shown) × (more ≡ map forbid_text forbidden ++ end_text ∷ [])
 
-empty_section : IsSection []
-empty_section = record { few = omega arith; each_fits = tt }
+empty_section : (format : Format) → IsSection format []
+empty_section format = record { few = omega arith; each_fits = tt }
 
 -- ---- no line feed
 
@@ -35,24 +36,24 @@ forbids_no_lf (values ∷ forbidden) = (forbid_no_lf values, forbids_no_lf forbi
 
 litmus_no_lf : (t : LitmusParts) → IsName t.name → EachNoLf (litmus_lines t)
 litmus_no_lf t is = (
-  header_no_lf t.name (length t.programs) is,
+  header_no_lf (format_number t.format) t.name (length t.programs) is,
   EachNoLf-append (sections 0 t.programs) (last_lines t.shown t.forbidden) (sections_no_lf 0 t.programs)
       (show_no_lf t.shown, EachNoLf-append (map forbid_text t.forbidden) (end_text ∷ []) (forbids_no_lf t.forbidden) (const_no_lf end_text refl, tt)),
 )
 
-pub has_lines : (Section : List Instruction → Type 0) → HasLines (LitmusLines Section)
+pub has_lines : (Section : Format → List Instruction → Type 0) → HasLines (LitmusLines Section)
 has_lines Section lines g = subst EachNoLf (sym g.1.1) (litmus_no_lf g.0 g.1.0.name)
 
 -- ---- a test of this name and so many cores
 
-module _ (name : List ℕ) (cores : ℕ) (is_name : IsName name) (some : 1 ≤ cores) (few : cores ≤ 64) where
+module _ (format : Format) (name : List ℕ) (cores : ℕ) (is_name : IsName name) (some : 1 ≤ cores) (few : cores ≤ 64) where
   -- the lines up to the last
   abbrev pub front_of : List (List Instruction) → List ShownParts → List (List ℕ) → List (List ℕ)
-  front_of programs shown forbidden = begun (header_text name cores) programs ++ show_text shown ∷ map forbid_text forbidden
+  front_of programs shown forbidden = begun (header_text (format_number format) name cores) programs ++ show_text shown ∷ map forbid_text forbidden
 
-  pub test_of : (Section : List Instruction → Type 0) (programs : List (List Instruction)) (shown : List ShownParts) (forbidden : List (List ℕ))
-      → length programs ≡ cores → AllByRecursion Section programs → AreShown cores shown → AreForbidden (length shown) forbidden
-      → IsTestOf Section (record { name = name; programs = programs; shown = shown; forbidden = forbidden })
+  pub test_of : (Section : Format → List Instruction → Type 0) (programs : List (List Instruction)) (shown : List ShownParts) (forbidden : List (List ℕ))
+      → length programs ≡ cores → AllByRecursion (Section format) programs → AreShown cores shown → AreForbidden (length shown) forbidden
+      → IsTestOf Section (record { name = name; format = format; programs = programs; shown = shown; forbidden = forbidden })
   test_of Section programs shown forbidden count each are_shown are_forbidden = record {
     name = is_name;
     programs = record { some = omega (arith, some, count); few = omega (arith, few, count); each = each };
@@ -62,24 +63,24 @@ module _ (name : List ℕ) (cores : ℕ) (is_name : IsName name) (some : 1 ≤ c
 
   -- the lines of such a test
   pub lines_of : (programs : List (List Instruction)) (shown : List ShownParts) (forbidden : List (List ℕ)) → length programs ≡ cores
-      → begun (header_text name cores) programs ++ last_lines shown forbidden ≡ litmus_lines (record { name = name; programs = programs; shown = shown; forbidden = forbidden })
-  lines_of programs shown forbidden count = ap (λ (n : ℕ). header_text name n ∷ (sections 0 programs ++ last_lines shown forbidden)) (sym count)
+      → begun (header_text (format_number format) name cores) programs ++ last_lines shown forbidden ≡ litmus_lines (record { name = name; format = format; programs = programs; shown = shown; forbidden = forbidden })
+  lines_of programs shown forbidden count = ap (λ (n : ℕ). header_text (format_number format) name n ∷ (sections 0 programs ++ last_lines shown forbidden)) (sym count)
 
   pub one_shown : AreShown cores (record { core = 0; register = 0 } ∷ [])
   one_shown = record { some = omega arith; few = omega arith; each = ((omega (arith, some), omega arith), tt) }
 
-  goes : (Section : List Instruction → Type 0) → Section [] → (programs : List (List Instruction)) → length programs ≤ cores → AllByRecursion Section programs
-      → CanGoOn (LitmusLines Section) (begun (header_text name cores) programs)
+  goes : (Section : Format → List Instruction → Type 0) → Section format [] → (programs : List (List Instruction)) → length programs ≤ cores → AllByRecursion (Section format) programs
+      → CanGoOn (LitmusLines Section) (begun (header_text (format_number format) name cores) programs)
   goes Section empty programs within each =
-      let full = filled_up Section empty cores programs within each in
+      let full = filled_up (Section format) empty cores programs within each in
       let shown : List ShownParts = record { core = 0; register = 0 } ∷ [] in
       let last : List (List ℕ) = last_lines shown [] in (
         sections (0 + length programs) full.0 ++ last,
         (
-          record { name = name; programs = programs ++ full.0; shown = shown; forbidden = [] },
+          record { name = name; format = format; programs = programs ++ full.0; shown = shown; forbidden = [] },
           (
             test_of Section (programs ++ full.0) shown [] full.1 full.2 one_shown (record { few = omega arith; each = tt }),
-            ap (λ (ls : List (List ℕ)). header_text name cores ∷ ls)
+            ap (λ (ls : List (List ℕ)). header_text (format_number format) name cores ∷ ls)
                 (sym (append_assoc (sections 0 programs) (sections (0 + length programs) full.0) last)
                 ∙ ap (λ (ls : List (List ℕ)). ls ++ last) (sym (sections-append 0 programs full.0)))
                 ∙ lines_of (programs ++ full.0) shown [] full.1,
@@ -88,39 +89,41 @@ module _ (name : List ℕ) (cores : ℕ) (is_name : IsName name) (some : 1 ≤ c
       )
 
   -- the lines of a test after its first
-  behind_first : (Section : List Instruction → Type 0) (t : LitmusParts) (lines : List (List ℕ)) → IsTestOf Section t → header_text name cores ∷ lines ≡ litmus_lines t
-      → (cores ≡ length t.programs) × (lines ≡ sections 0 t.programs ++ last_lines t.shown t.forbidden)
+  behind_first : (Section : Format → List Instruction → Type 0) (t : LitmusParts) (lines : List (List ℕ)) → IsTestOf Section t → header_text (format_number format) name cores ∷ lines ≡ litmus_lines t
+      → (format ≡ t.format) × (cores ≡ length t.programs) × (lines ≡ sections 0 t.programs ++ last_lines t.shown t.forbidden)
   behind_first Section t lines is e =
-      let first : header_text name cores ≡ header_text t.name (length t.programs) = cc in
-      ((header_once name t.name cores (length t.programs) is_name is.name some few is.programs.some is.programs.few first).1, cc)
+      let first : header_text (format_number format) name cores ≡ header_text (format_number t.format) t.name (length t.programs) = cc in
+      let once = header_once format t.format name t.name cores (length t.programs) is_name is.name some few is.programs.some is.programs.few first in
+      (once.0, once.2, cc)
 
-  next_line : (Section : List Instruction → Type 0) → ((p : List Instruction) → Section p → EachFits p) → (programs : List (List Instruction)) (next : List ℕ) (more : List (List ℕ))
-      → AllByRecursion EachFits programs → LitmusLines Section (begun (header_text name cores) programs ++ next ∷ more) → Next Section (IsLast cores) cores 0 programs next more
+  next_line : (Section : Format → List Instruction → Type 0) → ((p : List Instruction) → Section format p → EachFits format p) → (programs : List (List Instruction)) (next : List ℕ) (more : List (List ℕ))
+      → AllByRecursion (EachFits format) programs → LitmusLines Section (begun (header_text (format_number format) name cores) programs ++ next ∷ more) → Next format (Section format) (IsLast cores) cores 0 programs next more
   next_line Section fit programs next more each (t, (is, e)) =
       let b = behind_first Section t (sections 0 programs ++ next ∷ more) is e in
       let last : IsLast cores (show_text t.shown) (map forbid_text t.forbidden ++ end_text ∷ []) =
-      (t.shown, t.forbidden, subst (λ (n : ℕ). AreShown n t.shown) (sym b.0) is.shown, is.forbidden, refl, refl) in
-      subst (λ (n : ℕ). Next Section (IsLast cores) n 0 programs next more) (sym b.0)
-      (next_of Section fit (IsLast cores) (show_text t.shown) (map forbid_text t.forbidden ++ end_text ∷ []) (show_is_other t.shown) last 0 t.programs programs next more
-      is.programs.each each (sym b.1))
+      (t.shown, t.forbidden, subst (λ (n : ℕ). AreShown n t.shown) (sym b.1) is.shown, is.forbidden, refl, refl) in
+      let all : AllByRecursion (Section format) t.programs = subst (λ (f : Format). AllByRecursion (Section f) t.programs) (sym b.0) is.programs.each in
+      subst (λ (n : ℕ). Next format (Section format) (IsLast cores) n 0 programs next more) (sym b.1)
+      (next_of format (Section format) fit (IsLast cores) (show_text t.shown) (map forbid_text t.forbidden ++ end_text ∷ []) (show_is_other t.shown) last 0 t.programs programs next more
+      all each (sym b.2))
 
-  pub has : (Section : List Instruction → Type 0) → Section [] → ((p : List Instruction) → Section p → EachFits p)
-      → HasSections (LitmusLines Section) Section (IsLast cores) (header_text name cores) cores
+  pub has : (Section : Format → List Instruction → Type 0) → Section format [] → ((p : List Instruction) → Section format p → EachFits format p)
+      → HasSections format (LitmusLines Section) (Section format) (IsLast cores) (header_text (format_number format) name cores) cores
   has Section empty fit = record {
     lines = has_lines Section;
     fits = fit;
     can = λ programs within each. goes Section empty programs within each;
     next = λ programs next more each g. next_line Section fit programs next more each g;
     unended = λ programs g. sections_no_other (show_text g.0.shown) (show_is_other g.0.shown) programs (sections 0 g.0.programs) (map forbid_text g.0.forbidden ++ end_text ∷ [])
-        (behind_first Section g.0 (sections 0 programs) g.1.0 g.1.1).1;
+        (behind_first Section g.0 (sections 0 programs) g.1.0 g.1.1).2;
     last_no_lf = λ next more last. subst NoLf (sym last.4) (show_no_lf last.0);
     last_other = λ next more last i e. (show_is_other last.0).no_instruction i (e ∙ last.4);
   }
 
-  pub limited : HasSections (LitmusLines IsSection) IsSection (IsLast cores) (header_text name cores) cores
-  limited = has IsSection empty_section (λ p s. s.each_fits)
+  pub limited : HasSections format (LitmusLines IsSection) (IsSection format) (IsLast cores) (header_text (format_number format) name cores) cores
+  limited = has IsSection (empty_section format) (λ p s. s.each_fits)
 
-  pub unlimited : HasSections (LitmusLines EachFits) EachFits (IsLast cores) (header_text name cores) cores
+  pub unlimited : HasSections format (LitmusLines EachFits) (EachFits format) (IsLast cores) (header_text (format_number format) name cores) cores
   unlimited = has EachFits tt (λ p fits. fits)
 
   -- ---- after the line of the shown registers
@@ -142,12 +145,12 @@ module _ (name : List ℕ) (cores : ℕ) (is_name : IsName name) (some : 1 ≤ c
       go (u ∷ us) (v ∷ vs) each within e = go us vs each.1 (omega (arith, within)) cc
 
   -- what the lines of a test have after a line of shown registers
-  behind_show : (Section : List Instruction → Type 0) → ((p : List Instruction) → Section p → EachFits p) → (programs : List (List Instruction)) (shown : List ShownParts) (others : List (List ℕ))
-      → AllByRecursion EachFits programs → AreShown cores shown → LitmusLines Section (begun (header_text name cores) programs ++ show_text shown ∷ others)
+  behind_show : (Section : Format → List Instruction → Type 0) → ((p : List Instruction) → Section format p → EachFits format p) → (programs : List (List Instruction)) (shown : List ShownParts) (others : List (List ℕ))
+      → AllByRecursion (EachFits format) programs → AreShown cores shown → LitmusLines Section (begun (header_text (format_number format) name cores) programs ++ show_text shown ∷ others)
       → (forbidden : List (List ℕ)) × AreForbidden (length shown) forbidden × (others ≡ map forbid_text forbidden ++ end_text ∷ [])
   behind_show Section fit programs shown others each are g = by_next (next_line Section fit programs (show_text shown) others each g)
     where
-      by_next : Next Section (IsLast cores) cores 0 programs (show_text shown) others
+      by_next : Next format (Section format) (IsLast cores) cores 0 programs (show_text shown) others
           → (forbidden : List (List ℕ)) × AreForbidden (length shown) forbidden × (others ≡ map forbid_text forbidden ++ end_text ∷ [])
       by_next (goes_on i before last longer fits is at section less) = absurd ((show_is_other shown).no_instruction i (sym is))
       by_next (next_core is less) = absurd ((show_is_other shown).no_core (0 + length programs) (sym is))
@@ -156,21 +159,21 @@ module _ (name : List ℕ) (cores : ℕ) (is_name : IsName name) (some : 1 ≤ c
           (forbidden, subst (λ (zs : List ShownParts). AreForbidden (length zs) forbidden) (sym once) are_forbidden, rest)
 
   module _ (text : List ℕ) (programs : List (List Instruction)) (shown : List ShownParts) (forbidden : List (List ℕ)) (rest : List ℕ)
-      (count : length programs ≡ cores) (each : AllByRecursion IsSection programs) (are_shown : AreShown cores shown) (are_forbidden : AreForbidden (length shown) forbidden)
+      (count : length programs ≡ cores) (each : AllByRecursion (IsSection format) programs) (are_shown : AreShown cores shown) (are_forbidden : AreForbidden (length shown) forbidden)
       (is : text ≡ text_of (front_of programs shown forbidden) ++ rest) where
-    regroup : (more : List (List ℕ)) → front_of programs shown forbidden ++ more ≡ begun (header_text name cores) programs ++ show_text shown ∷ (map forbid_text forbidden ++ more)
-    regroup more = append_assoc (begun (header_text name cores) programs) (show_text shown ∷ map forbid_text forbidden) more
+    regroup : (more : List (List ℕ)) → front_of programs shown forbidden ++ more ≡ begun (header_text (format_number format) name cores) programs ++ show_text shown ∷ (map forbid_text forbidden ++ more)
+    regroup more = append_assoc (begun (header_text (format_number format) name cores) programs) (show_text shown ∷ map forbid_text forbidden) more
 
     -- neither another forbidden outcome nor the last line comes next
-    unfinished : (Section : List Instruction → Type 0) → ((p : List Instruction) → Section p → EachFits p) → AllByRecursion Section programs → (k : ℕ)
+    unfinished : (Section : Format → List Instruction → Type 0) → ((p : List Instruction) → Section format p → EachFits format p) → AllByRecursion (Section format) programs → (k : ℕ)
         → k ≡ length (sections 0 programs) + 2 + 1 + length forbidden → (length forbidden < 16 → NoForbidInFront (length shown) rest) → NoEndInFront rest
         → IsFirstWrong (LitmusLines Section) text k
     unfinished Section fit each_section k k-is no_forbid no_end =
         wrong_behind (LitmusLines Section) (front_of programs shown forbidden) text rest k (has_lines Section) is
-        (omega (arith, k-is, length-append (begun (header_text name cores) programs) (show_text shown ∷ map forbid_text forbidden), length-map forbidden forbid_text)) (
+        (omega (arith, k-is, length-append (begun (header_text (format_number format) name cores) programs) (show_text shown ∷ map forbid_text forbidden), length-map forbidden forbid_text)) (
           end_text ∷ [],
           (
-            record { name = name; programs = programs; shown = shown; forbidden = forbidden },
+            record { name = name; format = format; programs = programs; shown = shown; forbidden = forbidden },
             (test_of Section programs shown forbidden count each_section are_shown are_forbidden, regroup (end_text ∷ []) ∙ lines_of programs shown forbidden count),
           ),
         )
@@ -182,7 +185,7 @@ module _ (name : List ℕ) (cores : ℕ) (is_name : IsName name) (some : 1 ≤ c
 
         follows : NoneFollows (LitmusLines Section) (front_of programs shown forbidden) rest
         follows next more behind g there =
-            let b = behind_show Section fit programs shown (map forbid_text forbidden ++ next ∷ more) (each_fits_of programs each) are_shown
+            let b = behind_show Section fit programs shown (map forbid_text forbidden ++ next ∷ more) (each_fits_of format programs each) are_shown
             (subst (LitmusLines Section) (regroup (next ∷ more)) g) in
             by_next next more behind there (follows_of (length shown) forbidden b.0 next more b.1 b.2)
 
@@ -194,14 +197,14 @@ module _ (name : List ℕ) (cores : ℕ) (is_name : IsName name) (some : 1 ≤ c
 
         unended : rest ≡ [] → LitmusLines Section (front_of programs shown forbidden) → ⊥
         unended none g =
-            let b = behind_show Section fit programs shown (map forbid_text forbidden) (each_fits_of programs each) are_shown g in
+            let b = behind_show Section fit programs shown (map forbid_text forbidden) (each_fits_of format programs each) are_shown g in
             no_whole forbidden b.0 b.2
 
     abbrev whole : List (List ℕ)
     whole = front_of programs shown forbidden ++ end_text ∷ []
 
     -- bytes come after the last line
-    too_much : (Section : List Instruction → Type 0) → ((p : List Instruction) → Section p → EachFits p) → AllByRecursion Section programs → (k : ℕ) (behind : List ℕ)
+    too_much : (Section : Format → List Instruction → Type 0) → ((p : List Instruction) → Section format p → EachFits format p) → AllByRecursion (Section format) programs → (k : ℕ) (behind : List ℕ)
         → k ≡ length (sections 0 programs) + 2 + 2 + length forbidden → rest ≡ end_text ++ 10 ∷ behind → behind ≢ []
         → IsFirstWrong (LitmusLines Section) text k
     too_much Section fit each_section k behind k-is rest-is some_left =
@@ -210,12 +213,12 @@ module _ (name : List ℕ) (cores : ℕ) (is_name : IsName name) (some : 1 ≤ c
           arith,
           k-is,
           length-append (front_of programs shown forbidden) (end_text ∷ []),
-          length-append (begun (header_text name cores) programs) (show_text shown ∷ map forbid_text forbidden),
+          length-append (begun (header_text (format_number format) name cores) programs) (show_text shown ∷ map forbid_text forbidden),
           length-map forbidden forbid_text,
         )) (
           [],
           (
-            record { name = name; programs = programs; shown = shown; forbidden = forbidden },
+            record { name = name; format = format; programs = programs; shown = shown; forbidden = forbidden },
             (
               test_of Section programs shown forbidden count each_section are_shown are_forbidden,
               append-nil whole ∙ regroup (end_text ∷ []) ∙ lines_of programs shown forbidden count,
@@ -236,7 +239,7 @@ module _ (name : List ℕ) (cores : ℕ) (is_name : IsName name) (some : 1 ≤ c
 
         follows : NoneFollows (LitmusLines Section) whole behind
         follows next more after g there =
-            let b = behind_show Section fit programs shown (map forbid_text forbidden ++ end_text ∷ next ∷ more) (each_fits_of programs each) are_shown
+            let b = behind_show Section fit programs shown (map forbid_text forbidden ++ end_text ∷ next ∷ more) (each_fits_of format programs each) are_shown
             (subst (LitmusLines Section) (append_assoc (front_of programs shown forbidden) (end_text ∷ []) (next ∷ more) ∙ regroup (end_text ∷ next ∷ more)) g) in
             no_more next more (follows_of (length shown) forbidden b.0 end_text (next ∷ more) b.1 b.2)
 
@@ -244,12 +247,12 @@ module _ (name : List ℕ) (cores : ℕ) (is_name : IsName name) (some : 1 ≤ c
         → IsBadLine LitmusLines text k
     unfinished_line k k-is no_forbid no_end = (
       unfinished IsSection (λ p s. s.each_fits) each k k-is no_forbid no_end,
-      (unfinished EachFits (λ p fits. fits) (each_fits_of programs each) k k-is no_forbid no_end).wrong,
+      (unfinished EachFits (λ p fits. fits) (each_fits_of format programs each) k k-is no_forbid no_end).wrong,
     )
 
     pub too_much_line : (k : ℕ) (behind : List ℕ) → k ≡ length (sections 0 programs) + 2 + 2 + length forbidden → rest ≡ end_text ++ 10 ∷ behind → behind ≢ []
         → IsBadLine LitmusLines text k
     too_much_line k behind k-is rest-is some_left = (
       too_much IsSection (λ p s. s.each_fits) each k behind k-is rest-is some_left,
-      (too_much EachFits (λ p fits. fits) (each_fits_of programs each) k behind k-is rest-is some_left).wrong,
+      (too_much EachFits (λ p fits. fits) (each_fits_of format programs each) k behind k-is rest-is some_left).wrong,
     )

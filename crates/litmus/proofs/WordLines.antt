@@ -7,7 +7,7 @@ use Rattle.decimal_text.specs.Numbers.{numeral}
 use Rattle.decimal_text.specs.Reading.{after}
 use Rattle.decimal_text.proofs.Lines.{NoLf, NoLf-append, const_no_lf}
 use Rattle.core_program.specs.declared.instruction.Instruction.{Instruction}
-use Rattle.core_program.specs.declared.instruction.Instruction.TheVariants.{Load, Store, StoreRegister, Add, SkipIfZero}
+use Rattle.core_program.specs.declared.instruction.Instruction.TheVariants.{Load, Store, StoreRegister, Add, SkipIfZero, Swap}
 use Rattle.core_program.specs.Grammar.{core_text, end_text, instruction_text}
 use Rattle.core_program.proofs.SetLines.{IsOther}
 use Rattle.litmus.specs.Grammar.{forbid_text, show_text, shown_text, spaced, AreShown, IsOutcome, IsRegister}
@@ -94,6 +94,7 @@ instruction_second (Store addr value) = λ e. omega (arith, e)
 instruction_second (StoreRegister addr from) = λ e. omega (arith, e)
 instruction_second (Add to from value) = λ e. omega (arith, e)
 instruction_second (SkipIfZero tested skip) = λ e. omega (arith, e)
+instruction_second (Swap to addr value) = λ e. omega (arith, e)
 
 core_first : (core : ℕ) → first_of (core_text core) ≡ 99
 unfolding core_text

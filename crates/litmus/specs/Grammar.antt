@@ -2,8 +2,9 @@
 use Rattle.std.specs.Prelude.{◌≡◌, ℕ, ◌<◌, ◌≤◌, ◌^◌, Bool, true, ◌||◌, ◌&&◌, ◌==◌, nat_le, List, [], ◌∷◌, ◌++◌, length, map, codes}
 use Rattle.std.specs.List.{flat_map, AllByRecursion}
 use Rattle.decimal_text.specs.Numbers.{numeral}
+use Rattle.core_program.specs.declared.format.Format.{Format}
 use Rattle.core_program.specs.declared.instruction.Instruction.{Instruction}
-use Rattle.core_program.specs.Grammar.{end_text, sections, IsSetOf}
+use Rattle.core_program.specs.Grammar.{end_text, format_number, sections, IsSetOf}
 use Rattle.litmus.specs.Parts.{LitmusParts, ShownParts}
 
 -- ---- the texts
@@ -12,9 +13,10 @@ use Rattle.litmus.specs.Parts.{LitmusParts, ShownParts}
 abbrev pub spaced : {A : Type 0} → (A → List ℕ) → List A → List ℕ
 spaced word xs = flat_map (λ x. 32 ∷ word x) xs
 
--- the first line, for this number of cores
-unfoldable pub header_text : List ℕ → ℕ → List ℕ
-header_text name cores = codes "tardis-litmus 1 " ++ (name ++ (codes " cores " ++ numeral cores))
+-- the first line of a test of this format, for this number of cores
+unfoldable pub header_text : ℕ → List ℕ → ℕ → List ℕ
+header_text format name cores =
+    codes "tardis-litmus " ++ (numeral format ++ (codes " " ++ (name ++ (codes " cores " ++ numeral cores))))
 
 -- a shown register: its core, and its number after `.r`
 unfoldable pub shown_text : ShownParts → List ℕ
@@ -33,7 +35,7 @@ abbrev pub last_lines : List ShownParts → List (List ℕ) → List (List ℕ)
 last_lines shown forbidden = show_text shown ∷ (map forbid_text forbidden ++ end_text ∷ [])
 
 abbrev pub litmus_lines : LitmusParts → List (List ℕ)
-litmus_lines t = header_text t.name (length t.programs) ∷ (sections 0 t.programs ++ last_lines t.shown t.forbidden)
+litmus_lines t = header_text (format_number t.format) t.name (length t.programs) ∷ (sections 0 t.programs ++ last_lines t.shown t.forbidden)
 
 -- ---- what has a text
 
@@ -67,9 +69,9 @@ pub record AreForbidden (count : ℕ) (forbidden : List (List ℕ)) : Type 0 whe
   pub few : length forbidden ≤ 16
   pub each : AllByRecursion (IsOutcome count) forbidden
 
--- a test with such sections
-pub record IsTestOf (Section : List Instruction → Type 0) (t : LitmusParts) : Type 0 where
+-- a test whose sections are such in its format
+pub record IsTestOf (Section : Format → List Instruction → Type 0) (t : LitmusParts) : Type 0 where
   pub name : IsName t.name
-  pub programs : IsSetOf Section t.programs
+  pub programs : IsSetOf (Section t.format) t.programs
   pub shown : AreShown (length t.programs) t.shown
   pub forbidden : AreForbidden (length t.shown) t.forbidden

@@ -3,9 +3,11 @@
 ghost use Rattle.std.specs.Prelude.{◌≡◌, ◌≤◌, ℕ, List, IfSome, IsNone, length, option_map};
 ghost use Rattle.litmus.specs.Grammar.{is_name_byte};
 ghost use Rattle.litmus.specs.inner.Ending.{HeaderInFront};
-ghost use Rattle.litmus.specs.inner.Reading.{cores_at, header_of, name_at, name_len};
+ghost use Rattle.litmus.specs.inner.Reading.{cores_at, first_words, header_of, name_at, name_len};
+ghost use Rattle.decimal_text.specs.Reading.{front_now};
+ghost use Rattle.core_program.specs.declared.format.Format.{Format};
 
-use core_program::next_line;
+use core_program::{Format, next_line};
 use decimal_text::{after_text, read_last};
 
 /// The most bytes of a name.
@@ -13,6 +15,17 @@ const NAME_LIMIT: usize = 32;
 
 /// The most cores of a test.
 const CORE_LIMIT: u64 = 64;
+
+/// What the first line of a test tells.
+#[derive(Clone, Copy)]
+pub(crate) struct Header<'a> {
+    /// The format of its programs.
+    pub(crate) format: Format,
+    /// Its name.
+    pub(crate) name: &'a [u8],
+    /// Its number of cores, 1..64.
+    pub(crate) cores: u64,
+}
 
 /// Whether a byte is one of a name.
 fn is_name_byte(byte: u8) -> bool
@@ -61,25 +74,41 @@ fn cores_at(bytes: &[u8]) -> Option<u64>
     Some(cores)
 }
 
-/// What a first line tells; None where it isn't one.
-#[tactic(auto, unfolding(crate::specs::inner::Reading::header_of))]
-fn header_of(line: &[u8]) -> Option<(&[u8], u64)>
-    ensures { option_map (λ read. (read.0.now, read.1)) result ≡ header_of line.now }
+/// The format that the words before the name say, and the bytes after them.
+#[tactic(auto, unfolding(crate::specs::inner::Reading::first_words))]
+fn format_of(line: &[u8]) -> Option<(Format, &[u8])>
+    ensures { front_now result ≡ first_words line.now }
 {
-    let (name, rest) = name_at(after_text(b"tardis-litmus 1 ", line)?)?;
-    let cores = cores_at(rest)?;
-    Some((name, cores))
+    if let Some(rest) = after_text(b"tardis-litmus 1 ", line) {
+        return Some((Format::One, rest));
+    }
+    let rest = after_text(b"tardis-litmus 2 ", line)?;
+    Some((Format::Two, rest))
 }
 
-/// The test's name, its number of cores, 1..64, and the bytes after the first line; None where that
-/// isn't as it should be.
-pub(crate) fn after_header(text: &[u8]) -> Option<(&[u8], u64, &[u8])>
+/// What a first line tells; None where it isn't one.
+#[tactic(auto, unfolding(crate::specs::inner::Reading::header_of))]
+fn header_of(line: &[u8]) -> Option<Header<'_>>
+    ensures { option_map (λ read. (read.format, read.name.now, read.cores)) result ≡ header_of line.now }
+{
+    let (format, rest) = format_of(line)?;
+    let (name, rest) = name_at(rest)?;
+    let cores = cores_at(rest)?;
+    Some(Header {
+        format,
+        name,
+        cores,
+    })
+}
+
+/// What the first line tells, and the bytes after it; None where it isn't as it should be.
+pub(crate) fn after_header(text: &[u8]) -> Option<(Header<'_>, &[u8])>
     ensures found { IfSome result
-        (λ read. HeaderInFront read.0.now read.1 text.now read.2.now) }
+        (λ read. HeaderInFront read.0.format read.0.name.now read.0.cores text.now read.1.now) }
     ensures none { IsNone result →
-        (name : List ℕ) (cores : ℕ) (rest : List ℕ) → ¬ HeaderInFront name cores text.now rest }
+        (format : Format) (name : List ℕ) (cores : ℕ) (rest : List ℕ) → ¬ HeaderInFront format name cores text.now rest }
 {
     let (line, rest) = next_line(text)?;
-    let (name, cores) = header_of(line)?;
-    Some((name, cores, rest))
+    let header = header_of(line)?;
+    Some((header, rest))
 }

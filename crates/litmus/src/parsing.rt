@@ -10,13 +10,14 @@ use super::ending::{read_ending, wrong_line};
 use super::fault::LitmusFault;
 use super::header::after_header;
 use super::test::{Litmus, Shown};
-use core_program::{Instruction, ProgramSet, read_sections};
+use core_program::{Format, Instruction, ProgramSet, read_sections};
 use std::alloc::Global;
 
 /// What the lines of a test say.
 #[derive(Drop)]
 pub(crate) struct Parts {
     name: Vec<u8>,
+    format: Format,
     sections: Vec<Vec<Instruction>>,
     shown: Vec<Shown>,
     forbidden: Vec<Vec<u64>>,
@@ -28,19 +29,20 @@ fn read_lines(alloc: Global, text: &[u8]) -> Result<Parts, LitmusFault>
         (λ parts. Spells text.now (parts_of parts))
         (λ fault. IsLineFault text.now fault) }
 {
-    let Some((name, cores, body)) = after_header(text) else {
+    let Some((header, body)) = after_header(text) else {
         return Err(LitmusFault::BadLitmusLine(1));
     };
-    let name = name.to_vec(alloc)?;
-    let sections = read_sections(alloc, cores, body)?;
+    let name = header.name.to_vec(alloc)?;
+    let sections = read_sections(alloc, header.format, header.cores, body)?;
     let count = sections.programs.len() as u64;
     let rest = &body[sections.taken..];
-    if count < cores {
+    if count < header.cores {
         return Err(wrong_line(sections.line, count > 0, rest));
     }
-    let ending = read_ending(alloc, cores, rest, sections.line)?;
+    let ending = read_ending(alloc, header.cores, rest, sections.line)?;
     Ok(Parts {
         name,
+        format: header.format,
         sections: sections.programs,
         shown: ending.shown,
         forbidden: ending.forbidden,
@@ -48,8 +50,8 @@ fn read_lines(alloc: Global, text: &[u8]) -> Result<Parts, LitmusFault>
 }
 
 impl Litmus {
-    /// The test whose text this is: a first line with its name and number of cores, a section for each
-    /// core, a line of the shown registers, the lines of the forbidden outcomes, `end`, each line ended
+    /// The test whose text this is: a first line with its format, name and number of cores, a section of
+    /// instructions of the format for each core, a line of the shown registers, the lines of the forbidden outcomes, `end`, each line ended
     /// by a line feed, and nothing after.
     ///
     /// The first line that isn't so, or is missing, is told: BadLine where it is an instruction line,
@@ -61,7 +63,7 @@ impl Litmus {
             (λ fault. IsFault text.now fault) }
     {
         let parts = read_lines(alloc, text)?;
-        let programs = ProgramSet::of_sections(alloc, parts.sections)?;
+        let programs = ProgramSet::of_sections(alloc, parts.format, parts.sections)?;
         Ok(Litmus::of_parts(parts.name, programs, parts.shown, parts.forbidden))
     }
 }

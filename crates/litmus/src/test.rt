@@ -45,7 +45,7 @@ impl Model for Litmus {
 
     ghost Value = { LitmusParts };
 
-    ghost view = { λ test. record { name = test.name.items; programs = test.programs.programs; shown = test.shown.items; forbidden = map (λ values. values.items) test.forbidden.items } };
+    ghost view = { λ test. record { name = test.name.items; format = test.programs.format; programs = test.programs.programs; shown = test.shown.items; forbidden = map (λ values. values.items) test.forbidden.items } };
 }
 
 impl Litmus {
@@ -56,9 +56,10 @@ impl Litmus {
         &self.name
     }
 
-    /// The programs of its cores.
+    /// The programs of its cores, with their format.
     pub fn programs(&self) -> &ProgramSet
-        ensures { result.now.programs ≡ self.now.programs }
+        ensures programs { result.now.programs ≡ self.now.programs }
+        ensures format { result.now.format ≡ self.now.format }
     {
         &self.programs
     }
@@ -96,7 +97,7 @@ impl Litmus {
         shown: Vec<Shown>,
         forbidden: Vec<Vec<u64>>,
     ) -> Litmus
-        ensures { result ≡ record { name = name.items; programs = programs.programs; shown = shown.items; forbidden = map (λ values. values.items) forbidden.items } }
+        ensures { result ≡ record { name = name.items; format = programs.format; programs = programs.programs; shown = shown.items; forbidden = map (λ values. values.items) forbidden.items } }
     {
         Litmus {
             name,

@@ -3,7 +3,8 @@ use Rattle.std.specs.Prelude.{◌≡◌, ◌≢◌, ℕ, ◌+◌, ◌<◌, ◌�
 use Rattle.std.specs.Global.{Vec}
 use Rattle.std.specs.List.{AllByRecursion}
 use Rattle.decimal_text.specs.Reading.{after}
-use Rattle.core_program.specs.Grammar.{end_text}
+use Rattle.core_program.specs.declared.format.Format.{Format}
+use Rattle.core_program.specs.Grammar.{end_text, format_number}
 use Rattle.core_program.specs.Lines.{text_of}
 use Rattle.litmus.specs.Grammar.{header_text, forbid_text, show_text, AreForbidden, AreShown, IsName, IsOutcome}
 use Rattle.litmus.specs.Parts.{ShownParts}
@@ -11,9 +12,10 @@ use Rattle.litmus.specs.declared.fault.LitmusFault.{LitmusFault}
 use Rattle.litmus.specs.declared.fault.LitmusFault.TheVariants.{BadLitmusLine, BadLine, OutOfMemory}
 use Rattle.litmus.specs.declared.ending.Forbids.{Forbids}
 
--- the bytes begin with the first line of this name and number of cores, and these come after it
-abbrev pub HeaderInFront : List ℕ → ℕ → List ℕ → List ℕ → Type 0
-HeaderInFront name cores bytes rest = IsName name × (1 ≤ cores) × (cores ≤ 64) × (bytes ≡ header_text name cores ++ 10 ∷ rest)
+-- the bytes begin with the first line of this format, name and number of cores, and these come after it
+abbrev pub HeaderInFront : Format → List ℕ → ℕ → List ℕ → List ℕ → Type 0
+HeaderInFront format name cores bytes rest =
+    IsName name × (1 ≤ cores) × (cores ≤ 64) × (bytes ≡ header_text (format_number format) name cores ++ 10 ∷ rest)
 
 -- the bytes begin with the line of these registers, of this outcome, and these come after it
 abbrev pub ShowInFront : ℕ → List ShownParts → List ℕ → List ℕ → Type 0

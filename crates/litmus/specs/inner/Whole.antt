@@ -12,6 +12,7 @@ use Rattle.litmus.specs.inner.Ending.{word_lists}
 abbrev pub parts_of : Parts → LitmusParts
 parts_of parts = record {
   name = parts.name.items;
+  format = parts.format;
   programs = section_lists parts.sections.items;
   shown = parts.shown.items;
   forbidden = word_lists parts.forbidden.items;

@@ -13,8 +13,8 @@ returns-in-Ok-clause-run g c =
     let g = c.args.config.now in
     let end : ThreadEnd = record { units = c.in-Ok.end.units.items; slices = c.in-Ok.end.slices.items } in
     judged_end ThreadEnd (IsThreadRun t g) (IsUnthreaded t) left t end c.judged_outcome.result (
-      subst (λ (ps : List (List Instruction)). IsRun ps g end.units end.slices) c.programs.ensures c.in-Ok.ensures.run,
-      subst (λ (ps : List (List Instruction)). IsMachineRun ps g end.units end.slices) c.programs.ensures c.in-Ok.ensures.events,
+      subst (λ (ps : List (List Instruction)). IsRun ps g end.units end.slices) c.programs.ensures.programs c.in-Ok.ensures.run,
+      subst (λ (ps : List (List Instruction)). IsMachineRun ps g end.units end.slices) c.programs.ensures.programs c.in-Ok.ensures.events,
     )
     c.judged_outcome.ensures
 
@@ -25,7 +25,7 @@ returns-in-Ok-clause-yes g c =
     let end : ThreadEnd = record { units = c.in-Ok.end.units.items; slices = c.in-Ok.end.slices.items } in
     threaded_never_no t g c.judged_outcome.result (λ o. IsThreadEnd t g o.items)
     (judged_end ThreadEnd (IsThreadRun t g) (IsUnthreaded t) left t end c.judged_outcome.result (
-      subst (λ (ps : List (List Instruction)). IsRun ps g end.units end.slices) c.programs.ensures c.in-Ok.ensures.run,
-      subst (λ (ps : List (List Instruction)). IsMachineRun ps g end.units end.slices) c.programs.ensures c.in-Ok.ensures.events,
+      subst (λ (ps : List (List Instruction)). IsRun ps g end.units end.slices) c.programs.ensures.programs c.in-Ok.ensures.run,
+      subst (λ (ps : List (List Instruction)). IsMachineRun ps g end.units end.slices) c.programs.ensures.programs c.in-Ok.ensures.events,
     )
     c.judged_outcome.ensures)
