@@ -75,11 +75,11 @@ fn log_text(
     requires core { core < cores }
     requires cores { cores ≤ 64 }
     requires few { length records.now ≤ operation_limit }
-    ensures text { IfOk result (λ text. SpellsIn Format.One core cores text.items records.now) }
+    ensures text { IfOk result (λ text. SpellsIn Format.Two core cores text.items records.now) }
     ensures refused { IfErr result (λ cause. cause ≡ RunCause.OutOfMemory) }
 {
     let mut sink = MemSink::new(alloc, &[]);
-    if write_log(alloc, &mut sink, Format::One, core, cores as u64, records).is_err() {
+    if write_log(alloc, &mut sink, Format::Two, core, cores as u64, records).is_err() {
         return Err(RunCause::OutOfMemory);
     }
     Ok(sink.bytes().to_vec(alloc)?)
