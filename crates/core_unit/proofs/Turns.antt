@@ -1,6 +1,6 @@
 -- What a turn comes to where the next operation is looked at.
 use Rattle.std.proofs.Common.{◌≡◌, refl}
-use Rattle.std.specs.Prelude.{Bool, true, false, if◌then◌else◌, nat_lt, [], ◌∷◌, ◌++◌, length, Option, Some, None, Result, Ok, Err}
+use Rattle.std.specs.Prelude.{Bool, true, false, if◌then◌else◌, nat_lt, [], ◌∷◌, ◌++◌, length, Option, Some, None, Result, Ok}
 use Rattle.mem_op.specs.declared.id.Op.{Op}
 use Rattle.line_stamps.specs.declared.fault.StampFault.{StampFault}
 use Rattle.line_stamps.specs.declared.message.Message.{Message}
@@ -24,11 +24,7 @@ pub missed : (u : Core) (x : Op) (hit : Option Hit) (m : Message) → look.Miss 
 missed u x None m e = refl
 missed u x (Some hit) m e = absurd (cc)
 
--- the turn of a core that has no message in hand
-pub turn_of_next : (p : UnitParts) (x : Op) → p.hand ≡ None → next_of (core_of p None) ≡ Some x
-    → turn_outcome p ≡ op_outcome p x (tries p.core (core_of p None) x)
-turn_of_next p x free next = rw (free, next) refl
-
+-- the turn of a core that has no message in hand, and whose next operation misses
 pub turn_of_miss : (p : UnitParts) (x : Op) → p.hand ≡ None → next_of (core_of p None) ≡ Some x → tries p.core (core_of p None) x ≡ None
     → turn_outcome p ≡ miss_outcome p x (has_room p.cache (op_addr x)) (least_recently_used p.cache)
 turn_of_miss p x free next misses = rw (free, next, misses) refl

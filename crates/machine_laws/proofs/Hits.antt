@@ -76,8 +76,8 @@ store_case pts r id a v (Some (Exclusive m l)) hit i =
     subst (λ (h : Hit). HitCase pts r id (op.Store a v) (Some (Exclusive m l)) h) (some_same _ hit i)
     (case_write m l v refl refl refl (record { act = refl; read = λ s x e. absurd cc; ts = refl; rank = refl }))
 
--- a swap has read the line before it, as an equation of what it has read tells
-read_before : (s z : Source) (x y : ℕ) → Some (s, x) ≡ Some (z, y) → (z ≡ s) × (y ≡ x)
+-- what was read is told once
+read_before : (s z : Source) (x y : ℕ) → ◌≡◌ {A = Option (Source × ℕ)} (Some (s, x)) (Some (z, y)) → (z ≡ s) × (y ≡ x)
 read_before s z x y e =
     let h : ◌≡◌ {A = Source × ℕ} (z, y) (s, x) = cc in
     (ap (λ (p : Source × ℕ). p.0) h, ap (λ (p : Source × ℕ). p.1) h)

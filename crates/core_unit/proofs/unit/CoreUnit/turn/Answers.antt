@@ -1,6 +1,5 @@
 use Rattle.std.proofs.Common.{◌≡◌, ◌∙◌, Some, None, sym, subst, rules}
-use Rattle.private_cache.specs.Steps.{has_room, least_recently_used}
-use Rattle.core_unit.specs.Core.{next_of, op_addr, tries}
+use Rattle.core_unit.specs.Core.{next_of, tries}
 use Rattle.core_unit.specs.Outcomes.{Meets, UnitOutcome}
 use Rattle.core_unit.specs.Parts.{UnitParts, core_of}
 use Rattle.core_unit.proofs.Turns.{hit_acts, missed, turn_of_miss}
