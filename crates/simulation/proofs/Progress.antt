@@ -4,7 +4,7 @@ use Rattle.std.specs.Prelude.{Option, Some, None, is_some, slice_get, slice_set}
 use Rattle.std.specs.Option.{option_map_or}
 use Rattle.std.proofs.lemmas.List.{length-append}
 use Rattle.lease_rule.specs.ConfigParts.{ConfigParts}
-use Rattle.core_unit.specs.Core.{Core, next_of, record_of, word_of}
+use Rattle.core_unit.specs.Core.{Core, next_of, record_of, answer_of}
 use Rattle.core_unit.specs.declared.outcome.Outcome.{Outcome}
 use Rattle.core_machine.specs.Machine.{World, CoreLeads, Leads, turn_hits, turn_drops, turn_gives, turn_asks, turn_ends, takes, takes_nothing, takes_busy, recall_gives, evict_drops, evict_gives, increments, by_core, serves, spills, no_effect}
 use Rattle.core_machine.specs.Parts.{CoreParts, world}
@@ -32,7 +32,7 @@ falls_as u v p s l = record { left = rw (p, s) (omega arith); both = rw (p, s, l
 core_falls : (g : ConfigParts) (c : ℕ) (u : Core) (e : Event) (o : Outcome) (v : Core) → CoreLeads g c u e o v → Falls u v
 core_falls g c u e o v (turn_hits op hit h n t) =
     let waits : is_some (next_of u) ≡ true = ap is_some n in
-    let on = answered_on u.program (word_of op hit) u.state waits in
+    let on = answered_on u.program (answer_of op hit) u.state waits in
     let more = length-append u.log (record_of op hit ∷ []) in
     record { left = omega (arith, on); both = omega (arith, on, more) }
 core_falls g c u e o v (turn_drops op b l h n t p held) = falls_as u v refl refl refl
