@@ -9,10 +9,31 @@ fn programs_are_read_and_printed(rt: HostRuntime) -> Result<(), Fail> {
         b"ld r0 0\nai r1 r0 1\nsr 1 r1\n",
         b"ld r0 0\njz r0 1\nst 1 7\n",
         b"ld r15 65535\nst 65535 18446744073709551615\nsr 65535 r15\nai r15 r15 18446744073709551615\n",
+        b"st 0 1\nsw r0 0 2\nsw r15 65535 18446744073709551615\n",
     ] {
         let program = Program::parse(rt.alloc(), text)?;
         let printed = program.print(rt.alloc())?;
         assert_eq!(rt; printed.as_slice(), text);
+    }
+    Ok(())
+}
+
+#[test]
+fn swaps_are_read_in_format_2_alone(rt: HostRuntime) -> Result<(), Fail> {
+    let text = b"st 0 1\nsw r0 0 2\n";
+    let fault = Program::parse_in(rt.alloc(), Format::One, text).err();
+    assert_eq!(rt; fault, Some(ProgramFault::BadLine(2)));
+    let swapping = b"tardis-programs 2 cores 1\ncore 0\nsw r0 0 1\nend\n";
+    assert_eq!(rt; ProgramSet::parse(rt.alloc(), swapping)?.format(), Format::Two);
+    for (text, line) in [
+        (
+            b"tardis-programs 1 cores 1\ncore 0\nsw r0 0 1\nend\n".as_slice(),
+            3,
+        ),
+        (b"tardis-programs 3 cores 1\ncore 0\nend\n", 1),
+    ] {
+        let fault = ProgramSet::parse(rt.alloc(), text).err();
+        assert_eq!(rt; fault, Some(ProgramFault::BadLine(line)));
     }
     Ok(())
 }

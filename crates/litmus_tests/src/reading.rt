@@ -112,6 +112,14 @@ fn faults_in_the_sections(rt: HostRuntime) -> Result<(), Fail> {
             b"tardis-litmus 1 A cores 1\ncore 0\njz r0 2\nshow 0.r0\n",
             LitmusFault::BadLitmusLine(5),
         ),
+        (
+            b"tardis-litmus 1 A cores 1\ncore 0\nsw r0 0 1\nshow 0.r0\nend\n",
+            LitmusFault::BadLine(3),
+        ),
+        (
+            b"tardis-litmus 3 A cores 1\ncore 0\nshow 0.r0\nend\n",
+            LitmusFault::BadLitmusLine(1),
+        ),
     ] {
         assert_eq!(rt; fault_of(&rt, text), Some(fault));
     }

@@ -6,14 +6,16 @@ use std::alloc::Global;
 use std::test::*;
 use std::thread::Threads;
 
-/// The six tests of `examples/litmus`.
-pub(super) const TESTS: [&[u8]; 6] = [
+/// The eight tests of `examples/litmus`.
+pub(super) const TESTS: [&[u8]; 8] = [
     b"tardis-litmus 1 SB cores 2\ncore 0\nst 0 1\nld r0 1\ncore 1\nst 1 1\nld r0 0\nshow 0.r0 1.r0\nforbid 0 0\nend\n",
     b"tardis-litmus 1 MP cores 2\ncore 0\nst 0 1\nst 1 1\ncore 1\nld r0 1\nld r1 0\nshow 1.r0 1.r1\nforbid 1 0\nend\n",
     b"tardis-litmus 1 LB cores 2\ncore 0\nld r0 0\nst 1 1\ncore 1\nld r0 1\nst 0 1\nshow 0.r0 1.r0\nforbid 1 1\nend\n",
     b"tardis-litmus 1 IRIW cores 4\ncore 0\nst 0 1\ncore 1\nst 1 1\ncore 2\nld r0 0\nld r1 1\ncore 3\nld r0 1\nld r1 0\nshow 2.r0 2.r1 3.r0 3.r1\nforbid 1 0 1 0\nend\n",
     b"tardis-litmus 1 CoRR cores 2\ncore 0\nst 0 1\ncore 1\nld r0 0\nld r1 0\nshow 1.r0 1.r1\nforbid 1 0\nend\n",
     b"tardis-litmus 1 WRC cores 3\ncore 0\nst 0 1\ncore 1\nld r0 0\nst 1 1\ncore 2\nld r0 1\nld r1 0\nshow 1.r0 2.r0 2.r1\nforbid 1 1 0\nend\n",
+    b"tardis-litmus 2 SWAP cores 2\ncore 0\nsw r0 0 1\ncore 1\nsw r0 0 1\nshow 0.r0 1.r0\nforbid 0 0\nforbid 1 1\nend\n",
+    b"tardis-litmus 2 LOCK cores 2\ncore 0\nsw r0 0 1\njz r0 1\nsw r0 0 1\njz r0 1\njz r15 4\nld r1 1\nai r2 r1 1\nsr 1 r2\nst 0 0\ncore 1\nsw r0 0 1\njz r0 1\nsw r0 0 1\njz r0 1\njz r15 4\nld r1 1\nai r2 r1 1\nsr 1 r2\nst 0 0\nshow 0.r0 0.r1 1.r0 1.r1\nforbid 0 0 0 0\nforbid 0 1 0 1\nforbid 1 0 1 0\nend\n",
 ];
 
 /// The table of so many runs of a test, from seed 1 on.

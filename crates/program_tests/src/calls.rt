@@ -93,10 +93,19 @@ pub(super) struct Done {
 
 /// The logs of a set, by the records of each core.
 pub(super) fn logs_of(alloc: Global, records: &[&[&str]]) -> Result<Vec<Vec<u8>>, Fail> {
+    logs_in(alloc, 1, records)
+}
+
+/// The texts of logs of this format with these records.
+pub(super) fn logs_in(
+    alloc: Global,
+    log_format: u8,
+    records: &[&[&str]],
+) -> Result<Vec<Vec<u8>>, Fail> {
     let mut logs = Vec::new(alloc);
     let cores = records.len();
     for (core, lines) in records.iter().enumerate() {
-        let mut log = format!(in alloc; "tardis-log 1 core {core} of {cores}\n")?;
+        let mut log = format!(in alloc; "tardis-log {log_format} core {core} of {cores}\n")?;
         for line in lines.iter() {
             log.push_str(line)?;
             log.push('\n')?;

@@ -1,6 +1,6 @@
 //! Simulated runs, through the program.
 
-use super::calls::{Done, SOUND, call_watched, logs_of};
+use super::calls::{Done, SOUND, call_watched, logs_in, logs_of};
 use std::alloc::Global;
 use std::sync::Wait;
 use std::test::Fail;
@@ -18,6 +18,22 @@ struct Run {
 
 /// Runs whose logs were worked out by hand from the tables of the protocol.
 const RUNS: &[Run] = &[
+    // Core 1 gets the line that core 0 has swapped, by a flush, and swaps after its lease.
+    Run {
+        programs: &["sw r0 0 1\n", "sw r0 0 2\n"],
+        options: &[],
+        schedule: None,
+        records: &[&["X 0 1 1 0 init 0"], &["X 0 2 2 0 0.0 1"]],
+        operations: 2,
+    },
+    // A swap that is a private write.
+    Run {
+        programs: &["st 0 1\nsw r0 0 2\n"],
+        options: &[],
+        schedule: None,
+        records: &[&["S 0 1 1 0", "X 0 2 1 1 0.0 1"]],
+        operations: 2,
+    },
     // A store, a load of it and a private write.
     Run {
         programs: &["st 5 7\nld r0 5\nst 5 8\n"],
@@ -146,6 +162,13 @@ const RUNS: &[Run] = &[
 /// Options and texts of programs and schedules that aren't run, with their status and what is told.
 const NOT_RUN: &[(&[&str], &str, &str, u8, &str)] = &[
     (
+        &[],
+        "tardis-programs 1 cores 1\ncore 0\nsw r0 0 1\nend\n",
+        "",
+        2,
+        "refused: programs line 3: 7 BadLine\n",
+    ),
+    (
         &["--schedule", "1"],
         ONE_STORE,
         "turn 1\n",
@@ -234,6 +257,14 @@ core 2\nst 2 3\nld r0 2\nld r1 0\nld r2 1\nst 0 5\nld r3 0\n\
 core 3\nld r0 2\nld r1 1\nld r2 0\nai r3 r0 10\nsr 1 r3\nld r4 1\n\
 end\n";
 
+/// Four cores that read, write and swap two words.
+const FOUR_SWAPPING: &str = "tardis-programs 2 cores 4\n\
+core 0\nst 0 1\nsw r0 1 2\nld r1 0\nsw r2 0 3\nst 1 4\n\
+core 1\nsw r0 0 5\nsr 1 r0\nld r1 1\nsw r2 0 6\nld r3 0\n\
+core 2\nld r0 1\nsw r1 1 7\njz r1 1\nst 0 8\nsw r2 1 9\nld r3 0\n\
+core 3\nsw r0 1 10\nld r1 0\nai r2 r0 1\nsr 0 r2\nsw r3 0 11\n\
+end\n";
+
 #[test]
 fn runs(rt: HostRuntime) -> Result<(), Fail> {
     for run in RUNS {
@@ -248,7 +279,7 @@ fn runs(rt: HostRuntime) -> Result<(), Fail> {
         let line = format!(in rt.alloc(); "done: {} operations\n", run.operations)?;
         assert_eq!(rt; done.printed.as_str(), line.as_str(), "at {programs:?}");
         assert_eq!(rt; done.status, 0, "at {programs:?}");
-        let wanted = logs_of(rt.alloc(), run.records)?;
+        let wanted = logs_in(rt.alloc(), format_of(run.programs), run.records)?;
         assert_eq!(rt; done.logs, wanted, "at {programs:?}");
         for (core, name) in done.names.iter().enumerate() {
             let wanted = format!(in rt.alloc(); "log.{core}")?;
@@ -306,8 +337,9 @@ fn logs_that_cannot_be_written(rt: HostRuntime) -> Result<(), Fail> {
 }
 
 #[test]
-fn a_hundred_seeds(rt: HostRuntime) -> Result<(), Fail> {
-    for seed in 0..100 {
+fn a_hundred_seeds_each(rt: HostRuntime) -> Result<(), Fail> {
+    for seed in 0..200 {
+        let programs = if seed % 2 == 0 { FOUR_CORES } else { FOUR_SWAPPING };
         let seed = format!(in rt.alloc(); "{seed}")?;
         let options = [
             "--seed",
@@ -323,20 +355,30 @@ fn a_hundred_seeds(rt: HostRuntime) -> Result<(), Fail> {
             "--slice-lines",
             "2",
         ];
-        let done = sim(&rt, rt.alloc(), &options, &[FOUR_CORES], 64)?;
+        let done = sim(&rt, rt.alloc(), &options, &[programs], 64)?;
         assert_eq!(rt; done.told.as_str(), "", "with {seed}");
         assert_eq!(rt; done.status, 0, "with {seed}");
-        let verdict = judged(&rt, rt.alloc(), &done.logs, FOUR_CORES)?;
+        let verdict = judged(&rt, rt.alloc(), &done.logs, programs)?;
         assert!(rt; verdict.as_str().starts_with("yes: "), "with {seed}");
-        let again = sim(&rt, rt.alloc(), &options, &[FOUR_CORES], 64)?;
+        let again = sim(&rt, rt.alloc(), &options, &[programs], 64)?;
         assert_eq!(rt; again.logs, done.logs, "with {seed}");
     }
     Ok(())
 }
 
+/// The format that programs need: 2 where one of them swaps.
+fn format_of(programs: &[&str]) -> u8 {
+    if programs.iter().any(|program| program.contains("sw ")) {
+        2
+    } else {
+        1
+    }
+}
+
 /// The text of a set of programs.
 pub(super) fn programs_of(alloc: Global, programs: &[&str]) -> Result<String, Fail> {
-    let mut text = format!(in alloc; "tardis-programs 1 cores {}\n", programs.len())?;
+    let set_format = format_of(programs);
+    let mut text = format!(in alloc; "tardis-programs {set_format} cores {}\n", programs.len())?;
     for (core, program) in programs.iter().enumerate() {
         text.push_str(format!(in alloc; "core {core}\n{program}")?.as_str())?;
     }

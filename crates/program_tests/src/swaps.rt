@@ -1,6 +1,7 @@
 //! Sets of logs with swaps, through the program.
 
 use super::calls::{Done, SOUND, call, owned, strings};
+use super::runs::{judged, programs_of};
 use std::alloc::Global;
 use std::sync::Wait;
 use std::test::Fail;
@@ -107,6 +108,21 @@ fn swaps_are_judged(rt: HostRuntime) -> Result<(), Fail> {
             None => assert!(rt; !done.printed.as_str().contains("end"), "at {line:?}"),
         }
         assert_eq!(rt; done.status, *status, "at {line:?}");
+    }
+    Ok(())
+}
+
+// The programs whose swaps the logs have, and the same exchanged.
+#[test]
+fn swaps_are_judged_against_programs(rt: HostRuntime) -> Result<(), Fail> {
+    let logs = owned(rt.alloc(), &[FIRST, SECOND])?;
+    for (programs, line) in [
+        (["sw r0 0 1\n", "sw r0 0 2\n"], "yes: 2 operations\n"),
+        (["sw r0 0 2\n", "sw r0 0 1\n"], "no: 0.0 PROGRAM\n"),
+    ] {
+        let set = programs_of(rt.alloc(), &programs)?;
+        let verdict = judged(&rt, rt.alloc(), &logs, set.as_str())?;
+        assert_eq!(rt; verdict.as_str(), line);
     }
     Ok(())
 }
