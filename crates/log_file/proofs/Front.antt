@@ -1,5 +1,5 @@
 -- The header and the records of a text: no fault stands among them.
-use Rattle.std.proofs.Common.{◌≡◌, ℕ, zero, suc, ◌+◌, ◌<◌, ◌≤◌, ◌⊎◌, List, [], ◌∷◌, ◌++◌, length, get_or, map, eqb, None, refl, sym, ap, subst, ◌∙◌, arith, inl, inr, length-append}
+use Rattle.std.proofs.Common.{◌≡◌, ℕ, zero, suc, ◌+◌, ◌<◌, ◌≤◌, ◌⊎◌, List, [], ◌∷◌, ◌++◌, length, get_or, map, eqb, true, None, refl, sym, ap, subst, ◌∙◌, arith, inl, inr, length-append}
 use Rattle.std.proofs.lemmas.List.{length-map}
 use Rattle.std.specs.List.{AllByRecursion}
 use Rattle.std.specs.Prelude.{codes, if◌then◌else◌, is_some}
@@ -8,27 +8,27 @@ use Rattle.std.proofs.lemmas.List.Splits.{length-slice_split}
 use Rattle.log_record.specs.declared.format.Format.{Format}
 use Rattle.log_record.specs.declared.format.Format.TheVariants.{One, Two}
 use Rattle.log_record.specs.declared.record.Record.{Record}
-use Rattle.log_record.specs.Line.{format_number, record_text, header_text, IsEndShape, Fits, line_limit}
-use Rattle.log_record.proofs.Lines.{record_short, header_short, record_once, header_once, record_no_end, within_limit}
+use Rattle.log_record.specs.Line.{format_number, record_text, header_text, has_act, limit_of, IsEndShape, Fits, FitsIn, line_limit}
+use Rattle.log_record.proofs.Lines.{record_short, header_short, record_once, header_once, record_no_end}
 use Rattle.log_record.proofs.Ends.{header_text_is, words_of}
 use Rattle.decimal_text.specs.Numbers.{numeral}
 use Rattle.decimal_text.specs.Reading.{after}
 use Rattle.decimal_text.proofs.Numbers.{after_again}
 use Rattle.log_file.specs.declared.fault.FormatFault.{FormatFault}
 use Rattle.log_file.specs.declared.fault.FormatFault.TheVariants.{BadHeader, BadLine, OutOfRange, TooMany, CountDiffers, TrailingBytes, Truncated, WrongCore}
-use Rattle.log_file.specs.Log.{begun, text_of, IsLog, lines_of, line, IsBody, FaultAt, body_limit, number, said_format}
+use Rattle.log_file.specs.Log.{begun, text_of, IsLog, lines_of, line, IsBody, FaultAt, number, said_format}
 use Rattle.log_file.proofs.Lines.{begun_no_lf, lines_of_text}
 
 pub record Front (format : Format) (core cores : ℕ) (records : List Record) (lines rest : List (List ℕ)) : Type 0 where
-  pub log : IsLog core cores records
+  pub log : IsLog format core cores records
   pub parts : lines ≡ begun format core cores records ++ rest
   pub more : 0 < length rest
 
-record_at : (records : List Record) (rest : List (List ℕ)) (i : ℕ) → AllByRecursion Fits records → i < length records
-    → (r : Record) × (get_or (map record_text records ++ rest) i [] ≡ record_text r) × Fits r
-record_at [] rest i all lt = absurd (omega arith)
-record_at (r ∷ records) rest zero all lt = (r, refl, all.0)
-record_at (r ∷ records) rest (suc i) all lt = record_at records rest i all.1 (omega arith)
+record_at : (format : Format) (records : List Record) (rest : List (List ℕ)) (i : ℕ) → AllByRecursion (FitsIn format) records → i < length records
+    → (r : Record) × (get_or (map record_text records ++ rest) i [] ≡ record_text r) × FitsIn format r
+record_at format [] rest i all lt = absurd (omega arith)
+record_at format (r ∷ records) rest zero all lt = (r, refl, all.0)
+record_at format (r ∷ records) rest (suc i) all lt = record_at format records rest i all.1 (omega arith)
 
 behind : (records : List Record) (rest : List (List ℕ)) (i : ℕ)
     → get_or (map record_text records ++ rest) (length records + i) [] ≡ get_or rest i []
@@ -61,11 +61,11 @@ moved P f g x y p q h = subst (λ (k : Format). P k y) p (subst (λ (l : List �
 
 record_line : (format : Format) (core cores : ℕ) (records : List Record) (lines rest : List (List ℕ))
     → Front format core cores records lines rest → (j : ℕ) → 1 < j → j < length records + 2 → (r : Record)
-    × (line lines j ≡ record_text r) × Fits r
+    × (line lines j ≡ record_text r) × FitsIn format r
 record_line format core cores records lines rest h zero lo hi = absurd (omega arith)
 record_line format core cores records lines rest h (suc zero) lo hi = absurd (omega arith)
 record_line format core cores records lines rest h (suc (suc i)) lo hi =
-    let p = record_at records rest i h.log.each_fits (omega arith) in
+    let p = record_at format records rest i h.log.each_fits (omega arith) in
     (p.0, ap (λ (ls : List (List ℕ)). line ls (suc (suc i))) h.parts ∙ p.1, p.2)
 
 pub rest_line : (format : Format) (core cores : ℕ) (records : List Record) (lines rest : List (List ℕ))
@@ -107,19 +107,21 @@ quiet format core cores records lines rest h j BadHeader lt (at, inr bad) =
     bad.1 (format, (core, (cores, header_line format core cores records lines rest h)))
 quiet format core cores records lines rest h j BadLine lt (body, inl long) =
     let p = record_line format core cores records lines rest h j body.later lt in
-    let s = within_limit (said_format lines) (record_text p.0) (record_short p.0 p.2) in
-    let l : body_limit lines < length (record_text p.0) = subst (λ (x : List ℕ). body_limit lines < length x) p.1 long in
+    let s = record_short format p.0 p.2 in
+    let l : limit_of format < length (record_text p.0) =
+    moved (λ f x. limit_of f < length x) (said_format lines) format (line lines j) (record_text p.0)
+    (said_there format core cores records lines rest h) p.1 long in
     omega arith
 quiet format core cores records lines rest h j BadLine lt (body, inr bad) =
     let p = record_line format core cores records lines rest h j body.later lt in
-    bad.1 (p.0, p.1)
+    bad.1 (p.0, p.1, subst (λ (f : Format). has_act f p.0.act ≡ true) (sym (said_there format core cores records lines rest h)) p.2.has)
 quiet format core cores records lines rest h j OutOfRange lt (inl p) =
     let q = p.2 in
     let e = header_once q.0 format q.1.0 q.1.1.0 core cores (sym q.1.1.1 ∙ header_line format core cores records lines rest h) in
     q.1.1.2 (omega (arith, e.1, e.2, h.log.core_fits), omega (arith, e.2, h.log.cores_fit))
 quiet format core cores records lines rest h j OutOfRange lt (inr p) =
     let q = record_line format core cores records lines rest h j p.0.later lt in
-    p.2.2 (subst Fits (record_once q.0 p.2.0 (sym q.1 ∙ p.2.1)) q.2)
+    p.2.2 (subst Fits (record_once q.0 p.2.0 (sym q.1 ∙ p.2.1)) q.2.numbers)
 quiet format core cores records lines rest h j TooMany lt p = omega (arith, h.log.few, p.3)
 quiet format core cores records lines rest h j CountDiffers lt p =
     no_end format core cores records lines rest h j p.0.body.later lt p.0.shape
@@ -144,7 +146,7 @@ first_there format core cores records lines rest h f least j g p =
       | inr (inr later) ↦ absurd (quiet format core cores records lines rest h j g later p)
     ]
 
-pub front_from : (format : Format) (core cores : ℕ) (records : List Record) (bytes rest : List ℕ) → IsLog core cores records
+pub front_from : (format : Format) (core cores : ℕ) (records : List Record) (bytes rest : List ℕ) → IsLog format core cores records
     → bytes ≡ text_of (begun format core cores records) ++ rest → Front format core cores records (lines_of bytes) (lines_of rest)
 front_from format core cores records bytes rest log e = record {
   log = log;

@@ -4,7 +4,7 @@ use Rattle.std.specs.Prelude.{nat_lt}
 use Rattle.mem_op.specs.Limits.{operation_limit}
 use Rattle.log_record.specs.declared.format.Format.{Format}
 use Rattle.log_record.specs.declared.record.Record.{Record}
-use Rattle.log_record.specs.Line.{format_number, record_text, header_text, Fits, line_limit, limit_of}
+use Rattle.log_record.specs.Line.{format_number, record_text, header_text, Fits, FitsIn, line_limit, limit_of}
 use Rattle.log_record.specs.Numbers.{as_u64}
 use Rattle.log_record.proofs.Lines.{record_once, header_once}
 use Rattle.log_file.specs.declared.fault.FormatFault.{FormatFault}
@@ -52,14 +52,14 @@ wrong_core format line core cores a b short h lt few other =
     least TrailingBytes p = absurd p
     least Truncated p = absurd p
 
-pub too_many : (format : Format) (line : List ℕ) (count : ℕ) (r : Record) → length line ≤ limit_of format → line ≡ record_text r → Fits r
+pub too_many : (format : Format) (line : List ℕ) (count : ℕ) (r : Record) → length line ≤ limit_of format → line ≡ record_text r → FitsIn format r
     → operation_limit ≤ count → LeastBody format count line TooMany
-too_many format line count r short e fits many = (((r, e), many), least)
+too_many format line count r short e fits many = (((r, e, fits.has), many), least)
   where
     least : (g : FormatFault) → BodyHolds format count line g → 23 ≤ number g
     least BadLine (inl long) = absurd (omega arith)
-    least BadLine (inr bad) = absurd (bad.0 (r, e))
-    least OutOfRange p = absurd (p.2 (subst Fits (record_once r p.0 (sym e ∙ p.1)) fits))
+    least BadLine (inr bad) = absurd (bad.0 (r, e, fits.has))
+    least OutOfRange p = absurd (p.2 (subst Fits (record_once r p.0 (sym e ∙ p.1)) fits.numbers))
     least TooMany p = omega arith
     least CountDiffers p = omega arith
     least BadHeader p = absurd p

@@ -1,14 +1,14 @@
 -- A whole line is what may stand there, or has a least fault.
-use Rattle.std.proofs.Common.{◌≡◌, ◌≢◌, ℕ, ◌<◌, ◌≤◌, ◌⊎◌, List, length, Option, None, Some, refl, sym, ap, ◌∙◌, arith, inl, inr}
-use Rattle.std.proofs.lemmas.Bool.{cases_lt, cases_eq}
+use Rattle.std.proofs.Common.{◌≡◌, ◌≢◌, ℕ, ◌<◌, ◌≤◌, ◌⊎◌, List, length, Option, None, Some, true, false, refl, sym, ap, ◌∙◌, arith, inl, inr}
+use Rattle.std.proofs.lemmas.Bool.{cases_lt, cases_eq, cases_Bool}
 use Rattle.mem_op.specs.Limits.{operation_limit}
 use Rattle.log_record.specs.declared.format.Format.{Format}
 use Rattle.log_record.specs.declared.record.Record.{Record}
-use Rattle.log_record.specs.Line.{format_number, record_text, header_text, end_text, Fits, IsRecordShape, IsEndShape, IsSomeHeader, line_limit, limit_of}
+use Rattle.log_record.specs.Line.{format_number, record_text, header_text, end_text, has_act, Fits, FitsIn, IsRecordShape, IsEndShape, IsSomeHeader, line_limit, limit_of}
 use Rattle.log_record.specs.inner.Reading.{record_of, end_of, header_of}
 use Rattle.log_record.proofs.Records.{record_takes, record_again}
 use Rattle.log_record.proofs.Ends.{end_takes, end_again, header_takes, header_again}
-use Rattle.log_record.proofs.Lines.{header_once, record_no_end}
+use Rattle.log_record.proofs.Lines.{header_once, record_no_end, record_once}
 use Rattle.log_file.specs.declared.fault.FormatFault.{FormatFault}
 use Rattle.log_file.specs.declared.fault.FormatFault.TheVariants.{BadHeader, BadLine, OutOfRange, TooMany, CountDiffers, TrailingBytes, Truncated, WrongCore}
 use Rattle.log_file.specs.Log.{number, IsLonger}
@@ -20,7 +20,7 @@ use Rattle.log_file.proofs.Ranges.{record_fits}
 
 abbrev pub BodyOutcome : Format → ℕ → List ℕ → Type 0
 BodyOutcome format count l =
-    ((r : Record) × (l ≡ record_text r) × Fits r × (count < operation_limit))
+    ((r : Record) × (l ≡ record_text r) × FitsIn format r × (count < operation_limit))
     ⊎ ((l ≡ end_text count) ⊎ ((f : FormatFault) × LeastBody format count l f))
 
 long_least : (format : Format) (count : ℕ) (l : List ℕ) → limit_of format < length l → LeastBody format count l BadLine
@@ -49,14 +49,14 @@ bad_least format count l no-record no-end = (inr (no-record, no-end), λ g p. le
     least Truncated p = omega arith
     least WrongCore p = omega arith
 
-range_least : (format : Format) (count : ℕ) (l : List ℕ) (r : Record) → length l ≤ limit_of format → l ≡ record_text r → (Fits r → ⊥)
+range_least : (format : Format) (count : ℕ) (l : List ℕ) (r : Record) → length l ≤ limit_of format → l ≡ record_text r → has_act format r.act ≡ true → (Fits r → ⊥)
     → LeastBody format count l OutOfRange
-range_least format count l r short e bad = ((r, e, bad), λ g p. least g p)
+range_least format count l r short e has bad = ((r, e, bad), λ g p. least g p)
   where
     least : (g : FormatFault) → BodyHolds format count l g → 22 ≤ number g
     least BadHeader p = absurd p
     least BadLine (inl long) = absurd (omega arith)
-    least BadLine (inr p) = absurd (p.0 (r, e))
+    least BadLine (inr p) = absurd (p.0 (r, e, has))
     least OutOfRange p = omega arith
     least TooMany p = omega arith
     least CountDiffers p = omega arith
@@ -64,7 +64,7 @@ range_least format count l r short e bad = ((r, e, bad), λ g p. least g p)
     least Truncated p = omega arith
     least WrongCore p = omega arith
 
-count_least : (format : Format) (count : ℕ) (l : List ℕ) (n : ℕ) → length l ≤ limit_of format → l ≡ end_text n → n ≢ count
+pub count_least : (format : Format) (count : ℕ) (l : List ℕ) (n : ℕ) → length l ≤ limit_of format → l ≡ end_text n → n ≢ count
     → LeastBody format count l CountDiffers
 count_least format count l n short e ne = ((n, e, ne), λ g p. least g p)
   where
@@ -104,13 +104,20 @@ body_outcome format count l =
         none_there r is e = let j : Some r ≡ None = sym (record_again r) ∙ ap record_of (sym is) ∙ e in cc
     by_record (Some r) e short =
         let is = record_takes l r e in
-        elim (record_fits r) [
-          | inr bad ↦ inr (inr (OutOfRange, range_least format count l r short is bad))
-          | inl fits ↦ elim (cases_lt count operation_limit) [
-            | inl few ↦ inl (r, is, fits, few)
-            | inr many ↦ inr (inr (TooMany, too_many format l count r short is fits many))
+        elim (cases_Bool (has_act format r.act)) [
+          | inr none ↦ inr (inr (BadLine, bad_least format count l (λ s. lacks r s.0 is s.1 none s.2) (λ s. record_no_end r s.0 (sym is ∙ s.1))))
+          | inl has ↦ elim (record_fits r) [
+            | inr bad ↦ inr (inr (OutOfRange, range_least format count l r short is has bad))
+            | inl fits ↦ elim (cases_lt count operation_limit) [
+              | inl few ↦ inl (r, is, record { has = has; numbers = fits }, few)
+              | inr many ↦ inr (inr (TooMany, too_many format l count r short is (record { has = has; numbers = fits }) many))
+            ]
           ]
         ]
+      where
+        lacks : (r q : Record) → l ≡ record_text r → l ≡ record_text q → has_act format r.act ≡ false → has_act format q.act ≡ true → ⊥
+        lacks r q is that none has =
+            let same : has_act format r.act ≡ has_act format q.act = ap (λ (x : Record). has_act format x.act) (record_once r q (sym is ∙ that)) in cc
 
 -- ---- the first line
 

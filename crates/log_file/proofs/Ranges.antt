@@ -20,6 +20,11 @@ source_fits (source.Store id) =
 act_fits : (a : Act) → ActFits a ⊎ (ActFits a → ⊥)
 act_fits act.Store = inl tt
 act_fits (act.Load s) = source_fits s
+act_fits (act.Swap s read) =
+    elim (source_fits s) [
+      | inl a ↦ elim (cases_lt read (2 ^ 64)) [ inl b ↦ inl (a, b) | inr b ↦ inr (λ h. let x = h.1 in omega arith) ]
+      | inr a ↦ inr (λ h. a h.0)
+    ]
 
 pub record_fits : (r : Record) → Fits r ⊎ (Fits r → ⊥)
 record_fits r =

@@ -46,7 +46,7 @@ pub header_settled : (core cores : ℕ) (l : List ℕ) (f : FormatFault) → IsO
 header_settled core cores l f one found more =
     header_refused core cores ((l ++ 10 ∷ []) ++ more) l more f (append_assoc l (10 ∷ []) more) one found
 
-pub body_settled : (format : Format) (core cores : ℕ) (records : List Record) (l : List ℕ) (f : FormatFault) → IsLog core cores records
+pub body_settled : (format : Format) (core cores : ℕ) (records : List Record) (l : List ℕ) (f : FormatFault) → IsLog format core cores records
     → IsOneLine l → LeastBody format (length records) l f → (more : List ℕ)
     → IsFirstFault core cores ((text_of (begun format core cores records) ++ (l ++ 10 ∷ [])) ++ more) (length records + 2) f
 body_settled format core cores records l f log one found more =
@@ -60,7 +60,7 @@ header_long_settled core cores xs one long more =
     at_one core cores (xs ++ more) (xs ++ b.0) b.1.0 BadHeader b.1.1
     (header_long core cores (xs ++ b.0) b.1.0 (omega (arith, length-append xs b.0)))
 
-pub body_long_settled : (format : Format) (core cores : ℕ) (records : List Record) (xs : List ℕ) → IsLog core cores records
+pub body_long_settled : (format : Format) (core cores : ℕ) (records : List Record) (xs : List ℕ) → IsLog format core cores records
     → IsOneLine xs → limit_of format < length xs → (more : List ℕ)
     → IsFirstFault core cores ((text_of (begun format core cores records) ++ xs) ++ more) (length records + 2) BadLine
 body_long_settled format core cores records xs log one long more =
@@ -71,7 +71,7 @@ body_long_settled format core cores records xs log one long more =
     (λ front. long_first format core cores records (lines_of bytes) (xs ++ b.0) b.1.0 front
     (omega (arith, length-append xs b.0)))
 
-pub trailing_settled : (format : Format) (core cores : ℕ) (records : List Record) (xs : List ℕ) → IsLog core cores records
+pub trailing_settled : (format : Format) (core cores : ℕ) (records : List Record) (xs : List ℕ) → IsLog format core cores records
     → 0 < length xs → (more : List ℕ)
     → IsFirstFault core cores ((spelling format core cores records ++ xs) ++ more) (length records + 3) TrailingBytes
 trailing_settled format core cores records xs log some more =

@@ -35,14 +35,14 @@ header_taken : (format : Format) (old : Progress) (line : List ℕ) (records : L
     → records ≡ [] → old.count ≡ length records → line ≡ header_text (format_number format) old.core old.cores
     → Taken stage.Header old line records records (record old { stage = stage.Records format })
 header_taken format old line records lt few none count is = (
-  subst (λ (rs : List Record). IsLog old.core old.cores rs) (sym none)
+  subst (λ (rs : List Record). IsLog format old.core old.cores rs) (sym none)
       (record { core_fits = lt; cores_fit = few; few = omega arith; each_fits = tt }),
   count,
   ap (λ (rs : List Record). text_of (begun format old.core old.cores rs)) none
       ∙ append-nil (with_lf (header_text (format_number format) old.core old.cores)) ∙ ap with_lf (sym is),
 )
 
-end_taken : (format : Format) (old : Progress) (line : List ℕ) (records : List Record) → IsLog old.core old.cores records
+end_taken : (format : Format) (old : Progress) (line : List ℕ) (records : List Record) → IsLog format old.core old.cores records
     → old.count ≡ length records → line ≡ end_text old.count
     → Taken (stage.Records format) old line records records (record old { stage = stage.Ended format })
 end_taken format old line records log count is = (
@@ -248,7 +248,7 @@ pub ends_in_records : (format : Format) (core cores count : ℕ) (line : List �
     → IsSound q core cores records line → count ≡ length records → IsOneLine line → length line ≤ limit_at q
     → IsFirstFault core cores (whole_text q core cores records ++ line) (count + 2) Truncated
 ends_in_records format core cores count line records q at sound count-is one short =
-    let log : IsLog core cores records = subst (λ (k : Stage). IsSound k core cores records line) at sound in
+    let log : IsLog format core cores records = subst (λ (k : Stage). IsSound k core cores records line) at sound in
     subst (λ (k : Stage). IsFirstFault core cores (whole_text k core cores records ++ line) (count + 2) Truncated)
     (sym at)
     (subst (λ (n : ℕ). IsFirstFault core cores (text_of (begun format core cores records) ++ line) (n + 2) Truncated)
@@ -259,6 +259,6 @@ ends_in_records format core cores count line records q at sound count-is one sho
 pub ends_whole : (format : Format) (core cores : ℕ) (line : List ℕ) (records : List Record) (q : Stage) → q ≡ stage.Ended format
     → IsSound q core cores records line → Spells core cores (whole_text q core cores records ++ line) records
 ends_whole format core cores line records q at sound =
-    let log : IsLog core cores records × (line ≡ []) = subst (λ (k : Stage). IsSound k core cores records line) at sound in
+    let log : IsLog format core cores records × (line ≡ []) = subst (λ (k : Stage). IsSound k core cores records line) at sound in
     subst (λ (k : Stage). Spells core cores (whole_text k core cores records ++ line) records) (sym at)
     (format, (log.0, ap (λ (xs : List ℕ). spelling format core cores records ++ xs) log.1 ∙ append-nil (spelling format core cores records)))

@@ -7,7 +7,7 @@ use Rattle.std.proofs.lemmas.Bool.{cases_Bool}
 use Rattle.mem_op.specs.Limits.{operation_limit}
 use Rattle.log_record.specs.declared.format.Format.{Format}
 use Rattle.log_record.specs.declared.record.Record.{Record}
-use Rattle.log_record.specs.Line.{format_number, record_text, header_text, end_text, Fits, line_limit, limit_of}
+use Rattle.log_record.specs.Line.{format_number, record_text, header_text, end_text, FitsIn, line_limit, limit_of}
 use Rattle.log_file.specs.declared.fault.FormatFault.{FormatFault}
 use Rattle.log_file.specs.declared.fault.FormatFault.TheVariants.{BadHeader, BadLine, TrailingBytes, Truncated}
 use Rattle.log_file.specs.Log.{with_lf, begun, text_of, spelling, IsLog, Spells, lines_of, FaultAt, IsFirstFault, number}
@@ -66,7 +66,7 @@ header_taken format core cores bytes l rest e is =
 
 -- the records so far, and what is left
 abbrev pub SoFar : Format → ℕ → ℕ → List Record → List ℕ → List ℕ → Type 0
-SoFar format core cores records bytes rest = IsLog core cores records × (bytes ≡ text_of (begun format core cores records) ++ rest)
+SoFar format core cores records bytes rest = IsLog format core cores records × (bytes ≡ text_of (begun format core cores records) ++ rest)
 
 pub none_so_far : (format : Format) (core cores : ℕ) (bytes rest : List ℕ) → core < cores → cores ≤ 64
     → bytes ≡ text_of (begun format core cores []) ++ rest → SoFar format core cores [] bytes rest
@@ -106,13 +106,13 @@ body_too_long format core cores records bytes rest far one long =
     there format core cores records bytes rest rest [] BadLine far (lines_of_last rest one)
     (λ front. long_first format core cores records (lines_of bytes) rest [] front long)
 
-fits_push : (records : List Record) (r : Record) → AllByRecursion Fits records → Fits r
-    → AllByRecursion Fits (records ++ r ∷ [])
-fits_push [] r all h = (h, tt)
-fits_push (q ∷ records) r all h = (all.0, fits_push records r all.1 h)
+fits_push : (format : Format) (records : List Record) (r : Record) → AllByRecursion (FitsIn format) records → FitsIn format r
+    → AllByRecursion (FitsIn format) (records ++ r ∷ [])
+fits_push format [] r all h = (h, tt)
+fits_push format (q ∷ records) r all h = (all.0, fits_push format records r all.1 h)
 
 pub body_taken : (format : Format) (core cores : ℕ) (records : List Record) (bytes rest l after : List ℕ) (r : Record)
-    → SoFar format core cores records bytes rest → rest ≡ l ++ 10 ∷ after → l ≡ record_text r → Fits r
+    → SoFar format core cores records bytes rest → rest ≡ l ++ 10 ∷ after → l ≡ record_text r → FitsIn format r
     → length records < operation_limit → SoFar format core cores (records ++ r ∷ []) bytes after
 body_taken format core cores records bytes rest l after r far e is fits few = (
   record {
@@ -120,7 +120,7 @@ body_taken format core cores records bytes rest l after r far e is fits few = (
     cores_fit = far.0.cores_fit;
     few = omega
         (arith, length-append records (r ∷ []));
-    each_fits = fits_push records r far.0.each_fits fits;
+    each_fits = fits_push format records r far.0.each_fits fits;
   },
   far.1 ∙ ap (λ (x : List ℕ). text_of (begun format core cores records) ++ x) (e ∙ ap (λ (x : List ℕ). x ++ 10 ∷ after) is)
       ∙ sym (ap (λ (ls : List (List ℕ)). text_of (header_text (format_number format) core cores ∷ ls) ++ after)

@@ -6,9 +6,8 @@ use Rattle.std.proofs.lemmas.List.{append_cancel_left, map-append}
 use Rattle.std.proofs.Math.Seq.{take-append_seam}
 use Rattle.std.proofs.lemmas.Grind.{flat_map-append}
 use Rattle.log_record.specs.declared.format.Format.{Format}
-use Rattle.log_record.specs.declared.format.Format.TheVariants.{Two}
 use Rattle.log_record.specs.declared.record.Record.{Record}
-use Rattle.log_record.specs.Line.{format_number, record_text, header_text, Fits}
+use Rattle.log_record.specs.Line.{format_number, record_text, header_text, FitsIn}
 use Rattle.log_file.specs.declared.fault.LogFault.{LogFault}
 use Rattle.log_file.specs.declared.progress.Stage.{Stage}
 use Rattle.log_file.specs.declared.progress.Stage.TheVariants as stage
@@ -55,9 +54,10 @@ answer_more old mid new rs ms ns a b bytes (Err f) is first same second = subst 
 
 -- ---- the records at the front of a chunk
 
-all_append : (xs ys : List Record) → AllByRecursion Fits xs → AllByRecursion Fits ys → AllByRecursion Fits (xs ++ ys)
-all_append [] ys p q = q
-all_append (x ∷ xs) ys p q = (p.0, all_append xs ys p.1 q)
+all_append : (format : Format) (xs ys : List Record) → AllByRecursion (FitsIn format) xs → AllByRecursion (FitsIn format) ys
+    → AllByRecursion (FitsIn format) (xs ++ ys)
+all_append format [] ys p q = q
+all_append format (x ∷ xs) ys p q = (p.0, all_append format xs ys p.1 q)
 
 begun_more : (format : Format) (core cores : ℕ) (rs found : List Record) → text_of (begun format core cores (rs ++ found)) ≡ text_of (begun format core cores rs) ++ records_text found
 begun_more format core cores rs found =
@@ -71,17 +71,19 @@ records_of stage.Header h = absurd h
 records_of (stage.Records format) h = (format, refl)
 records_of (stage.Ended format) h = absurd h
 
-passed_by : (format : Format) (old new : LineReader) (rs found : List Record) → old.progress.stage ≡ stage.Records format → Stands old rs
-    → IsPassed old (length found) new → AllByRecursion Fits found → Takes old rs (records_text found) new (rs ++ found)
-passed_by format old new rs found at stands passed fit =
+-- passing over the lines of records takes them
+pub passed_takes : (format : Format) (old new : LineReader) (rs found : List Record) → Stands old rs
+    → IsPassed format old (length found) new → AllByRecursion (FitsIn format) found → Takes old rs (records_text found) new (rs ++ found)
+passed_takes format old new rs found stands passed fit =
     let room = passed.had_room in
+    let at = room.stage in
     let p = old.progress in
-    let log : IsLog p.core p.cores rs = subst (λ q. IsSound q p.core p.cores rs old.begun.items) at stands.sound in
-    let more : IsLog p.core p.cores (rs ++ found) = record {
+    let log : IsLog format p.core p.cores rs = subst (λ q. IsSound q p.core p.cores rs old.begun.items) at stands.sound in
+    let more : IsLog format p.core p.cores (rs ++ found) = record {
       core_fits = log.core_fits;
       cores_fit = log.cores_fit;
       few = omega (arith, length-append rs found, room.room, stands.count);
-      each_fits = all_append rs found log.each_fits fit;
+      each_fits = all_append format rs found log.each_fits fit;
     } in
     let stage_is : new.progress.stage ≡ stage.Records format = ap (λ (n : Progress). n.stage) passed.progress ∙ at in
     let core_is : new.progress.core ≡ p.core = ap (λ (n : Progress). n.core) passed.progress in
@@ -99,47 +101,40 @@ passed_by format old new rs found at stands passed fit =
           ∙ ap (λ (xs : List ℕ). xs ++ records_text found) (sym (append-nil (text_of (begun format p.core p.cores rs)))));
     }
 
--- passing over the lines of records takes them
-pub passed_takes : (old new : LineReader) (rs found : List Record) → Stands old rs → IsPassed old (length found) new → AllByRecursion Fits found
-    → Takes old rs (records_text found) new (rs ++ found)
-passed_takes old new rs found stands passed fit =
-    let at = records_of old.progress.stage passed.had_room.stage in
-    passed_by at.0 old new rs found at.1 stands passed fit
-
-pub front_takes : (old new : LineReader) (rs : List Record) (chunk : List ℕ) (front : Front) → Stands old rs → HasFront chunk front
-    → IsPassed old (length front.records.items) new → Takes old rs (take front.taken chunk) new (rs ++ front.records.items)
-front_takes old new rs chunk front stands has passed =
+pub front_takes : (format : Format) (old new : LineReader) (rs : List Record) (chunk : List ℕ) (front : Front) → Stands old rs → HasFront format chunk front
+    → IsPassed format old (length front.records.items) new → Takes old rs (take front.taken chunk) new (rs ++ front.records.items)
+front_takes format old new rs chunk front stands has passed =
     subst (λ (xs : List ℕ). Takes old rs xs new (rs ++ front.records.items)) (sym has.lines)
-    (passed_takes old new rs front.records.items stands passed has.fit)
+    (passed_takes format old new rs front.records.items stands passed has.fit)
 
 -- ---- what a worker reads of a chunk
 
 -- the records that were read after a header, and the line that was begun
-pub read_front : (old new : LineReader) (chunk : List ℕ) (records : List Record)
-    → old.progress ≡ record { core = 0; cores = 1; stage = stage.Records Two; count = 0 }
+pub read_front : (format : Format) (old new : LineReader) (chunk : List ℕ) (records : List Record)
+    → old.progress ≡ record { core = 0; cores = 1; stage = stage.Records format; count = 0 }
     → old.begun.items ≡ [] → SameLog old.progress new.progress → IsInRecords new.progress.stage → Takes old [] chunk new records
-    → (chunk ≡ records_text records ++ new.begun.items) × AllByRecursion Fits records
-read_front old new chunk records progress none same in_records takes =
+    → (chunk ≡ records_text records ++ new.begun.items) × AllByRecursion (FitsIn format) records
+read_front format old new chunk records progress none same in_records takes =
     let at = records_of new.progress.stage in_records in
     let stage_is : new.progress.stage ≡ stage.Records at.0 = at.1 in
     let core_is : new.progress.core ≡ 0 = same.core ∙ ap (λ (n : Progress). n.core) progress in
     let cores_is : new.progress.cores ≡ 1 = same.cores ∙ ap (λ (n : Progress). n.cores) progress in
-    let log : IsLog new.progress.core new.progress.cores records = subst (λ q. IsSound q new.progress.core new.progress.cores records new.begun.items) stage_is takes.stands.sound in
+    let log : IsLog at.0 new.progress.core new.progress.cores records = subst (λ q. IsSound q new.progress.core new.progress.cores records new.begun.items) stage_is takes.stands.sound in
     let header = with_lf (header_text (format_number at.0) 0 1) in
-    let wanted = with_lf (header_text 2 0 1) in
+    let wanted = with_lf (header_text (format_number format) 0 1) in
     let text : ((header ++ records_text records) ++ new.begun.items) ≡ (((wanted ++ []) ++ []) ++ chunk) = rw (stage_is, core_is, cores_is, progress, none) at takes.text in
     let behind : header ++ (records_text records ++ new.begun.items) ≡ wanted ++ chunk =
     sym (append_assoc header (records_text records) new.begun.items) ∙ text
     ∙ ap (λ (xs : List ℕ). xs ++ chunk) (append-nil (wanted ++ []) ∙ append-nil wanted) in
-    let second : at.0 ≡ Two = one_format at.0 Two 0 1 0 1 (records_text records ++ new.begun.items) chunk behind in
-    let same_header : header ≡ wanted = ap (λ (f : Format). with_lf (header_text (format_number f) 0 1)) second in
+    let same_format : at.0 ≡ format = one_format at.0 format 0 1 0 1 (records_text records ++ new.begun.items) chunk behind in
+    let same_header : header ≡ wanted = ap (λ (f : Format). with_lf (header_text (format_number f) 0 1)) same_format in
     let joined : wanted ++ (records_text records ++ new.begun.items) ≡ wanted ++ chunk =
     ap (λ (xs : List ℕ). xs ++ (records_text records ++ new.begun.items)) (sym same_header) ∙ behind in
-    (sym (append_cancel_left wanted (records_text records ++ new.begun.items) chunk joined), log.each_fits)
+    (sym (append_cancel_left wanted (records_text records ++ new.begun.items) chunk joined), subst (λ (f : Format). AllByRecursion (FitsIn f) records) same_format log.each_fits)
 
-pub has_front : (chunk begun : List ℕ) (records : List Record) (front : Front) → chunk ≡ records_text records ++ begun → AllByRecursion Fits records
-    → front.records.items ≡ records → front.taken ≡ length chunk - length begun → HasFront chunk front
-has_front chunk begun records front is fit same taken =
+pub has_front : (format : Format) (chunk begun : List ℕ) (records : List Record) (front : Front) → chunk ≡ records_text records ++ begun
+    → AllByRecursion (FitsIn format) records → front.records.items ≡ records → front.taken ≡ length chunk - length begun → HasFront format chunk front
+has_front format chunk begun records front is fit same taken =
     let long : length chunk ≡ length (records_text records) + length begun = ap length is ∙ length-append (records_text records) begun in
     let many : front.taken ≡ length (records_text records) = omega (arith, taken, long) in
     record {
@@ -148,8 +143,8 @@ has_front chunk begun records front is fit same taken =
       fit = rw same fit;
     }
 
-pub no_front : (chunk : List ℕ) (front : Front) → front.records.items ≡ [] → front.taken ≡ 0 → HasFront chunk front
-no_front chunk front none zero = record {
+pub no_front : (format : Format) (chunk : List ℕ) (front : Front) → front.records.items ≡ [] → front.taken ≡ 0 → HasFront format chunk front
+no_front format chunk front none zero = record {
   within = omega (arith, zero);
   lines = rw (none, zero) refl;
   fit = rw none tt;

@@ -1,5 +1,5 @@
 -- A log's text, line by line: what was written so far is a beginning of it.
-use Rattle.std.proofs.Common.{◌≡◌, ℕ, ◌+◌, ◌<◌, ◌≤◌, List, [], ◌∷◌, ◌++◌, length, map, take, drop, get_or, Option, sym, ap, subst, ◌∙◌, arith, append_assoc}
+use Rattle.std.proofs.Common.{◌≡◌, ℕ, ◌+◌, ◌<◌, ◌≤◌, List, [], ◌∷◌, ◌++◌, length, map, take, drop, get_or, true, Option, sym, ap, subst, ◌∙◌, arith, append_assoc}
 use Rattle.std.proofs.Math.Seq.{take-append_seam}
 use Rattle.std.proofs.lemmas.List.{append-nil, length-append, map-append, take-append-drop, take_more, take_all}
 use Rattle.std.proofs.lemmas.Grind.{flat_map-append}
@@ -7,8 +7,8 @@ use Rattle.std.specs.Io.KnownBytes.{Appends}
 use Rattle.std.specs.List.{AllByRecursion}
 use Rattle.log_record.specs.declared.format.Format.{Format}
 use Rattle.log_record.specs.declared.record.Record.{Record}
-use Rattle.log_record.specs.Line.{record_text, end_text, Fits}
-use Rattle.log_file.specs.Log.{with_lf, begun, text_of, spelling}
+use Rattle.log_record.specs.Line.{record_text, end_text, has_act, Fits, FitsIn}
+use Rattle.log_file.specs.Log.{HasEach, with_lf, begun, text_of, spelling}
 use Rattle.log_file.proofs.Devices.{appends_more}
 use Rattle.log_file.proofs.Lines.{flat_map_push}
 
@@ -99,12 +99,14 @@ end_joined format core cores records i all =
 
 -- ---- the numbers of each record
 
-fits_push : (records : List Record) (r : Record) → AllByRecursion Fits records → Fits r → AllByRecursion Fits (records ++ r ∷ [])
-fits_push [] r all fits = (fits, tt)
-fits_push (x ∷ records) r all fits = (all.0, fits_push records r all.1 fits)
+fits_push : (format : Format) (records : List Record) (r : Record) → AllByRecursion (FitsIn format) records → FitsIn format r
+    → AllByRecursion (FitsIn format) (records ++ r ∷ [])
+fits_push format [] r all fits = (fits, tt)
+fits_push format (x ∷ records) r all fits = (all.0, fits_push format records r all.1 fits)
 
-pub fits_next : (records : List Record) (i : ℕ) (r : Record) → i < length records → r ≡ get_or records i r
-    → AllByRecursion Fits (take i records) → Fits r → AllByRecursion Fits (take (i + 1) records)
-fits_next records i r below at all fits =
-    subst (λ (some : List Record). AllByRecursion Fits some) (sym (take_next records i r below at))
-    (fits_push (take i records) r all fits)
+pub fits_next : (format : Format) (records : List Record) (i : ℕ) (r : Record) → i < length records → r ≡ get_or records i r → HasEach format records
+    → AllByRecursion (FitsIn format) (take i records) → Fits r → AllByRecursion (FitsIn format) (take (i + 1) records)
+fits_next format records i r below at each all fits =
+    let has : has_act format r.act ≡ true = subst (λ (x : Record). has_act format x.act ≡ true) (sym at) (each i r below) in
+    subst (λ (some : List Record). AllByRecursion (FitsIn format) some) (sym (take_next records i r below at))
+    (fits_push format (take i records) r all (record { has = has; numbers = fits }))

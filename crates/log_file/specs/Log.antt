@@ -1,12 +1,12 @@
 -- A log file: its one spelling in each format, and its first fault.
-use Rattle.std.specs.Prelude.{◌≡◌, ◌≢◌, ℕ, ◌+◌, ◌<◌, ◌≤◌, ◌⊎◌, ◌==◌, if◌then◌else◌, is_some, List, [], ◌∷◌, ◌++◌, codes, length, map, slice_index_or}
+use Rattle.std.specs.Prelude.{◌≡◌, ◌≢◌, ℕ, ◌+◌, ◌<◌, ◌≤◌, ◌⊎◌, ◌==◌, if◌then◌else◌, is_some, All, IsTrue, List, [], ◌∷◌, ◌++◌, codes, length, map, slice_index_or}
 use Rattle.std.specs.List.{flat_map, AllByRecursion, slice_split}
 use Rattle.mem_op.specs.Limits.{operation_limit}
 use Rattle.decimal_text.specs.Reading.{after}
 use Rattle.log_record.specs.declared.format.Format.{Format}
 use Rattle.log_record.specs.declared.format.Format.TheVariants.{One, Two}
 use Rattle.log_record.specs.declared.record.Record.{Record}
-use Rattle.log_record.specs.Line.{format_number, record_text, header_text, end_text, IsRecordShape, IsSomeHeader, IsEndShape, Fits, line_limit, limit_of}
+use Rattle.log_record.specs.Line.{format_number, has_act, record_text, header_text, end_text, IsRecordShape, IsSomeHeader, IsEndShape, Fits, FitsIn, line_limit, limit_of}
 use Rattle.log_file.specs.declared.fault.FormatFault.{FormatFault}
 use Rattle.log_file.specs.declared.fault.FormatFault.TheVariants.{BadHeader, BadLine, OutOfRange, TooMany, CountDiffers, TrailingBytes, Truncated, WrongCore}
 
@@ -31,16 +31,20 @@ text_of lines = flat_map with_lf lines
 abbrev pub spelling : Format → ℕ → ℕ → List Record → List ℕ
 spelling format core cores records = text_of (log_lines format core cores records)
 
--- what has a spelling: the log of a core of at most 64
-pub record IsLog (core cores : ℕ) (records : List Record) : Type 0 where
+-- what has a spelling in a format: the log of a core of at most 64, of records that the format has
+pub record IsLog (format : Format) (core cores : ℕ) (records : List Record) : Type 0 where
   pub core_fits : core < cores
   pub cores_fit : cores ≤ 64
   pub few : length records ≤ operation_limit
-  pub each_fits : AllByRecursion Fits records
+  pub each_fits : AllByRecursion (FitsIn format) records
+
+-- a log of this format may have each of these records
+abbrev pub HasEach : Format → List Record → Type 0
+HasEach format records = All (λ r. IsTrue (has_act format r.act)) records
 
 -- the bytes spell the log of this core in this format
 abbrev pub SpellsIn : Format → ℕ → ℕ → List ℕ → List Record → Type 0
-SpellsIn format core cores bytes records = IsLog core cores records × (bytes ≡ spelling format core cores records)
+SpellsIn format core cores bytes records = IsLog format core cores records × (bytes ≡ spelling format core cores records)
 
 -- they spell it in some format
 abbrev pub Spells : ℕ → ℕ → List ℕ → List Record → Type 0
@@ -93,6 +97,8 @@ abbrev pub IsHeaderOutOfRange : List ℕ → Type 0
 IsHeaderOutOfRange line =
     (format : Format) × ((c : ℕ) × ((n : ℕ) × (line ≡ header_text (format_number format) c n) × (¬ ((c < n) × (n ≤ 64)))))
 
+-- A record of either format: where a log of this one has no such records, its line is a bad line, and that
+-- fault has the smaller number.
 abbrev pub IsRecordOutOfRange : List ℕ → Type 0
 IsRecordOutOfRange line = (r : Record) × (line ≡ record_text r) × (¬ (Fits r))
 

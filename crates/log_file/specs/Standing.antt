@@ -3,7 +3,7 @@ use Rattle.std.specs.Prelude.{◌≡◌, ⊤, ℕ, ◌+◌, ◌<◌, ◌≤◌, 
 use Rattle.mem_op.specs.Limits.{operation_limit}
 use Rattle.log_record.specs.declared.format.Format.{Format}
 use Rattle.log_record.specs.declared.record.Record.{Record}
-use Rattle.log_record.specs.Line.{format_number, record_text, header_text, end_text, Fits, line_limit, limit_of}
+use Rattle.log_record.specs.Line.{format_number, record_text, header_text, end_text, FitsIn, line_limit, limit_of}
 use Rattle.log_file.specs.declared.fault.FormatFault.TheVariants.{BadHeader, BadLine, TrailingBytes}
 use Rattle.log_file.specs.declared.fault.LogFault.{LogFault}
 use Rattle.log_file.specs.declared.fault.LogFault.TheVariants.{At, OutOfMemory, Read}
@@ -55,7 +55,7 @@ BehindAt stage.Header old line (Some r) new = ⊥
 BehindAt (stage.Records format) old line None new =
     (line ≡ end_text old.count) × (new ≡ record old { stage = stage.Ended format })
 BehindAt (stage.Records format) old line (Some r) new =
-    (line ≡ record_text r) × Fits r × (old.count < operation_limit) × (new ≡ record old { count = old.count + 1 })
+    (line ≡ record_text r) × FitsIn format r × (old.count < operation_limit) × (new ≡ record old { count = old.count + 1 })
 BehindAt (stage.Ended format) old line r new = ⊥
 
 abbrev pub IsBehind : Progress → List ℕ → Option Record → Progress → Type 0
@@ -104,8 +104,8 @@ read_text s records = whole_text s.progress.stage s.progress.core s.progress.cor
 
 abbrev pub IsSound : Stage → ℕ → ℕ → List Record → List ℕ → Type 0
 IsSound stage.Header core cores records line = (core < cores) × (cores ≤ 64) × (records ≡ [])
-IsSound (stage.Records format) core cores records line = IsLog core cores records
-IsSound (stage.Ended format) core cores records line = IsLog core cores records × (line ≡ [])
+IsSound (stage.Records format) core cores records line = IsLog format core cores records
+IsSound (stage.Ended format) core cores records line = IsLog format core cores records × (line ≡ [])
 
 -- the reader stands after these records
 pub record Stands (s : LineReader) (records : List Record) : Type 0 where
@@ -124,15 +124,15 @@ pub record Takes (old : LineReader) (records : List Record) (bytes : List ℕ) (
   pub stands : Stands new after
   pub text : read_text new after ≡ read_text old records ++ bytes
 
--- the reader stands between the records of a log that has room for `many` more
-pub record HasRoom (s : LineReader) (many : ℕ) : Type 0 where
-  pub stage : IsInRecords s.progress.stage
+-- the reader stands between the records of a log of this format that has room for `many` more
+pub record HasRoom (format : Format) (s : LineReader) (many : ℕ) : Type 0 where
+  pub stage : s.progress.stage ≡ stage.Records format
   pub between : s.begun.items ≡ []
   pub room : s.progress.count + many ≤ operation_limit
 
 -- it stands `many` records further on
-pub record IsPassed (old : LineReader) (many : ℕ) (new : LineReader) : Type 0 where
-  pub had_room : HasRoom old many
+pub record IsPassed (format : Format) (old : LineReader) (many : ℕ) (new : LineReader) : Type 0 where
+  pub had_room : HasRoom format old many
   pub progress : new.progress ≡ record old.progress { count = old.progress.count + many }
   pub between : new.begun.items ≡ []
 

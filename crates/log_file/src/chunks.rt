@@ -5,7 +5,7 @@ ghost use Rattle.log_file.specs.inner.Chunks.{HasFront};
 
 use super::line_reader::LineReader;
 use super::taking::take_piece;
-use log_record::Record;
+use log_record::{Format, Record};
 use memchr::memchr;
 use std::alloc::Global;
 
@@ -44,11 +44,12 @@ pub(crate) fn cut(text: &[u8], from: usize) -> (&[u8], &[u8])
     text.split_at(end)
 }
 
-/// The records at the front of a chunk: of all its whole lines, or none where one isn't a record's.
-pub(crate) fn front_of(alloc: Global, chunk: &[u8]) -> Front
-    ensures { HasFront chunk.now result }
+/// The records at the front of a chunk of a log of this format: of all its whole lines, or none where one
+/// isn't a record's there.
+pub(crate) fn front_of(alloc: Global, format: Format, chunk: &[u8]) -> Front
+    ensures { HasFront format chunk.now result }
 {
-    let mut lines = LineReader::behind_a_header();
+    let mut lines = LineReader::behind_a_header(format);
     let mut records = Vec::new(alloc);
     let Ok(()) = take_piece(&mut lines, &mut records, chunk) else {
         return Front::empty(alloc);

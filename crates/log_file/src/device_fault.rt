@@ -78,7 +78,7 @@ impl From<ReadFailed> for ReadFault {
     }
 }
 
-/// Why a log wasn't written whole.
+/// Why bytes weren't written whole.
 #[derive(Clone, Copy, Debug, PartialEq, Eq, Error)]
 pub enum WriteFault {
     /// A growth was refused.

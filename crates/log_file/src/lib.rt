@@ -21,6 +21,7 @@ mod set;
 mod step;
 mod taking;
 mod write;
+mod write_fault;
 
 pub use byte_sink::{ByteSink, FromWrite, write_all};
 pub use byte_source::{ByteSource, FromRead};
@@ -40,3 +41,4 @@ pub use record_reader::RecordReader;
 pub use set::read_set;
 pub use step::Step;
 pub use write::write_log;
+pub use write_fault::LogWriteFault;

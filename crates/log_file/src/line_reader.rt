@@ -2,7 +2,6 @@
 
 ghost use Rattle.std.specs.Prelude.{◌≡◌, ◌<◌, ◌≤◌, true, false, [], ◌++◌, List, IfOk, IfErr, IfSome, IsNone, OnOk, MatchResult, length};
 ghost use Rattle.log_record.specs.declared.record.Record.{Record};
-ghost use Rattle.log_record.specs.declared.format.Format.TheVariants as format;
 ghost use Rattle.log_file.specs.declared.progress.Stage.TheVariants as stage;
 ghost use Rattle.log_file.specs.Answers.{IsFaultOf};
 ghost use Rattle.log_file.specs.Log.{Spells};
@@ -63,20 +62,31 @@ impl LineReader {
         }
     }
 
-    /// A reader of some log of format 2, after its header. What a header says has no part in records: a
-    /// record's line is one in either format.
-    pub(crate) fn behind_a_header() -> LineReader
-        ensures progress { result.progress ≡ record { core = 0; cores = 1; stage = stage.Records format.Two; count = 0 } }
+    /// A reader of some log of this format, after its header. What else a header says has no part in
+    /// records.
+    pub(crate) fn behind_a_header(format: Format) -> LineReader
+        ensures progress { result.progress ≡ record { core = 0; cores = 1; stage = stage.Records format; count = 0 } }
         ensures none_begun { result.begun.items ≡ [] }
     {
         LineReader {
             progress: Progress {
                 core: 0,
                 cores: 1,
-                stage: Stage::Records(Format::Two),
+                stage: Stage::Records(format),
                 count: 0,
             },
             begun: ArrayVec::new(),
+        }
+    }
+
+    /// The format of the log, where the header or a record was read last.
+    pub(crate) fn format(&self) -> Option<Format>
+        ensures some { IfSome result (λ format. self.now.progress.stage ≡ stage.Records format) }
+        ensures none { IsNone result → ¬ IsInRecords self.now.progress.stage }
+    {
+        match self.progress.stage {
+            Stage::Records(format) => Some(format),
+            _ => None,
         }
     }
 
@@ -157,18 +167,20 @@ impl LineReader {
         }))
     }
 
-    /// Passes over the lines of `records` records. False, and then nothing changes, where the reader
-    /// doesn't stand between a log's records, or the log has no room for them.
-    pub(crate) fn pass(&mut self, records: usize) -> bool
+    /// Passes over the lines of `records` records, which a log of this format may have. False, and then
+    /// nothing changes, where the reader doesn't stand between the records of a log of this format, or the
+    /// log has no room for them.
+    pub(crate) fn pass(&mut self, format: Format, records: usize) -> bool
         requires { IsInRange self.old.progress }
         ensures same { SameLog self.old.progress self.new.progress }
         ensures in_range { IsInRange self.new.progress }
-        ensures passed { result ≡ true → IsPassed self.old records self.new }
-        ensures kept { result ≡ false → (self.new ≡ self.old) × (¬ HasRoom self.old records) }
+        ensures passed { result ≡ true → IsPassed format self.old records self.new }
+        ensures kept { result ≡ false → (self.new ≡ self.old) × (¬ HasRoom format self.old records) }
     {
         let progress = &mut self.progress;
         let room = RECORD_LIMIT - progress.count;
-        if !progress.stage.is_in_records() || !self.begun.is_empty() || records as u64 > room {
+        let is_there = progress.stage == Stage::Records(format) && self.begun.is_empty();
+        if !is_there || records as u64 > room {
             return false;
         }
         progress.count += records as u64;

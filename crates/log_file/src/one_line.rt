@@ -55,7 +55,7 @@ pub(crate) fn check_body(
 ) -> Result<Option<Record>, FormatFault>
     requires { count ≤ operation_limit }
     ensures { MatchResult result
-        (λ logged. BodyIs count line.now logged)
+        (λ logged. BodyIs format count line.now logged)
         (λ fault. LeastBody format count line.now fault) }
 {
     if line.len() > format.line_limit() {

@@ -1,21 +1,64 @@
 //! A log written to a device.
 
-ghost use Rattle.std.specs.Prelude.{◌≡◌, ◌<◌, ◌≤◌, ℕ, length, take, OnOk, IsErrOf, string_bytes};
+ghost use Rattle.std.specs.Prelude.{◌≡◌, ◌<◌, ◌≤◌, ◌↔◌, ℕ, length, take, OnOk, IsErrOf, IsTrue, string_bytes};
 ghost use Rattle.std.specs.Io.KnownBytes.{Appends};
 ghost use Rattle.mem_op.specs.Limits.{operation_limit};
-ghost use Rattle.log_record.specs.Line.{Fits, record_text};
+ghost use Rattle.log_record.specs.Line.{Fits, SourceFits, record_text};
 ghost use Rattle.log_file.specs.Devices.{Failed};
-ghost use Rattle.log_file.specs.Log.{IsLog, spelling, with_lf};
+ghost use Rattle.log_file.specs.Log.{HasEach, IsLog, spelling, with_lf};
 
 use super::byte_sink::{ByteSink, write_all};
 use super::device_fault::WriteFault;
+use super::write_fault::LogWriteFault;
 use log_record::{Act, Format, Record, print_end, print_header};
 use mem_op::{CoreId, Source};
 use std::alloc::Global;
 
-/// Writes the log of this core of `cores` in this format. 10 comes where a growth was refused, 29 where a write
-/// failed; what the sink took by then is a beginning of the log's text.
+/// Writes the log of this core of `cores` in this format. 15 comes where the format is 1 and one of the records
+/// is a swap, 10 where a growth was refused, 29 where a write failed; what the sink took by then is a beginning
+/// of the log's text, and nothing where 15 comes.
 pub fn write_log<W: ByteSink>(
+    alloc: Global,
+    sink: &mut W,
+    format: Format,
+    core: CoreId,
+    cores: u64,
+    records: &[Record],
+) -> Result<(), LogWriteFault>
+    requires core { core < cores }
+    requires cores { cores ≤ 64 }
+    requires few { length records.now ≤ operation_limit }
+    // 15 comes exactly where a log of this format may not have one of the records, before any byte.
+    ensures swap { IsErrOf result LogWriteFault.SwapInFormatOne ↔ ¬ HasEach format records.now }
+    ensures untouched { IsErrOf result LogWriteFault.SwapInFormatOne → sink.new ≡ sink.old }
+    // What is written spells a log, the one of these records.
+    ensures log { OnOk result (IsLog format core cores records.now) }
+    ensures written { OnOk result
+        (Appends (W.contents sink.old) (W.contents sink.new) (spelling format core cores records.now)) }
+    ensures begun { (n : ℕ) × (n ≤ length (spelling format core cores records.now))
+        × Appends (W.contents sink.old) (W.contents sink.new)
+        (take n (spelling format core cores records.now)) }
+    // A failed write is answered only where the sink failed in this call.
+    ensures failed { IsErrOf result LogWriteFault.Write →
+        Failed (W.failed sink.old) (W.failed sink.new) }
+    // And no failed write is passed over.
+    ensures quiet { ¬ IsErrOf result LogWriteFault.Write → W.failed sink.new ≡ W.failed sink.old }
+{
+    if !has_each(format, records) {
+        return Err(LogWriteFault::SwapInFormatOne);
+    }
+    Ok(write_lines(alloc, sink, format, core, cores, records)?)
+}
+
+// Whether a log of this format may have each of these records.
+fn has_each(format: Format, records: &[Record]) -> bool
+    ensures { IsTrue result ↔ HasEach format records.now }
+{
+    records.iter().all(|logged| format.has_act(&logged.act()))
+}
+
+// Writes the lines of the log of this core of `cores` in this format, which may have each of the records.
+fn write_lines<W: ByteSink>(
     alloc: Global,
     sink: &mut W,
     format: Format,
@@ -26,17 +69,15 @@ pub fn write_log<W: ByteSink>(
     requires core { core < cores }
     requires cores { cores ≤ 64 }
     requires few { length records.now ≤ operation_limit }
-    // What is written spells a log, the one of these records.
-    ensures log { OnOk result (IsLog core cores records.now) }
+    requires each { HasEach format records.now }
+    ensures log { OnOk result (IsLog format core cores records.now) }
     ensures written { OnOk result
         (Appends (W.contents sink.old) (W.contents sink.new) (spelling format core cores records.now)) }
     ensures begun { (n : ℕ) × (n ≤ length (spelling format core cores records.now))
         × Appends (W.contents sink.old) (W.contents sink.new)
         (take n (spelling format core cores records.now)) }
-    // A failed write is answered only where the sink failed in this call.
     ensures failed { IsErrOf result WriteFault.Write →
         Failed (W.failed sink.old) (W.failed sink.new) }
-    // And no failed write is passed over.
     ensures quiet { ¬ IsErrOf result WriteFault.Write → W.failed sink.new ≡ W.failed sink.old }
 {
     write_line(sink, print_header(alloc, format, core, cores)?)?;
@@ -92,7 +133,18 @@ fn in_range(logged: &Record)
     let _addr = logged.addr.get();
     let _ts = logged.ts.get();
     let _rank = logged.rank.get();
-    if let Act::Load(Source::Store(id)) = &logged.act {
+    match logged.act() {
+        Act::Store => {}
+        Act::Load(source) => source_in_range(source),
+        Act::Swap(source, _read) => source_in_range(source),
+    }
+}
+
+// Does nothing: it tells that the numbers of a source are in range.
+fn source_in_range(source: Source)
+    ensures { SourceFits source }
+{
+    if let Source::Store(id) = source {
         let _core = id.core.get();
         let _index = id.index.get();
     }

@@ -1,4 +1,4 @@
--- By key each load of a set has its flat answer, where no address has a fault.
+-- By key each load and each swap of a set has its flat answer, where no address has a fault.
 use Rattle.std.specs.Prelude.{◌≡◌, ℕ, Bool, true, false, cond, ◌&&◌, ◌==◌, List, [], ◌∷◌, ◌++◌, refl, Option, Some, None, slice_get, map, find, reverse, take, if◌then◌else◌}
 use Rattle.std.specs.List.{filter_map, cons_option}
 use Rattle.std.proofs.Common.{sym, ◌∙◌, ap, subst, inl, inr}
@@ -8,23 +8,24 @@ use Rattle.std.proofs.lemmas.Bool.{and_parts, and_from, eqb-true, false_from_ne_
 use Rattle.std.proofs.lemmas.List.{take-map, map-append}
 use Rattle.std.proofs.lemmas.Option.{slice_get-map}
 use Rattle.mem_op.specs.declared.id.Source.{Source}
-use Rattle.mem_op.specs.Consistency.{Operation, Loaded, operation_at, is_store_to, word_left, value_or_zero, last_value, GivesFlatAnswers}
+use Rattle.mem_op.specs.Consistency.{Operation, operation_at, is_store_to, word_left, value_or_zero, last_value, GivesFlatAnswers}
 use Rattle.line_stamps.specs.Ordered.{In, IsGreatest}
 use Rattle.line_stamps.proofs.Order.{lt_cases}
 use Rattle.line_stamps.proofs.Ordered.{reverse-cons, In-slice_get, In-take, In-from_sorted, Ascends-take, before_from_take, take_from_before, last_is_greatest, greatest_from_least}
 use Rattle.log_record.specs.declared.record.Record.{Record}
 use Rattle.log_record.specs.declared.record.Entry.{Entry}
 use Rattle.log_record.specs.declared.act.Act.{Act}
-use Rattle.log_record.specs.declared.act.Act.TheVariants.{Load, Store}
+use Rattle.log_record.specs.declared.act.Act.TheVariants.{Load, Store, Swap}
 use Rattle.log_record.specs.Entries.{entry_cmp, operation_by, operation_of, operations_of, entries}
 use Rattle.log_record.proofs.EntryFacts.{record_of_entry, same_record, operation_at-operations_of}
 use Rattle.address_check.specs.declared.fault.AddressRule.TheVariants.{Source as WrongSource, Value as WrongValue}
 use Rattle.address_check.specs.AddressFaults.{is_store, is_earlier_store, right_store, is_source, value_from, broken_rule, fault_by, act_fault, address_fault}
 use Rattle.address_check.proofs.Totals.{entry_total}
 use Rattle.verdict.specs.ByKey.{by_key, ids_by_key}
+use Rattle.verdict.proofs.FlatSoFar.{IsAnsweredBehind, flat_each}
 use Rattle.verdict.proofs.SerialOrder.{tied_id, by_key-ascends, in_set_by_key}
 
--- no load of the set has a fault of source or value
+-- no load or swap of the set has a fault of source or value
 abbrev pub NoAddressFault : List (List Record) → Type 0
 NoAddressFault logs = (e : Entry) → In e (entries logs) → address_fault (entries logs) e ≡ None
 
@@ -66,6 +67,7 @@ find-map {X} {Y} p f (x ∷ xs) = go (p (f x)) (find-map p f xs)
 value_of_operation : (act : Act) (addr value : ℕ) → word_left (operation_by act addr value) ≡ value
 value_of_operation (Load source) addr value = refl
 value_of_operation Store addr value = refl
+value_of_operation (Swap source read) addr value = refl
 
 value_of_option : (o : Option Entry) → value_or_zero (option_map operation o) ≡ value_from o
 value_of_option None = refl
@@ -85,8 +87,9 @@ last_value-map addr k es =
 pub store_to : (addr : ℕ) (act : Act) (a v : ℕ) → is_store_to addr (operation_by act a v) ≡ (is_store act && (a == addr))
 store_to addr (Load source) a v = refl
 store_to addr Store a v = refl
+store_to addr (Swap source read) a v = refl
 
--- the last store before a load in the order of keys is the greatest earlier store of the set
+-- the last store before an operation in the order of keys is the greatest earlier store of the set
 pub last_is_right : (logs : List (List Record)) (e : Entry) (k : ℕ) → slice_get (by_key logs) k ≡ Some e → (r : Option Entry) → IsGreatest entry_cmp (λ x. is_store_to e.logged.addr (operation x)) (take k (by_key logs)) r → IsGreatest entry_cmp (is_earlier_store e) (entries logs) r
 last_is_right logs e k here None h = none
   where
@@ -118,29 +121,31 @@ right_value e source value r h = go (is_source source r) (value == value_from r)
     go true false q h = cc
     go false c q h = cc
 
-load_parts : (act : Act) (a v addr value : ℕ) → operation_by act a v ≡ Loaded addr value → (source : Source) × (act ≡ Load source) × (a ≡ addr) × (v ≡ value)
-load_parts (Load source) a v addr value h = (source, refl, cc, cc)
-load_parts Store a v addr value h = cc
+-- what an entry reads without a fault is its flat answer
+read_at : (logs : List (List Record)) (k : ℕ) (e : Entry) (source : Source) (read : ℕ) → slice_get (by_key logs) k ≡ Some e → fault_by e (broken_rule source read (right_store (entries logs) e)) ≡ None → read ≡ last_value e.logged.addr (take k (map operation (by_key logs)))
+read_at logs k e source read here no_fault =
+    let last = last_store e.logged.addr k (by_key logs) in
+    let greatest = last_is_right logs e k here last
+    (last_is_greatest entry_cmp entry_total (λ x. is_store_to e.logged.addr (operation x)) (take k (by_key logs)) (Ascends-take entry_cmp entry_total k (by_key logs) (by_key-ascends logs))) in
+    right_value e source read (right_store (entries logs) e) no_fault
+    ∙ one_greatest logs (is_earlier_store e) (right_store (entries logs) e) last (greatest_from_least entry_cmp entry_total (is_earlier_store e) (entries logs)) greatest
+    ∙ sym (last_value-map e.logged.addr k (by_key logs))
 
-flat_at : (logs : List (List Record)) → NoAddressFault logs → (k addr value : ℕ) → slice_get (map operation (by_key logs)) k ≡ Some (Loaded addr value) → value ≡ last_value addr (take k (map operation (by_key logs)))
-flat_at logs none k addr value h = go (slice_get (by_key logs) k) refl (sym (slice_get-map operation (by_key logs) k) ∙ h)
+-- so an entry without a fault has its flat answer
+answered_at : (logs : List (List Record)) (k : ℕ) (e : Entry) → slice_get (by_key logs) k ≡ Some e → (act : Act) → act_fault act e (right_store (entries logs) e) ≡ None → IsAnsweredBehind (take k (map operation (by_key logs))) (operation_by act e.logged.addr e.logged.value)
+answered_at logs k e here (Load source) no_fault = read_at logs k e source e.logged.value here no_fault
+answered_at logs k e here Store no_fault = tt
+answered_at logs k e here (Swap source read) no_fault = read_at logs k e source read here no_fault
+
+flat_by_key : (logs : List (List Record)) → NoAddressFault logs → GivesFlatAnswers (map operation (by_key logs))
+flat_by_key logs none = flat_each (map operation (by_key logs)) (λ k y h. go k y (slice_get (by_key logs) k) refl (sym (slice_get-map operation (by_key logs) k) ∙ h))
   where
-    go : (o : Option Entry) → slice_get (by_key logs) k ≡ o → option_map operation o ≡ Some (Loaded addr value) → value ≡ last_value addr (take k (map operation (by_key logs)))
-    go None here t = cc
-    go (Some e) here t =
-        let is_load : operation_by e.logged.act e.logged.addr e.logged.value ≡ Loaded addr value = cc in
-        let parts = load_parts e.logged.act e.logged.addr e.logged.value addr value is_load in
-        let in_set = in_set_by_key logs e (In-slice_get e (by_key logs) k here) in
-        let no_fault : fault_by e (broken_rule parts.0 e.logged.value (right_store (entries logs) e)) ≡ None =
-        sym (ap (λ a. act_fault a e (right_store (entries logs) e)) parts.1) ∙ none e in_set in
-        let last = last_store e.logged.addr k (by_key logs) in
-        let greatest = last_is_right logs e k here last
-        (last_is_greatest entry_cmp entry_total (λ x. is_store_to e.logged.addr (operation x)) (take k (by_key logs)) (Ascends-take entry_cmp entry_total k (by_key logs) (by_key-ascends logs))) in
-        sym parts.3
-        ∙ right_value e parts.0 e.logged.value (right_store (entries logs) e) no_fault
-        ∙ one_greatest logs (is_earlier_store e) (right_store (entries logs) e) last (greatest_from_least entry_cmp entry_total (is_earlier_store e) (entries logs)) greatest
-        ∙ sym (last_value-map e.logged.addr k (by_key logs))
-        ∙ ap (λ a. last_value a (take k (map operation (by_key logs)))) parts.2
+    go : (k : ℕ) (y : Operation) (o : Option Entry) → slice_get (by_key logs) k ≡ o → option_map operation o ≡ Some y → IsAnsweredBehind (take k (map operation (by_key logs))) y
+    go k y None here t = cc
+    go k y (Some e) here t =
+        let same : operation e ≡ y = cc in
+        subst (IsAnsweredBehind (take k (map operation (by_key logs)))) same
+        (answered_at logs k e here e.logged.act (none e (in_set_by_key logs e (In-slice_get e (by_key logs) k here))))
 
 operations_by_key : (logs : List (List Record)) (es : List Entry) → ((e : Entry) → In e es → In e (entries logs)) → filter_map (operation_at (operations_of logs)) (map (λ e. e.id) es) ≡ map operation es
 operations_by_key logs [] h = refl
@@ -150,4 +155,4 @@ operations_by_key logs (e ∷ es) h =
     ∙ ap (λ l. operation e ∷ l) (operations_by_key logs es (λ x p. h x (inr p)))
 
 pub by_key-flat : (logs : List (List Record)) → NoAddressFault logs → GivesFlatAnswers (filter_map (operation_at (operations_of logs)) (ids_by_key logs))
-by_key-flat logs none = subst GivesFlatAnswers (sym (operations_by_key logs (by_key logs) (in_set_by_key logs))) (flat_at logs none)
+by_key-flat logs none = subst GivesFlatAnswers (sym (operations_by_key logs (by_key logs) (in_set_by_key logs))) (flat_by_key logs none)

@@ -6,7 +6,7 @@ use Rattle.std.proofs.lemmas.Bool.{cases_lt, cases_eq, eq-eqb, ne_eqb, le-ltb}
 use Rattle.std.proofs.lemmas.List.{get_or-set_same, get_or-set_other, length-set, append_assoc, map-append}
 use Rattle.std.proofs.lemmas.List.Elements.{filter_map-append}
 use Rattle.mem_op.specs.declared.id.OpId.{OpId}
-use Rattle.mem_op.specs.Consistency.{Operation, Loaded, Stored, operation_at, IsSequentialOrder, IsConsistent, KeepsProgramOrder, GivesFlatAnswers, last_value}
+use Rattle.mem_op.specs.Consistency.{Operation, Loaded, Stored, Swapped, operation_at, IsSequentialOrder, IsConsistent, KeepsProgramOrder, GivesFlatAnswers, last_value}
 use Rattle.line_stamps.proofs.Ordered.{In-append_right}
 use Rattle.log_record.proofs.EntryFacts.{one_if}
 use Rattle.core_program.specs.declared.instruction.Instruction.{Instruction}
@@ -16,7 +16,7 @@ use Rattle.core_program.specs.Conforming.{Conforms}
 use Rattle.verdict.specs.inner.EachId.{CountsEach}
 use Rattle.verdict.specs.FlatMachine.{Flat, flat_start, FlatRun, starts, performs, IsAnsweredBy, after, performed_by, PerformsAll, RunsFlat}
 use Rattle.verdict.proofs.Replaying.{AreNext, InOrder, next_none, next_more, refuse_absent, refuse_other, all_next, is_some-slice_get, each_from-AllPairs}
-use Rattle.verdict.proofs.FlatSoFar.{last_value-push, flat_at_middle}
+use Rattle.verdict.proofs.FlatSoFar.{IsAnsweredBehind, last_value-push, flat_at_middle}
 use Rattle.verdict.proofs.Lists.{drop_here, take_here, within, set_here, set_elsewhere, drop_all, take_whole, index_past}
 use Rattle.verdict.proofs.Paths.{Halves, halves}
 
@@ -94,10 +94,12 @@ by_itself core done operation =
 after_is : (operation : Operation) (memory : ℕ → ℕ) (before : List Operation) (addr : ℕ) → memory addr ≡ last_value addr before → after operation memory addr ≡ last_value addr (before ++ operation ∷ [])
 after_is (Loaded a value) memory before addr h = h ∙ sym (last_value-push addr before (Loaded a value))
 after_is (Stored a value) memory before addr h = ap (λ m. cond (a == addr) value m) h ∙ sym (last_value-push addr before (Stored a value))
+after_is (Swapped a read stored) memory before addr h = ap (λ m. cond (a == addr) stored m) h ∙ sym (last_value-push addr before (Swapped a read stored))
 
-answered_by : (operation : Operation) (memory : ℕ → ℕ) (before : List Operation) → ((addr : ℕ) → memory addr ≡ last_value addr before) → ((addr value : ℕ) → operation ≡ Loaded addr value → value ≡ last_value addr before) → IsAnsweredBy memory operation
-answered_by (Loaded addr value) memory before h flat = flat addr value refl ∙ sym (h addr)
+answered_by : (operation : Operation) (memory : ℕ → ℕ) (before : List Operation) → ((addr : ℕ) → memory addr ≡ last_value addr before) → IsAnsweredBehind before operation → IsAnsweredBy memory operation
+answered_by (Loaded addr value) memory before h flat = flat ∙ sym (h addr)
 answered_by (Stored addr value) memory before h flat = tt
+answered_by (Swapped addr read stored) memory before h flat = flat ∙ sym (h addr)
 
 module _ (programs : List (List Instruction)) (cores : List (List Operation)) (order : List OpId) where
   abbrev core_of : OpId → ℕ
@@ -207,12 +209,12 @@ module _ (programs : List (List Instruction)) (cores : List (List Operation)) (o
         filter_map-append (operation_at cores) before (id ∷ [])
         ∙ ap (λ o. done_of before ++ cons_option o []) at_id
 
-    flat_answer : (addr value : ℕ) → operation ≡ Loaded addr value → value ≡ last_value addr (done_of before)
-    flat_answer addr value e =
+    flat_answer : IsAnsweredBehind (done_of before) operation
+    flat_answer =
         let whole : done_of (before ++ id ∷ rest) ≡ done_of before ++ operation ∷ done_of rest =
         filter_map-append (operation_at cores) before (id ∷ rest)
         ∙ ap (λ o. done_of before ++ cons_option o (done_of rest)) at_id in
-        flat_at_middle (done_of before) operation (done_of rest) addr value (subst GivesFlatAnswers (ap done_of (sym split) ∙ whole) is_order.flat) e
+        flat_at_middle (done_of before) operation (done_of rest) (subst GivesFlatAnswers (ap done_of (sym split) ∙ whole) is_order.flat)
 
     its_program : (program : List Instruction) × (slice_get programs id.core ≡ Some program)
     its_program = program_of programs id.core (let n = same_number programs cores conform in let w = core_within in omega arith)

@@ -3,7 +3,8 @@
 ghost use Rattle.std.specs.Prelude.{◌≡◌, ℕ, ◌↔◌, IsTrue, IfOk, vec_len, slice_index, map};
 ghost use Rattle.std.specs.List.{filter_map};
 ghost use Rattle.mem_op.specs.Consistency.{KeepsProgramOrder, GivesFlatAnswers, IsSequentialOrder, operation_at};
-ghost use Rattle.log_record.specs.Entries.{record_lists, record_at, operations_of};
+ghost use Rattle.log_record.specs.Entries.{record_lists, record_at, operation_of, operations_of};
+ghost use Rattle.verdict.specs.FlatMachine.{IsAnsweredBy};
 ghost use Rattle.verdict.specs.inner.EachId.{CountsEach};
 
 use log_record::{Act, Record};
@@ -14,8 +15,8 @@ use std::alloc::{AllocError, Global};
 const WORDS: usize = 65_536;
 
 /// Whether the list is a serial order of the operations of the logs that keeps program order, and in which
-/// each load's value is that of the last earlier store to its address, or 0. It looks at no stamp, rank or
-/// source. Refused only where memory is.
+/// each load's value, and the word that each swap read, is that of the last earlier store to its address,
+/// or 0. It looks at no stamp, rank or source. Refused only where memory is.
 pub fn replay_order(alloc: Global, order: &[OpId], logs: &[Vec<Record>]) -> Result<bool, AllocError>
     ensures { IfOk result (λ holds.
         IsTrue holds ↔ IsSequentialOrder (operations_of (record_lists logs.now)) order.now) }
@@ -69,7 +70,18 @@ fn record_of(logs: &[Vec<Record>], id: &OpId) -> Option<Record>
     }
 }
 
-/// Whether each load of the list answers the last earlier store to its address, or 0.
+/// Whether a record's operation may find this word at its address: a load or a swap reads it.
+fn is_answered_by(found: &Record, word: Word) -> bool
+    ensures { IsTrue result ↔ IsAnsweredBy (λ addr. word) (operation_of found.now) }
+{
+    match found.act() {
+        Act::Load(_) => found.value == word,
+        Act::Store => true,
+        Act::Swap(_, read) => read == word,
+    }
+}
+
+/// Whether each load and each swap of the list answers the last earlier store to its address, or 0.
 fn gives_flat_answers(
     alloc: Global,
     order: &[OpId],
@@ -85,11 +97,11 @@ fn gives_flat_answers(
             continue;
         };
         let addr = found.addr.get() as usize;
-        match found.act {
-            Act::Store => memory[addr] = found.value,
-            Act::Load(_) if memory[addr] != found.value => return Ok(false),
-            Act::Load(_) => {}
+        if !is_answered_by(&found, memory[addr]) {
+            return Ok(false);
         }
+        // A load leaves the word that it read.
+        memory[addr] = found.value;
     }
     Ok(true)
 }

@@ -15,5 +15,5 @@ returns-clause-taken c =
     let whole : take front.taken chunk ++ rest ≡ chunk = ap (λ (xs : List ℕ). take front.taken chunk ++ xs) c.split_at.ensures.back ∙ take-append-drop front.taken chunk in
     answer_more old c.pass.new.self c.take_piece-2.new.lines records (records ++ front.records.items) c.take_piece-2.new.records.items
     (take front.taken chunk) rest chunk c.take_piece-2.result whole
-    (front_takes old c.pass.new.self records chunk front c.requires.stands c.requires.front (search rules)) c.pass.ensures.same
+    (front_takes c.args.format old c.pass.new.self records chunk front c.requires.stands c.requires.front (search rules)) c.pass.ensures.same
     (rw grown at c.take_piece-2.ensures.taken)

@@ -3,7 +3,7 @@ use Rattle.std.proofs.Common.{rules, sym, ◌≡◌, ◌++◌}
 use Rattle.std.proofs.lemmas.Result.{err_from_is_err_and}
 use Rattle.log_file.specs.Standing.{IsSettledWith}
 use Rattle.log_file.proofs.TakenParts.{answer_more, settled_longer}
-use Rattle.log_file.proofs.taking.+fn-take_piece_by-join_mut+arg3+take_piece_by.Goals as goal
+use Rattle.log_file.proofs.taking.+fn-take_lines_by-join_mut+arg3+take_lines_by.Goals as goal
 
 pub returns-in_err-taken-clause-taken : goal.returns-in_err-taken-clause-taken
 returns-in_err-taken-clause-taken g t c =

@@ -6,7 +6,7 @@ use Rattle.log_record.specs.Line.{record_text, end_text}
 use Rattle.log_file.specs.Log.{begun, spelling, text_of, with_lf}
 use Rattle.log_file.proofs.Devices.{appends_more}
 use Rattle.log_file.proofs.Writing.{IsFront, begun_front, next_front, end_joined, front_taken, line_taken, text_next, fits_next}
-use Rattle.log_file.proofs.write.write_log.Goals as goal
+use Rattle.log_file.proofs.write.write_lines.Goals as goal
 
 pub returns-in_err-write_record-clause-begun : goal.returns-in_err-write_record-clause-begun
 returns-in_err-write_record-clause-begun g c =
@@ -32,7 +32,7 @@ loop-logged-preserved g c =
           (sym (text_next c.args.format core cores records i here c.loop-logged-test.true c.logged-item.is))
           (appends_more (held c.args.sink.now) (held c.loop-logged.sink) (held c.write_record.new.sink)
           (text_of (begun c.args.format core cores (take i records))) (with_lf (record_text here)) c.loop-logged.invariant.written told);
-      fits = fits_next records i here c.loop-logged-test.true c.logged-item.is c.loop-logged.invariant.fits c.in_range.ensures;
+      fits = fits_next c.args.format records i here c.loop-logged-test.true c.logged-item.is c.requires.each c.loop-logged.invariant.fits c.in_range.ensures;
       quiet = c.in_ok-write_record.ensures.quiet (λ x. cc) ∙ c.loop-logged.invariant.quiet;
     }
 
