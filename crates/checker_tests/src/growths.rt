@@ -15,7 +15,12 @@ use std::test::Fail;
 use std::thread::Threads;
 use verdict::{JudgeFault, replay_order};
 
-const SETS: [&[&[u8]; 2]; 3] = [&READ_ACROSS, &BOTH_READ_OLD, &OF_BOTH_FORMATS];
+const SETS: [&[&[u8]; 2]; 4] = [
+    &READ_ACROSS,
+    &BOTH_READ_OLD,
+    &OF_BOTH_FORMATS,
+    &SWAPPED,
+];
 
 #[test]
 fn judges(rt: HostRuntime) -> Result<(), Fail> {
@@ -25,7 +30,7 @@ fn judges(rt: HostRuntime) -> Result<(), Fail> {
             if answer == Err(JudgeFault::OutOfMemory) {
                 answer = judged(&rt, rt.alloc(), by, logs, 0, &[])?;
             }
-            let is_due = matches!(&answer, Ok(verdict) if is_row(verdict, logs));
+            let is_due = matches!(&answer, Ok(verdict) if is_row(by, verdict, logs));
             assert!(rt; is_due, "{by:?}");
         }
     }
@@ -136,7 +141,11 @@ fn indexed(
 
 #[test]
 fn indices(rt: HostRuntime) {
-    for (logs, is_faulty) in [(&READ_ACROSS, false), (&BOTH_READ_OLD, true)] {
+    for (logs, is_faulty) in [
+        (&READ_ACROSS, false),
+        (&BOTH_READ_OLD, true),
+        (&SWAPPED, false),
+    ] {
         let mut answer = indexed(&rt, rt.alloc(), logs);
         if answer == Err(LogFault::OutOfMemory) {
             answer = indexed(&rt, rt.alloc(), logs);

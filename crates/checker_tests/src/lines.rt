@@ -26,6 +26,25 @@ fn lines_are_read_and_printed(rt: HostRuntime) -> Result<(), Fail> {
 }
 
 #[test]
+fn swaps_stand_in_format_2(rt: HostRuntime) -> Result<(), Fail> {
+    for text in [
+        "X 0 1 1 0 init 0",
+        "X 0 2 2 0 0.0 1",
+        "X 65535 18446744073709551615 281474976710656 4294967295 63.1048575 18446744073709551615",
+    ] {
+        let read = read_line(Format::Two, text.as_bytes())?;
+        let printed = print_line(rt.alloc(), &read)?;
+        assert_eq!(rt; printed.as_str(), text);
+        assert_eq!(rt; read_line(Format::One, text.as_bytes()), Err(LineFault::BadLine));
+    }
+    let too_large = b"X 0 2 2 0 0.0 18446744073709551616";
+    assert_eq!(rt; read_line(Format::Two, too_large), Err(LineFault::OutOfRange));
+    assert_eq!(rt; read_line(Format::One, too_large), Err(LineFault::BadLine));
+    assert_eq!(rt; read_line(Format::Two, b"X 0 2 2 0 0.0"), Err(LineFault::BadLine));
+    Ok(())
+}
+
+#[test]
 fn header_and_end_line(rt: HostRuntime) -> Result<(), Fail> {
     if let Ok(core) = CoreId::new(0) {
         for (format, text) in [

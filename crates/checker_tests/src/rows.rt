@@ -26,6 +26,12 @@ const LATER: &[u8] = b"tardis-log 1 core 1 of 2\nS 1 1 12 0\nL 0 1 12 0 0.0\nend
 /// The log of a core 1 that loads core 0's word as it was before the store.
 const AT_ONCE: &[u8] = b"tardis-log 1 core 1 of 2\nS 1 1 1 0\nL 0 0 1 0 init\nend 2\n";
 
+/// A log of two swaps in format 2, and one whose swaps come after them.
+const SWAPS: &[u8] = b"tardis-log 2 core 0 of 2\nX 0 1 1 0 init 0\nX 0 2 2 0 0.0 1\nend 2\n";
+
+const LATER_SWAPS: &[u8] =
+    b"tardis-log 2 core 1 of 2\nX 0 3 3 0 0.1 2\nX 0 4 4 0 1.0 3\nend 2\n";
+
 /// Four operations in the order of their times.
 pub(super) const READ_ACROSS: [&[u8]; 2] = [FIRST, LATER];
 
@@ -35,14 +41,23 @@ pub(super) const BOTH_READ_OLD: [&[u8]; 2] = [FIRST, AT_ONCE];
 /// The same set with one log in format 2.
 pub(super) const OF_BOTH_FORMATS: [&[u8]; 2] = [FIRST_IN_2, AT_ONCE];
 
-/// Whether a verdict is that on one of the sets.
-pub(super) fn is_row(verdict: &Verdict, logs: &[&[u8]; 2]) -> bool {
-    let is_old = logs[1] == AT_ONCE;
+/// Four swaps in the order of their times.
+pub(super) const SWAPPED: [&[u8]; 2] = [SWAPS, LATER_SWAPS];
+
+/// Whether a verdict is that of this judge on one of the sets.
+pub(super) fn is_row(by: Judge, verdict: &Verdict, logs: &[&[u8]; 2]) -> bool {
+    let breaks = if logs[1] == AT_ONCE {
+        Some((1, 1, Rule::Source))
+    } else if logs[1] == LATER_SWAPS && matches!(by, Judge::Programs) {
+        Some((0, 0, Rule::Program))
+    } else {
+        None
+    };
     match verdict {
-        Verdict::Yes(count) => !is_old && *count == 4,
+        Verdict::Yes(count) => breaks.is_none() && *count == 4,
         Verdict::No(fault) => {
             let (core, index) = (fault.id.core.get(), fault.id.index.get());
-            is_old && (core, index, fault.rule) == (1, 1, Rule::Source)
+            breaks == Some((core, index, fault.rule))
         }
     }
 }

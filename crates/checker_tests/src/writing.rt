@@ -1,6 +1,6 @@
 //! Logs that are written.
 
-use log_file::{MemSink, Step, WriteFault, write_log};
+use log_file::{LogWriteFault, MemSink, Step, write_log};
 use log_record::{Format, Record, read_line};
 use mem_op::CoreId;
 use std::test::Fail;
@@ -56,9 +56,27 @@ fn each_write_fails_in_turn(rt: HostRuntime) -> Result<(), Fail> {
     for (first, taken) in [(0, 59), (1, 49), (2, 35), (3, 25), (4, 0)] {
         let mut sink = MemSink::new(rt.alloc(), &steps[first..]);
         let written = write_log(rt.alloc(), &mut sink, Format::One, core, 1, &records);
-        assert_eq!(rt; written, Err(WriteFault::Write));
+        assert_eq!(rt; written, Err(LogWriteFault::Write));
         assert_eq!(rt; sink.bytes().len(), taken);
         assert!(rt; THREE_RECORDS.as_bytes().starts_with(sink.bytes()));
     }
+    Ok(())
+}
+
+#[test]
+fn swaps_are_written_in_format_2_alone(rt: HostRuntime) -> Result<(), Fail> {
+    let core = CoreId::new(0)?;
+    let records = [
+        read_line(Format::One, b"S 0 1 1 0")?,
+        read_line(Format::Two, b"X 0 2 1 1 0.0 1")?,
+    ];
+    let mut sink = MemSink::new(rt.alloc(), &[]);
+    let written = write_log(rt.alloc(), &mut sink, Format::One, core, 1, &records);
+    assert_eq!(rt; written, Err(LogWriteFault::SwapInFormatOne));
+    assert_eq!(rt; sink.bytes(), b"".as_slice());
+    let written = write_log(rt.alloc(), &mut sink, Format::Two, core, 1, &records);
+    assert_eq!(rt; written, Ok(()));
+    let text = b"tardis-log 2 core 0 of 1\nS 0 1 1 0\nX 0 2 1 1 0.0 1\nend 2\n";
+    assert_eq!(rt; sink.bytes(), text.as_slice());
     Ok(())
 }

@@ -4,11 +4,10 @@ ghost use Rattle.std.specs.Prelude.{◌≡◌, ◌↔◌, ◌≤◌, None, IfSom
 ghost use Rattle.core_program.specs.Conforming.{Conforms, DiffersAt, program_fault};
 ghost use Rattle.core_program.specs.Running.{is_issued};
 ghost use Rattle.log_record.specs.Entries.{operation_of};
-ghost use Rattle.mem_op.specs.Consistency.{word_answered};
 
 use core_program::{Program, ProgramState};
 use log_record::{Act, Record};
-use mem_op::{Op, Word};
+use mem_op::Op;
 
 /// The least index of a log at which the record isn't the operation that the program issues there,
 /// given the logged values of the loads before; the log's length where it ends before the program;
@@ -30,7 +29,7 @@ pub fn conforms(program: &Program, log: &[Record]) -> Option<usize>
         if !is_issued(&state.next_op(program), logged) {
             return Some(i);
         }
-        state.answer(program, answered(logged));
+        state.answer(program, logged.word_answered());
     }
     match state.next_op(program) {
         Some(_) => Some(log.len()),
@@ -51,15 +50,5 @@ fn is_issued(issued: &Option<Op>, logged: &Record) -> bool
             *addr == logged.addr && *value == logged.value
         }
         _ => false,
-    }
-}
-
-// The word that the core had of a record's operation: of a swap the one that it read.
-fn answered(logged: &Record) -> Word
-    ensures { result ≡ word_answered (operation_of logged.now) }
-{
-    match logged.act() {
-        Act::Load(_) | Act::Store => logged.value,
-        Act::Swap(_, read) => read,
     }
 }

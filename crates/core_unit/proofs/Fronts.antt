@@ -3,7 +3,6 @@ use Rattle.std.proofs.Common.{◌≡◌, ◌≢◌, ◌<◌, ℕ, List, [], ◌�
 use Rattle.std.specs.Prelude.{Option, Some, None, IsSome, option_map}
 use Rattle.std.proofs.lemmas.List.{map-append, length-map, take_all}
 use Rattle.std.proofs.lemmas.Option.{slice_get_past}
-use Rattle.mem_op.specs.Consistency.{word_answered}
 use Rattle.mem_op.specs.declared.id.Op.{Op}
 use Rattle.mem_op.specs.declared.id.Op.TheVariants as op
 use Rattle.lease_rule.specs.ConfigParts.{ConfigParts}
@@ -14,7 +13,8 @@ use Rattle.core_program.specs.Shape.{IsProgram}
 use Rattle.core_program.proofs.Faults.{differs-fault}
 use Rattle.core_program.proofs.Runs.{state_after-reaches, state_after-snoc}
 use Rattle.private_cache.specs.Table.{Hit}
-use Rattle.core_unit.specs.Core.{Core, new_core, next_of, record_of, word_of, after_hit}
+use Rattle.core_unit.specs.Core.{Core, new_core, next_of, record_of, after_hit}
+use Rattle.core_unit.proofs.Looks.{record_answer}
 use Rattle.core_unit.specs.Kept.{Replays}
 use Rattle.core_unit.specs.Laws.{IsFront, performed_by}
 use Rattle.core_unit.specs.Parts.{UnitParts}
@@ -28,17 +28,14 @@ Ran u = state_after u.program (map operation_of u.log) ≡ Some u.state
 record_op : (x : Op) (hit : Hit) → op_of (operation_of (record_of x hit)) ≡ x
 record_op (op.Load a) hit = refl
 record_op (op.Store a value) hit = refl
-
-record_word : (x : Op) (hit : Hit) → word_answered (operation_of (record_of x hit)) ≡ word_of x hit
-record_word (op.Load a) hit = refl
-record_word (op.Store a value) hit = refl
+record_op (op.Swap a value) hit = refl
 
 -- after one more operation
 pub ran_on : (g : ConfigParts) (u : Core) (x : Op) (hit : Hit) → next_of u ≡ Some x → Ran u → Ran (after_hit g u x hit)
 ran_on g u x hit next ran =
     ap (state_after u.program) (map-append operation_of u.log (record_of x hit ∷ []))
     ∙ (state_after-snoc u.program (map operation_of u.log) (operation_of (record_of x hit)) u.state ran (next ∙ ap (λ y. Some y) (sym (record_op x hit)))
-    ∙ ap (λ w. Some (answered u.program w u.state)) (record_word x hit))
+    ∙ ap (λ w. Some (answered u.program w u.state)) (record_answer x hit))
 
 step_ran : (g : ConfigParts) (c : ℕ) (u : Core) (e : CoreEntry) (v : Core) → CoreStep g c u e v → Ran u → Ran v
 step_ran g c u e v (performs x hit free next hits) ran = ran_on g u x hit next ran

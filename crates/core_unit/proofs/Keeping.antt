@@ -37,6 +37,7 @@ use Rattle.core_unit.specs.declared.entry.CoreEntry.TheVariants as entry
 pub request_addr : (u : Core) (x : Op) → addr_of (next_request u x) ≡ op_addr x
 request_addr u (op.Load a) = refl
 request_addr u (op.Store a value) = refl
+request_addr u (op.Swap a value) = refl
 
 -- a request isn't a give-back
 pub no_give_back : (m : Message) → is_request m ≡ true → give_back_in (Some m) ≡ None
@@ -48,6 +49,7 @@ no_give_back (FlushRep a l) e = absurd (cc)
 pub asked_request : (u : Core) (x : Op) → is_request (next_request u x) ≡ true
 asked_request u (op.Load a) = refl
 asked_request u (op.Store a value) = refl
+asked_request u (op.Swap a value) = refl
 
 pub fits_request : (m : Message) (reply : Reply) → fits m reply ≡ true → is_request m ≡ true
 fits_request (ShReq a copy pts) reply e = refl
@@ -178,6 +180,9 @@ module _ (p : UnitParts) (k : IsKept p) (room : length p.transcript < entry_limi
         by_op (op.Store a value) next misses place empty kind fills =
             kept_by (entry.Got (next_request u (op.Store a value)) reply) p.state p.pts p.r (used p.cache a held) None p.log
             (gets (op.Store a value) reply held empty next misses place kind fills) tt k.rests k.capacity (omega (arith, k.logged))
+        by_op (op.Swap a value) next misses place empty kind fills =
+            kept_by (entry.Got (next_request u (op.Swap a value)) reply) p.state p.pts p.r (used p.cache a held) None p.log
+            (gets (op.Swap a value) reply held empty next misses place kind fills) tt k.rests k.capacity (omega (arith, k.logged))
 
         by_message : (x : Op) (y : Message) → y ≡ next_request u x → next_of u ≡ Some x → tries p.core u x ≡ None → has_place p.config u (op_addr x) ≡ true
             → (replayed p).hand ≡ None → Filled y

@@ -4,3 +4,4 @@ pub mod Gone
 pub mod Keeping
 pub mod Looks
 pub mod Recalling
+pub mod Turns

@@ -21,7 +21,7 @@ use Rattle.core_program.specs.Running.{next_op, answered, start_of}
 use Rattle.core_program.specs.State.{State}
 use Rattle.private_cache.specs.Answers.{give_back}
 use Rattle.private_cache.specs.CacheParts.{Lines}
-use Rattle.private_cache.specs.Table.{Hit, load_hit, store_hit, copy_of, left, put}
+use Rattle.private_cache.specs.Table.{Hit, load_hit, store_hit, swap_hit, copy_of, left, put}
 use Rattle.private_cache.specs.declared.held.Held.{Held}
 
 pub record Core : Type 0 where
@@ -57,11 +57,13 @@ next_of u = next_op u.program u.state
 abbrev pub op_addr : Op → ℕ
 op_addr (op.Load a) = a
 op_addr (op.Store a value) = a
+op_addr (op.Swap a value) = a
 
 -- the hit of an operation at a line, and None where it is a miss; `id` is the operation's own
 abbrev pub op_hit : Op → OpId → ℕ → ℕ → Option Held → Option Hit
 op_hit (op.Load a) id pts r held = load_hit pts r held
 op_hit (op.Store a value) id pts r held = store_hit value (source.Store id) pts r held
+op_hit (op.Swap a value) id pts r held = swap_hit value (source.Store id) pts r held
 
 -- the id of the next operation of core c
 abbrev pub next_id : ℕ → Core → OpId
@@ -75,22 +77,32 @@ tries c u x = op_hit x (next_id c u) u.pts u.r (map.get u.lines (op_addr x))
 abbrev pub request : Op → ℕ → Option Held → Message
 request (op.Load a) pts held = ShReq a (copy_of held) pts
 request (op.Store a value) pts held = ExReq a (copy_of held)
+request (op.Swap a value) pts held = ExReq a (copy_of held)
 
 abbrev pub next_request : Core → Op → Message
 next_request u x = request x u.pts (map.get u.lines (op_addr x))
 
--- the word of an operation that has hit: a load's is the one that it read, and a store's is its own
-abbrev pub word_of : Op → Hit → ℕ
-word_of (op.Load a) hit = hit.value
-word_of (op.Store a value) hit = value
+-- the word with which an operation that has hit answers its program: the one that a load or a swap reads, and a store's own
+abbrev pub answer_of : Op → Hit → ℕ
+answer_of (op.Load a) hit = hit.value
+answer_of (op.Store a value) hit = value
+answer_of (op.Swap a value) hit = hit.value
 
+-- the word in its record: the one that a load reads, and the one that a store or a swap stores
+abbrev pub word_logged : Op → Hit → ℕ
+word_logged (op.Load a) hit = hit.value
+word_logged (op.Store a value) hit = value
+word_logged (op.Swap a value) hit = value
+
+-- how the record says that it was done: a load and a swap name the store that they read, and a swap also the word
 abbrev pub act_of : Op → Hit → Act
 act_of (op.Load a) hit = act.Load hit.source
 act_of (op.Store a value) hit = act.Store
+act_of (op.Swap a value) hit = act.Swap hit.source hit.value
 
 -- the record of an operation that has hit
 abbrev pub record_of : Op → Hit → Record
-record_of x hit = record { value = word_of x hit; ts = hit.stamp; rank = hit.rank; addr = op_addr x; act = act_of x hit }
+record_of x hit = record { value = word_logged x hit; ts = hit.stamp; rank = hit.rank; addr = op_addr x; act = act_of x hit }
 
 -- after this number of operations a core increments its stamp
 abbrev pub is_due : ConfigParts → ℕ → Bool
@@ -102,7 +114,7 @@ after_hit g u x hit =
     let due = is_due g (length u.log + 1) in
     record {
       program = u.program;
-      state = answered u.program (word_of x hit) u.state;
+      state = answered u.program (answer_of x hit) u.state;
       pts = if due then self_increment hit.stamp else hit.stamp;
       r = if due then 0 else hit.rank;
       lines = put u.lines (op_addr x) (Some hit.held);

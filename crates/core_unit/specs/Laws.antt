@@ -12,7 +12,7 @@ use Rattle.core_unit.specs.Parts.{UnitParts}
 abbrev pub performed_by : UnitParts → List Operation
 performed_by p = map operation_of p.log
 
--- The operations of the log are the first that the program issues, each load with the word that it read. They are all of
+-- The operations of the log are the first that the program issues, each load and each swap with the word that it read. They are all of
 -- them where the program has ended; else the log's PROGRAM fault is its length.
 pub record IsFront (p : UnitParts) : Type 0 where
   pub reaches : Reaches p.program (performed_by p) p.state

@@ -13,7 +13,7 @@ use lease_rule::{Config, self_increment};
 use line_stamps::{Message, Rank, Stamp, StampFault};
 use log_record::{Act, Record};
 use mem_op::{Addr, Op, OpId, Word};
-use private_cache::{Load, PrivateCache, Store};
+use private_cache::{Load, PrivateCache, Store, Swap};
 
 /// What a core's line makes of an operation.
 #[derive(Clone, Copy, Debug, PartialEq, Eq)]
@@ -31,6 +31,7 @@ pub(crate) fn op_addr(op: &Op) -> Addr
     match op {
         Op::Load(addr) => *addr,
         Op::Store(addr, _) => *addr,
+        Op::Swap(addr, _) => *addr,
     }
 }
 
@@ -46,6 +47,7 @@ impl CoreUnit {
         match op {
             Op::Load(addr) => self.look_to_load(*addr),
             Op::Store(addr, value) => self.look_to_store(*addr, *value),
+            Op::Swap(addr, value) => self.look_to_swap(*addr, *value),
         }
     }
 
@@ -64,13 +66,7 @@ impl CoreUnit {
                     stamp,
                     rank,
                 },
-            ) => Ok(Look::Hit(Record {
-                value: *value,
-                ts: *stamp,
-                rank: *rank,
-                addr,
-                act: Act::Load(*source),
-            })),
+            ) => Ok(Look::Hit(Record::new(*value, *stamp, *rank, addr, &Act::Load(*source)))),
             Ok(Load::Miss(request)) => Ok(Look::Miss(*request)),
             Err(fault) => Err(*fault),
         }
@@ -84,14 +80,35 @@ impl CoreUnit {
             (λ fault. hit_fault hit ≡ Some fault) }
     {
         match &self.cache.peek_store(addr, self.pts, self.r) {
-            Ok(Store::Hit { stamp, rank }) => Ok(Look::Hit(Record {
+            Ok(Store::Hit { stamp, rank }) => Ok(Look::Hit(Record::new(
                 value,
-                ts: *stamp,
-                rank: *rank,
+                *stamp,
+                *rank,
                 addr,
-                act: Act::Store,
-            })),
+                &Act::Store,
+            ))),
             Ok(Store::Miss(request)) => Ok(Look::Miss(*request)),
+            Err(fault) => Err(*fault),
+        }
+    }
+
+    fn look_to_swap(&self, addr: Addr, value: Word) -> Result<Look, StampFault>
+        ensures { let u = core_of self.now None in
+            let hit = tries self.now.core u (Op.Swap addr value) in
+            MatchResult result
+            (λ look. (look ≡ look_of u (Op.Swap addr value) hit) × (hit_fault hit ≡ None))
+            (λ fault. hit_fault hit ≡ Some fault) }
+    {
+        match &self.cache.peek_swap(addr, self.pts, self.r) {
+            Ok(
+                Swap::Hit {
+                    value: read,
+                    source,
+                    stamp,
+                    rank,
+                },
+            ) => Ok(Look::Hit(Record::new(value, *stamp, *rank, addr, &Act::Swap(*source, *read)))),
+            Ok(Swap::Miss(request)) => Ok(Look::Miss(*request)),
             Err(fault) => Err(*fault),
         }
     }
@@ -111,6 +128,9 @@ pub(crate) fn perform_at(cache: &mut PrivateCache, op: &Op, id: OpId, pts: Stamp
         }
         Op::Store(addr, value) => {
             let _ = cache.store(*addr, *value, id, pts, r);
+        }
+        Op::Swap(addr, value) => {
+            let _ = cache.swap(*addr, *value, id, pts, r);
         }
     }
 }

@@ -79,7 +79,7 @@ impl CoreUnit {
             index: OpIndex::new(log.len() as u64).unwrap(),
         };
         perform_at(cache, op, id, *pts, *r);
-        state.answer(program, made.value);
+        state.answer(program, made.word_answered());
         *pts = pts_after;
         *r = r_after;
         log.push_reserved(*made);

@@ -3,3 +3,4 @@ pub mod EntryFacts
 pub mod Lines
 pub mod Raws
 pub mod Records
+pub mod Tags

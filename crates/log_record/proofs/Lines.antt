@@ -12,7 +12,7 @@ use Rattle.log_record.specs.declared.act.Act.{Act}
 use Rattle.log_record.specs.declared.act.Act.TheVariants as act
 use Rattle.log_record.specs.declared.record.Record.{Record}
 use Rattle.decimal_text.specs.Numbers.{numeral}
-use Rattle.log_record.specs.Line.{format_number, source_text, record_text, header_text, end_text, line_limit, limit_of, has_act, Fits, FitsIn, ActFits, SourceFits}
+use Rattle.log_record.specs.Line.{format_number, source_text, record_text, header_text, end_text, line_limit, limit_of, has_act, FitsIn, ActFits, SourceFits}
 use Rattle.log_record.specs.inner.Reading.{Fields, record_of, header_of, end_of}
 pub use Rattle.decimal_text.proofs.Lines.{NoLf, NoLf-append, NoLf-all, numeral_no_lf}
 use Rattle.decimal_text.proofs.Lines.{const_no_lf}

@@ -2,3 +2,4 @@
 pub mod FlatActs
 pub mod Raw
 pub mod Reading
+pub mod Tags

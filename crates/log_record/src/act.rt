@@ -1,7 +1,7 @@
 //! What a record says was done.
 
-ghost use Rattle.std.specs.Prelude.{◌≡◌};
-ghost use Rattle.log_record.specs.inner.FlatActs.{act_by, core_in, index_in, IsFlat};
+ghost use Rattle.std.specs.Prelude.{◌≡◌, ◌<◌};
+ghost use Rattle.log_record.specs.inner.FlatActs.{index_in, kind_of, read_in};
 
 use mem_op::{CoreId, OpId, OpIndex, Source, Word};
 use std::marker::Model;
@@ -18,79 +18,143 @@ pub enum Act {
     Swap(Source, Word),
 }
 
-/// Which kind of act, and whether it names a store.
+/// Which kind of act, and the core of the store that it names.
 #[derive(Clone, Copy, Debug, PartialEq, Eq)]
 pub(crate) enum Kind {
     LoadInit,
-    LoadStore,
+    LoadOf(CoreId),
     Store,
     SwapInit,
-    SwapStore,
+    SwapOf(CoreId),
 }
 
-/// An act in 16 bytes, where an `Act` takes 32. A number that the act doesn't have is 0.
+/// A kind in one byte, where a `Kind` takes two and an entry has room for one: a load of a core's store is the
+/// core's number, a swap of it is that plus 64, and from 128 on stand those that name no store.
+#[derive(Clone, Copy, Debug, PartialEq, Eq)]
+pub(crate) struct Tag {
+    code: u8,
+}
+
+impl Model for Tag {
+    ghost use Rattle.std.specs.Prelude.{◌<◌};
+    ghost use Rattle.log_record.specs.inner.Tags.{kind_by, code_of, code_of-kind_by};
+    ghost use Rattle.log_record.specs.declared.act.Kind.{Kind};
+
+    ghost Value = { Kind };
+
+    ghost view = { λ tag. kind_by tag.code };
+
+    ghost invariant = { λ tag. tag.code < 131 };
+
+    ghost inverse = { λ kind. record { code = code_of kind } };
+
+    ghost inverse_ok = { λ tag h i. record { code = code_of-kind_by tag.code h i } };
+}
+
+impl Tag {
+    /// A kind in one byte.
+    #[tactic(auto, using(crate::proofs::Tags::load_of, crate::proofs::Tags::swap_of))]
+    fn of(kind: &Kind) -> Tag
+        ensures { result ≡ kind.now }
+    {
+        let code = match kind {
+            Kind::LoadOf(core) => core.get() as u8,
+            Kind::SwapOf(core) => core.get() as u8 + 64,
+            Kind::LoadInit => 128,
+            Kind::Store => 129,
+            Kind::SwapInit => 130,
+        };
+        Tag { code }
+    }
+
+    /// The kind.
+    fn kind(self) -> Kind
+        ensures { result ≡ self }
+    {
+        if self.code < 64 {
+            return Kind::LoadOf(CoreId::at(self.code as usize));
+        }
+        if self.code < 128 {
+            return Kind::SwapOf(CoreId::at(self.code as usize - 64));
+        }
+        match self.code - 128 {
+            0 => Kind::LoadInit,
+            1 => Kind::Store,
+            _ => Kind::SwapInit,
+        }
+    }
+}
+
+/// The kind of an act.
+fn tag_of(act: &Act) -> Tag
+    ensures { result ≡ kind_of act.now }
+{
+    let kind = match act {
+        Act::Load(Source::Init) => Kind::LoadInit,
+        Act::Load(Source::Store(id)) => Kind::LoadOf(id.core),
+        Act::Store => Kind::Store,
+        Act::Swap(Source::Init, _) => Kind::SwapInit,
+        Act::Swap(Source::Store(id), _) => Kind::SwapOf(id.core),
+    };
+    Tag::of(&kind)
+}
+
+/// The index of the store that an act names, 0 where it names none.
+fn index_in(act: &Act) -> OpIndex
+    ensures { result ≡ index_in act.now }
+{
+    match act {
+        Act::Load(Source::Store(id)) | Act::Swap(Source::Store(id), _) => id.index,
+        _ => OpIndex::at(0),
+    }
+}
+
+/// The word that a swap read, 0 of another act.
+fn read_in(act: &Act) -> Word
+    ensures { result ≡ read_in act.now }
+{
+    match act {
+        Act::Swap(_, read) => *read,
+        Act::Load(_) | Act::Store => 0,
+    }
+}
+
+/// An act in parts: 16 bytes, where an `Act` takes 32. A part that the act doesn't have is 0.
 #[derive(Clone, Copy, Debug, PartialEq, Eq)]
 pub(crate) struct FlatAct {
-    read: Word,
-    index: OpIndex,
-    core: CoreId,
-    kind: Kind,
+    pub(crate) read: Word,
+    pub(crate) source_index: OpIndex,
+    pub(crate) tag: Tag,
 }
 
 impl Model for FlatAct {
-    ghost use Rattle.log_record.specs.inner.FlatActs.{act_by, core_in, index_in, IsFlat, kind_by, kind_of, read_in};
+    ghost use Rattle.log_record.specs.inner.FlatActs.{act_by, index_in, IsFlat, kind_of, kind_of-act_by, read_in};
     ghost use Rattle.log_record.specs.declared.act.Act.{Act};
 
     ghost Value = { Act };
 
-    ghost view = { λ a. act_by a.kind a.read a.core a.index };
+    ghost view = { λ a. act_by a.tag a.source_index a.read };
 
-    ghost invariant = { λ a. IsFlat a.kind a.read a.core a.index };
+    ghost invariant = { λ a. IsFlat a.tag a.source_index a.read };
 
-    ghost inverse = { λ a. record { read = read_in a; index = index_in a; core = core_in a; kind = kind_of a } };
+    ghost inverse = { λ a. record { read = read_in a; source_index = index_in a; tag = kind_of a } };
 
     ghost inverse_ok = { λ a h i. record {
       read = h.same_read i;
-      index = h.same_index i;
-      core = h.same_core i;
-      kind = kind_by a.kind a.read a.core a.index i;
+      source_index = h.same_index i;
+      tag = kind_of-act_by a.tag a.source_index a.read i;
     } };
 }
 
-/// An act without a store's id.
-fn unnamed(kind: Kind, read: Word) -> FlatAct
-    requires { IsFlat kind read 0 0 }
-    ensures { result ≡ act_by kind read 0 0 }
-{
-    FlatAct {
-        read,
-        index: OpIndex::at(0),
-        core: CoreId::at(0),
-        kind,
-    }
-}
-
 impl FlatAct {
-    /// An act in 16 bytes.
+    /// An act in parts.
     pub(crate) fn of(act: &Act) -> FlatAct
         ensures { result ≡ act.now }
     {
-        match act {
-            Act::Load(Source::Init) => unnamed(Kind::LoadInit, 0),
-            Act::Load(Source::Store(id)) => named(Kind::LoadStore, 0, id),
-            Act::Store => unnamed(Kind::Store, 0),
-            Act::Swap(Source::Init, read) => unnamed(Kind::SwapInit, *read),
-            Act::Swap(Source::Store(id), read) => named(Kind::SwapStore, *read, id),
-        }
-    }
-
-    // The id of the store that it names.
-    fn id(self) -> OpId
-        ensures { result ≡ record { core = core_in self; index = index_in self } }
-    {
-        OpId {
-            core: self.core,
-            index: self.index,
+        FlatAct {
+            read: read_in(act),
+            source_index: index_in(act),
+            tag: tag_of(act),
         }
     }
 
@@ -98,25 +162,13 @@ impl FlatAct {
     pub(crate) fn act(self) -> Act
         ensures { result ≡ self }
     {
-        match self.kind {
+        let index = self.source_index;
+        match self.tag.kind() {
             Kind::LoadInit => Act::Load(Source::Init),
-            Kind::LoadStore => Act::Load(Source::Store(self.id())),
+            Kind::LoadOf(core) => Act::Load(Source::Store(OpId { core, index })),
             Kind::Store => Act::Store,
             Kind::SwapInit => Act::Swap(Source::Init, self.read),
-            Kind::SwapStore => Act::Swap(Source::Store(self.id()), self.read),
+            Kind::SwapOf(core) => Act::Swap(Source::Store(OpId { core, index }), self.read),
         }
-    }
-}
-
-/// An act with the id of a store.
-fn named(kind: Kind, read: Word, id: &OpId) -> FlatAct
-    requires { IsFlat kind read id.now.core id.now.index }
-    ensures { result ≡ act_by kind read id.now.core id.now.index }
-{
-    FlatAct {
-        read,
-        index: id.index,
-        core: id.core,
-        kind,
     }
 }

@@ -1,9 +1,10 @@
 //! A record, and a record with its id.
 
 ghost use Rattle.std.specs.Prelude.{◌≡◌};
-ghost use Rattle.log_record.specs.Entries.{key_of};
+ghost use Rattle.mem_op.specs.Consistency.{word_answered};
+ghost use Rattle.log_record.specs.Entries.{key_of, operation_of};
 
-use super::act::{Act, FlatAct};
+use super::act::{Act, FlatAct, Tag};
 use line_stamps::{Key, Rank, Stamp};
 use mem_op::{Addr, CoreId, OpId, OpIndex, Word};
 use std::marker::Model;
@@ -29,7 +30,7 @@ impl Model for Record {
 
     ghost view = { λ r. record { value = r.value; ts = r.ts; rank = r.rank; addr = r.addr; act = r.act } };
 
-    ghost inverse = { λ r. record { value = r.value; ts = r.ts; rank = r.rank; addr = r.addr; act = r.act } };
+    ghost inverse = { λ r. record { value = r.value; ts = r.ts; act = r.act; rank = r.rank; addr = r.addr } };
 }
 
 impl Record {
@@ -54,38 +55,68 @@ impl Record {
     {
         self.act.act()
     }
+
+    /// The word that the core had of the operation: the one that a load or a swap read, the one that a store
+    /// stored.
+    pub fn word_answered(&self) -> Word
+        ensures { result ≡ word_answered (operation_of self.now) }
+    {
+        match self.act() {
+            Act::Load(_) | Act::Store => self.value,
+            Act::Swap(_, read) => read,
+        }
+    }
 }
 
-/// A record with its id. It takes 48 bytes.
+/// A record with its id, its act in parts. It takes 40 bytes, as the record does alone.
 #[derive(Clone, Copy, Debug, PartialEq, Eq)]
 pub struct Entry {
     value: Word,
+    read: Word,
     ts: Stamp,
-    act: FlatAct,
     rank: Rank,
+    source_index: OpIndex,
     index: OpIndex,
     addr: Addr,
     core: CoreId,
+    tag: Tag,
 }
 
 impl Model for Entry {
     ghost use Rattle.log_record.specs.EntryParts.{EntryParts};
+    ghost use Rattle.log_record.specs.inner.FlatActs.{act_by, index_in, IsFlat, kind_of, kind_of-act_by, read_in};
 
     ghost Value = { EntryParts };
 
     ghost view = { λ e. record {
       id = record { core = e.core; index = e.index };
-      logged = record { value = e.value; ts = e.ts; rank = e.rank; addr = e.addr; act = e.act };
+      logged = record { value = e.value; ts = e.ts; rank = e.rank; addr = e.addr; act = act_by e.tag e.source_index e.read };
     } };
+
+    ghost invariant = { λ e. IsFlat e.tag e.source_index e.read };
 
     ghost inverse = { λ e. record {
       value = e.logged.value;
+      read = read_in e.logged.act;
       ts = e.logged.ts;
-      act = e.logged.act;
       rank = e.logged.rank;
+      source_index = index_in e.logged.act;
       index = e.id.index;
       addr = e.logged.addr;
       core = e.id.core;
+      tag = kind_of e.logged.act;
+    } };
+
+    ghost inverse_ok = { λ e h i. record {
+      value = e.value;
+      read = h.same_read i;
+      ts = e.ts;
+      rank = e.rank;
+      source_index = h.same_index i;
+      index = e.index;
+      addr = e.addr;
+      core = e.core;
+      tag = kind_of-act_by e.tag e.source_index e.read i;
     } };
 }
 
@@ -94,14 +125,21 @@ impl Entry {
     pub fn new(id: OpId, logged: &Record) -> Entry
         ensures { result ≡ record { id = id; logged = logged.now } }
     {
+        let FlatAct {
+            read,
+            source_index,
+            tag,
+        } = logged.act;
         Entry {
             value: logged.value,
+            read,
             ts: logged.ts,
             rank: logged.rank,
+            source_index,
             index: id.index,
-            act: logged.act,
             addr: logged.addr,
             core: id.core,
+            tag,
         }
     }
 
@@ -122,17 +160,28 @@ impl Entry {
         let Entry {
             value,
             ts,
-            act,
             rank,
             addr,
             ..
         } = *self;
+        let act = self.flat_act();
         Record {
             value,
             ts,
             act,
             rank,
             addr,
+        }
+    }
+
+    // What was done, as a record keeps it.
+    fn flat_act(&self) -> FlatAct
+        ensures { result ≡ self.now.logged.act }
+    {
+        FlatAct {
+            read: self.read,
+            source_index: self.source_index,
+            tag: self.tag,
         }
     }
 
@@ -154,7 +203,7 @@ impl Entry {
     pub fn act(&self) -> Act
         ensures { result ≡ self.now.logged.act }
     {
-        self.act.act()
+        self.flat_act().act()
     }
 
     /// The key of the record: its place in the order of all.

@@ -12,6 +12,8 @@ mod orders;
 #[cfg(test)]
 mod runs;
 #[cfg(test)]
+mod swaps;
+#[cfg(test)]
 mod tables;
 #[cfg(test)]
 mod thread_runs;

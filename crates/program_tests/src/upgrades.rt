@@ -18,6 +18,9 @@ const SECOND: &[u8] = b"tardis-log 1 core 1 of 2\nS 1 1 1 0\nL 0 0 1 0 init\nend
 
 const SECOND_IN_2: &[u8] = b"tardis-log 2 core 1 of 2\nS 1 1 1 0\nL 0 0 1 0 init\nend 2\n";
 
+/// A swap of the first log's word, in a log that is of format 2 already.
+const SWAP: &[u8] = b"tardis-log 2 core 1 of 2\nX 0 2 12 0 0.0 1\nend 1\n";
+
 /// What is to come of a set.
 struct Row {
     files: &'static [&'static [u8]],
@@ -53,6 +56,14 @@ const ROWS: &[Row] = &[
         printed: "done: 4 operations\n",
         told: "",
         logs: &[FIRST_IN_2, SECOND_IN_2],
+    },
+    Row {
+        files: &[FIRST, SWAP],
+        room: 2,
+        status: 0,
+        printed: "done: 3 operations\n",
+        told: "",
+        logs: &[FIRST_IN_2, SWAP],
     },
     Row {
         files: &[FIRST, SECOND],

@@ -31,7 +31,7 @@ loop-i-preserved c =
     let same : is_issued (next_op c.args.program.now c.loop-i.state) (operation_of r) ≡ true =
     sym (c.is_issued.ensures ∙ ap (λ o. is_issued o (operation_of r)) c.next_op.ensures.next) ∙ c.if-not-is_issued.false in (
       state_after_record c.args.program.now c.args.log.now c.loop-i.i r c.loop-i.state c.loop-i.invariant.0 here same
-          ∙ ap (λ v. Some (answered c.args.program.now v c.loop-i.state)) (sym c.answered.ensures)
+          ∙ ap (λ v. Some (answered c.args.program.now v c.loop-i.state)) (sym c.word_answered.ensures)
           ∙ ap (λ s. Some s) (sym c.answer.ensures.state),
       c.answer.ensures.rests,
     )

@@ -20,7 +20,7 @@ returns-in-Ok-Hit c =
     let e = rw c.in-Ok-Hit.is at c.peek_store.ensures c.args.value own in
     let met = rw c.in-Ok-Hit.is at c.in-Ok-Hit.field-0-is in
     let same = store_hits u c.args.addr c.args.value own u.pts u.r c.in-Ok-Hit.stamp c.in-Ok-Hit.rank (map.get u.lines c.args.addr) (sym met ∙ e.0) in
-    rw (← c.self.view_is) (same, e.1)
+    rw (c.new.ensures, ← c.self.view_is) (same, e.1)
 
 pub returns-in-Ok-Miss : goal.returns-in-Ok-Miss
 returns-in-Ok-Miss c =
