@@ -7,21 +7,19 @@ use Rattle.line_stamps.specs.Ordered.{In, IsLeastIn}
 use Rattle.line_stamps.proofs.Ordered.{least_is, filter_map-In}
 use Rattle.mem_op.specs.declared.id.OpId.{OpId}
 use Rattle.mem_op.specs.Consistency.{is_same_id}
-use Rattle.log_record.specs.declared.act.Act.{Act}
-use Rattle.log_record.specs.declared.act.Act.TheVariants.{Load, Store}
 use Rattle.log_record.specs.declared.record.Entry.{Entry}
 use Rattle.log_record.specs.declared.record.Record.{Record}
-use Rattle.log_record.specs.Entries.{entries, key_of}
+use Rattle.log_record.specs.Entries.{entries}
 use Rattle.log_record.proofs.EntryFacts.{same_id-refl}
 use Rattle.core_program.specs.declared.instruction.Instruction.{Instruction}
 use Rattle.core_check.specs.declared.fault.RuleFault.{RuleFault}
 use Rattle.core_check.specs.FaultOrder.{core_fault_cmp}
 use Rattle.core_check.proofs.FaultFacts.{core_fault_total}
 use Rattle.address_check.specs.declared.fault.AddressFault.{AddressFault}
-use Rattle.address_check.specs.declared.fault.AddressRule.{AddressRule}
-use Rattle.address_check.specs.AddressFaults.{act_fault, address_fault, address_faults, broken_rule, fault_by, least_address_fault, right_store}
+use Rattle.address_check.specs.AddressFaults.{address_fault, address_faults, least_address_fault, right_store}
 use Rattle.address_check.specs.AddressLaw.{fault_total}
 use Rattle.address_check.specs.FaultOrder.{fault_cmp}
+use Rattle.address_check.proofs.GroupPass.{key_of_fault}
 use Rattle.address_check.proofs.Sorting.{fault_in_any_order}
 use Rattle.verdict.specs.CoreFaultsOf.{core_faults}
 use Rattle.verdict.specs.FaultParts.{FaultParts}
@@ -68,24 +66,12 @@ of_id-In (x ∷ es) e p none = go (is_same_id x.id e.id) refl none p (of_id-In e
     go false is found (inl same) rest = (let t : is_same_id x.id e.id ≡ true = ap (λ (y : Entry). is_same_id y.id e.id) same ∙ same_id-refl e.id in cc)
     go false is found (inr q) rest = rest q found
 
--- a fault of an entry has its key
-fault_key : (es : List Entry) (e : Entry) (f : AddressFault) → address_fault es e ≡ Some f → f.key ≡ key_of e
-fault_key es e f h = by_act e.logged.act h
-  where
-    by_rule : (o : Option AddressRule) → fault_by e o ≡ Some f → f.key ≡ key_of e
-    by_rule None g = cc
-    by_rule (Some rule) g = let same : record { key = key_of e; rule = rule } ≡ f = cc in sym (ap (λ (a : AddressFault). a.key) same)
-
-    by_act : (act : Act) → act_fault act e (right_store es e) ≡ Some f → f.key ≡ key_of e
-    by_act (Load source) g = by_rule (broken_rule source e.logged.value (right_store es e)) g
-    by_act Store g = cc
-
 -- a record has the id of the least fault
 least_has_record : (es : List Entry) (f : AddressFault) → least_address_fault es ≡ Some f → of_id es (from_address f).id ≡ None → ⊥
 least_has_record es f least none =
     let there : In f (address_faults es) = (subst (IsLeastIn fault_cmp (address_faults es)) least (least_is fault_cmp fault_total (address_faults es))).0 in
     let of = filter_map-In (address_fault es) es f there in
-    let key = fault_key es of.0 f of.2 in
+    let key = key_of_fault of.0.logged.act of.0 (right_store es of.0) f of.2 in
     let id : (from_address f).id ≡ of.0.id = λ i. record { core = (key i).core; index = (key i).index } in
     of_id-In es of.0 of.1 (subst (λ (x : OpId). of_id es x ≡ None) id none)
 

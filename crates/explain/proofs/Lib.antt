@@ -1,5 +1,6 @@
 pub mod CoreFaulted
 pub mod CoreRecords
+pub mod Counting
 pub mod Examining
 pub mod Finding
 pub mod RightStores

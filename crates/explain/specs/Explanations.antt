@@ -3,29 +3,31 @@ use Rattle.std.specs.Prelude.{◌≡◌, ℕ, List, Option, Some, length, count_
 use Rattle.log_record.specs.declared.record.Entry.{Entry}
 use Rattle.log_record.specs.declared.record.Record.{Record}
 use Rattle.core_program.specs.declared.instruction.Instruction.{Instruction}
-use Rattle.address_check.specs.AddressFaults.{is_store}
 use Rattle.verdict.specs.declared.rule.Rule.TheVariants.{CoreOrder as OfCoreOrder, Program as OfProgram}
 use Rattle.verdict.specs.declared.answer.Verdict.{Verdict}
 use Rattle.verdict.specs.declared.answer.Verdict.TheVariants.{Yes, No}
 use Rattle.verdict.specs.declared.basis.Basis.{Basis}
 use Rattle.verdict.specs.declared.basis.Basis.TheVariants.{Logs, Index}
+use Rattle.explain.specs.Kinds.{is_load, is_only_store, is_swap}
 use Rattle.explain.specs.LogFaults.{IsDepartureBy, IsFall}
 use Rattle.explain.specs.WrongReads.{IsWrongRead}
 use Rattle.explain.specs.declared.explanation.Explanation.{Explanation}
 use Rattle.explain.specs.declared.explanation.Explanation.TheVariants.{Load, CoreOrder, Program, Summed}
 use Rattle.explain.specs.declared.explanation.Summary.{Summary}
 
--- what all records of a set have: how many are stores and how many loads, and, where they are told, each of them once
+-- what all records of a set have: how many are loads, stores and swaps, and, where they are told, each of them once
 pub record IsSummary (es : List Entry) (summary : Summary) : Type 0 where
-  pub stores : summary.stores ≡ count_by (λ e. is_store e.logged.act) es
-  pub all : summary.loads + summary.stores ≡ length es
+  pub loads : summary.loads ≡ count_by (λ e. is_load e.logged.act) es
+  pub stores : summary.stores ≡ count_by (λ e. is_only_store e.logged.act) es
+  pub swaps : summary.swaps ≡ count_by (λ e. is_swap e.logged.act) es
+  pub all : summary.loads + summary.stores + summary.swaps ≡ length es
   pub rows : IfSome summary.rows (λ rows. IsPermutation es rows.items)
 
 -- something holds of the log of a core
 abbrev pub LogHas : List (List Record) → ℕ → (List Record → Type 0) → Type 0
 LogHas logs core Holds = (log : List Record) × (slice_get logs core ≡ Some log) × Holds log
 
--- The explanation is of this verdict: of a load and its address where the verdict stands on the index, of the log of a core where it
+-- The explanation is of this verdict: of what is read at its address where the verdict stands on the index, of the log of a core where it
 -- stands on the logs, and of all records with a Yes.
 abbrev pub Explains : Option (List (List Instruction)) → Verdict → Basis → Explanation → Type 0
 Explains programs (No fault) (Index es) (Load found) = IsWrongRead es fault.id fault.rule found

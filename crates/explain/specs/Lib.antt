@@ -1,5 +1,6 @@
 pub mod Escapes
 pub mod Explanations
+pub mod Kinds
 pub mod LogFaults
 pub mod Pictures
 pub mod ProgramOf

@@ -1,10 +1,10 @@
--- The explanation of a load that breaks a rule.
+-- The explanation of a load that breaks a rule, or of a swap that does by what it reads. Here "load" covers both.
 use Rattle.std.specs.Prelude.{◌≡◌, ℕ, ◌-◌, List, Option, None, Some, find, slice_get, option_and_then}
 use Rattle.mem_op.specs.declared.id.OpId.{OpId}
 use Rattle.mem_op.specs.declared.id.Source.TheVariants.{Init, Store as From}
 use Rattle.mem_op.specs.Consistency.{is_same_id}
 use Rattle.log_record.specs.declared.act.Act.{Act}
-use Rattle.log_record.specs.declared.act.Act.TheVariants.{Load, Store}
+use Rattle.log_record.specs.declared.act.Act.TheVariants.{Load, Store, Swap}
 use Rattle.log_record.specs.declared.record.Entry.{Entry}
 use Rattle.address_check.specs.AddressFaults.{right_store}
 use Rattle.address_check.specs.Groups.{at_address}
@@ -17,6 +17,8 @@ abbrev pub named_id : Act → Option OpId
 named_id (Load Init) = None
 named_id (Load (From id)) = Some id
 named_id Store = None
+named_id (Swap Init read) = None
+named_id (Swap (From id) read) = Some id
 
 -- the record of an id
 abbrev pub of_id : List Entry → OpId → Option Entry

@@ -1,30 +1,60 @@
 //! What is told of each kind of operation. Nothing else of this crate looks at an act.
 
-ghost use Rattle.std.specs.Prelude.{◌≡◌};
-ghost use Rattle.address_check.specs.AddressFaults.{is_store};
+ghost use Rattle.std.specs.Prelude.{◌≡◌, count_by};
+ghost use Rattle.explain.specs.Kinds.{is_load, is_only_store, is_swap};
 ghost use Rattle.explain.specs.WrongReads.{named_id};
 
+use super::shown::id_text;
 use log_record::{Act, Entry};
 use mem_op::{Op, OpId, Source};
 use std::alloc::{AllocError, Global};
-
-/// Whether an operation writes the word of its address.
-pub(crate) fn is_store(entry: &Entry) -> bool
-    ensures { result ≡ is_store entry.now.logged.act }
-{
-    match &entry.act() {
-        Act::Store => true,
-        Act::Load(_) => false,
-    }
-}
 
 /// The id that the source of an operation names; none where that is the initial 0, or there is no source.
 pub(crate) fn named_id(entry: &Entry) -> Option<OpId>
     ensures { result ≡ named_id entry.now.logged.act }
 {
     match &entry.act() {
-        Act::Load(Source::Store(id)) => Some(*id),
-        Act::Load(Source::Init) | Act::Store => None,
+        Act::Load(Source::Store(id)) | Act::Swap(Source::Store(id), _) => Some(*id),
+        Act::Load(Source::Init) | Act::Swap(Source::Init, _) | Act::Store => None,
+    }
+}
+
+/// How many operations there are of each kind.
+#[derive(Clone, Copy, Debug, PartialEq, Eq)]
+pub(crate) struct Counts {
+    pub(crate) loads: usize,
+    pub(crate) stores: usize,
+    pub(crate) swaps: usize,
+}
+
+/// How many of the operations are of each kind.
+pub(crate) fn count(entries: &[Entry]) -> Counts
+    ensures loads { result.loads ≡ count_by (λ e. is_load e.logged.act) entries.now }
+    ensures stores { result.stores ≡ count_by (λ e. is_only_store e.logged.act) entries.now }
+    ensures swaps { result.swaps ≡ count_by (λ e. is_swap e.logged.act) entries.now }
+{
+    let mut counts = Counts {
+        loads: 0,
+        stores: 0,
+        swaps: 0,
+    };
+    for entry in entries {
+        match &entry.act() {
+            Act::Load(_) => counts.loads += 1,
+            Act::Store => counts.stores += 1,
+            Act::Swap(..) => counts.swaps += 1,
+        }
+    }
+    counts
+}
+
+/// Whether an operation is a swap.
+pub(crate) fn is_swap(entry: &Entry) -> bool
+    ensures { result ≡ is_swap entry.now.logged.act }
+{
+    match &entry.act() {
+        Act::Load(_) | Act::Store => false,
+        Act::Swap(..) => true,
     }
 }
 
@@ -33,6 +63,16 @@ pub(crate) fn name(entry: &Entry) -> &'static str {
     match &entry.act() {
         Act::Store => "store",
         Act::Load(_) => "load",
+        Act::Swap(..) => "swap",
+    }
+}
+
+/// The word of an operation; of a swap the one that it read, and the one that it stored.
+pub(crate) fn value_text(alloc: Global, entry: &Entry) -> Result<String, AllocError> {
+    let value = entry.value();
+    match &entry.act() {
+        Act::Load(_) | Act::Store => value.to_string(alloc),
+        Act::Swap(_, read) => format!(in alloc; "{read} -> {value}"),
     }
 }
 
@@ -40,11 +80,8 @@ pub(crate) fn name(entry: &Entry) -> &'static str {
 pub(crate) fn source_text(alloc: Global, entry: &Entry) -> Result<String, AllocError> {
     match &entry.act() {
         Act::Store => Ok(String::new(alloc)),
-        Act::Load(Source::Init) => String::from_str(alloc, "init"),
-        Act::Load(Source::Store(id)) => {
-            let (core, index) = (id.core.get(), id.index.get());
-            format!(in alloc; "{core}.{index}")
-        }
+        Act::Load(Source::Init) | Act::Swap(Source::Init, _) => String::from_str(alloc, "init"),
+        Act::Load(Source::Store(id)) | Act::Swap(Source::Store(id), _) => id_text(alloc, *id),
     }
 }
 
@@ -54,6 +91,7 @@ pub(crate) fn deed(alloc: Global, entry: &Entry) -> Result<String, AllocError> {
     match &entry.act() {
         Act::Store => format!(in alloc; "stores {value} at address {addr}"),
         Act::Load(_) => format!(in alloc; "loads address {addr}"),
+        Act::Swap(..) => format!(in alloc; "swaps {value} into address {addr}"),
     }
 }
 
@@ -67,6 +105,10 @@ pub(crate) fn due_deed(alloc: Global, op: &Op) -> Result<String, AllocError> {
         Op::Load(addr) => {
             let addr = addr.get();
             format!(in alloc; "loads address {addr}")
+        }
+        Op::Swap(addr, value) => {
+            let (addr, value) = (addr.get(), *value);
+            format!(in alloc; "swaps {value} into address {addr}")
         }
     }
 }

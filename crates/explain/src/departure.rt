@@ -27,7 +27,7 @@ fn state_after(program: &Program, log: &[Record]) -> ProgramState
         if state.next_op(program).is_none() {
             break;
         }
-        state.answer(program, logged.value);
+        state.answer(program, logged.word_answered());
     }
     state
 }

@@ -9,7 +9,7 @@ use verdict::Rule;
 /// Why a set got its verdict.
 #[derive(Drop)]
 pub enum Explanation {
-    /// A load reads another store than the right one, or another value than that store's.
+    /// A load or a swap reads another store than the right one, or another value than that store's.
     Load(WrongRead),
     /// The stamp and rank of a core's log fall.
     CoreOrder(Fall),
@@ -19,12 +19,12 @@ pub enum Explanation {
     Summed(Summary),
 }
 
-/// A load that breaks a rule, and what stands around it.
+/// A load that breaks a rule, or a swap by what it reads, and what stands around it.
 #[derive(Drop)]
 pub struct WrongRead {
     /// SOURCE or VALUE.
     pub rule: Rule,
-    /// The load.
+    /// The load, or the swap.
     pub load: Entry,
     /// The store that it should read; none where that is the initial 0.
     pub right: Option<Entry>,
@@ -80,8 +80,10 @@ pub struct Summary {
     pub cores: usize,
     /// How many operations are loads.
     pub loads: usize,
-    /// How many operations are stores.
+    /// How many operations are stores. A swap isn't counted as one.
     pub stores: usize,
+    /// How many operations are swaps.
+    pub swaps: usize,
     /// How many addresses are used.
     pub addresses: usize,
     /// The most used addresses, five at most, the most used first.

@@ -14,7 +14,7 @@ use mem_op::{CoreId, OpId};
 use std::alloc::{AllocError, Global};
 
 /// The picture of an explanation, in SVG: a column for each core, downward the operations in the order of their keys,
-/// with an arrow from each to the loads that name it. None where there is too much to be drawn.
+/// with an arrow from each to the loads and swaps that name it. None where there is too much to be drawn.
 pub fn draw(
     alloc: Global,
     title: &str,
@@ -42,6 +42,9 @@ fn paint(alloc: Global, title: &str, scene: &Scene) -> Result<Vec<u8>, AllocErro
     };
     let (width, height) = canvas.placing.size(canvas.cores.len(), texts.len());
     let mut svg = Svg::new(alloc, width, height, title)?;
+    if scene.has_swap() {
+        svg.swap_style()?;
+    }
     canvas.heads(&mut svg)?;
     canvas.notes(&mut svg, notes.as_slice())?;
     canvas.arrows(&mut svg)?;
@@ -126,7 +129,7 @@ impl<'a> Canvas<'a> {
         Ok(())
     }
 
-    /// An arrow to each load from the operation that it names.
+    /// An arrow to each load and each swap from the operation that it names.
     fn arrows(&self, svg: &mut Svg) -> Result<(), AllocError> {
         for (row, entry) in self.scene.rows.iter().enumerate() {
             if let Some(source) = self.scene.source_row(entry) {

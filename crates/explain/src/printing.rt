@@ -1,6 +1,6 @@
 //! The text of an explanation.
 
-use super::acts::named_id;
+use super::acts::{name, named_id};
 use super::explanation::{Departure, Due, Explanation, Fall, Summary, Use, WrongRead};
 use super::sentence::{of_departure, of_fall, of_wrong_read};
 use super::shown::{id_text, line_text};
@@ -19,10 +19,10 @@ pub fn print(alloc: Global, explanation: &Explanation) -> Result<String, AllocEr
     }
 }
 
-/// The text of a load that breaks a rule.
+/// The text of a load or a swap that breaks a rule.
 fn print_wrong_read(alloc: Global, found: &WrongRead) -> Result<String, AllocError> {
     let sentence = of_wrong_read(alloc, found)?;
-    let load = line_text(alloc, &found.load)?;
+    let (kind, load) = (name(&found.load), line_text(alloc, &found.load)?);
     let right = match &found.right {
         Some(right) => line_text(alloc, right)?,
         None => String::from_str(alloc, "the initial 0")?,
@@ -31,7 +31,7 @@ fn print_wrong_read(alloc: Global, found: &WrongRead) -> Result<String, AllocErr
     let addr = found.load.addr().get();
     let table = table(alloc, found.rows.as_slice(), found.place)?;
     format!(in alloc;
-        "{sentence}\n\nthe load        {load}\nit should read  {right}\nit names        {named}\n\naddress {addr} by key:\n{table}"
+        "{sentence}\n\nthe {kind}        {load}\nit should read  {right}\nit names        {named}\n\naddress {addr} by key:\n{table}"
     )
 }
 
@@ -100,6 +100,7 @@ fn registers_text(alloc: Global, registers: &[Word; 16]) -> Result<String, Alloc
 /// The text of what a set has that gets Yes.
 fn print_summary(alloc: Global, summary: &Summary) -> Result<String, AllocError> {
     let (cores, loads, stores) = (summary.cores, summary.loads, summary.stores);
+    let swaps = swaps_text(alloc, summary.swaps)?;
     let addresses = summary.addresses;
     let most_used = uses_text(alloc, summary.most_used.as_slice())?;
     let stamps = match &summary.stamps {
@@ -111,8 +112,16 @@ fn print_summary(alloc: Global, summary: &Summary) -> Result<String, AllocError>
     };
     let sharing = summary.sharing;
     format!(in alloc;
-        "\ncores          {cores}\nloads          {loads}\nstores         {stores}\naddresses      {addresses}\nmost used      {most_used}\nstamps         {stamps}\nshared stamps  {sharing} operations\n"
+        "\ncores          {cores}\nloads          {loads}\nstores         {stores}\n{swaps}addresses      {addresses}\nmost used      {most_used}\nstamps         {stamps}\nshared stamps  {sharing} operations\n"
     )
+}
+
+/// How many swaps there are, where there are any.
+fn swaps_text(alloc: Global, swaps: usize) -> Result<String, AllocError> {
+    if swaps == 0 {
+        return Ok(String::new(alloc));
+    }
+    format!(in alloc; "swaps          {swaps}\n")
 }
 
 /// The most used addresses, each with the number of its operations.

@@ -1,6 +1,6 @@
 //! What a picture shows.
 
-use super::acts::named_id;
+use super::acts::{is_swap, named_id};
 use super::explanation::{Departure, Explanation, Fall, WrongRead};
 use core_program::print_instruction;
 use log_record::Entry;
@@ -46,7 +46,7 @@ fn of_all(alloc: Global, rows: &[Entry]) -> Result<Scene, AllocError> {
     })
 }
 
-/// A load with the operations of its address around it, the one that it should read and the one that it names.
+/// A load or a swap with the operations of its address around it, the one that it should read and the one that it names.
 fn of_wrong_read(alloc: Global, found: &WrongRead) -> Result<Scene, AllocError> {
     let mut rows = Vec::from_slice(alloc, found.rows.as_slice())?;
     add(&mut rows, &found.right)?;
@@ -132,6 +132,11 @@ impl Scene {
             None => false,
         };
         is_due || self.rows.iter().any(|row| row.id().core == core)
+    }
+
+    /// Whether a swap is shown.
+    pub(crate) fn has_swap(&self) -> bool {
+        self.rows.iter().any(|row| is_swap(row))
     }
 
     /// The row of the operation that another names as its source, if it is shown.

@@ -1,13 +1,14 @@
 //! What is wrong, in a sentence.
 
-use super::acts::{deed, due_deed, is_store, name, named_id};
+use super::acts::{deed, due_deed, name, named_id};
 use super::explanation::{Departure, Fall, WrongRead};
 use super::shown::id_text;
+use address_check::is_store;
 use log_record::Entry;
 use std::alloc::{AllocError, Global};
 use verdict::Rule;
 
-/// What is wrong with a load.
+/// What is wrong with a load, or with what a swap reads.
 pub(crate) fn of_wrong_read(alloc: Global, found: &WrongRead) -> Result<String, AllocError> {
     if found.rule == Rule::Value {
         return of_value(alloc, found);
@@ -26,7 +27,7 @@ pub(crate) fn of_wrong_read(alloc: Global, found: &WrongRead) -> Result<String, 
 /// What is wrong with a value.
 fn of_value(alloc: Global, found: &WrongRead) -> Result<String, AllocError> {
     let load = id_text(alloc, found.load.id())?;
-    let (addr, value) = (found.load.addr().get(), found.load.value());
+    let (addr, value) = (found.load.addr().get(), found.load.logged().word_answered());
     match &found.right {
         None => {
             format!(in alloc;
@@ -52,6 +53,9 @@ fn of_source(alloc: Global, found: &WrongRead) -> Result<String, AllocError> {
         let kind = name(named);
         return format!(in alloc; ", which is a {kind}; {rest}");
     }
+    if named.id() == found.load.id() {
+        return format!(in alloc; ", which is its own store; {rest}");
+    }
     if named.addr() != found.load.addr() {
         let other = named.addr().get();
         return format!(in alloc; ", which stores at address {other}; {rest}");
@@ -62,7 +66,7 @@ fn of_source(alloc: Global, found: &WrongRead) -> Result<String, AllocError> {
     last_store(alloc, found, "after that")
 }
 
-/// The store that a load should have read, which came before it or after another.
+/// The store that should have been read, which came before it or after another.
 fn last_store(alloc: Global, found: &WrongRead, when: &str) -> Result<String, AllocError> {
     match &found.right {
         None => format!(in alloc; ", and no store comes before it"),
@@ -73,7 +77,7 @@ fn last_store(alloc: Global, found: &WrongRead, when: &str) -> Result<String, Al
     }
 }
 
-/// The store that a load should have read, if there is one.
+/// The store that should have been read, if there is one.
 fn right_store(alloc: Global, found: &WrongRead) -> Result<String, AllocError> {
     let addr = found.load.addr().get();
     match &found.right {

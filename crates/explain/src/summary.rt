@@ -1,10 +1,9 @@
 //! What a set has that gets Yes.
 
-ghost use Rattle.std.specs.Prelude.{◌≡◌, ◌≤◌, IfOk, IfSome, IsPermutation, count_by, length};
-ghost use Rattle.address_check.specs.AddressFaults.{is_store};
+ghost use Rattle.std.specs.Prelude.{IfOk, IfSome, IsPermutation};
 ghost use Rattle.explain.specs.Explanations.{IsSummary};
 
-use super::acts::is_store;
+use super::acts::{Counts, count};
 use super::explanation::{Summary, Use};
 use address_check::AddressIndex;
 use line_stamps::Stamp;
@@ -15,16 +14,11 @@ use std::cmp::Reverse;
 /// The most operations that are drawn all at once.
 const DRAWN: usize = 200;
 
+/// How many stamps are counted one by one, at most, for each operation: the bytes of a stamp, since a count takes one.
+const COUNTED_EACH: usize = 8;
+
 /// How many addresses are told as the most used.
 const MOST_USED: usize = 5;
-
-/// How many of the entries are stores.
-fn count_stores(entries: &[Entry]) -> usize
-    ensures count { result ≡ count_by (λ e. is_store e.logged.act) entries.now }
-    ensures within { result ≤ length entries.now }
-{
-    entries.iter().filter(|entry| is_store(entry)).count()
-}
 
 /// How often each address is used, from the lowest.
 fn uses(alloc: Global, entries: &[Entry]) -> Result<Vec<Use>, AllocError> {
@@ -47,6 +41,29 @@ fn uses(alloc: Global, entries: &[Entry]) -> Result<Vec<Use>, AllocError> {
     Ok(uses)
 }
 
+/// The least and the greatest stamp of the entries; none where there are no entries.
+fn range_of(entries: &[Entry]) -> Option<(Stamp, Stamp)> {
+    let first = entries.first()?.key().ts;
+    let mut range = (first, first);
+    for entry in entries {
+        let stamp = entry.key().ts;
+        range = (range.0.min(stamp), range.1.max(stamp));
+    }
+    Some(range)
+}
+
+/// How many entries have a stamp that no other has, where each stamp is less than `span` after the least.
+fn alone(alloc: Global, entries: &[Entry], least: Stamp, span: usize) -> Result<usize, AllocError> {
+    let mut times: Vec<u8> = vec![in alloc; 0; span]?;
+    for entry in entries {
+        let place = entry.key().ts.get().saturating_sub(least.get()) as usize;
+        if let Some(count) = times.get_mut(place) {
+            *count = count.saturating_add(1);
+        }
+    }
+    Ok(times.iter().filter(|count| **count == 1).count())
+}
+
 /// The stamps of the entries, ascending.
 fn stamps(alloc: Global, entries: &[Entry]) -> Result<Vec<Stamp>, AllocError> {
     let mut stamps = Vec::with_capacity(alloc, entries.len())?;
@@ -58,7 +75,7 @@ fn stamps(alloc: Global, entries: &[Entry]) -> Result<Vec<Stamp>, AllocError> {
 }
 
 /// How many of the stamps, which ascend, stand beside one that is the same.
-fn sharing(stamps: &[Stamp]) -> usize {
+fn beside_the_same(stamps: &[Stamp]) -> usize {
     let mut sharing = 0;
     for place in 0..stamps.len() {
         let earlier = place > 0 && stamps[place - 1] == stamps[place];
@@ -68,6 +85,24 @@ fn sharing(stamps: &[Stamp]) -> usize {
         }
     }
     sharing
+}
+
+/// How many entries have a stamp that another has too, where their stamps lie in this range. Stamps that lie close, as those of a
+/// machine do, are counted one by one, which takes no more memory than to sort them and less time.
+fn sharing(
+    alloc: Global,
+    entries: &[Entry],
+    range: &Option<(Stamp, Stamp)>,
+) -> Result<usize, AllocError> {
+    let Some((least, greatest)) = range else {
+        return Ok(0);
+    };
+    let span = greatest.get().saturating_sub(least.get()) as usize;
+    if span / COUNTED_EACH < entries.len() {
+        let alone = alone(alloc, entries, *least, span.saturating_add(1))?;
+        return Ok(entries.len().saturating_sub(alone));
+    }
+    Ok(beside_the_same(stamps(alloc, entries)?.as_slice()))
 }
 
 /// All entries in the order of their keys, where they are few enough to be drawn.
@@ -83,6 +118,7 @@ fn rows(alloc: Global, entries: &[Entry]) -> Result<Option<Vec<Entry>>, AllocErr
 }
 
 /// What the records of a set of this number of cores have.
+#[tactic(auto, using(crate::proofs::Counting::of_all_kinds))]
 pub(crate) fn summary(
     alloc: Global,
     cores: usize,
@@ -91,24 +127,26 @@ pub(crate) fn summary(
     ensures { IfOk result (IsSummary index.now) }
 {
     let entries = index.all();
-    let stores = count_stores(entries);
+    let Counts {
+        loads,
+        stores,
+        swaps,
+    } = count(entries);
     let mut uses = uses(alloc, entries)?;
     let addresses = uses.len();
     uses.sort_by_key(|it| Reverse(it.operations))?;
     uses.truncate(MOST_USED);
-    let stamps = stamps(alloc, entries)?;
-    let range = match (stamps.first(), stamps.last()) {
-        (Some(least), Some(greatest)) => Some((*least, *greatest)),
-        _ => None,
-    };
+    let stamps = range_of(entries);
+    let sharing = sharing(alloc, entries, &stamps)?;
     Ok(Summary {
         cores,
-        loads: entries.len() - stores,
+        loads,
         stores,
+        swaps,
         addresses,
         most_used: uses,
-        stamps: range,
-        sharing: sharing(&stamps),
+        stamps,
+        sharing,
         rows: rows(alloc, entries)?,
     })
 }

@@ -26,6 +26,9 @@ path{fill:none;stroke:#6f8fb3;stroke-width:1.5}\
 <path d=\"M0,0 L8,4 L0,8 z\" style=\"fill:#d1242f;stroke:none\"/></marker>\
 </defs>\n";
 
+/// The colour of swaps, which only a picture that has some tells.
+const SWAP_STYLE: &str = "<style>.swap{fill:#e7e3f6}</style>\n";
+
 /// A place of a picture.
 #[derive(Clone, Copy, Debug, PartialEq, Eq)]
 pub(crate) struct Point {
@@ -60,6 +63,11 @@ impl Svg {
         svg.raw("</title>\n")?;
         svg.raw(STYLE)?;
         Ok(svg)
+    }
+
+    /// Tells the colour of swaps.
+    pub(crate) fn swap_style(&mut self) -> Result<(), AllocError> {
+        self.raw(SWAP_STYLE)
     }
 
     /// A text, which begins at a point.

@@ -1,6 +1,6 @@
 //! Tables of aligned columns.
 
-use super::acts::{name, source_text};
+use super::acts::{name, source_text, value_text};
 use super::shown::id_text;
 use log_record::Entry;
 use std::alloc::{AllocError, Global};
@@ -23,7 +23,7 @@ fn cells(alloc: Global, entry: &Entry) -> Result<Vec<String>, AllocError> {
     cells.push(key.ts.get().to_string(alloc)?)?;
     cells.push(key.rank.get().to_string(alloc)?)?;
     cells.push(String::from_str(alloc, name(entry))?)?;
-    cells.push(entry.value().to_string(alloc)?)?;
+    cells.push(value_text(alloc, entry)?)?;
     cells.push(source_text(alloc, entry)?)?;
     Ok(cells)
 }

@@ -1,14 +1,14 @@
-//! The explanation of a load that breaks a rule.
+//! The explanation of a load or a swap that breaks a rule.
 
 ghost use Rattle.std.specs.Prelude.{◌≡◌, ◌<◌, None, IfOk, IfSome, IsNone, length, option_and_then, slice_get};
 ghost use Rattle.mem_op.specs.Consistency.{is_same_id};
 ghost use Rattle.address_check.proofs.GroupPass.{last_store};
 ghost use Rattle.explain.specs.WrongReads.{IsWrongRead, named_id, of_id};
 
-use super::acts::{is_store, named_id};
+use super::acts::named_id;
 use super::around::{entries_around, start_of};
 use super::explanation::WrongRead;
-use address_check::AddressIndex;
+use address_check::{AddressIndex, is_store};
 use log_record::Entry;
 use mem_op::OpId;
 use std::alloc::{AllocError, Global};
@@ -45,7 +45,7 @@ fn entry_of(entries: &[Entry], id: OpId) -> Option<Entry>
     }
 }
 
-/// The record that the source of a load names.
+/// The record that the source of a load or a swap names.
 fn named(entries: &[Entry], load: &Entry) -> Option<Entry>
     ensures { result ≡ option_and_then (of_id entries.now) (named_id load.now.logged.act) }
 {
@@ -68,7 +68,7 @@ fn last_store(entries: &[Entry]) -> Option<Entry>
     last
 }
 
-/// Why the load of this id breaks a rule; none where no record has the id.
+/// Why the load or the swap of this id breaks a rule; none where no record has the id.
 pub(crate) fn wrong_read(
     alloc: Global,
     index: &AddressIndex,
