@@ -11,7 +11,7 @@ use Rattle.line_stamps.proofs.Ordered.{In-append, In-append_left, In-append_righ
 use Rattle.log_record.specs.declared.record.Record.{Record}
 use Rattle.log_record.specs.declared.record.Entry.{Entry}
 use Rattle.log_record.specs.declared.act.Act.{Act}
-use Rattle.log_record.specs.declared.act.Act.TheVariants.{Load, Store, Swap}
+use Rattle.log_record.specs.declared.act.Act.TheVariants.{Load, Store}
 use Rattle.log_record.specs.Entries.{key_of, entry_cmp, entries}
 use Rattle.log_record.proofs.EntryFacts.{same_record}
 use Rattle.address_check.specs.declared.fault.AddressRule.{AddressRule}
@@ -111,14 +111,13 @@ module _ (logs : List (List Record)) (xs : List Entry) (e : Entry) (ys : List En
       (last_is_right last (last_is_greatest entry_cmp entry_total (stores_to e.logged.addr) xs (ascends_front xs (e ∷ ys) up)))
       (greatest_from_least entry_cmp entry_total (is_earlier_store e) (entries logs)))
 
-key_of_rule : (e : Entry) (o : Option AddressRule) (f : AddressFault) → fault_by e o ≡ Some f → f.key ≡ key_of e
-key_of_rule e None f q = cc
-key_of_rule e (Some rule) f q = (let p : record { key = key_of e; rule = rule } ≡ f = cc in ap (λ (x : AddressFault). x.key) (sym p))
-
 key_of_fault : (act : Act) (e : Entry) (r : Option Entry) (f : AddressFault) → act_fault act e r ≡ Some f → f.key ≡ key_of e
 key_of_fault Store e r f h = cc
-key_of_fault (Load source) e r f h = key_of_rule e (broken_rule source e.logged.value r) f h
-key_of_fault (Swap source read) e r f h = key_of_rule e (broken_rule source read r) f h
+key_of_fault (Load source) e r f h = go (broken_rule source e.logged.value r) h
+  where
+    go : (o : Option AddressRule) → fault_by e o ≡ Some f → f.key ≡ key_of e
+    go None q = cc
+    go (Some rule) q = (let p : record { key = key_of e; rule = rule } ≡ f = cc in ap (λ (x : AddressFault). x.key) (sym p))
 
 abbrev Clean : List (List Record) → List Entry → Type 0
 Clean logs xs = (x : Entry) → In x xs → address_fault (entries logs) x ≡ None

@@ -4,9 +4,9 @@ ghost use Rattle.std.specs.Prelude.{◌≡◌, ◌<◌, ℕ, [], ◌∷◌, ◌+
 ghost use Rattle.mem_op.specs.declared.id.Source.TheVariants.{Init};
 ghost use Rattle.log_record.specs.declared.record.Entry.{Entry};
 ghost use Rattle.address_check.specs.AddressFaults.{fault_by};
-ghost use Rattle.merge_judge.specs.inner.Words.{Holds, broken_by, fault_after, word_fault};
+ghost use Rattle.merge_judge.specs.inner.Words.{Holds, broken_by, fault_after};
 
-use address_check::{AddressFault, AddressRule, is_store};
+use address_check::{AddressFault, AddressRule};
 use log_record::{Act, Entry};
 use mem_op::{Source, Word};
 use std::alloc::{AllocError, Global};
@@ -21,16 +21,11 @@ pub(crate) struct Words {
     sources: Vec<Source>,
 }
 
-/// What an operation that read a value breaks, with this source, where the word of its address comes
-/// from `from` and has this value.
-fn read_fault(
-    entry: &Entry,
-    source: &Source,
-    read: Word,
-    from: &Source,
-    value: Word,
-) -> Option<AddressFault>
-    ensures { result ≡ fault_by entry.now (broken_by source.now read from.now value) }
+/// What a load with this source breaks, where the word of its address comes from `from` and has this
+/// value.
+fn load_fault(load: &Entry, source: &Source, from: &Source, value: Word) -> Option<AddressFault>
+    ensures { result ≡ fault_by load.now
+        (broken_by source.now load.now.logged.value from.now value) }
 {
     let named = match (source, from) {
         (Source::Init, Source::Init) => true,
@@ -39,26 +34,15 @@ fn read_fault(
     };
     let rule = if !named {
         AddressRule::Source
-    } else if read != value {
+    } else if load.value() != value {
         AddressRule::Value
     } else {
         return None;
     };
     Some(AddressFault {
-        key: entry.key(),
+        key: load.key(),
         rule,
     })
-}
-
-/// What an operation breaks, where the word of its address comes from `from` and has this value.
-fn word_fault(entry: &Entry, from: &Source, value: Word) -> Option<AddressFault>
-    ensures { result ≡ word_fault entry.now.logged.act entry.now from.now value }
-{
-    match &entry.act() {
-        Act::Load(source) => read_fault(entry, source, entry.value(), from, value),
-        Act::Store => None,
-        Act::Swap(source, read) => read_fault(entry, source, *read, from, value),
-    }
 }
 
 /// So many zeros.
@@ -88,7 +72,7 @@ impl Words {
         })
     }
 
-    /// Answers what an operation breaks, and writes what it stores.
+    /// Writes what a store writes, and answers what a load breaks.
     pub(crate) fn perform(&mut self, entry: &Entry) -> Option<AddressFault>
         requires words { length self.old.values.items ≡ 65536 }
         requires origins { length self.old.sources.items ≡ 65536 }
@@ -100,11 +84,15 @@ impl Words {
             → Holds self.new.values.items self.new.sources.items (done ++ entry.now ∷ []) }
     {
         let addr = entry.addr().get() as usize;
-        let fault = word_fault(entry, &self.sources[addr], self.values[addr]);
-        if is_store(entry) {
-            self.values[addr] = entry.value();
-            self.sources[addr] = Source::Store(entry.id());
+        match &entry.act() {
+            Act::Store => {
+                self.values[addr] = entry.value();
+                self.sources[addr] = Source::Store(entry.id());
+                None
+            }
+            Act::Load(source) => {
+                load_fault(entry, source, &self.sources[addr], self.values[addr])
+            }
         }
-        fault
     }
 }

@@ -5,12 +5,10 @@ use Rattle.mem_op.specs.declared.id.Source.{Source}
 use Rattle.mem_op.specs.declared.id.Source.TheVariants.{Init, Store as From}
 use Rattle.mem_op.specs.Consistency.{is_same_id}
 use Rattle.log_record.specs.declared.record.Entry.{Entry}
-use Rattle.log_record.specs.declared.act.Act.{Act}
-use Rattle.log_record.specs.declared.act.Act.TheVariants.{Load, Store, Swap}
 use Rattle.address_check.specs.declared.fault.AddressRule.{AddressRule}
 use Rattle.address_check.specs.declared.fault.AddressRule.TheVariants.{Source as WrongSource, Value as WrongValue}
 use Rattle.address_check.specs.declared.fault.AddressFault.{AddressFault}
-use Rattle.address_check.specs.AddressFaults.{is_store, value_from, fault_by, act_fault}
+use Rattle.address_check.specs.AddressFaults.{is_store, value_from, act_fault}
 
 -- the store to an address that stands last
 abbrev pub last_store_to : ℕ → List Entry → Option Entry
@@ -34,18 +32,12 @@ is_same_source Init (From id) = false
 is_same_source (From id) Init = false
 is_same_source (From id) (From other) = is_same_id id other
 
--- what an operation with this source that read this value breaks, where the word of its address comes from there and has that value
+-- what a load with this source and value breaks, where the word of its address comes from there and has that value
 abbrev pub broken_by : Source → ℕ → Source → ℕ → Option AddressRule
 broken_by source value from word =
     if is_same_source source from
     then (if value == word then None else Some WrongValue)
     else Some WrongSource
-
--- what an entry breaks, where the word of its address comes from there and has that value
-abbrev pub word_fault : Act → Entry → Source → ℕ → Option AddressFault
-word_fault (Load source) e from word = fault_by e (broken_by source e.logged.value from word)
-word_fault Store e from word = None
-word_fault (Swap source read) e from word = fault_by e (broken_by source read from word)
 
 -- what an entry breaks after these
 abbrev pub fault_after : List Entry → Entry → Option AddressFault
