@@ -10,15 +10,13 @@ use Rattle.line_stamps.proofs.Order.{lt_irrefl, lt_asym, lt_cases}
 use Rattle.line_stamps.proofs.Ordered.{In-append, In-append_left, In-append_right, In-from_sorted, last_is_greatest, greatest_from_least, In-filter_map, filter_map-In, least_is, one_least}
 use Rattle.log_record.specs.declared.record.Record.{Record}
 use Rattle.log_record.specs.declared.record.Entry.{Entry}
-use Rattle.log_record.specs.declared.act.Act.{Act}
-use Rattle.log_record.specs.declared.act.Act.TheVariants.{Load, Store}
 use Rattle.log_record.specs.Entries.{key_of, entry_cmp, entries}
 use Rattle.log_record.proofs.EntryFacts.{same_record}
-use Rattle.address_check.specs.declared.fault.AddressRule.{AddressRule}
 use Rattle.address_check.specs.declared.fault.AddressFault.{AddressFault}
 use Rattle.address_check.specs.FaultOrder.{fault_cmp}
 use Rattle.address_check.specs.AddressLaw.{fault_total}
-use Rattle.address_check.specs.AddressFaults.{is_earlier_store, right_store, broken_rule, fault_by, act_fault, address_fault, address_faults, least_address_fault}
+use Rattle.address_check.specs.AddressFaults.{is_earlier_store, right_store, act_fault, address_fault, address_faults, least_address_fault}
+use Rattle.address_check.proofs.GroupPass.{key_of_fault}
 use Rattle.address_check.proofs.Totals.{entry_total, tied_faults, less_by_key}
 use Rattle.verdict.specs.ByKey.{by_key}
 use Rattle.verdict.proofs.SerialOrder.{by_key-ascends, in_set_by_key, tied_id}
@@ -110,14 +108,6 @@ module _ (logs : List (List Record)) (xs : List Entry) (e : Entry) (ys : List En
       (one_greatest logs (is_earlier_store e) last (right_store (entries logs) e)
       (last_is_right last (last_is_greatest entry_cmp entry_total (stores_to e.logged.addr) xs (ascends_front xs (e ∷ ys) up)))
       (greatest_from_least entry_cmp entry_total (is_earlier_store e) (entries logs)))
-
-key_of_fault : (act : Act) (e : Entry) (r : Option Entry) (f : AddressFault) → act_fault act e r ≡ Some f → f.key ≡ key_of e
-key_of_fault Store e r f h = cc
-key_of_fault (Load source) e r f h = go (broken_rule source e.logged.value r) h
-  where
-    go : (o : Option AddressRule) → fault_by e o ≡ Some f → f.key ≡ key_of e
-    go None q = cc
-    go (Some rule) q = (let p : record { key = key_of e; rule = rule } ≡ f = cc in ap (λ (x : AddressFault). x.key) (sym p))
 
 abbrev Clean : List (List Record) → List Entry → Type 0
 Clean logs xs = (x : Entry) → In x xs → address_fault (entries logs) x ≡ None

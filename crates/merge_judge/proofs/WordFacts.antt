@@ -1,5 +1,5 @@
 -- The words of memory along an order of records.
-use Rattle.std.specs.Prelude.{◌≡◌, ℕ, ◌<◌, Bool, cond, ◌&&◌, ◌==◌, if◌then◌else◌, List, [], ◌∷◌, ◌++◌, refl, Option, Some, None, find, slice_get, slice_index, slice_set, length}
+use Rattle.std.specs.Prelude.{◌≡◌, ℕ, ◌<◌, Bool, true, false, cond, ◌&&◌, ◌==◌, if◌then◌else◌, List, [], ◌∷◌, ◌++◌, refl, Option, Some, None, find, slice_get, slice_index, slice_set, length}
 use Rattle.std.proofs.Common.{sym, ◌∙◌, ap, subst, inl, inr, arith, length-set, get_or}
 use Rattle.std.proofs.lemmas.Bool.{cases_eq, eq-eqb, ne_eqb}
 use Rattle.std.proofs.lemmas.List.{get_or-set_same, get_or-set_other, reverse-append, get_or_read}
@@ -8,10 +8,10 @@ use Rattle.mem_op.specs.declared.id.OpId.{OpId}
 use Rattle.mem_op.specs.declared.id.Source.{Source}
 use Rattle.mem_op.specs.declared.id.Source.TheVariants.{Init, Store as From}
 use Rattle.log_record.specs.declared.record.Entry.{Entry}
-use Rattle.log_record.specs.declared.act.Act.TheVariants.{Load, Store}
+use Rattle.log_record.specs.declared.act.Act.TheVariants.{Load, Swap}
 use Rattle.address_check.specs.declared.fault.AddressRule.TheVariants.{Source as WrongSource, Value as WrongValue}
 use Rattle.address_check.specs.AddressFaults.{is_store, is_source, value_from, broken_rule, fault_by, act_fault}
-use Rattle.merge_judge.specs.inner.Words.{Holds, broken_by, is_same_source, last_store_to, source_from}
+use Rattle.merge_judge.specs.inner.Words.{Holds, broken_by, fault_after, is_same_source, last_store_to, source_from}
 use Rattle.verdict.proofs.Lists.{set_here, set_elsewhere}
 
 -- ---- what a load breaks by the word of its address
@@ -36,8 +36,9 @@ last_store_to-push addr done e = ap (find (stores_to addr)) (reverse-append done
 pub holds_none : (values : List ℕ) (sources : List Source) → length values ≡ 65536 → length sources ≡ 65536 → ((k : ℕ) → slice_index values k ≡ 0) → ((k : ℕ) → k < 65536 → slice_get sources k ≡ Some Init) → Holds values sources []
 holds_none values sources n m z i = record { words = n; origins = m; value = λ addr l. z addr; source = λ addr l. i addr l }
 
-pub holds_load : (values : List ℕ) (sources : List Source) (done : List Entry) (e : Entry) (source : Source) → e.logged.act ≡ Load source → Holds values sources done → Holds values sources (done ++ e ∷ [])
-holds_load values sources done e source is h = record {
+-- what doesn't store leaves the words
+pub holds_unwritten : (values : List ℕ) (sources : List Source) (done : List Entry) (e : Entry) → is_store e.logged.act ≡ false → Holds values sources done → Holds values sources (done ++ e ∷ [])
+holds_unwritten values sources done e is h = record {
   words = h.words;
   origins = h.origins;
   value = λ addr l. h.value addr l ∙ ap value_from (sym (same addr));
@@ -45,9 +46,9 @@ holds_load values sources done e source is h = record {
 }
   where
     same : (addr : ℕ) → last_store_to addr (done ++ e ∷ []) ≡ last_store_to addr done
-    same addr = last_store_to-push addr done e ∙ ap (λ a. cond (is_store a && (e.logged.addr == addr)) (Some e) (last_store_to addr done)) is
+    same addr = last_store_to-push addr done e ∙ ap (λ b. cond (b && (e.logged.addr == addr)) (Some e) (last_store_to addr done)) is
 
-holds_after : (values : List ℕ) (sources : List Source) (done : List Entry) (e : Entry) (addr : ℕ) → e.logged.act ≡ Store → addr ≡ e.logged.addr → addr < 65536 → Holds values sources done → Holds (slice_set values addr e.logged.value) (slice_set sources addr (From e.id)) (done ++ e ∷ [])
+holds_after : (values : List ℕ) (sources : List Source) (done : List Entry) (e : Entry) (addr : ℕ) → is_store e.logged.act ≡ true → addr ≡ e.logged.addr → addr < 65536 → Holds values sources done → Holds (slice_set values addr e.logged.value) (slice_set sources addr (From e.id)) (done ++ e ∷ [])
 holds_after values sources done e addr is at within h = record {
   words = length-set values addr e.logged.value ∙ h.words;
   origins = length-set sources addr (From e.id) ∙ h.origins;
@@ -64,24 +65,33 @@ holds_after values sources done e addr is at within h = record {
 }
   where
     here : last_store_to addr (done ++ e ∷ []) ≡ Some e
-    here = last_store_to-push addr done e ∙ ap (λ a. cond (is_store a && (e.logged.addr == addr)) (Some e) (last_store_to addr done)) is ∙ ap (λ b. cond b (Some e) (last_store_to addr done)) (eq-eqb e.logged.addr addr (sym at))
+    here = last_store_to-push addr done e ∙ ap (λ b. cond (b && (e.logged.addr == addr)) (Some e) (last_store_to addr done)) is ∙ ap (λ b. cond b (Some e) (last_store_to addr done)) (eq-eqb e.logged.addr addr (sym at))
 
     elsewhere : (a : ℕ) → (a ≡ addr → ⊥) → last_store_to a (done ++ e ∷ []) ≡ last_store_to a done
-    elsewhere a t = last_store_to-push a done e ∙ ap (λ x. cond (is_store x && (e.logged.addr == a)) (Some e) (last_store_to a done)) is ∙ ap (λ b. cond b (Some e) (last_store_to a done)) (ne_eqb e.logged.addr a (λ q. t (sym q ∙ sym at)))
+    elsewhere a t = last_store_to-push a done e ∙ ap (λ b. cond (b && (e.logged.addr == a)) (Some e) (last_store_to a done)) is ∙ ap (λ b. cond b (Some e) (last_store_to a done)) (ne_eqb e.logged.addr a (λ q. t (sym q ∙ sym at)))
 
-pub holds_store : (values : List ℕ) (sources : List Source) (done : List Entry) (e : Entry) (addr value : ℕ) (id : OpId) → e.logged.act ≡ Store → addr ≡ e.logged.addr → addr < 65536 → value ≡ e.logged.value → id ≡ e.id → Holds values sources done → Holds (slice_set values addr value) (slice_set sources addr (From id)) (done ++ e ∷ [])
+pub holds_store : (values : List ℕ) (sources : List Source) (done : List Entry) (e : Entry) (addr value : ℕ) (id : OpId) → is_store e.logged.act ≡ true → addr ≡ e.logged.addr → addr < 65536 → value ≡ e.logged.value → id ≡ e.id → Holds values sources done → Holds (slice_set values addr value) (slice_set sources addr (From id)) (done ++ e ∷ [])
 holds_store values sources done e addr value id is at within v i h =
     subst (λ x. Holds (slice_set values addr x) (slice_set sources addr (From id)) (done ++ e ∷ [])) (sym v)
     (subst (λ x. Holds (slice_set values addr e.logged.value) (slice_set sources addr (From x)) (done ++ e ∷ [])) (sym i) (holds_after values sources done e addr is at within h))
 
--- what is found at a load
-pub fault_by_words : (values : List ℕ) (sources : List Source) (done : List Entry) (e : Entry) (addr value : ℕ) (source from : Source) → e.logged.act ≡ Load source → addr ≡ e.logged.addr → addr < 65536 → Holds values sources done → value ≡ get_or values addr value → from ≡ get_or sources addr from → fault_by e (broken_by source e.logged.value from value) ≡ act_fault e.logged.act e (last_store_to e.logged.addr done)
-fault_by_words values sources done e addr value source from is at within h v f =
+-- what is found where a value was read
+read_by_words : (values : List ℕ) (sources : List Source) (done : List Entry) (e : Entry) (addr word : ℕ) (source : Source) (read : ℕ) (from : Source) → addr ≡ e.logged.addr → addr < 65536 → Holds values sources done → word ≡ get_or values addr word → from ≡ get_or sources addr from → fault_by e (broken_by source read from word) ≡ fault_by e (broken_rule source read (last_store_to e.logged.addr done))
+read_by_words values sources done e addr word source read from at within h v f =
     let right : Option Entry = last_store_to e.logged.addr done in
-    let word : value ≡ value_from right = get_or_read values addr value (let n = h.words in omega arith) v 0 ∙ h.value addr within ∙ ap (λ a. value_from (last_store_to a done)) at in
+    let value : word ≡ value_from right = get_or_read values addr word (let n = h.words in omega arith) v 0 ∙ h.value addr within ∙ ap (λ a. value_from (last_store_to a done)) at in
     let both : Some from ≡ Some (source_from right) = sym (slice_get_read sources (length sources) addr from refl (let n = h.origins in omega arith) f) ∙ h.source addr within ∙ ap (λ a. Some (source_from (last_store_to a done))) at in
     let origin : from ≡ source_from right = cc in
-    ap (λ x. fault_by e (broken_by source e.logged.value from x)) word
-    ∙ ap (λ x. fault_by e (broken_by source e.logged.value x (value_from right))) origin
-    ∙ ap (fault_by e) (broken source e.logged.value right)
-    ∙ ap (λ a. act_fault a e right) (sym is)
+    ap (λ x. fault_by e (broken_by source read from x)) value
+    ∙ ap (λ x. fault_by e (broken_by source read x (value_from right))) origin
+    ∙ ap (fault_by e) (broken source read right)
+
+-- what is found at a load
+pub load_by_words : (values : List ℕ) (sources : List Source) (done : List Entry) (e : Entry) (addr word : ℕ) (source from : Source) → e.logged.act ≡ Load source → addr ≡ e.logged.addr → addr < 65536 → Holds values sources done → word ≡ get_or values addr word → from ≡ get_or sources addr from → fault_by e (broken_by source e.logged.value from word) ≡ fault_after done e
+load_by_words values sources done e addr word source from is at within h v f =
+    read_by_words values sources done e addr word source e.logged.value from at within h v f ∙ ap (λ a. act_fault a e (last_store_to e.logged.addr done)) (sym is)
+
+-- what is found at a swap
+pub swap_by_words : (values : List ℕ) (sources : List Source) (done : List Entry) (e : Entry) (addr word : ℕ) (source : Source) (read : ℕ) (from : Source) → e.logged.act ≡ Swap source read → addr ≡ e.logged.addr → addr < 65536 → Holds values sources done → word ≡ get_or values addr word → from ≡ get_or sources addr from → fault_by e (broken_by source read from word) ≡ fault_after done e
+swap_by_words values sources done e addr word source read from is at within h v f =
+    read_by_words values sources done e addr word source read from at within h v f ∙ ap (λ a. act_fault a e (last_store_to e.logged.addr done)) (sym is)

@@ -1,4 +1,4 @@
-//! The words of memory along the order of keys, and the check of loads against them.
+//! The words of memory along the order of keys, and the check of what is read against them.
 
 ghost use Rattle.std.specs.Prelude.{◌≡◌, ◌<◌, ℕ, [], ◌∷◌, ◌++◌, List, IfOk, Some, length, slice_get, slice_index, vec_len};
 ghost use Rattle.mem_op.specs.declared.id.Source.TheVariants.{Init};
@@ -6,7 +6,7 @@ ghost use Rattle.log_record.specs.declared.record.Entry.{Entry};
 ghost use Rattle.address_check.specs.AddressFaults.{fault_by};
 ghost use Rattle.merge_judge.specs.inner.Words.{Holds, broken_by, fault_after};
 
-use address_check::{AddressFault, AddressRule};
+use address_check::{AddressFault, AddressRule, is_store};
 use log_record::{Act, Entry};
 use mem_op::{Source, Word};
 use std::alloc::{AllocError, Global};
@@ -21,11 +21,16 @@ pub(crate) struct Words {
     sources: Vec<Source>,
 }
 
-/// What a load with this source breaks, where the word of its address comes from `from` and has this
-/// value.
-fn load_fault(load: &Entry, source: &Source, from: &Source, value: Word) -> Option<AddressFault>
-    ensures { result ≡ fault_by load.now
-        (broken_by source.now load.now.logged.value from.now value) }
+/// What an operation that read a value breaks, with this source, where the word of its address comes from
+/// `from` and has the value `word`.
+fn read_fault(
+    entry: &Entry,
+    source: &Source,
+    read: Word,
+    from: &Source,
+    word: Word,
+) -> Option<AddressFault>
+    ensures { result ≡ fault_by entry.now (broken_by source.now read from.now word) }
 {
     let named = match (source, from) {
         (Source::Init, Source::Init) => true,
@@ -34,13 +39,13 @@ fn load_fault(load: &Entry, source: &Source, from: &Source, value: Word) -> Opti
     };
     let rule = if !named {
         AddressRule::Source
-    } else if load.value() != value {
+    } else if read != word {
         AddressRule::Value
     } else {
         return None;
     };
     Some(AddressFault {
-        key: load.key(),
+        key: entry.key(),
         rule,
     })
 }
@@ -72,7 +77,23 @@ impl Words {
         })
     }
 
-    /// Writes what a store writes, and answers what a load breaks.
+    /// What an operation breaks by the word of its address.
+    fn fault_of(&self, entry: &Entry) -> Option<AddressFault>
+        requires words { length self.now.values.items ≡ 65536 }
+        requires origins { length self.now.sources.items ≡ 65536 }
+        ensures { (done : List Entry) → Holds self.now.values.items self.now.sources.items done
+            → result ≡ fault_after done entry.now }
+    {
+        let addr = entry.addr().get() as usize;
+        let (from, word) = (&self.sources[addr], self.values[addr]);
+        match &entry.act() {
+            Act::Load(source) => read_fault(entry, source, entry.value(), from, word),
+            Act::Store => None,
+            Act::Swap(source, read) => read_fault(entry, source, *read, from, word),
+        }
+    }
+
+    /// Answers what a load or a swap breaks, and writes what a store or a swap writes.
     pub(crate) fn perform(&mut self, entry: &Entry) -> Option<AddressFault>
         requires words { length self.old.values.items ≡ 65536 }
         requires origins { length self.old.sources.items ≡ 65536 }
@@ -83,16 +104,12 @@ impl Words {
         ensures holds { (done : List Entry) → Holds self.old.values.items self.old.sources.items done
             → Holds self.new.values.items self.new.sources.items (done ++ entry.now ∷ []) }
     {
-        let addr = entry.addr().get() as usize;
-        match &entry.act() {
-            Act::Store => {
-                self.values[addr] = entry.value();
-                self.sources[addr] = Source::Store(entry.id());
-                None
-            }
-            Act::Load(source) => {
-                load_fault(entry, source, &self.sources[addr], self.values[addr])
-            }
+        let fault = self.fault_of(entry);
+        if is_store(entry) {
+            let addr = entry.addr().get() as usize;
+            self.values[addr] = entry.value();
+            self.sources[addr] = Source::Store(entry.id());
         }
+        fault
     }
 }

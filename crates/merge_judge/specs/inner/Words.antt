@@ -32,7 +32,7 @@ is_same_source Init (From id) = false
 is_same_source (From id) Init = false
 is_same_source (From id) (From other) = is_same_id id other
 
--- what a load with this source and value breaks, where the word of its address comes from there and has that value
+-- what a load or a swap with this source and value read breaks, where the word of its address comes from there and has that value
 abbrev pub broken_by : Source → ℕ → Source → ℕ → Option AddressRule
 broken_by source value from word =
     if is_same_source source from
