@@ -15,12 +15,7 @@ use std::test::Fail;
 use std::thread::Threads;
 use verdict::{JudgeFault, replay_order};
 
-const SETS: [&[&[u8]; 2]; 4] = [
-    &READ_ACROSS,
-    &BOTH_READ_OLD,
-    &OF_BOTH_FORMATS,
-    &SWAPPED,
-];
+const SETS: [&[&[u8]; 2]; 4] = [&READ_ACROSS, &BOTH_READ_OLD, &OF_BOTH_FORMATS, &SWAPPED];
 
 #[test]
 fn judges(rt: HostRuntime) -> Result<(), Fail> {

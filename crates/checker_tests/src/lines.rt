@@ -35,12 +35,21 @@ fn swaps_stand_in_format_2(rt: HostRuntime) -> Result<(), Fail> {
         let read = read_line(Format::Two, text.as_bytes())?;
         let printed = print_line(rt.alloc(), &read)?;
         assert_eq!(rt; printed.as_str(), text);
-        assert_eq!(rt; read_line(Format::One, text.as_bytes()), Err(LineFault::BadLine));
+        assert_eq!(rt;
+            read_line(Format::One, text.as_bytes()),
+            Err(LineFault::BadLine)
+        );
     }
     let too_large = b"X 0 2 2 0 0.0 18446744073709551616";
-    assert_eq!(rt; read_line(Format::Two, too_large), Err(LineFault::OutOfRange));
+    assert_eq!(rt;
+        read_line(Format::Two, too_large),
+        Err(LineFault::OutOfRange)
+    );
     assert_eq!(rt; read_line(Format::One, too_large), Err(LineFault::BadLine));
-    assert_eq!(rt; read_line(Format::Two, b"X 0 2 2 0 0.0"), Err(LineFault::BadLine));
+    assert_eq!(rt;
+        read_line(Format::Two, b"X 0 2 2 0 0.0"),
+        Err(LineFault::BadLine)
+    );
     Ok(())
 }
 

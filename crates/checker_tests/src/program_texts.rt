@@ -24,7 +24,10 @@ fn swaps_are_read_in_format_2_alone(rt: HostRuntime) -> Result<(), Fail> {
     let fault = Program::parse_in(rt.alloc(), Format::One, text).err();
     assert_eq!(rt; fault, Some(ProgramFault::BadLine(2)));
     let swapping = b"tardis-programs 2 cores 1\ncore 0\nsw r0 0 1\nend\n";
-    assert_eq!(rt; ProgramSet::parse(rt.alloc(), swapping)?.format(), Format::Two);
+    assert_eq!(rt;
+        ProgramSet::parse(rt.alloc(), swapping)?.format(),
+        Format::Two
+    );
     for (text, line) in [
         (
             b"tardis-programs 1 cores 1\ncore 0\nsw r0 0 1\nend\n".as_slice(),

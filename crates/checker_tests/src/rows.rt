@@ -29,8 +29,7 @@ const AT_ONCE: &[u8] = b"tardis-log 1 core 1 of 2\nS 1 1 1 0\nL 0 0 1 0 init\nen
 /// A log of two swaps in format 2, and one whose swaps come after them.
 const SWAPS: &[u8] = b"tardis-log 2 core 0 of 2\nX 0 1 1 0 init 0\nX 0 2 2 0 0.0 1\nend 2\n";
 
-const LATER_SWAPS: &[u8] =
-    b"tardis-log 2 core 1 of 2\nX 0 3 3 0 0.1 2\nX 0 4 4 0 1.0 3\nend 2\n";
+const LATER_SWAPS: &[u8] = b"tardis-log 2 core 1 of 2\nX 0 3 3 0 0.1 2\nX 0 4 4 0 1.0 3\nend 2\n";
 
 /// Four operations in the order of their times.
 pub(super) const READ_ACROSS: [&[u8]; 2] = [FIRST, LATER];

@@ -37,12 +37,7 @@ const ROWS: &[(&[&[u8]], u8, &str, Option<&str>)] = &[
         "yes: 2 operations\n",
         Some("0.0\n1.0\nend 2\n"),
     ),
-    (
-        &[FIRST, OF_THE_INITIAL_WORD],
-        1,
-        "no: 1.0 SOURCE\n",
-        None,
-    ),
+    (&[FIRST, OF_THE_INITIAL_WORD], 1, "no: 1.0 SOURCE\n", None),
     (&[FIRST, OF_ANOTHER_VALUE], 1, "no: 1.0 VALUE\n", None),
     (&[OF_ITS_OWN], 1, "no: 0.0 SOURCE\n", None),
     (&[LONGEST], 1, "no: 0.0 SOURCE\n", None),
