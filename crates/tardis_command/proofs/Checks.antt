@@ -95,9 +95,9 @@ pub against_none : (told : List ℕ → Option (List ℕ)) (asked : Check) (Hold
 against_none told asked Holds none h = subst (λ name. Against told name Holds) (sym none) (None, tt, h)
 
 -- a set of programs that was read has some format
-pub of_format : {told : List ℕ → Option (List ℕ)} {name : List ℕ} (set : SetParts) → (text : List ℕ) × Tells (told name) text × SpellsSet text set
+pub of_format : (told : List ℕ → Option (List ℕ)) (name : List ℕ) (set : SetParts) → (text : List ℕ) × Tells (told name) text × SpellsSet text set
     → (text : List ℕ) × Tells (told name) text × (format : Format) × SpellsSet text (record { format = format; programs = set.programs })
-of_format set (text, tells, spells) = (text, tells, set.format, spells)
+of_format told name set (text, tells, spells) = (text, tells, set.format, spells)
 
 -- where their file was read
 pub against_some : (told : List ℕ → Option (List ℕ)) (asked : Check) (name : Bor (List ℕ)) (programs : List (List Instruction)) (Holds : Option (List (List Instruction)) → Type 0) → asked.program ≡ Some name

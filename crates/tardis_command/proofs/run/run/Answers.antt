@@ -36,5 +36,6 @@ returns-clause-exact g c =
     let are = left_by set.programs c.of.result c.in-Err.left.core c.in-Err.left.cause us c.in-Err.left.units.items
     c.of.ensures.core c.of.ensures.cause c.deref-in-Err.ensures.value c.in-Err.ensures.logs c.in-Err.ensures.short in
     let many : c.len-in-Err.result ≡ length set.programs = search rules in
-    let far = subst (λ n. ArePutAsFar (log_format set.format) old new asked.out.now n (kept_log us)) many c.write_logs-written.ensures.far in
+    let same : c.log_format-format.result ≡ log_format set.format = search rules in
+    let far = subst (λ n. ArePutAsFar (log_format set.format) old new asked.out.now n (kept_log us)) many (subst (λ f. ArePutAsFar f old new asked.out.now c.len-in-Err.result (kept_log us)) same c.write_logs-written.ensures.far) in
     left old new asked set us sound read c.of.result are far

@@ -27,7 +27,8 @@ returns-in_err-ended-clause-exact g c =
     let fault : IsSimulationFault commands asked.seed (opening_parts set.programs (config_of asked.limits)) c.simulate-ended.new.machine c.in_err-ended.field-0.0 = search rules in
     let new = files c.write_logs-written.new.folder in
     let many : c.len-2.result ≡ length set.programs = search rules in
-    let far = subst (λ n. ArePutAsFar (log_format set.format) old new asked.out.now n (log_at (world c.simulate-ended.new.machine))) many c.write_logs-written.ensures.far in
+    let same : c.log_format.result ≡ log_format set.format = search rules in
+    let far = subst (λ n. ArePutAsFar (log_format set.format) old new asked.out.now n (log_at (world c.simulate-ended.new.machine))) many (subst (λ f. ArePutAsFar f old new asked.out.now c.len-2.result (log_at (world c.simulate-ended.new.machine))) same c.write_logs-written.ensures.far) in
     rw is (faulted old new asked set commands c.simulate-ended.new.machine sound read parsed c.in_err-ended.field-0.0 fault far)
 
 pub returns-clause-exact : goal.returns-clause-exact
@@ -47,9 +48,9 @@ returns-clause-exact g c =
 pub returns-in_err-ended-clause-files : goal.returns-in_err-ended-clause-files
 returns-in_err-ended-clause-files g c =
     let few : c.len-2.result ≤ 64 = search rules in
-    keeps_files (log_format c.in_ok-programs.programs.format) (files_of g.F.Folder.told g.F.Folder.failed c.args.folder.now) (files_of g.F.Folder.told g.F.Folder.failed c.write_logs-written.new.folder) c.args.asked.now.out.now c.len-2.result (log_at (world c.simulate-ended.new.machine)) few c.write_logs-written.ensures.far
+    keeps_files c.log_format.result (files_of g.F.Folder.told g.F.Folder.failed c.args.folder.now) (files_of g.F.Folder.told g.F.Folder.failed c.write_logs-written.new.folder) c.args.asked.now.out.now c.len-2.result (log_at (world c.simulate-ended.new.machine)) few c.write_logs-written.ensures.far
 
 pub returns-clause-files : goal.returns-clause-files
 returns-clause-files g c =
     let few : c.len-2.result ≤ 64 = search rules in
-    keeps_files (log_format c.in_ok-programs.programs.format) (files_of g.F.Folder.told g.F.Folder.failed c.args.folder.now) (files_of g.F.Folder.told g.F.Folder.failed c.write_logs-written.new.folder) c.args.asked.now.out.now c.len-2.result (log_at (world c.simulate-ended.new.machine)) few c.write_logs-written.ensures.far
+    keeps_files c.log_format.result (files_of g.F.Folder.told g.F.Folder.failed c.args.folder.now) (files_of g.F.Folder.told g.F.Folder.failed c.write_logs-written.new.folder) c.args.asked.now.out.now c.len-2.result (log_at (world c.simulate-ended.new.machine)) few c.write_logs-written.ensures.far
