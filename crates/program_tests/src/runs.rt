@@ -337,7 +337,7 @@ fn logs_that_cannot_be_written(rt: HostRuntime) -> Result<(), Fail> {
 }
 
 #[test]
-fn a_hundred_seeds_each(rt: HostRuntime) -> Result<(), Fail> {
+fn a_hundred_seeds(rt: HostRuntime) -> Result<(), Fail> {
     for seed in 0..200 {
         let programs = if seed % 2 == 0 {
             FOUR_CORES
