@@ -16,7 +16,7 @@ use Rattle.log_record.specs.Line.{format_number, source_text, record_text, heade
 use Rattle.log_record.specs.inner.Reading.{Fields, record_of, header_of, end_of}
 pub use Rattle.decimal_text.proofs.Lines.{NoLf, NoLf-append, NoLf-all, numeral_no_lf}
 use Rattle.decimal_text.proofs.Lines.{const_no_lf}
-use Rattle.log_record.proofs.Records.{fields_text, fields_in, tagged_text, record_text_is, record_again}
+use Rattle.log_record.proofs.Records.{fields_text, fields_in, lettered_text, record_text_is, record_again}
 use Rattle.decimal_text.proofs.Reading.{some_is}
 use Rattle.log_record.proofs.Ends.{words_of, header_text_is, header_again, end_again}
 use Rattle.decimal_text.proofs.Printing.{numeral_decimal}
@@ -35,11 +35,11 @@ fields_no_lf f rest h =
           (refl, NoLf-append (numeral f.ts) (32 ∷ rest) (numeral_no_lf f.ts) (refl, h)),
     )
 
-tagged_no_lf : (a : Act) (f : Fields) (rank : ℕ) → NoLf (tagged_text a f rank [])
-tagged_no_lf act.Store f rank = (refl, (refl, fields_no_lf f (numeral rank ++ []) (NoLf-append (numeral rank) [] (numeral_no_lf rank) tt)))
-tagged_no_lf (act.Load s) f rank =
+lettered_no_lf : (a : Act) (f : Fields) (rank : ℕ) → NoLf (lettered_text a f rank [])
+lettered_no_lf act.Store f rank = (refl, (refl, fields_no_lf f (numeral rank ++ []) (NoLf-append (numeral rank) [] (numeral_no_lf rank) tt)))
+lettered_no_lf (act.Load s) f rank =
     (refl, (refl, fields_no_lf f (numeral rank ++ (32 ∷ (source_text s ++ []))) (NoLf-append (numeral rank) (32 ∷ (source_text s ++ [])) (numeral_no_lf rank) (refl, NoLf-append (source_text s) [] (source_no_lf s) tt))))
-tagged_no_lf (act.Swap s read) f rank = (
+lettered_no_lf (act.Swap s read) f rank = (
   refl,
   (
     refl,
@@ -50,7 +50,7 @@ tagged_no_lf (act.Swap s read) f rank = (
 )
 
 pub record_no_lf : (r : Record) → NoLf (record_text r)
-record_no_lf r = subst NoLf (sym (record_text_is r)) (tagged_no_lf r.act (fields_in r) r.rank)
+record_no_lf r = subst NoLf (sym (record_text_is r)) (lettered_no_lf r.act (fields_in r) r.rank)
 
 pub header_no_lf : (format core cores : ℕ) → NoLf (header_text format core cores)
 unfolding header_text
@@ -88,7 +88,7 @@ fields_short f rest n a v t le =
     )
 
 swap_short : (src : Source) (read : ℕ) (f : Fields) (rank : ℕ) → SourceFits src → read < 2 ^ 64 → f.addr < 65536 → f.value < 2 ^ 64 → f.ts ≤ 281474976710656 → rank < 4294967296
-    → length (tagged_text (act.Swap src read) f rank []) ≤ 96
+    → length (lettered_text (act.Swap src read) f rank []) ≤ 96
 swap_short src read f rank fits o a v t k =
     let s : length (numeral rank ++ (32 ∷ (source_text src ++ (32 ∷ (numeral read ++ []))))) ≤ 42 =
     omega (
@@ -108,16 +108,16 @@ within_limit One line short = short
 within_limit Two line short = omega arith
 
 tagged_short : (format : Format) (a : Act) (f : Fields) (rank : ℕ) → has_act format a ≡ true → ActFits a → f.addr < 65536 → f.value < 2 ^ 64 → f.ts ≤ 281474976710656 → rank < 4294967296
-    → length (tagged_text a f rank []) ≤ limit_of format
+    → length (lettered_text a f rank []) ≤ limit_of format
 tagged_short format act.Store f rank has fits a v t k =
     let s : length (numeral rank ++ []) ≤ 10 = omega (arith, length-append (numeral rank) [], numeral_short 10 rank (omega arith) (omega arith) (omega arith)) in
-    within_limit format (tagged_text act.Store f rank []) (omega (arith, fields_short f (numeral rank ++ []) 10 a v t s))
+    within_limit format (lettered_text act.Store f rank []) (omega (arith, fields_short f (numeral rank ++ []) 10 a v t s))
 tagged_short One (act.Swap src read) f rank has fits a v t k = absurd cc
 tagged_short Two (act.Swap src read) f rank has fits a v t k = swap_short src read f rank fits.0 fits.1 a v t k
 tagged_short format (act.Load src) f rank has fits a v t k =
     let s : length (numeral rank ++ (32 ∷ (source_text src ++ []))) ≤ 21 =
     omega (arith, length-append (numeral rank) (32 ∷ (source_text src ++ [])), length-append (source_text src) [], source_short src fits, numeral_short 10 rank (omega arith) (omega arith) (omega arith)) in
-    within_limit format (tagged_text (act.Load src) f rank []) (omega (arith, fields_short f (numeral rank ++ (32 ∷ (source_text src ++ []))) 21 a v t s))
+    within_limit format (lettered_text (act.Load src) f rank []) (omega (arith, fields_short f (numeral rank ++ (32 ∷ (source_text src ++ []))) 21 a v t s))
 
 pub record_short : (format : Format) (r : Record) → FitsIn format r → length (record_text r) ≤ limit_of format
 record_short format r fits =
@@ -169,7 +169,7 @@ abbrev first_of : List ℕ → ℕ
 first_of [] = 0
 first_of (b ∷ bs) = b
 
-tag_at : (a : Act) (f : Fields) (rank : ℕ) → first_of (tagged_text a f rank []) ≤ 88
+tag_at : (a : Act) (f : Fields) (rank : ℕ) → first_of (lettered_text a f rank []) ≤ 88
 tag_at act.Store f rank = omega arith
 tag_at (act.Load s) f rank = omega arith
 tag_at (act.Swap s read) f rank = omega arith

@@ -7,11 +7,13 @@ use Rattle.mem_op.specs.declared.id.Source.{Source}
 use Rattle.mem_op.specs.declared.id.Source.TheVariants as source
 use Rattle.log_record.specs.declared.act.Act.{Act}
 use Rattle.log_record.specs.declared.act.Act.TheVariants as act
+use Rattle.log_record.specs.declared.raw.Letter.{Letter}
+use Rattle.log_record.specs.declared.raw.Letter.TheVariants as letter
 use Rattle.log_record.specs.declared.record.Record.{Record}
 use Rattle.decimal_text.specs.Numbers.{numeral}
 use Rattle.decimal_text.specs.Reading.{◌>>=◌, number_at, after, field_at, is_digit}
 use Rattle.log_record.specs.Line.{source_text, record_text}
-use Rattle.log_record.specs.inner.Reading.{store_source_at, source_at, Fields, fields_at, made, store_at, load_at, swap_at, reading_at, tagged_at, record_of}
+use Rattle.log_record.specs.inner.Reading.{store_source_at, source_at, Fields, fields_at, letter_at, reading_letter_at, act_at, made, lettered_at, record_of}
 use Rattle.decimal_text.proofs.Numbers.{NoDigit, number_takes, number_again, after_takes, after_again, AreDigits, numeral_digits, numeral_some}
 use Rattle.decimal_text.proofs.Reading.{bind_some, some_is, whole_some, field_takes, field_again}
 
@@ -77,129 +79,133 @@ unfolding fields_at
 fields_again f rest =
     rw (field_again 32 f.addr (numeral f.value ++ (32 ∷ (numeral f.ts ++ (32 ∷ rest)))) refl, field_again 32 f.value (numeral f.ts ++ (32 ∷ rest)) refl, field_again 32 f.ts rest refl) refl
 
--- a record's line from its tag on, with bytes after it
-abbrev pub store_text : Fields → ℕ → List ℕ → List ℕ
-store_text f rank rest = 83 ∷ 32 ∷ fields_text f (numeral rank ++ rest)
+-- what a record's line begins with, and what stands after its rank, with bytes after them
+abbrev pub letter_text : Letter → List ℕ → List ℕ
+letter_text letter.Store rest = 83 ∷ 32 ∷ rest
+letter_text letter.Load rest = 76 ∷ 32 ∷ rest
+letter_text letter.Swap rest = 88 ∷ 32 ∷ rest
 
-abbrev pub load_text : Source → Fields → ℕ → List ℕ → List ℕ
-load_text s f rank rest = 76 ∷ 32 ∷ fields_text f (numeral rank ++ (32 ∷ (source_text s ++ rest)))
+abbrev pub letter_of : Act → Letter
+letter_of act.Store = letter.Store
+letter_of (act.Load s) = letter.Load
+letter_of (act.Swap s read) = letter.Swap
 
-abbrev pub swap_text : Source → ℕ → Fields → ℕ → List ℕ → List ℕ
-swap_text s read f rank rest = 88 ∷ 32 ∷ fields_text f (numeral rank ++ (32 ∷ (source_text s ++ (32 ∷ (numeral read ++ rest)))))
+abbrev pub act_text : Act → List ℕ → List ℕ
+act_text act.Store rest = rest
+act_text (act.Load s) rest = 32 ∷ (source_text s ++ rest)
+act_text (act.Swap s read) rest = 32 ∷ (source_text s ++ (32 ∷ (numeral read ++ rest)))
 
-abbrev pub tagged_text : Act → Fields → ℕ → List ℕ → List ℕ
-tagged_text act.Store f rank rest = store_text f rank rest
-tagged_text (act.Load s) f rank rest = load_text s f rank rest
-tagged_text (act.Swap s read) f rank rest = swap_text s read f rank rest
+abbrev pub lettered_text : Act → Fields → ℕ → List ℕ → List ℕ
+lettered_text a f rank rest = letter_text (letter_of a) (fields_text f (numeral rank ++ act_text a rest))
 
 abbrev pub fields_in : Record → Fields
 fields_in r = record { addr = r.addr; value = r.value; ts = r.ts }
 
-pub record_text_is : (r : Record) → record_text r ≡ tagged_text r.act (fields_in r) r.rank []
+abbrev text_with : Record → List ℕ → List ℕ
+text_with r rest = lettered_text r.act (fields_in r) r.rank rest
+
+pub record_text_is : (r : Record) → record_text r ≡ text_with r []
 unfolding record_text
 record_text_is r = go r.act
   where
-    go : (a : Act) → record_text (made a (fields_in r) r.rank) ≡ tagged_text a (fields_in r) r.rank []
+    go : (a : Act) → record_text (made a (fields_in r) r.rank) ≡ lettered_text a (fields_in r) r.rank []
     go act.Store = ap (λ (last : List ℕ). 83 ∷ 32 ∷ fields_text (fields_in r) last) (sym (append-nil (numeral r.rank)))
     go (act.Load s) = ap (λ (last : List ℕ). 76 ∷ 32 ∷ fields_text (fields_in r) (numeral r.rank ++ (32 ∷ last))) (sym (append-nil (source_text s)))
     go (act.Swap s read) = ap (λ (last : List ℕ). 88 ∷ 32 ∷ fields_text (fields_in r) (numeral r.rank ++ (32 ∷ (source_text s ++ (32 ∷ last))))) (sym (append-nil (numeral read)))
 
-abbrev text_with : Record → List ℕ → List ℕ
-text_with r rest = tagged_text r.act (fields_in r) r.rank rest
-
-store_joined : (f : Fields) (rank : ℕ) (bytes r1 rest : List ℕ) → bytes ≡ fields_text f r1 → r1 ≡ numeral rank ++ rest → codes "S " ++ bytes ≡ store_text f rank rest
-store_joined f rank bytes r1 rest e1 e2 = ap (λ (bs : List ℕ). 83 ∷ 32 ∷ bs) (e1 ∙ ap (fields_text f) e2)
-
-store_takes : (bytes : List ℕ) (x : Record × List ℕ) → store_at bytes ≡ Some x → codes "S " ++ bytes ≡ text_with x.0 x.1
-unfolding store_at
-store_takes bytes x e =
-    let a = bind_some (fields_at bytes) (λ f. number_at f.1 >>= λ rank. Some (made act.Store f.0 rank.0, rank.1)) x e in
-    let b = bind_some (number_at a.0.1) (λ rank. Some (made act.Store a.0.0 rank.0, rank.1)) x a.2 in
-    let found : Record × List ℕ = (made act.Store a.0.0 b.0.0, b.0.1) in
-    let all : codes "S " ++ bytes ≡ text_with found.0 found.1 = store_joined a.0.0 b.0.0 bytes a.0.1 b.0.1 (fields_take bytes a.0 a.1) (number_takes a.0.1 b.0 b.1) in
-    subst (λ (y : Record × List ℕ). codes "S " ++ bytes ≡ text_with y.0 y.1) {x = found} (some_is found x b.2) all
-
-load_joined : (s : Source) (f : Fields) (rank : ℕ) (bytes r1 r2 rest : List ℕ) → bytes ≡ fields_text f r1 → r1 ≡ numeral rank ++ (32 ∷ r2) → r2 ≡ source_text s ++ rest → codes "L " ++ bytes ≡ load_text s f rank rest
-load_joined s f rank bytes r1 r2 rest e1 e2 e3 =
-    ap (λ (bs : List ℕ). 76 ∷ 32 ∷ bs) (e1 ∙ ap (fields_text f) (e2 ∙ ap (λ (bs : List ℕ). numeral rank ++ (32 ∷ bs)) e3))
-
-load_takes : (bytes : List ℕ) (x : Record × List ℕ) → load_at bytes ≡ Some x → codes "L " ++ bytes ≡ text_with x.0 x.1
-unfolding load_at
-load_takes bytes x e =
-    let a = bind_some (fields_at bytes) (λ f. field_at 32 f.1 >>= λ rank. source_at rank.1 >>= λ s. Some (made (act.Load s.0) f.0 rank.0, s.1)) x e in
-    let b = bind_some (field_at 32 a.0.1) (λ rank. source_at rank.1 >>= λ s. Some (made (act.Load s.0) a.0.0 rank.0, s.1)) x a.2 in
-    let c = bind_some (source_at b.0.1) (λ s. Some (made (act.Load s.0) a.0.0 b.0.0, s.1)) x b.2 in
-    let found : Record × List ℕ = (made (act.Load c.0.0) a.0.0 b.0.0, c.0.1) in
-    let all : codes "L " ++ bytes ≡ text_with found.0 found.1 =
-    load_joined c.0.0 a.0.0 b.0.0 bytes a.0.1 b.0.1 c.0.1 (fields_take bytes a.0 a.1) (field_takes 32 a.0.1 b.0 b.1) (source_takes b.0.1 c.0 c.1) in
-    subst (λ (y : Record × List ℕ). codes "L " ++ bytes ≡ text_with y.0 y.1) {x = found} (some_is found x c.2) all
-
-swap_joined : (s : Source) (read : ℕ) (f : Fields) (rank : ℕ) (bytes r1 r2 r3 r4 rest : List ℕ) → bytes ≡ fields_text f r1 → r1 ≡ numeral rank ++ (32 ∷ r2) → r2 ≡ source_text s ++ r3 → r3 ≡ codes " " ++ r4 → r4 ≡ numeral read ++ rest
-    → codes "X " ++ bytes ≡ swap_text s read f rank rest
-swap_joined s read f rank bytes r1 r2 r3 r4 rest e1 e2 e3 e4 e5 =
-    ap (λ (bs : List ℕ). 88 ∷ 32 ∷ bs)
-    (e1 ∙ ap (fields_text f) (e2 ∙ ap (λ (bs : List ℕ). numeral rank ++ (32 ∷ bs)) (e3 ∙ ap (λ (bs : List ℕ). source_text s ++ bs) (e4 ∙ ap (λ (bs : List ℕ). 32 ∷ bs) e5))))
-
-swap_takes : (bytes : List ℕ) (x : Record × List ℕ) → swap_at bytes ≡ Some x → codes "X " ++ bytes ≡ text_with x.0 x.1
-unfolding swap_at
-swap_takes bytes x e =
-    let a = bind_some (fields_at bytes) (λ f. field_at 32 f.1 >>= λ rank. source_at rank.1 >>= λ s. after (codes " ") s.1 >>= λ rest. number_at rest >>= λ read. Some (made (act.Swap s.0 read.0) f.0 rank.0, read.1)) x e in
-    let b = bind_some (field_at 32 a.0.1) (λ rank. source_at rank.1 >>= λ s. after (codes " ") s.1 >>= λ rest. number_at rest >>= λ read. Some (made (act.Swap s.0 read.0) a.0.0 rank.0, read.1)) x a.2 in
-    let c = bind_some (source_at b.0.1) (λ s. after (codes " ") s.1 >>= λ rest. number_at rest >>= λ read. Some (made (act.Swap s.0 read.0) a.0.0 b.0.0, read.1)) x b.2 in
-    let d = bind_some (after (codes " ") c.0.1) (λ rest. number_at rest >>= λ read. Some (made (act.Swap c.0.0 read.0) a.0.0 b.0.0, read.1)) x c.2 in
-    let g = bind_some (number_at d.0) (λ read. Some (made (act.Swap c.0.0 read.0) a.0.0 b.0.0, read.1)) x d.2 in
-    let found : Record × List ℕ = (made (act.Swap c.0.0 g.0.0) a.0.0 b.0.0, g.0.1) in
-    let all : codes "X " ++ bytes ≡ text_with found.0 found.1 =
-    swap_joined c.0.0 g.0.0 a.0.0 b.0.0 bytes a.0.1 b.0.1 c.0.1 d.0 g.0.1 (fields_take bytes a.0 a.1) (field_takes 32 a.0.1 b.0 b.1) (source_takes b.0.1 c.0 c.1) (after_takes (codes " ") c.0.1 d.0 d.1) (number_takes d.0 g.0 g.1) in
-    subst (λ (y : Record × List ℕ). codes "X " ++ bytes ≡ text_with y.0 y.1) {x = found} (some_is found x g.2) all
-
-reading_takes : (bytes : List ℕ) (x : Record × List ℕ) → reading_at bytes ≡ Some x → bytes ≡ text_with x.0 x.1
-unfolding reading_at
-reading_takes bytes x e =
+reading_letter_takes : (bytes : List ℕ) (x : Letter × List ℕ) → reading_letter_at bytes ≡ Some x → bytes ≡ letter_text x.0 x.1
+unfolding reading_letter_at
+reading_letter_takes bytes x e =
     elim (cases_Bool (is_some (after (codes "L ") bytes))) [
       | inl is-load ↦
-          let b = bind_some (after (codes "L ") bytes) load_at x (sym (cond-true (is_some (after (codes "L ") bytes)) (after (codes "L ") bytes >>= load_at) (after (codes "X ") bytes >>= swap_at) is-load) ∙ e) in
-          after_takes (codes "L ") bytes b.0 b.1 ∙ load_takes b.0 x b.2
+          let b = bind_some (after (codes "L ") bytes) (λ rest. Some (letter.Load, rest)) x (sym (cond-true (is_some (after (codes "L ") bytes)) (after (codes "L ") bytes >>= λ rest. Some (letter.Load, rest)) (after (codes "X ") bytes >>= λ rest. Some (letter.Swap, rest)) is-load) ∙ e) in
+          subst (λ (y : Letter × List ℕ). bytes ≡ letter_text y.0 y.1) (some_is (letter.Load, b.0) x b.2) (after_takes (codes "L ") bytes b.0 b.1)
       | inr other ↦
-          let b = bind_some (after (codes "X ") bytes) swap_at x (sym (cond-false (is_some (after (codes "L ") bytes)) (after (codes "L ") bytes >>= load_at) (after (codes "X ") bytes >>= swap_at) other) ∙ e) in
-          after_takes (codes "X ") bytes b.0 b.1 ∙ swap_takes b.0 x b.2
+          let b = bind_some (after (codes "X ") bytes) (λ rest. Some (letter.Swap, rest)) x (sym (cond-false (is_some (after (codes "L ") bytes)) (after (codes "L ") bytes >>= λ rest. Some (letter.Load, rest)) (after (codes "X ") bytes >>= λ rest. Some (letter.Swap, rest)) other) ∙ e) in
+          subst (λ (y : Letter × List ℕ). bytes ≡ letter_text y.0 y.1) (some_is (letter.Swap, b.0) x b.2) (after_takes (codes "X ") bytes b.0 b.1)
     ]
 
-tagged_takes : (bytes : List ℕ) (x : Record × List ℕ) → tagged_at bytes ≡ Some x → bytes ≡ text_with x.0 x.1
-unfolding tagged_at
-tagged_takes bytes x e =
+letter_takes : (bytes : List ℕ) (x : Letter × List ℕ) → letter_at bytes ≡ Some x → bytes ≡ letter_text x.0 x.1
+unfolding letter_at
+letter_takes bytes x e =
     elim (cases_Bool (is_some (after (codes "S ") bytes))) [
       | inl is-store ↦
-          let b = bind_some (after (codes "S ") bytes) store_at x (sym (cond-true (is_some (after (codes "S ") bytes)) (after (codes "S ") bytes >>= store_at) (reading_at bytes) is-store) ∙ e) in
-          after_takes (codes "S ") bytes b.0 b.1 ∙ store_takes b.0 x b.2
-      | inr other ↦ reading_takes bytes x (sym (cond-false (is_some (after (codes "S ") bytes)) (after (codes "S ") bytes >>= store_at) (reading_at bytes) other) ∙ e)
+          let b = bind_some (after (codes "S ") bytes) (λ rest. Some (letter.Store, rest)) x (sym (cond-true (is_some (after (codes "S ") bytes)) (after (codes "S ") bytes >>= λ rest. Some (letter.Store, rest)) (reading_letter_at bytes) is-store) ∙ e) in
+          subst (λ (y : Letter × List ℕ). bytes ≡ letter_text y.0 y.1) (some_is (letter.Store, b.0) x b.2) (after_takes (codes "S ") bytes b.0 b.1)
+      | inr other ↦ reading_letter_takes bytes x (sym (cond-false (is_some (after (codes "S ") bytes)) (after (codes "S ") bytes >>= λ rest. Some (letter.Store, rest)) (reading_letter_at bytes) other) ∙ e)
     ]
+
+letter_again : (l : Letter) (rest : List ℕ) → letter_at (letter_text l rest) ≡ Some (l, rest)
+unfolding letter_at reading_letter_at after
+letter_again letter.Store rest = refl
+letter_again letter.Load rest = refl
+letter_again letter.Swap rest = refl
+
+load_joined : (s : Source) (bytes r1 rest : List ℕ) → bytes ≡ codes " " ++ r1 → r1 ≡ source_text s ++ rest → bytes ≡ act_text (act.Load s) rest
+load_joined s bytes r1 rest e1 e2 = e1 ∙ ap (λ (r : List ℕ). 32 ∷ r) e2
+
+swap_joined : (s : Source) (read : ℕ) (bytes r1 r2 r3 rest : List ℕ) → bytes ≡ codes " " ++ r1 → r1 ≡ source_text s ++ r2 → r2 ≡ codes " " ++ r3 → r3 ≡ numeral read ++ rest
+    → bytes ≡ act_text (act.Swap s read) rest
+swap_joined s read bytes r1 r2 r3 rest e1 e2 e3 e4 =
+    e1 ∙ ap (λ (r : List ℕ). 32 ∷ r) (e2 ∙ ap (λ (r : List ℕ). source_text s ++ r) (e3 ∙ ap (λ (r : List ℕ). 32 ∷ r) e4))
+
+abbrev IsActRead : Letter → List ℕ → Act × List ℕ → Type 0
+IsActRead l bytes x = (letter_of x.0 ≡ l) × (bytes ≡ act_text x.0 x.1)
+
+act_takes : (l : Letter) (bytes : List ℕ) (x : Act × List ℕ) → act_at l bytes ≡ Some x → IsActRead l bytes x
+unfolding act_at
+act_takes letter.Store bytes x e = subst (IsActRead letter.Store bytes) (some_is (act.Store, bytes) x e) (refl, refl)
+act_takes letter.Load bytes x e =
+    let a = bind_some (after (codes " ") bytes) (λ rest. source_at rest >>= λ s. Some (act.Load s.0, s.1)) x e in
+    let b = bind_some (source_at a.0) (λ s. Some (act.Load s.0, s.1)) x a.2 in
+    subst (IsActRead letter.Load bytes) (some_is (act.Load b.0.0, b.0.1) x b.2)
+    (refl, load_joined b.0.0 bytes a.0 b.0.1 (after_takes (codes " ") bytes a.0 a.1) (source_takes a.0 b.0 b.1))
+act_takes letter.Swap bytes x e =
+    let a = bind_some (after (codes " ") bytes) (λ rest. source_at rest >>= λ s. after (codes " ") s.1 >>= λ last. number_at last >>= λ read. Some (act.Swap s.0 read.0, read.1)) x e in
+    let b = bind_some (source_at a.0) (λ s. after (codes " ") s.1 >>= λ last. number_at last >>= λ read. Some (act.Swap s.0 read.0, read.1)) x a.2 in
+    let c = bind_some (after (codes " ") b.0.1) (λ last. number_at last >>= λ read. Some (act.Swap b.0.0 read.0, read.1)) x b.2 in
+    let d = bind_some (number_at c.0) (λ read. Some (act.Swap b.0.0 read.0, read.1)) x c.2 in
+    subst (IsActRead letter.Swap bytes) (some_is (act.Swap b.0.0 d.0.0, d.0.1) x d.2)
+    (refl, swap_joined b.0.0 d.0.0 bytes a.0 b.0.1 c.0 d.0.1 (after_takes (codes " ") bytes a.0 a.1) (source_takes a.0 b.0 b.1) (after_takes (codes " ") b.0.1 c.0 c.1) (number_takes c.0 d.0 d.1))
+
+act_again : (a : Act) (rest : List ℕ) → NoDigit rest → act_at (letter_of a) (act_text a rest) ≡ Some (a, rest)
+unfolding act_at
+act_again act.Store rest none = refl
+act_again (act.Load s) rest none = rw (after_again (codes " ") (source_text s ++ rest), source_again s rest none) refl
+act_again (act.Swap s read) rest none =
+    rw (after_again (codes " ") (source_text s ++ (32 ∷ (numeral read ++ rest))), source_again s (32 ∷ (numeral read ++ rest)) refl, after_again (codes " ") (numeral read ++ rest), number_again read rest none) refl
+
+no_digit_after_rank : (a : Act) (rest : List ℕ) → NoDigit rest → NoDigit (act_text a rest)
+no_digit_after_rank act.Store rest none = none
+no_digit_after_rank (act.Load s) rest none = refl
+no_digit_after_rank (act.Swap s read) rest none = refl
+
+joined : (l : Letter) (a : Act) (f : Fields) (rank : ℕ) (bytes r1 r2 r3 rest : List ℕ) → letter_of a ≡ l → bytes ≡ letter_text l r1 → r1 ≡ fields_text f r2 → r2 ≡ numeral rank ++ r3 → r3 ≡ act_text a rest → bytes ≡ lettered_text a f rank rest
+joined l a f rank bytes r1 r2 r3 rest same e1 e2 e3 e4 =
+    e1 ∙ ap (λ (k : Letter). letter_text k r1) (sym same) ∙ ap (letter_text (letter_of a)) (e2 ∙ ap (fields_text f) (e3 ∙ ap (λ (r : List ℕ). numeral rank ++ r) e4))
+
+lettered_takes : (bytes : List ℕ) (x : Record × List ℕ) → lettered_at bytes ≡ Some x → bytes ≡ text_with x.0 x.1
+unfolding lettered_at
+lettered_takes bytes x e =
+    let l = bind_some (letter_at bytes) (λ l. fields_at l.1 >>= λ f. number_at f.1 >>= λ rank. act_at l.0 rank.1 >>= λ a. Some (made a.0 f.0 rank.0, a.1)) x e in
+    let f = bind_some (fields_at l.0.1) (λ f. number_at f.1 >>= λ rank. act_at l.0.0 rank.1 >>= λ a. Some (made a.0 f.0 rank.0, a.1)) x l.2 in
+    let rank = bind_some (number_at f.0.1) (λ rank. act_at l.0.0 rank.1 >>= λ a. Some (made a.0 f.0.0 rank.0, a.1)) x f.2 in
+    let a = bind_some (act_at l.0.0 rank.0.1) (λ a. Some (made a.0 f.0.0 rank.0.0, a.1)) x rank.2 in
+    let taken = act_takes l.0.0 rank.0.1 a.0 a.1 in
+    let found : Record × List ℕ = (made a.0.0 f.0.0 rank.0.0, a.0.1) in
+    let all : bytes ≡ text_with found.0 found.1 =
+    joined l.0.0 a.0.0 f.0.0 rank.0.0 bytes l.0.1 f.0.1 rank.0.1 a.0.1 taken.0 (letter_takes bytes l.0 l.1) (fields_take l.0.1 f.0 f.1) (number_takes f.0.1 rank.0 rank.1) taken.1 in
+    subst (λ (y : Record × List ℕ). bytes ≡ text_with y.0 y.1) {x = found} (some_is found x a.2) all
+
+lettered_again : (a : Act) (f : Fields) (rank : ℕ) (rest : List ℕ) → NoDigit rest → lettered_at (lettered_text a f rank rest) ≡ Some (made a f rank, rest)
+unfolding lettered_at
+lettered_again a f rank rest none =
+    rw (letter_again (letter_of a) (fields_text f (numeral rank ++ act_text a rest)), fields_again f (numeral rank ++ act_text a rest), number_again rank (act_text a rest) (no_digit_after_rank a rest none), act_again a rest none) refl
 
 pub record_takes : (line : List ℕ) (r : Record) → record_of line ≡ Some r → line ≡ record_text r
 unfolding record_of
-record_takes line r e = tagged_takes line (r, []) (whole_some (tagged_at line) r e) ∙ sym (record_text_is r)
-
-not_store : (rest : List ℕ) → after (codes "S ") (76 ∷ 32 ∷ rest) ≡ None
-unfolding after
-not_store rest = refl
-
-not_store_but_swap : (rest : List ℕ) → after (codes "S ") (88 ∷ 32 ∷ rest) ≡ None
-unfolding after
-not_store_but_swap rest = refl
-
-not_load : (rest : List ℕ) → after (codes "L ") (88 ∷ 32 ∷ rest) ≡ None
-unfolding after
-not_load rest = refl
-
-tagged_again : (a : Act) (f : Fields) (rank : ℕ) (rest : List ℕ) → NoDigit rest → tagged_at (tagged_text a f rank rest) ≡ Some (made a f rank, rest)
-unfolding tagged_at reading_at store_at load_at swap_at
-tagged_again act.Store f rank rest none =
-    rw (after_again (codes "S ") (fields_text f (numeral rank ++ rest)), fields_again f (numeral rank ++ rest), number_again rank rest none) refl
-tagged_again (act.Load s) f rank rest none =
-    rw (not_store (fields_text f (numeral rank ++ (32 ∷ (source_text s ++ rest)))), after_again (codes "L ") (fields_text f (numeral rank ++ (32 ∷ (source_text s ++ rest)))), fields_again f (numeral rank ++ (32 ∷ (source_text s ++ rest))), field_again 32 rank (source_text s ++ rest) refl, source_again s rest none) refl
-tagged_again (act.Swap s read) f rank rest none =
-    rw (not_store_but_swap (fields_text f (numeral rank ++ (32 ∷ (source_text s ++ (32 ∷ (numeral read ++ rest)))))), not_load (fields_text f (numeral rank ++ (32 ∷ (source_text s ++ (32 ∷ (numeral read ++ rest)))))), after_again (codes "X ") (fields_text f (numeral rank ++ (32 ∷ (source_text s ++ (32 ∷ (numeral read ++ rest)))))), fields_again f (numeral rank ++ (32 ∷ (source_text s ++ (32 ∷ (numeral read ++ rest))))), field_again 32 rank (source_text s ++ (32 ∷ (numeral read ++ rest))) refl, source_again s (32 ∷ (numeral read ++ rest)) refl, after_again (codes " ") (numeral read ++ rest), number_again read rest none) refl
+record_takes line r e = lettered_takes line (r, []) (whole_some (lettered_at line) r e) ∙ sym (record_text_is r)
 
 pub record_again : (r : Record) → record_of (record_text r) ≡ Some r
 unfolding record_of
-record_again r = rw (record_text_is r, tagged_again r.act (fields_in r) r.rank [] tt) refl
+record_again r = rw (record_text_is r, lettered_again r.act (fields_in r) r.rank [] tt) refl

@@ -1,7 +1,7 @@
 //! What a record says was done.
 
 ghost use Rattle.std.specs.Prelude.{◌≡◌, ◌<◌};
-ghost use Rattle.log_record.specs.inner.FlatActs.{index_in, kind_of, read_in};
+ghost use Rattle.log_record.specs.declared.act.Act.{Act};
 
 use mem_op::{CoreId, OpId, OpIndex, Source, Word};
 use std::marker::Model;
@@ -85,40 +85,6 @@ impl Tag {
     }
 }
 
-/// The kind of an act.
-fn tag_of(act: &Act) -> Tag
-    ensures { result ≡ kind_of act.now }
-{
-    let kind = match act {
-        Act::Load(Source::Init) => Kind::LoadInit,
-        Act::Load(Source::Store(id)) => Kind::LoadOf(id.core),
-        Act::Store => Kind::Store,
-        Act::Swap(Source::Init, _) => Kind::SwapInit,
-        Act::Swap(Source::Store(id), _) => Kind::SwapOf(id.core),
-    };
-    Tag::of(&kind)
-}
-
-/// The index of the store that an act names, 0 where it names none.
-fn index_in(act: &Act) -> OpIndex
-    ensures { result ≡ index_in act.now }
-{
-    match act {
-        Act::Load(Source::Store(id)) | Act::Swap(Source::Store(id), _) => id.index,
-        _ => OpIndex::at(0),
-    }
-}
-
-/// The word that a swap read, 0 of another act.
-fn read_in(act: &Act) -> Word
-    ensures { result ≡ read_in act.now }
-{
-    match act {
-        Act::Swap(_, read) => *read,
-        Act::Load(_) | Act::Store => 0,
-    }
-}
-
 /// An act in parts: 16 bytes, where an `Act` takes 32. A part that the act doesn't have is 0.
 #[derive(Clone, Copy, Debug, PartialEq, Eq)]
 pub(crate) struct FlatAct {
@@ -147,14 +113,61 @@ impl Model for FlatAct {
 }
 
 impl FlatAct {
+    /// A load, with the store that it names.
+    pub(crate) fn load(source: Source) -> FlatAct
+        ensures { result ≡ Act.Load source }
+    {
+        match source {
+            Source::Init => FlatAct {
+                read: 0,
+                source_index: OpIndex::at(0),
+                tag: Tag::of(&Kind::LoadInit),
+            },
+            Source::Store(id) => FlatAct {
+                read: 0,
+                source_index: id.index,
+                tag: Tag::of(&Kind::LoadOf(id.core)),
+            },
+        }
+    }
+
+    /// A store.
+    pub(crate) fn store() -> FlatAct
+        ensures { result ≡ Act.Store }
+    {
+        FlatAct {
+            read: 0,
+            source_index: OpIndex::at(0),
+            tag: Tag::of(&Kind::Store),
+        }
+    }
+
+    /// A swap, with the store that it names, and the word that it read.
+    pub(crate) fn swap(source: Source, read: Word) -> FlatAct
+        ensures { result ≡ Act.Swap source read }
+    {
+        match source {
+            Source::Init => FlatAct {
+                read,
+                source_index: OpIndex::at(0),
+                tag: Tag::of(&Kind::SwapInit),
+            },
+            Source::Store(id) => FlatAct {
+                read,
+                source_index: id.index,
+                tag: Tag::of(&Kind::SwapOf(id.core)),
+            },
+        }
+    }
+
     /// An act in parts.
     pub(crate) fn of(act: &Act) -> FlatAct
         ensures { result ≡ act.now }
     {
-        FlatAct {
-            read: read_in(act),
-            source_index: index_in(act),
-            tag: tag_of(act),
+        match act {
+            Act::Load(source) => FlatAct::load(*source),
+            Act::Store => FlatAct::store(),
+            Act::Swap(source, read) => FlatAct::swap(*source, *read),
         }
     }
 

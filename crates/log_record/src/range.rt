@@ -9,7 +9,7 @@ ghost use Rattle.log_record.specs.inner.Raw.{raw_act_of, raw_of, raw_source_of};
 ghost use Rattle.log_record.specs.declared.act.Act.{Act};
 ghost use Rattle.log_record.specs.declared.record.Record.{Record};
 
-use super::act::Act;
+use super::act::FlatAct;
 use super::raw::{RawAct, RawRecord, RawSource};
 use super::record::Record;
 use line_stamps::{Rank, Stamp};
@@ -40,14 +40,14 @@ fn source_in_range(raw: RawSource) -> Option<Source>
 }
 
 /// The act, where its numbers are in range.
-fn act_in_range(raw: RawAct) -> Option<Act>
+fn act_in_range(raw: RawAct) -> Option<FlatAct>
     ensures found { IfSome result (λ a. (raw ≡ raw_act_of a) × ActFits a) }
     ensures none { IfNone result ((a : Act) → raw ≡ raw_act_of a → ActFits a → ⊥) }
 {
     match raw {
-        RawAct::Store => Some(Act::Store),
-        RawAct::Load(source) => Some(Act::Load(source_in_range(source)?)),
-        RawAct::Swap(source, read) => Some(Act::Swap(source_in_range(source)?, read?)),
+        RawAct::Store => Some(FlatAct::store()),
+        RawAct::Load(source) => Some(FlatAct::load(source_in_range(source)?)),
+        RawAct::Swap(source, read) => Some(FlatAct::swap(source_in_range(source)?, read?)),
     }
 }
 
@@ -60,8 +60,6 @@ pub(crate) fn in_range(raw: RawRecord) -> Option<Record>
     let ts = Stamp::new(raw.fields.ts?).ok()?;
     let rank = Rank::new(raw.rank?).ok()?;
     let addr = Addr::new(raw.fields.addr?).ok()?;
-    let Some(act) = &act_in_range(raw.act) else {
-        return None;
-    };
-    Some(Record::new(value, ts, rank, addr, act))
+    let act = act_in_range(raw.act)?;
+    Some(Record::of_flat(value, ts, rank, addr, act))
 }

@@ -1,5 +1,13 @@
 //! A record as its line has it, before ranges are looked at: a number that 64 bits don't hold is None.
 
+/// The letter that a record's line begins with: what was done.
+#[derive(Clone, Copy, Debug, PartialEq, Eq)]
+pub(crate) enum Letter {
+    Store,
+    Load,
+    Swap,
+}
+
 #[derive(Clone, Copy)]
 pub(crate) enum RawSource {
     Init,

@@ -2,10 +2,10 @@
 
 ghost use Rattle.std.specs.Prelude.{◌≡◌, option_map};
 ghost use Rattle.decimal_text.specs.Reading.{front_now, front_map};
-ghost use Rattle.log_record.specs.inner.Raw.{raw_source_of, raw_fields_of, raw_of};
-ghost use Rattle.log_record.specs.inner.Reading.{store_source_at, source_at, fields_at, store_at, load_at, swap_at, tagged_at, record_of};
+ghost use Rattle.log_record.specs.inner.Raw.{raw_source_of, raw_act_of, raw_fields_of, raw_of};
+ghost use Rattle.log_record.specs.inner.Reading.{store_source_at, source_at, fields_at, letter_at, act_at, lettered_at, record_of};
 
-use super::raw::{RawAct, RawFields, RawRecord, RawSource};
+use super::raw::{Letter, RawAct, RawFields, RawRecord, RawSource};
 use decimal_text::{after_text, read_field, read_number};
 
 /// A core, a dot and an index.
@@ -40,53 +40,46 @@ fn fields(bytes: &[u8]) -> Option<(RawFields, &[u8])>
     Some((RawFields { addr, value, ts }, rest))
 }
 
-/// A store's fields.
-#[tactic(auto, unfolding(crate::specs::inner::Reading::store_at))]
-fn store(bytes: &[u8]) -> Option<(RawRecord, &[u8])>
-    ensures { front_now result ≡ front_map raw_of (store_at bytes.now) }
-{
-    let (fields, rest) = fields(bytes)?;
-    let (rank, rest) = read_number(rest)?;
-    let act = RawAct::Store;
-    Some((RawRecord { act, fields, rank }, rest))
-}
-
-/// A load's fields.
-#[tactic(auto, unfolding(crate::specs::inner::Reading::load_at))]
-fn load(bytes: &[u8]) -> Option<(RawRecord, &[u8])>
-    ensures { front_now result ≡ front_map raw_of (load_at bytes.now) }
-{
-    let (fields, rest) = fields(bytes)?;
-    let (rank, rest) = read_field(b' ', rest)?;
-    let (source, rest) = source(rest)?;
-    let act = RawAct::Load(source);
-    Some((RawRecord { act, fields, rank }, rest))
-}
-
-/// A swap's fields.
-#[tactic(auto, unfolding(crate::specs::inner::Reading::swap_at))]
-fn swap(bytes: &[u8]) -> Option<(RawRecord, &[u8])>
-    ensures { front_now result ≡ front_map raw_of (swap_at bytes.now) }
-{
-    let (fields, rest) = fields(bytes)?;
-    let (rank, rest) = read_field(b' ', rest)?;
-    let (source, rest) = source(rest)?;
-    let (read, rest) = read_number(after_text(b" ", rest)?)?;
-    let act = RawAct::Swap(source, read);
-    Some((RawRecord { act, fields, rank }, rest))
-}
-
-/// A record's tag and its fields.
-#[tactic(auto, unfolding(crate::specs::inner::Reading::tagged_at, crate::specs::inner::Reading::reading_at, decimal_text::specs::Reading::after))]
-fn tagged(bytes: &[u8]) -> Option<(RawRecord, &[u8])>
-    ensures { front_now result ≡ front_map raw_of (tagged_at bytes.now) }
+/// The letter that a record's line begins with, and the bytes after its space.
+#[tactic(auto, unfolding(crate::specs::inner::Reading::letter_at, crate::specs::inner::Reading::reading_letter_at, decimal_text::specs::Reading::after))]
+fn letter(bytes: &[u8]) -> Option<(Letter, &[u8])>
+    ensures { front_now result ≡ letter_at bytes.now }
 {
     match bytes {
-        [b'S', b' ', rest @ ..] => store(rest),
-        [b'L', b' ', rest @ ..] => load(rest),
-        [b'X', b' ', rest @ ..] => swap(rest),
+        [b'S', b' ', rest @ ..] => Some((Letter::Store, rest)),
+        [b'L', b' ', rest @ ..] => Some((Letter::Load, rest)),
+        [b'X', b' ', rest @ ..] => Some((Letter::Swap, rest)),
         _ => None,
     }
+}
+
+/// The act, from the bytes after the rank: the source of a load's or a swap's, and then the word that a
+/// swap read.
+#[tactic(auto, unfolding(crate::specs::inner::Reading::act_at))]
+fn act(letter: Letter, bytes: &[u8]) -> Option<(RawAct, &[u8])>
+    ensures { front_now result ≡ front_map raw_act_of (act_at letter bytes.now) }
+{
+    if letter == Letter::Store {
+        return Some((RawAct::Store, bytes));
+    }
+    let (source, rest) = source(after_text(b" ", bytes)?)?;
+    if letter == Letter::Load {
+        return Some((RawAct::Load(source), rest));
+    }
+    let (read, rest) = read_number(after_text(b" ", rest)?)?;
+    Some((RawAct::Swap(source, read), rest))
+}
+
+/// A record's letter and its fields.
+#[tactic(auto, unfolding(crate::specs::inner::Reading::lettered_at))]
+fn lettered(bytes: &[u8]) -> Option<(RawRecord, &[u8])>
+    ensures { front_now result ≡ front_map raw_of (lettered_at bytes.now) }
+{
+    let (letter, rest) = letter(bytes)?;
+    let (fields, rest) = fields(rest)?;
+    let (rank, rest) = read_number(rest)?;
+    let (act, rest) = act(letter, rest)?;
+    Some((RawRecord { act, fields, rank }, rest))
 }
 
 /// The record whose line this is, its numbers of any size.
@@ -94,6 +87,6 @@ fn tagged(bytes: &[u8]) -> Option<(RawRecord, &[u8])>
 pub(crate) fn raw_record(line: &[u8]) -> Option<RawRecord>
     ensures { result ≡ option_map raw_of (record_of line.now) }
 {
-    let (raw, rest) = tagged(line)?;
+    let (raw, rest) = lettered(line)?;
     if rest.is_empty() { Some(raw) } else { None }
 }

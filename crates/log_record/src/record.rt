@@ -39,7 +39,13 @@ impl Record {
     pub fn new(value: Word, ts: Stamp, rank: Rank, addr: Addr, act: &Act) -> Record
         ensures { result ≡ record { value = value; ts = ts; rank = rank; addr = addr; act = act.now } }
     {
-        let act = FlatAct::of(act);
+        Record::of_flat(value, ts, rank, addr, FlatAct::of(act))
+    }
+
+    /// A record of these parts, its act flat.
+    pub(crate) fn of_flat(value: Word, ts: Stamp, rank: Rank, addr: Addr, act: FlatAct) -> Record
+        ensures { result ≡ record { value = value; ts = ts; rank = rank; addr = addr; act = act } }
+    {
         Record {
             value,
             ts,

@@ -8,6 +8,8 @@ use Rattle.log_record.specs.declared.format.Format.{Format}
 use Rattle.log_record.specs.declared.format.Format.TheVariants.{One, Two}
 use Rattle.log_record.specs.declared.act.Act.{Act}
 use Rattle.log_record.specs.declared.act.Act.TheVariants as act
+use Rattle.log_record.specs.declared.raw.Letter.{Letter}
+use Rattle.log_record.specs.declared.raw.Letter.TheVariants as letter
 use Rattle.log_record.specs.declared.record.Record.{Record}
 
 -- ---- records
@@ -31,31 +33,32 @@ unfoldable pub fields_at : List ℕ → Option (Fields × List ℕ)
 fields_at bytes =
     field_at 32 bytes >>= λ addr. field_at 32 addr.1 >>= λ value. field_at 32 value.1 >>= λ ts. Some (record { addr = addr.0; value = value.0; ts = ts.0 }, ts.1)
 
+-- the letter that a record's line begins with, and the bytes after its space
+unfoldable pub reading_letter_at : List ℕ → Option (Letter × List ℕ)
+reading_letter_at bytes =
+    if is_some (after (codes "L ") bytes) then (after (codes "L ") bytes >>= λ rest. Some (letter.Load, rest)) else (after (codes "X ") bytes >>= λ rest. Some (letter.Swap, rest))
+
+unfoldable pub letter_at : List ℕ → Option (Letter × List ℕ)
+letter_at bytes =
+    if is_some (after (codes "S ") bytes) then (after (codes "S ") bytes >>= λ rest. Some (letter.Store, rest)) else reading_letter_at bytes
+
+-- the act, of which a store has nothing after its rank
+unfoldable pub act_at : Letter → List ℕ → Option (Act × List ℕ)
+act_at letter.Store bytes = Some (act.Store, bytes)
+act_at letter.Load bytes = after (codes " ") bytes >>= λ rest. source_at rest >>= λ s. Some (act.Load s.0, s.1)
+act_at letter.Swap bytes =
+    after (codes " ") bytes >>= λ rest. source_at rest >>= λ s. after (codes " ") s.1 >>= λ last. number_at last >>= λ read. Some (act.Swap s.0 read.0, read.1)
+
 abbrev pub made : Act → Fields → ℕ → Record
 made a f rank = record { value = f.value; ts = f.ts; rank = rank; addr = f.addr; act = a }
 
-unfoldable pub store_at : List ℕ → Option (Record × List ℕ)
-store_at bytes = fields_at bytes >>= λ f. number_at f.1 >>= λ rank. Some (made act.Store f.0 rank.0, rank.1)
-
-unfoldable pub load_at : List ℕ → Option (Record × List ℕ)
-load_at bytes = fields_at bytes >>= λ f. field_at 32 f.1 >>= λ rank. source_at rank.1 >>= λ s. Some (made (act.Load s.0) f.0 rank.0, s.1)
-
-unfoldable pub swap_at : List ℕ → Option (Record × List ℕ)
-swap_at bytes =
-    fields_at bytes >>= λ f. field_at 32 f.1 >>= λ rank. source_at rank.1 >>= λ s. after (codes " ") s.1 >>= λ rest. number_at rest >>= λ read. Some (made (act.Swap s.0 read.0) f.0 rank.0, read.1)
-
--- a load's or a swap's
-unfoldable pub reading_at : List ℕ → Option (Record × List ℕ)
-reading_at bytes =
-    if is_some (after (codes "L ") bytes) then (after (codes "L ") bytes >>= load_at) else (after (codes "X ") bytes >>= swap_at)
-
-unfoldable pub tagged_at : List ℕ → Option (Record × List ℕ)
-tagged_at bytes =
-    if is_some (after (codes "S ") bytes) then (after (codes "S ") bytes >>= store_at) else reading_at bytes
+unfoldable pub lettered_at : List ℕ → Option (Record × List ℕ)
+lettered_at bytes =
+    letter_at bytes >>= λ l. fields_at l.1 >>= λ f. number_at f.1 >>= λ rank. act_at l.0 rank.1 >>= λ a. Some (made a.0 f.0 rank.0, a.1)
 
 -- the record whose line this is, its numbers of any size
 unfoldable pub record_of : List ℕ → Option Record
-record_of line = whole (tagged_at line)
+record_of line = whole (lettered_at line)
 
 -- ---- the lines round the records
 
