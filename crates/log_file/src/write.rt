@@ -10,7 +10,7 @@ ghost use Rattle.log_file.specs.Log.{HasEach, IsLog, spelling, with_lf};
 use super::byte_sink::{ByteSink, write_all};
 use super::device_fault::WriteFault;
 use super::write_fault::LogWriteFault;
-use log_record::{Act, Format, Record, print_end, print_header};
+use log_record::{Act, Format, LineBuffer, Record, print_end, print_header};
 use mem_op::{CoreId, Source};
 use std::alloc::Global;
 
@@ -81,7 +81,7 @@ fn write_lines<W: ByteSink>(
     ensures quiet { ¬ IsErrOf result WriteFault.Write → W.failed sink.new ≡ W.failed sink.old }
 {
     write_line(sink, print_header(alloc, format, core, cores)?)?;
-    let mut line = String::new(alloc);
+    let mut line = LineBuffer::new();
     for logged in records {
         in_range(logged);
         write_record(sink, &mut line, logged)?;
@@ -105,10 +105,10 @@ fn write_line<W: ByteSink>(sink: &mut W, mut line: String) -> Result<(), WriteFa
     Ok(())
 }
 
-// Writes the line of a record with its line feed, through this text, whatever stood in it.
+// Writes the line of a record with its line feed, through this buffer.
 fn write_record<W: ByteSink>(
     sink: &mut W,
-    line: &mut String,
+    line: &mut LineBuffer,
     logged: &Record,
 ) -> Result<(), WriteFault>
     ensures written { OnOk result
@@ -120,9 +120,7 @@ fn write_record<W: ByteSink>(
         Failed (W.failed sink.old) (W.failed sink.new) }
     ensures quiet { ¬ IsErrOf result WriteFault.Write → W.failed sink.new ≡ W.failed sink.old }
 {
-    line.clear();
-    line.writeln(logged)?;
-    Ok(write_all(sink, line.as_bytes())?)
+    Ok(write_all(sink, line.line(logged))?)
 }
 
 // Does nothing: it tells that the numbers of a record are in range.

@@ -1,3 +1,4 @@
+pub mod Buffers
 pub mod Ends
 pub mod EntryFacts
 pub mod Lines

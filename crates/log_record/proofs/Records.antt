@@ -13,6 +13,7 @@ use Rattle.log_record.specs.declared.record.Record.{Record}
 use Rattle.decimal_text.specs.Numbers.{numeral}
 use Rattle.decimal_text.specs.Reading.{◌>>=◌, number_at, after, field_at, is_digit}
 use Rattle.log_record.specs.Line.{source_text, record_text}
+use Rattle.log_record.specs.inner.Buffers.{act_text}
 use Rattle.log_record.specs.inner.Reading.{store_source_at, source_at, Fields, fields_at, letter_at, reading_letter_at, act_at, made, lettered_at, record_of}
 use Rattle.decimal_text.proofs.Numbers.{NoDigit, number_takes, number_again, after_takes, after_again, AreDigits, numeral_digits, numeral_some}
 use Rattle.decimal_text.proofs.Reading.{bind_some, some_is, whole_some, field_takes, field_again}
@@ -79,7 +80,7 @@ unfolding fields_at
 fields_again f rest =
     rw (field_again 32 f.addr (numeral f.value ++ (32 ∷ (numeral f.ts ++ (32 ∷ rest)))) refl, field_again 32 f.value (numeral f.ts ++ (32 ∷ rest)) refl, field_again 32 f.ts rest refl) refl
 
--- what a record's line begins with, and what stands after its rank, with bytes after them
+-- what a record's line begins with, with bytes after it
 abbrev pub letter_text : Letter → List ℕ → List ℕ
 letter_text letter.Store rest = 83 ∷ 32 ∷ rest
 letter_text letter.Load rest = 76 ∷ 32 ∷ rest
@@ -89,11 +90,6 @@ abbrev pub letter_of : Act → Letter
 letter_of act.Store = letter.Store
 letter_of (act.Load s) = letter.Load
 letter_of (act.Swap s read) = letter.Swap
-
-abbrev pub act_text : Act → List ℕ → List ℕ
-act_text act.Store rest = rest
-act_text (act.Load s) rest = 32 ∷ (source_text s ++ rest)
-act_text (act.Swap s read) rest = 32 ∷ (source_text s ++ (32 ∷ (numeral read ++ rest)))
 
 abbrev pub lettered_text : Act → Fields → ℕ → List ℕ → List ℕ
 lettered_text a f rank rest = letter_text (letter_of a) (fields_text f (numeral rank ++ act_text a rest))
@@ -165,8 +161,9 @@ act_takes letter.Swap bytes x e =
     let b = bind_some (source_at a.0) (λ s. after (codes " ") s.1 >>= λ last. number_at last >>= λ read. Some (act.Swap s.0 read.0, read.1)) x a.2 in
     let c = bind_some (after (codes " ") b.0.1) (λ last. number_at last >>= λ read. Some (act.Swap b.0.0 read.0, read.1)) x b.2 in
     let d = bind_some (number_at c.0) (λ read. Some (act.Swap b.0.0 read.0, read.1)) x c.2 in
-    subst (IsActRead letter.Swap bytes) (some_is (act.Swap b.0.0 d.0.0, d.0.1) x d.2)
-    (refl, swap_joined b.0.0 d.0.0 bytes a.0 b.0.1 c.0 d.0.1 (after_takes (codes " ") bytes a.0 a.1) (source_takes a.0 b.0 b.1) (after_takes (codes " ") b.0.1 c.0 c.1) (number_takes c.0 d.0 d.1))
+    let found : Act × List ℕ = (act.Swap b.0.0 d.0.0, d.0.1) in
+    subst (IsActRead letter.Swap bytes) {x = found} (some_is found x d.2)
+    (refl {a = letter.Swap}, swap_joined b.0.0 d.0.0 bytes a.0 b.0.1 c.0 d.0.1 (after_takes (codes " ") bytes a.0 a.1) (source_takes a.0 b.0 b.1) (after_takes (codes " ") b.0.1 c.0 c.1) (number_takes c.0 d.0 d.1))
 
 act_again : (a : Act) (rest : List ℕ) → NoDigit rest → act_at (letter_of a) (act_text a rest) ≡ Some (a, rest)
 unfolding act_at
