@@ -1,6 +1,7 @@
 pub mod CoreFaulted
 pub mod CoreRecords
 pub mod Counting
+pub mod Drawing
 pub mod Examining
 pub mod Finding
 pub mod RightStores

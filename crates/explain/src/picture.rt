@@ -1,7 +1,7 @@
 //! The picture of an explanation.
 
-ghost use Rattle.std.specs.Prelude.{IfOk, IfSome};
-ghost use Rattle.explain.specs.Pictures.{IsPicture};
+ghost use Rattle.std.specs.Prelude.{◌↔◌, IfOk, IfSome, IsSome};
+ghost use Rattle.explain.specs.Pictures.{IsDrawn, IsPicture};
 
 use super::acts::name;
 use super::explanation::Explanation;
@@ -20,7 +20,8 @@ pub fn draw(
     title: &str,
     explanation: &Explanation,
 ) -> Result<Option<Vec<u8>>, AllocError>
-    ensures { IfOk result (λ drawn. IfSome drawn (λ svg. IsPicture svg.items)) }
+    ensures picture { IfOk result (λ drawn. IfSome drawn (λ svg. IsPicture svg.items)) }
+    ensures drawn { IfOk result (λ drawn. IsSome drawn ↔ IsDrawn explanation.now) }
 {
     let Some(scene) = scene_of(alloc, explanation)? else {
         return Ok(None);

@@ -1,5 +1,8 @@
 //! What a picture shows.
 
+ghost use Rattle.std.specs.Prelude.{◌↔◌, IfOk, IsSome};
+ghost use Rattle.explain.specs.Pictures.{IsDrawn};
+
 use super::acts::{is_swap, named_id};
 use super::explanation::{Departure, Explanation, Fall, WrongRead};
 use core_program::print_instruction;
@@ -24,7 +27,9 @@ pub(crate) struct Scene {
 pub(crate) fn scene_of(
     alloc: Global,
     explanation: &Explanation,
-) -> Result<Option<Scene>, AllocError> {
+) -> Result<Option<Scene>, AllocError>
+    ensures { IfOk result (λ scene. IsSome scene ↔ IsDrawn explanation.now) }
+{
     match explanation {
         Explanation::Load(found) => Ok(Some(of_wrong_read(alloc, found)?)),
         Explanation::CoreOrder(fall) => Ok(Some(of_fall(alloc, fall)?)),

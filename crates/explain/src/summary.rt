@@ -1,7 +1,8 @@
 //! What a set has that gets Yes.
 
-ghost use Rattle.std.specs.Prelude.{IfOk, IfSome, IsPermutation};
+ghost use Rattle.std.specs.Prelude.{◌≤◌, ◌↔◌, IfOk, IfSome, IsSome, IsPermutation, length};
 ghost use Rattle.explain.specs.Explanations.{IsSummary};
+ghost use Rattle.explain.specs.Pictures.{most_drawn};
 
 use super::acts::{Counts, count};
 use super::explanation::{Summary, Use};
@@ -107,7 +108,8 @@ fn sharing(
 
 /// All entries in the order of their keys, where they are few enough to be drawn.
 fn rows(alloc: Global, entries: &[Entry]) -> Result<Option<Vec<Entry>>, AllocError>
-    ensures { IfOk result (λ rows. IfSome rows (λ rows. IsPermutation entries.now rows.items)) }
+    ensures all { IfOk result (λ rows. IfSome rows (λ rows. IsPermutation entries.now rows.items)) }
+    ensures told { IfOk result (λ rows. IsSome rows ↔ (length entries.now ≤ most_drawn)) }
 {
     if entries.len() > DRAWN {
         return Ok(None);

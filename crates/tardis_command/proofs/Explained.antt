@@ -1,14 +1,15 @@
 -- What explaining comes to, from what its parts answer.
 use Rattle.std.proofs.Common.{◌≡◌, ap, subst, sym, refl, ℕ, List, length, Option, None, Some, Result, Ok, Err, inl, vec_len, option_copied}
-use Rattle.std.specs.Prelude.{IsErrOf, option_map}
+use Rattle.std.specs.Prelude.{IfOk, IsErrOf, option_map}
 use Rattle.std.specs.Borrow.{Bor}
 use Rattle.command_line.specs.declared.request.Check.{Check}
 use Rattle.command_line.specs.declared.request.Explain.{Explain}
+use Rattle.log_record.specs.declared.record.Record.{Record}
 use Rattle.core_program.specs.SetParts.{SetParts}
 use Rattle.core_program.specs.declared.instruction.Instruction.{Instruction}
 use Rattle.verdict.specs.CoreFaultsOf.{given}
 use Rattle.verdict.specs.Counts.{IsInRange, IsOutOfRange}
-use Rattle.verdict.specs.Bases.{verdict_in}
+use Rattle.verdict.specs.Bases.{IsExaminationOf, IsExaminedBy, verdict_in}
 use Rattle.verdict.specs.Judgement.{SpellFlatRunBy}
 use Rattle.verdict.specs.VerdictOf.{run_verdict_of, verdict_of}
 use Rattle.verdict.specs.declared.answer.Verdict.{Verdict}
@@ -77,3 +78,9 @@ pub flat_by : (told : List ℕ → Option (List ℕ)) (asked : Check) (programs 
     → SpellFlatRunBy programs texts → FilesRunFlatBy told asked programs
 flat_by told asked None texts tell runs = tt
 flat_by told asked (Some programs) texts tell runs = (texts, tell, runs)
+
+-- what is examined is some set
+pub some_set : (programs : Option (List (List Instruction))) (texts : List (List ℕ)) (result : Result Examined JudgeFault) → IsExaminedBy programs texts result
+    → IfOk result (λ examined. (logs : List (List Record)) × IsExaminationOf programs logs examined)
+some_set programs texts (Ok examined) by = (by.0, by.2)
+some_set programs texts (Err fault) by = tt

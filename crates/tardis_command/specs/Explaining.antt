@@ -5,7 +5,7 @@ use Rattle.std.specs.Borrow.{Bor}
 use Rattle.std.specs.Io.KnownBytes.{Appends, Keeps}
 use Rattle.command_line.specs.declared.request.Check.{Check}
 use Rattle.command_line.specs.declared.request.Explain.{Explain}
-use Rattle.explain.specs.Pictures.{IsPicture}
+use Rattle.explain.specs.Pictures.{HasPicture, IsPicture}
 use Rattle.log_file.specs.Devices.{Failed, Tells}
 use Rattle.verdict.specs.Texts.{verdict_text}
 use Rattle.verdict.specs.declared.answer.Verdict.{Verdict}
@@ -38,15 +38,16 @@ pub record PutsPicture (old new : Files) (name : List ℕ) : Type 0 where
   pub others : (other : List ℕ) → other ≢ name → new.told other ≡ old.told other
   pub quiet : new.failed ≡ old.failed
 
--- it was put under the name that was given; nothing was, where no name was given or the set is too large to be drawn
-abbrev pub PutsPictureAt : Files → Files → Option (Bor (List ℕ)) → Type 0
-PutsPictureAt old new None = new ≡ old
-PutsPictureAt old new (Some name) = (new ≡ old) ⊎ PutsPicture old new name.now
+-- it was put under the name that was given, where this verdict has a picture; nothing was, where no name was given or it has none
+abbrev pub PutsPictureAt : Verdict → Files → Files → Option (Bor (List ℕ)) → Type 0
+PutsPictureAt verdict old new None = new ≡ old
+PutsPictureAt verdict old new (Some name) = (HasPicture verdict × PutsPicture old new name.now) ⊎ ((HasPicture verdict → ⊥) × (new ≡ old))
 
--- the put of a picture under the name that was given failed, and nothing else was put
-abbrev pub FailsPictureAt : Files → Files → Option (Bor (List ℕ)) → Type 0
-FailsPictureAt old new None = ⊥
-FailsPictureAt old new (Some name) = Failed old.failed new.failed × ((other : List ℕ) → other ≢ name.now → new.told other ≡ old.told other)
+-- this verdict has a picture, whose put under the name that was given failed, and nothing else was put
+abbrev pub FailsPictureAt : Verdict → Files → Files → Option (Bor (List ℕ)) → Type 0
+FailsPictureAt verdict old new None = ⊥
+FailsPictureAt verdict old new (Some name) =
+    HasPicture verdict × Failed old.failed new.failed × ((other : List ℕ) → other ≢ name.now → new.told other ≡ old.told other)
 
 -- there was a verdict to explain
 abbrev pub Judged : Files → Check → (Verdict → Type 0) → Type 0
@@ -56,13 +57,13 @@ Judged old asked Holds = (verdict : Verdict) × IsChecked old.told asked (Ok ver
 -- lack of memory may be told in place of another refusal.
 abbrev pub IsExplained : Files → Files → Explain → Sink → Sink → Result Verdict CommandFault → Type 0
 IsExplained old new asked out out' (Ok verdict) =
-    IsChecked old.told asked.check (Ok verdict) × PutsPictureAt old new asked.picture
+    IsChecked old.told asked.check (Ok verdict) × PutsPictureAt verdict old new asked.picture
     × (text : List ℕ) × BeginsWithVerdict verdict text × Appends out.contents out'.contents text
 IsExplained old new asked out out' (Err Output) =
-    Judged old asked.check (λ verdict. PutsPictureAt old new asked.picture × HasFailed out out'
+    Judged old asked.check (λ verdict. PutsPictureAt verdict old new asked.picture × HasFailed out out'
     × (text : List ℕ) × BeginsWithVerdict verdict text × TakesBeginning out out' text)
 IsExplained old new asked out out' (Err PictureUnwritten) =
-    Judged old asked.check (λ verdict. FailsPictureAt old new asked.picture) × Keeps out.contents out'.contents
+    Judged old asked.check (λ verdict. FailsPictureAt verdict old new asked.picture) × Keeps out.contents out'.contents
 IsExplained old new asked out out' (Err OutOfMemory) = Keeps out.contents out'.contents ⊎ HasFailed out out'
 IsExplained old new asked out out' (Err (Judge fault)) = IsChecked old.told asked.check (Err (Judge fault)) × Keeps out.contents out'.contents
 IsExplained old new asked out out' (Err (Programs fault)) = IsChecked old.told asked.check (Err (Programs fault)) × Keeps out.contents out'.contents

@@ -1,10 +1,11 @@
 //! The verdict on the logs of a set, and why it is so.
 
-ghost use Rattle.std.specs.Prelude.{◌≡◌, ◌++◌, IfErr, IfOk, IfSome, OnOk, MatchResult, option_map, string_bytes};
+ghost use Rattle.std.specs.Prelude.{◌≡◌, ◌↔◌, ◌++◌, List, IfErr, IfOk, IfSome, IsSome, IsTrue, OnOk, MatchResult, option_map, string_bytes};
 ghost use Rattle.core_program.specs.SetParts.{SetParts};
-ghost use Rattle.explain.specs.Pictures.{IsPicture};
+ghost use Rattle.explain.specs.Pictures.{HasPicture, IsPicture};
+ghost use Rattle.log_record.specs.declared.record.Record.{Record};
 ghost use Rattle.verdict.specs.CoreFaultsOf.{given};
-ghost use Rattle.verdict.specs.Bases.{verdict_in};
+ghost use Rattle.verdict.specs.Bases.{IsExaminationOf, verdict_in};
 ghost use Rattle.verdict.specs.Judgement.{IsYes};
 ghost use Rattle.tardis_command.specs.Checking as checking;
 ghost use Rattle.tardis_command.specs.Endings as endings;
@@ -67,11 +68,13 @@ fn put_picture<F: Folder>(
     name: Option<&str>,
     told: &Told,
 ) -> Result<(), CommandFault>
-    requires { IfSome told.now.picture (λ svg. IsPicture svg.items) }
-    ensures ok { OnOk result (explaining.PutsPictureAt (files_of F.told F.failed folder.old)
+    requires picture { IfSome told.now.picture (λ svg. IsPicture svg.items) }
+    requires drawn { IsSome name → IsSome told.now.picture ↔ HasPicture told.now.verdict }
+    ensures ok { OnOk result (explaining.PutsPictureAt told.now.verdict
+        (files_of F.told F.failed folder.old)
         (files_of F.told F.failed folder.new) name.entry) }
     ensures err { IfErr result (λ fault. (fault ≡ CommandFault.PictureUnwritten)
-        × explaining.FailsPictureAt (files_of F.told F.failed folder.old)
+        × explaining.FailsPictureAt told.now.verdict (files_of F.told F.failed folder.old)
         (files_of F.told F.failed folder.new) name.entry) }
     ensures files { endings.KeepsFiles (F.told folder.old) (F.told folder.new)
         (explaining.IsPictureName name.entry) }
@@ -99,6 +102,7 @@ fn tell<R: Threads + Sync, F: Folder>(
     ensures text { IfOk result (λ told.
         explaining.BeginsWithVerdict told.verdict (string_bytes told.text)) }
     ensures picture { IfOk result (λ told. IfSome told.picture (λ svg. IsPicture svg.items)) }
+    ensures drawn { IsTrue is_drawn → IfOk result (λ told. IsSome told.picture ↔ HasPicture told.verdict) }
     ensures sound { IfOk result (λ told. IsYes told.verdict
         → checking.FilesAreConsistent (F.told folder.now) asked.now) }
     ensures flat { IfOk result (λ told. IsYes told.verdict
@@ -147,6 +151,8 @@ fn examine_files<R: Threads + Sync, F: Folder>(
     requires { checking.AreInRange asked.now }
     ensures exact { checking.IsCheckedAgainst (F.told folder.now) (given programs.entry) asked.now
         (verdict_in result) }
+    ensures examined { IfOk result (λ examined. (logs : List (List Record))
+        × IsExaminationOf (given programs.entry) logs examined) }
     ensures sound { IfOk result (λ examined. IsYes examined.verdict
         → checking.FilesAreConsistent (F.told folder.now) asked.now) }
     ensures flat { IfOk result (λ examined. IsYes examined.verdict
@@ -172,17 +178,22 @@ fn words(
     cores: usize,
     is_drawn: bool,
 ) -> Result<Told, AllocError>
+    requires { (logs : List (List Record)) × IsExaminationOf (given programs) logs examined.now }
     ensures verdict { IfOk result (λ told. told.verdict ≡ examined.now.verdict) }
     ensures text { IfOk result (λ told.
         explaining.BeginsWithVerdict told.verdict (string_bytes told.text)) }
     ensures picture { IfOk result (λ told. IfSome told.picture (λ svg. IsPicture svg.items)) }
+    ensures drawn { IsTrue is_drawn → IfOk result (λ told. IsSome told.picture ↔ HasPicture told.verdict) }
 {
     let verdict = examined.verdict;
     let line = format!(in alloc; "{verdict}\n")?;
-    let why = explained(alloc, examined, programs, cores)?;
-    let picture = match (&why, is_drawn) {
-        (Some(why), true) => draw(alloc, line.as_str().trim_end(), why)?,
-        _ => None,
+    let Some(why) = explained(alloc, examined, programs, cores)? else {
+        unreachable!()
+    };
+    let picture = if is_drawn {
+        draw(alloc, line.as_str().trim_end(), &why)?
+    } else {
+        None
     };
     let more = more_text(alloc, &why, is_drawn && picture.is_none())?;
     Ok(Told {
@@ -193,15 +204,8 @@ fn words(
 }
 
 /// What there is to tell after the line of a verdict, and whether a picture that was asked for is left out.
-fn more_text(
-    alloc: Global,
-    why: &Option<Explanation>,
-    is_left_out: bool,
-) -> Result<String, AllocError> {
-    let mut text = match why {
-        Some(why) => print(alloc, why)?,
-        None => String::new(alloc),
-    };
+fn more_text(alloc: Global, why: &Explanation, is_left_out: bool) -> Result<String, AllocError> {
+    let mut text = print(alloc, why)?;
     if is_left_out {
         text.push_str(NO_PICTURE)?;
     }

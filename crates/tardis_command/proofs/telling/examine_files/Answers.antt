@@ -7,7 +7,7 @@ use Rattle.verdict.specs.declared.judge_fault.Count.TheVariants.{Files, Workers,
 use Rattle.verdict.specs.declared.judge_fault.JudgeFault.TheVariants.{BadConfig}
 use Rattle.tardis_command.specs.Checking.{AreNotAsMany, AreSourcesOf}
 use Rattle.tardis_command.proofs.Checks.{told_by_sources}
-use Rattle.tardis_command.proofs.Explained.{checked_against, err_in, flat_by}
+use Rattle.tardis_command.proofs.Explained.{checked_against, err_in, flat_by, some_set}
 use Rattle.tardis_command.proofs.telling.examine_files.Goals as goal
 
 pub returns-clause-exact : goal.returns-clause-exact
@@ -42,3 +42,8 @@ returns-clause-flat g c =
     let are : AreSourcesOf told remaining c.as_mut_slice.result.now names = search rules in
     let (texts, tell, flat) = c.examine.ensures.flat in
     IfOk-weaker c.examine.result _ _ (λ examined runs yes. flat_by told c.args.asked.now (given c.args.programs) texts (told_by_sources told remaining _ names texts are tell) (runs yes)) flat
+
+pub returns-clause-examined : goal.returns-clause-examined
+returns-clause-examined g c =
+    let (texts, tell, answers, by) = c.examine.ensures.exact in
+    some_set (given c.args.programs) texts c.examine.result by
