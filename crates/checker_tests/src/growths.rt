@@ -21,9 +21,9 @@ const SETS: [&[&[u8]; 2]; 4] = [&READ_ACROSS, &BOTH_READ_OLD, &OF_BOTH_FORMATS, 
 fn judges(rt: HostRuntime) -> Result<(), Fail> {
     for by in JUDGES {
         for logs in SETS {
-            let mut answer = judged(&rt, rt.alloc(), by, logs, 0, &[])?;
+            let mut answer = judged(&rt, rt.alloc(), by, logs)?;
             if answer == Err(JudgeFault::OutOfMemory) {
-                answer = judged(&rt, rt.alloc(), by, logs, 0, &[])?;
+                answer = judged(&rt, rt.alloc(), by, logs)?;
             }
             let is_due = matches!(&answer, Ok(verdict) if is_row(by, verdict, logs));
             assert!(rt; is_due, "{by:?}");
@@ -159,19 +159,30 @@ fn id(number: usize) -> OpId
     }
 }
 
-/// Whether core 0's operations and then core 1's are an order by which the set answers as one memory.
-fn replayed<R: Threads + Sync>(rt: &R, alloc: Global, logs: &[&[u8]; 2]) -> Result<bool, LogFault> {
+/// Whether the operations in this order answer as one memory.
+fn replayed<R: Threads + Sync>(
+    rt: &R,
+    alloc: Global,
+    logs: &[&[u8]; 2],
+    order: &[OpId],
+) -> Result<bool, LogFault> {
     let all = read_both(rt, alloc, logs)?;
-    let order = [id(0), id(1), id(2), id(3)];
-    Ok(replay_order(alloc, &order, &all)?)
+    Ok(replay_order(alloc, order, &all)?)
 }
 
+// Core 0's operations and then core 1's, and the same with the first two exchanged.
 #[test]
 fn orders(rt: HostRuntime) {
-    for (logs, holds) in [(&READ_ACROSS, true), (&BOTH_READ_OLD, false)] {
-        let mut answer = replayed(&rt, rt.alloc(), logs);
+    let in_order = [id(0), id(1), id(2), id(3)];
+    let exchanged = [id(1), id(0), id(2), id(3)];
+    for (logs, order, holds) in [
+        (&READ_ACROSS, &in_order, true),
+        (&READ_ACROSS, &exchanged, false),
+        (&BOTH_READ_OLD, &in_order, false),
+    ] {
+        let mut answer = replayed(&rt, rt.alloc(), logs, order);
         if answer == Err(LogFault::OutOfMemory) {
-            answer = replayed(&rt, rt.alloc(), logs);
+            answer = replayed(&rt, rt.alloc(), logs, order);
         }
         assert_eq!(rt; answer, Ok(holds));
     }

@@ -1,7 +1,7 @@
 //! Worked sets of two logs, and the judges that they are put before.
 
 use core_program::ProgramSet;
-use log_file::{FromWrite, MemSource, Step};
+use log_file::{FromWrite, MemSource};
 use merge_judge::{MergeFault, merge_judge};
 use std::alloc::Global;
 use std::io;
@@ -14,11 +14,10 @@ pub(super) const PROGRAMS: &[u8] =
     b"tardis-programs 1 cores 2\ncore 0\nst 0 1\nld r0 1\ncore 1\nst 1 1\nld r0 0\nend\n";
 
 /// Core 0's log.
-pub(super) const FIRST: &[u8] = b"tardis-log 1 core 0 of 2\nS 0 1 1 0\nL 1 0 1 0 init\nend 2\n";
+const FIRST: &[u8] = b"tardis-log 1 core 0 of 2\nS 0 1 1 0\nL 1 0 1 0 init\nend 2\n";
 
 /// Core 0's log in format 2.
-pub(super) const FIRST_IN_2: &[u8] =
-    b"tardis-log 2 core 0 of 2\nS 0 1 1 0\nL 1 0 1 0 init\nend 2\n";
+const FIRST_IN_2: &[u8] = b"tardis-log 2 core 0 of 2\nS 0 1 1 0\nL 1 0 1 0 init\nend 2\n";
 
 /// The log of a core 1 that comes after core 0, and loads its store.
 const LATER: &[u8] = b"tardis-log 1 core 1 of 2\nS 1 1 12 0\nL 0 1 12 0 0.0\nend 2\n";
@@ -85,21 +84,14 @@ pub(super) const JUDGES: [Judge; 4] = [
     Judge::Merging,
 ];
 
-/// What a judge answers to the texts of two logs, where the reads of one of them follow these steps.
+/// What a judge answers to the texts of two logs.
 pub(super) fn judged<R: Threads + Sync>(
     rt: &R,
     alloc: Global,
     by: Judge,
     logs: &[&[u8]; 2],
-    file: usize,
-    steps: &[Step],
 ) -> Result<Result<Verdict, JudgeFault>, Fail> {
-    let (zero, one): (&[Step], &[Step]) = if file == 0 {
-        (steps, &[])
-    } else {
-        (&[], steps)
-    };
-    let mut readers = [MemSource::new(logs[0], zero), MemSource::new(logs[1], one)];
+    let mut readers = [MemSource::new(logs[0], &[]), MemSource::new(logs[1], &[])];
     match by {
         Judge::Workers(workers) => Ok(judge(rt, alloc, &mut readers, workers, &Open)),
         Judge::Programs => {

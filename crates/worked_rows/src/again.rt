@@ -1,0 +1,366 @@
+//! What has to come where a call is made again in another way, whatever its row says.
+
+use super::call::{Done, Outputs, SOUND, call};
+use super::compare::{Expected, compare};
+use super::fault::RowsFault;
+use super::file::{File, find};
+use super::shelf::Given;
+use super::words::{have, have_word, other_call, texts_of};
+use log_file::Step;
+use std::alloc::Global;
+use std::sync::Wait;
+use std::thread::Threads;
+
+/// How many writes fail in turn, each time with four bytes a write before it.
+const WRITES: usize = 8;
+
+/// The most reads of ten bytes of a file that fail in turn.
+const READS: usize = 20;
+
+/// The longest beginning of a log that is looked at, in bytes.
+const LONGEST_CUT: usize = 120;
+
+/// How often a call went wrong that was made again in other ways.
+pub(crate) fn wrong_again<R: Threads + Wait + Sync + Print>(
+    rt: &R,
+    alloc: Global,
+    words: &[&str],
+    given: Given<'_>,
+    expected: &Expected<'_>,
+    done: &Done,
+) -> Result<u64, RowsFault> {
+    let Some(command) = words.get(1).copied() else {
+        return Ok(0);
+    };
+    let mut wrong = Wrong { count: 0 };
+    wrong.unless(is_seen(command, done));
+    if command == "check" && !expected.told.starts_with("error") {
+        wrong.unless(by_workers(rt, alloc, words, given, expected)?);
+        wrong.unless(as_order(rt, alloc, words, given, expected)?);
+        wrong.unless(as_explanation(rt, alloc, words, given, expected)?);
+        wrong.unless(cut_off(rt, alloc, words, given, expected)?);
+    }
+    if (command == "sim" || command == "run") && expected.status == 0 {
+        wrong.unless(judged(rt, alloc, words, given, expected, done)?);
+    }
+    if !expected.printed.contains('*') && !expected.told.contains('*') {
+        wrong.unless(failing_writes(rt, alloc, words, given, expected)?);
+        wrong.unless(failing_complaints(rt, alloc, words, given, expected)?);
+        wrong.unless(failing_reads(rt, alloc, words, given, expected)?);
+    }
+    Ok(wrong.count)
+}
+
+/// How often something was wrong.
+#[derive(Clone, Copy)]
+struct Wrong {
+    count: u64,
+}
+
+impl Wrong {
+    fn unless(&mut self, is_good: bool) {
+        self.count = self.count.saturating_add(u64::from(!is_good));
+    }
+}
+
+/// Only a run is watched: one that is done made a turn for each operation, and was over once.
+fn is_seen(command: &str, done: &Done) -> bool {
+    let (turns, over) = done.seen;
+    if command != "run" || done.status == 3 {
+        return turns == 0 && over == 0;
+    }
+    let count = done.printed.as_str().strip_prefix("done: ");
+    match count.and_then(|rest| rest.split_once(' ')) {
+        Some((count, _)) => over == 1 && count.parse::<u64>().is_ok_and(|count| turns >= count),
+        None => over <= 1,
+    }
+}
+
+/// A check answers the same by any number of workers.
+fn by_workers<R: Threads + Wait + Sync + Print>(
+    rt: &R,
+    alloc: Global,
+    words: &[&str],
+    given: Given<'_>,
+    expected: &Expected<'_>,
+) -> Result<bool, RowsFault> {
+    if have(words, "--workers") {
+        return Ok(true);
+    }
+    let mut is_good = true;
+    for option in ["--workers=1", "--workers=2", "--workers=64"] {
+        let words = other_call(alloc, "check", Some(option), words)?;
+        let done = call(rt, alloc, words.as_slice(), given, SOUND)?;
+        is_good = compare(rt, words.as_slice(), expected, &done)? && is_good;
+    }
+    Ok(is_good)
+}
+
+/// Where an order is written the verdict goes to standard error, and only with a Yes the order is whole.
+fn as_order<R: Threads + Wait + Sync + Print>(
+    rt: &R,
+    alloc: Global,
+    words: &[&str],
+    given: Given<'_>,
+    expected: &Expected<'_>,
+) -> Result<bool, RowsFault> {
+    if have(words, "--") {
+        return Ok(true);
+    }
+    let words = other_call(alloc, "order", None, words)?;
+    let done = call(rt, alloc, words.as_slice(), given, SOUND)?;
+    let wanted = Expected {
+        printed: "**\n",
+        told: if expected.status < 2 {
+            expected.printed
+        } else {
+            expected.told
+        },
+        ..*expected
+    };
+    let is_good = compare(rt, words.as_slice(), &wanted, &done)?;
+    let is_whole = done.printed.as_str().contains("end");
+    Ok(is_good && is_whole == (expected.status == 0))
+}
+
+/// An explanation begins with the verdict's line.
+fn as_explanation<R: Threads + Wait + Sync + Print>(
+    rt: &R,
+    alloc: Global,
+    words: &[&str],
+    given: Given<'_>,
+    expected: &Expected<'_>,
+) -> Result<bool, RowsFault> {
+    if have(words, "--workers") {
+        return Ok(true);
+    }
+    let words = other_call(alloc, "explain", None, words)?;
+    let done = call(rt, alloc, words.as_slice(), given, SOUND)?;
+    let printed = if expected.status < 2 {
+        format!(in alloc; "{}**\n", expected.printed)?
+    } else {
+        String::new(alloc)
+    };
+    let wanted = Expected {
+        printed: printed.as_str(),
+        ..*expected
+    };
+    compare(rt, words.as_slice(), &wanted, &done)
+}
+
+/// Each proper beginning of a log is cut off at the line after its last line feed.
+fn cut_off<R: Threads + Wait + Sync + Print>(
+    rt: &R,
+    alloc: Global,
+    words: &[&str],
+    given: Given<'_>,
+    expected: &Expected<'_>,
+) -> Result<bool, RowsFault> {
+    if have(words, "--") || expected.status > 1 {
+        return Ok(true);
+    }
+    let mut is_good = true;
+    for (number, name) in words.iter().skip(2).enumerate() {
+        if let Some(file) = find(given.files, name) {
+            for length in 0..file.bytes.len().min(LONGEST_CUT) {
+                let told = told_of_beginning(alloc, number, &file.bytes[..length])?;
+                let files = with_beginning(alloc, given.files, name, length)?;
+                let given = Given {
+                    files: files.as_slice(),
+                    ..given
+                };
+                let wanted = Expected {
+                    status: 2,
+                    printed: "",
+                    told: told.as_str(),
+                    ..*expected
+                };
+                let done = call(rt, alloc, words, given, SOUND)?;
+                is_good = compare(rt, words, &wanted, &done)? && is_good;
+            }
+        }
+    }
+    Ok(is_good)
+}
+
+/// What is told of a file that has only this beginning of a log.
+fn told_of_beginning(alloc: Global, file: usize, beginning: &[u8]) -> Result<String, RowsFault> {
+    let mut line: u64 = 1;
+    for byte in beginning {
+        if *byte == b'\n' {
+            line = line.saturating_add(1);
+        }
+    }
+    Ok(format!(in alloc; "refused: file {file} line {line}: 26 Truncated\n")?)
+}
+
+/// The files, one of them cut off after so many bytes.
+fn with_beginning(
+    alloc: Global,
+    files: &[File],
+    name: &str,
+    length: usize,
+) -> Result<Vec<File>, RowsFault> {
+    let mut all = Vec::new(alloc);
+    for file in files {
+        let mut copy = file.copy(alloc)?;
+        if copy.name.as_str() == name {
+            copy.bytes.truncate(length);
+        }
+        all.push(copy)?;
+    }
+    Ok(all)
+}
+
+/// The logs of a run that is done get Yes against its programs.
+fn judged<R: Threads + Wait + Sync + Print>(
+    rt: &R,
+    alloc: Global,
+    words: &[&str],
+    given: Given<'_>,
+    expected: &Expected<'_>,
+    done: &Done,
+) -> Result<bool, RowsFault> {
+    let [.., programs, _] = words else {
+        return Ok(false);
+    };
+    let mut names = Vec::new(alloc);
+    let mut files = Vec::new(alloc);
+    if let Some(file) = find(given.files, programs) {
+        files.push(file.copy(alloc)?)?;
+    }
+    for file in &done.put {
+        names.push(String::from_str(alloc, file.name.as_str())?)?;
+        files.push(file.copy(alloc)?)?;
+    }
+    let names = texts_of(alloc, names.as_slice())?;
+    let mut words = Vec::new(alloc);
+    words.push("tardis")?;
+    words.push("check")?;
+    words.push("--program")?;
+    words.push(*programs)?;
+    for name in names.as_slice() {
+        words.push(*name)?;
+    }
+    let again = Given {
+        files: files.as_slice(),
+        slow: None,
+        room: 0,
+    };
+    let judged = call(rt, alloc, words.as_slice(), again, SOUND)?;
+    let operations = done.printed.as_str().strip_prefix("done: ").unwrap_or("?");
+    let yes = format!(in alloc; "yes: {operations}")?;
+    let wanted = Expected {
+        printed: yes.as_str(),
+        ..*expected
+    };
+    compare(rt, words.as_slice(), &wanted, &judged)
+}
+
+/// Where a write of standard output fails, it has taken a beginning, and 29 is told.
+fn failing_writes<R: Threads + Wait + Sync + Print>(
+    rt: &R,
+    alloc: Global,
+    words: &[&str],
+    given: Given<'_>,
+    expected: &Expected<'_>,
+) -> Result<bool, RowsFault> {
+    let mut is_good = true;
+    for write in 0..WRITES {
+        let mut steps = [Step::Move(3); WRITES];
+        steps[write] = Step::Fail;
+        let outputs = Outputs {
+            writes: &steps,
+            complaints: &[],
+        };
+        let wanted = match expected.printed.get(..4 * write) {
+            Some(taken) if taken.len() < expected.printed.len() => Expected {
+                status: 4,
+                printed: taken,
+                told: "refused: output: 29 Write\n",
+                ..*expected
+            },
+            _ => *expected,
+        };
+        let done = call(rt, alloc, words, given, outputs)?;
+        is_good = compare(rt, words, &wanted, &done)? && is_good;
+    }
+    Ok(is_good)
+}
+
+/// A write of standard error that fails is passed over.
+fn failing_complaints<R: Threads + Wait + Sync + Print>(
+    rt: &R,
+    alloc: Global,
+    words: &[&str],
+    given: Given<'_>,
+    expected: &Expected<'_>,
+) -> Result<bool, RowsFault> {
+    let mut is_good = true;
+    for write in 0..WRITES {
+        let mut steps = [Step::Move(3); WRITES];
+        steps[write] = Step::Fail;
+        let outputs = Outputs {
+            writes: &[],
+            complaints: &steps,
+        };
+        let wanted = Expected {
+            told: expected.told.get(..4 * write).unwrap_or(expected.told),
+            ..*expected
+        };
+        let done = call(rt, alloc, words, given, outputs)?;
+        is_good = compare(rt, words, &wanted, &done)? && is_good;
+    }
+    Ok(is_good)
+}
+
+/// Where a read of a file fails, up to the one that finds its end, 28 is told.
+fn failing_reads<R: Threads + Wait + Sync + Print>(
+    rt: &R,
+    alloc: Global,
+    words: &[&str],
+    given: Given<'_>,
+    expected: &Expected<'_>,
+) -> Result<bool, RowsFault> {
+    if expected.status > 1 {
+        return Ok(true);
+    }
+    let mut is_good = true;
+    for file in given.files {
+        let reads = file.bytes.len().div_ceil(10).saturating_add(1);
+        if have_word(words, file.name.as_str()) && reads < READS {
+            for good in 0..=reads {
+                let is_due = failing_read(rt, alloc, words, given, expected, file, good)?;
+                is_good = is_good && is_due == (good < reads);
+            }
+        }
+    }
+    Ok(is_good)
+}
+
+/// Whether a call tells 28 where a read of a file fails after so many good ones; if not, it does what it should without.
+fn failing_read<'a, R: Threads + Wait + Sync + Print>(
+    rt: &R,
+    alloc: Global,
+    words: &[&str],
+    given: Given<'a>,
+    expected: &Expected<'_>,
+    file: &'a File,
+    good: usize,
+) -> Result<bool, RowsFault> {
+    let mut steps = [Step::Move(9); READS];
+    if let Some(step) = steps.get_mut(good) {
+        *step = Step::Fail;
+    }
+    let given = Given {
+        slow: Some((file.name.as_str(), &steps)),
+        ..given
+    };
+    let done = call(rt, alloc, words, given, SOUND)?;
+    let told = done.told.as_str();
+    if done.status == 4 && told.starts_with("refused: ") && told.ends_with(": 28 Read\n") {
+        return Ok(!done.printed.as_str().contains("end"));
+    }
+    compare(rt, words, expected, &done)?;
+    Ok(false)
+}

@@ -1,0 +1,61 @@
+//! One call of the program.
+
+use super::fault::{RowsFault, text_of};
+use super::file::File;
+use super::shelf::{Given, Shelf};
+use super::watch::Counting;
+use log_file::{MemSink, Step};
+use std::alloc::Global;
+use std::sync::Wait;
+use std::thread::Threads;
+use tardis_command::command;
+
+/// How the writes of a call go.
+#[derive(Clone, Copy)]
+pub(crate) struct Outputs<'a> {
+    /// Those of standard output.
+    pub(crate) writes: &'a [Step],
+    /// Those of standard error.
+    pub(crate) complaints: &'a [Step],
+}
+
+/// Writes that don't fail.
+pub(crate) const SOUND: Outputs<'static> = Outputs {
+    writes: &[],
+    complaints: &[],
+};
+
+/// What a call did.
+#[derive(Drop)]
+pub(crate) struct Done {
+    pub(crate) status: u8,
+    /// What standard output took.
+    pub(crate) printed: String,
+    /// What standard error took.
+    pub(crate) told: String,
+    pub(crate) put: Vec<File>,
+    /// How many turns were seen, and how many runs that were over.
+    pub(crate) seen: (u64, u64),
+}
+
+/// Calls the program.
+pub(crate) fn call<R: Threads + Wait + Sync>(
+    rt: &R,
+    alloc: Global,
+    words: &[&str],
+    given: Given<'_>,
+    outputs: Outputs<'_>,
+) -> Result<Done, RowsFault> {
+    let mut folder = Shelf::new(alloc, given);
+    let mut out = MemSink::new(alloc, outputs.writes);
+    let mut err = MemSink::new(alloc, outputs.complaints);
+    let watch = Counting::new();
+    let status = command(rt, alloc, words, &watch, &mut folder, &mut out, &mut err);
+    Ok(Done {
+        status,
+        printed: text_of(Vec::from_slice(alloc, out.bytes())?)?,
+        told: text_of(Vec::from_slice(alloc, err.bytes())?)?,
+        put: folder.into_put(),
+        seen: watch.seen(),
+    })
+}

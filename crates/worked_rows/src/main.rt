@@ -1,0 +1,44 @@
+//! Replays rows: calls of the program over files in memory, with what each prints, its status and the files that it puts. The words
+//! name the files of rows, and `docs/ROWS.md` tells how they are written. Besides, each call is made again in other ways, of which
+//! `again.rt` knows what has to come.
+#![tactic(auto)]
+
+mod again;
+mod call;
+mod compare;
+mod fault;
+mod file;
+mod lines;
+mod replay;
+mod row;
+mod shelf;
+mod watch;
+mod words;
+
+use fault::{RowsFault, text_of};
+use log_file::{FromRead, read_all};
+use replay::replay;
+use std::{env, fs};
+
+/// The text of a file of the host.
+fn read_text(rt: &HostRuntime, name: &str) -> Result<String, RowsFault> {
+    let file = fs::open(rt, name)?;
+    match read_all(rt.alloc(), &mut FromRead::new(file)) {
+        Ok(bytes) => text_of(bytes),
+        Err(_) => Err(RowsFault::Device),
+    }
+}
+
+fn main(rt: HostRuntime) -> Result<(), RowsFault> {
+    let mut wrong: u64 = 0;
+    for name in env::args(&rt)?.skip(1) {
+        let text = read_text(&rt, name.as_str())?;
+        let tally = replay(&rt, rt.alloc(), text.as_str())?;
+        println!(rt; "{name}: {} calls, {} wrong", tally.calls, tally.wrong)?;
+        wrong = wrong.saturating_add(tally.wrong);
+    }
+    if wrong > 0 {
+        return Err(RowsFault::Wrong);
+    }
+    Ok(())
+}

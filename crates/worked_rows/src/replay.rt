@@ -1,0 +1,98 @@
+//! Rows, one after the other.
+
+use super::again::wrong_again;
+use super::call::{SOUND, call};
+use super::compare::{Expected, compare, compare_files};
+use super::fault::RowsFault;
+use super::file::File;
+use super::lines::{Line, read};
+use super::row::{Row, Wanted};
+use super::shelf::Given;
+use super::words::{calls_of, texts_of, words_of};
+use std::alloc::Global;
+use std::sync::Wait;
+use std::thread::Threads;
+
+/// How many calls were made, and how many times one went wrong.
+#[derive(Clone, Copy)]
+pub(crate) struct Tally {
+    pub(crate) calls: u64,
+    pub(crate) wrong: u64,
+}
+
+/// Makes a call, and makes it again in other ways. Answers how often it went wrong, and the files that it put.
+fn perform<R: Threads + Wait + Sync + Print>(
+    rt: &R,
+    alloc: Global,
+    row: &Row,
+    wanted: &Wanted,
+    line: &str,
+) -> Result<(u64, Vec<File>), RowsFault> {
+    let words = words_of(alloc, line)?;
+    let words = texts_of(alloc, words.as_slice())?;
+    let given = Given {
+        files: row.files.as_slice(),
+        slow: None,
+        room: row.room,
+    };
+    let done = call(rt, alloc, words.as_slice(), given, SOUND)?;
+    let expected = Expected {
+        line: wanted.line,
+        status: wanted.status,
+        printed: wanted.printed.as_str(),
+        told: wanted.told.as_str(),
+    };
+    let is_told = compare(rt, words.as_slice(), &expected, &done)?;
+    let is_put = compare_files(rt, wanted.line, wanted.put.as_slice(), done.put.as_slice())?;
+    let wrong = wrong_again(rt, alloc, words.as_slice(), given, &expected, &done)?;
+    let wrong = wrong.saturating_add(u64::from(!(is_told && is_put)));
+    Ok((wrong, done.put))
+}
+
+/// Makes the calls of the row's call, if it has one, and has the row keep the files that they put.
+fn finish<R: Threads + Wait + Sync + Print>(
+    rt: &R,
+    alloc: Global,
+    row: &mut Row,
+    tally: &mut Tally,
+) -> Result<(), RowsFault> {
+    let Some(wanted) = row.wanted.take() else {
+        return Ok(());
+    };
+    for line in &calls_of(alloc, wanted.words.as_str())? {
+        let (wrong, put) = perform(rt, alloc, row, &wanted, line.as_str())?;
+        tally.calls = tally.calls.saturating_add(1);
+        tally.wrong = tally.wrong.saturating_add(wrong);
+        for file in put {
+            row.keep(file)?;
+        }
+    }
+    Ok(())
+}
+
+/// Whether a call is whole before this line.
+fn ends_call(line: &Line<'_>) -> bool {
+    matches!(
+        line,
+        Line::Row | Line::File(_) | Line::Files(_) | Line::Room(_) | Line::Call(_)
+    )
+}
+
+/// Replays the rows of a text.
+pub(crate) fn replay<R: Threads + Wait + Sync + Print>(
+    rt: &R,
+    alloc: Global,
+    text: &str,
+) -> Result<Tally, RowsFault> {
+    let mut row = Row::new(alloc);
+    let mut tally = Tally { calls: 0, wrong: 0 };
+    for (at, text) in text.lines().enumerate() {
+        let line = read(text).ok_or(RowsFault::BadLine)?;
+        if ends_call(&line) {
+            finish(rt, alloc, &mut row, &mut tally)?;
+        }
+        row.take(at.saturating_add(1), line)?;
+    }
+    finish(rt, alloc, &mut row, &mut tally)?;
+    Ok(tally)
+}
