@@ -6,6 +6,8 @@ mod addresses;
 #[cfg(test)]
 mod growths;
 #[cfg(test)]
+mod hostile_logs;
+#[cfg(test)]
 mod logs;
 #[cfg(test)]
 mod program_texts;

@@ -1,9 +1,10 @@
 //! Calls of one core, whose slices are played by hand.
 
+use super::values::*;
 use core_program::Program;
 use core_unit::*;
 use lease_rule::Config;
-use line_stamps::{Recall, Reply};
+use line_stamps::{Recall, RecallKind, Reply};
 use log_record::{Format, read_line};
 use mem_op::CoreId;
 use std::alloc::Global;
@@ -93,4 +94,38 @@ pub(super) fn logs(rt: &impl Abort, unit: &CoreUnit, lines: &[&str]) {
             "at {line}"
         );
     }
+}
+
+#[test]
+fn idle_recalls(rt: HostRuntime) -> Result<(), Fail> {
+    let mut unit = unit_of(rt.alloc(), b"st 0 1\n", 100, 64)?;
+    let flush = &Call::Recall(recall(0, 0, RecallKind::Flush, 0));
+    let write_back = &Call::Recall(recall(0, 0, RecallKind::WriteBack, 50));
+    let given = &flushed(0, stored(1, id(0, 0), 1, 1));
+    let reply = &Reply::ExRep(initial(0, 0));
+    meets(
+        &rt,
+        &mut unit,
+        &[
+            expects(*flush, Outcome::NoEffect),
+            turn(Outcome::Sent(write(0, None))),
+            takes(*reply),
+            turn(Outcome::Performed(id(0, 0))),
+            expects(*flush, Outcome::Gave(*given)),
+            expects(*flush, Outcome::NoEffect),
+            expects(*write_back, Outcome::NoEffect),
+            takes(Reply::Taken),
+            expects(*flush, Outcome::NoEffect),
+            expects(*write_back, Outcome::NoEffect),
+        ],
+    );
+    let entries = [
+        CoreEntry::Got(write(0, None), *reply),
+        CoreEntry::Performed,
+        CoreEntry::Gave(*given),
+        CoreEntry::Got(*given, Reply::Taken),
+    ];
+    assert_eq!(rt; unit.transcript(), entries.as_slice());
+    logs(&rt, &unit, &["S 0 1 1 0"]);
+    Ok(())
 }

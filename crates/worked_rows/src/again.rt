@@ -359,8 +359,25 @@ fn failing_read<'a, R: Threads + Wait + Sync + Print>(
     let done = call(rt, alloc, words, given, SOUND)?;
     let told = done.told.as_str();
     if done.status == 4 && told.starts_with("refused: ") && told.ends_with(": 28 Read\n") {
-        return Ok(!done.printed.as_str().contains("end"));
+        let is_named = names_log(alloc, words, told, file)?;
+        return Ok(is_named && !done.printed.as_str().contains("end"));
     }
     compare(rt, words, expected, &done)?;
     Ok(false)
+}
+
+/// Whether a refusal names the place of a file among the logs, in a call that has no options and reads logs alone.
+fn names_log(alloc: Global, words: &[&str], told: &str, file: &File) -> Result<bool, RowsFault> {
+    if have(words, "--") || !have_word(words, "check") && !have_word(words, "order") {
+        return Ok(true);
+    }
+    let mut number: u64 = 0;
+    for name in words.iter().skip(2) {
+        if *name == file.name.as_str() {
+            break;
+        }
+        number = number.saturating_add(1);
+    }
+    let wanted = format!(in alloc; "refused: file {number}: 28 Read\n")?;
+    Ok(told == wanted.as_str())
 }
