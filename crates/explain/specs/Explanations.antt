@@ -1,5 +1,5 @@
 -- Why a set got its verdict.
-use Rattle.std.specs.Prelude.{◌≡◌, ◌≤◌, ◌↔◌, ℕ, List, Option, Some, length, count_by, slice_get, ◌+◌, IfSome, IsSome, IsPermutation}
+use Rattle.std.specs.Prelude.{◌≡◌, ◌≤◌, ◌↔◌, ℕ, List, Option, Some, length, count_by, slice_get, ◌+◌, IfSome, IsSome, IsPermutation, ⊤}
 use Rattle.log_record.specs.declared.record.Entry.{Entry}
 use Rattle.log_record.specs.declared.record.Record.{Record}
 use Rattle.core_program.specs.declared.instruction.Instruction.{Instruction}
@@ -24,6 +24,13 @@ pub record IsSummary (es : List Entry) (summary : Summary) : Type 0 where
   pub all : summary.loads + summary.stores + summary.swaps ≡ length es
   pub rows : IfSome summary.rows (λ rows. IsPermutation es rows.items)
   pub told : IsSome summary.rows ↔ (length es ≤ most_drawn)
+
+-- an explanation of all records tells of so many cores
+abbrev pub TellsCores : ℕ → Explanation → Type 0
+TellsCores cores (Summed summary) = summary.cores ≡ cores
+TellsCores cores (Load found) = ⊤
+TellsCores cores (CoreOrder fall) = ⊤
+TellsCores cores (Program departure) = ⊤
 
 -- something holds of the log of a core
 abbrev pub LogHas : List (List Record) → ℕ → (List Record → Type 0) → Type 0

@@ -1,6 +1,6 @@
 //! What a set has that gets Yes.
 
-ghost use Rattle.std.specs.Prelude.{◌≤◌, ◌↔◌, IfOk, IfSome, IsSome, IsPermutation, length};
+ghost use Rattle.std.specs.Prelude.{◌≡◌, ◌≤◌, ◌↔◌, IfOk, IfSome, IsSome, IsPermutation, length};
 ghost use Rattle.explain.specs.Explanations.{IsSummary};
 ghost use Rattle.explain.specs.Pictures.{most_drawn};
 
@@ -126,7 +126,8 @@ pub(crate) fn summary(
     cores: usize,
     index: &AddressIndex,
 ) -> Result<Summary, AllocError>
-    ensures { IfOk result (IsSummary index.now) }
+    ensures all { IfOk result (IsSummary index.now) }
+    ensures cores { IfOk result (λ summary. summary.cores ≡ cores) }
 {
     let entries = index.all();
     let Counts {
