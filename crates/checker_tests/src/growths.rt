@@ -21,9 +21,9 @@ const SETS: [&[&[u8]; 2]; 4] = [&READ_ACROSS, &BOTH_READ_OLD, &OF_BOTH_FORMATS, 
 fn judges(rt: HostRuntime) -> Result<(), Fail> {
     for by in JUDGES {
         for logs in SETS {
-            let mut answer = judged(&rt, rt.alloc(), by, logs)?;
+            let mut answer = judged(&rt, rt.alloc(), by, logs, 0, &[])?;
             if answer == Err(JudgeFault::OutOfMemory) {
-                answer = judged(&rt, rt.alloc(), by, logs)?;
+                answer = judged(&rt, rt.alloc(), by, logs, 0, &[])?;
             }
             let is_due = matches!(&answer, Ok(verdict) if is_row(by, verdict, logs));
             assert!(rt; is_due, "{by:?}");

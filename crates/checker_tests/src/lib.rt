@@ -4,6 +4,8 @@
 #[cfg(test)]
 mod addresses;
 #[cfg(test)]
+mod failing_reads;
+#[cfg(test)]
 mod growths;
 #[cfg(test)]
 mod hostile_logs;

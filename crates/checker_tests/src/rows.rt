@@ -1,7 +1,7 @@
 //! Worked sets of two logs, and the judges that they are put before.
 
 use core_program::ProgramSet;
-use log_file::{FromWrite, MemSource};
+use log_file::{FromWrite, MemSource, Step};
 use merge_judge::{MergeFault, merge_judge};
 use std::alloc::Global;
 use std::io;
@@ -84,14 +84,21 @@ pub(super) const JUDGES: [Judge; 4] = [
     Judge::Merging,
 ];
 
-/// What a judge answers to the texts of two logs.
+/// What a judge answers to the texts of two logs, where the reads of one of them follow these steps.
 pub(super) fn judged<R: Threads + Sync>(
     rt: &R,
     alloc: Global,
     by: Judge,
     logs: &[&[u8]; 2],
+    file: usize,
+    steps: &[Step],
 ) -> Result<Result<Verdict, JudgeFault>, Fail> {
-    let mut readers = [MemSource::new(logs[0], &[]), MemSource::new(logs[1], &[])];
+    let (zero, one): (&[Step], &[Step]) = if file == 0 {
+        (steps, &[])
+    } else {
+        (&[], steps)
+    };
+    let mut readers = [MemSource::new(logs[0], zero), MemSource::new(logs[1], one)];
     match by {
         Judge::Workers(workers) => Ok(judge(rt, alloc, &mut readers, workers, &Open)),
         Judge::Programs => {
