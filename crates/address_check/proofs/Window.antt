@@ -1,18 +1,19 @@
 -- The part of the sorted list at an address, which stands in one piece.
 use Rattle.std.specs.Prelude.{AllPairs}
-use Rattle.std.proofs.Common.{◌≡◌, ℕ, ◌-◌, ◌==◌, nat_lt, nat_le, ◌+◌, ◌<◌, ◌≤◌, zero, suc, Bool, true, false, List, [], ◌∷◌, length, take, drop, get_or, refl, sym, ◌∙◌, ap, inl, inr, arith}
+use Rattle.std.proofs.Common.{◌≡◌, ◌≢◌, ℕ, ◌-◌, ◌==◌, nat_lt, nat_le, ◌+◌, ◌<◌, ◌≤◌, zero, suc, Bool, true, false, List, [], ◌∷◌, length, take, drop, get_or, refl, sym, ◌∙◌, ap, inl, inr, arith}
 use Rattle.std.specs.declared.cmp.Ordering.{Ordering}
 use Rattle.std.specs.declared.cmp.Ordering.TheVariants.{Less, Equal, Greater}
 use Rattle.std.specs.Ordering.{nat_cmp, ordering_then}
 use Rattle.std.specs.List.{filter}
 use Rattle.std.specs.List.Sorted.{IsNonDecreasingBy, IsPartitionPoint}
-use Rattle.std.proofs.lemmas.Bool.{eqb-true}
+use Rattle.std.proofs.lemmas.Bool.{eqb-true, eq-eqb}
 use Rattle.std.proofs.lemmas.Bool.Decides.{nat_tests, leb_tells}
 use Rattle.std.proofs.lemmas.List.Kept.{AllPairs-filter}
 use Rattle.line_stamps.proofs.Ordered.{In-get_or, In-filter}
 use Rattle.log_record.specs.declared.record.Entry.{Entry}
 use Rattle.log_record.specs.Entries.{entry_cmp}
 use Rattle.address_check.specs.Groups.{place_cmp, AscendsByPlace, at_address, IsGroup}
+use Rattle.address_check.specs.inner.FirstPlace.{IsFirst}
 
 -- a list that a test cuts in three
 filter-window : {X : Type 0} (p : X → Bool) (xs : List X) (i n : ℕ) → ((k : ℕ) (d : X) → k < i → k < length xs → p (get_or xs k d) ≡ false) → ((k : ℕ) (d : X) → i ≤ k → k < i + n → k < length xs → p (get_or xs k d) ≡ true) → ((k : ℕ) (d : X) → i + n ≤ k → k < length xs → p (get_or xs k d) ≡ false) → filter p xs ≡ take n (drop i xs)
@@ -84,3 +85,60 @@ is_group_at a es up = record { one_address = same; ascends = λ i j d p q. befor
 
     same : AllPairs (λ x y. x.logged.addr ≡ y.logged.addr) (at_address a es)
     same i j d p q = here i d (omega arith) ∙ sym (here j d q)
+
+-- ---- a part of the list from the first entry of an address to its last
+
+lower : (x a : ℕ) → x < a → (x == a) ≡ false
+lower x a h = grind (arith, nat_tests)
+
+higher : (x a : ℕ) → a < x → (x == a) ≡ false
+higher x a h = grind (arith, nat_tests)
+
+-- what isn't above an address that comes before `a`
+under_neighbour : (x n a : ℕ) → x ≤ n → n ≤ a → n ≢ a → (x == a) ≡ false
+under_neighbour x n a h k apart = elim (leb_tells a n) [
+  | inl t ↦ absurd (apart (let u : a ≤ n = t.1 in omega arith))
+  | inr t ↦ (let u : n < a = t.1 in lower x a (omega arith))
+]
+
+-- what isn't below an address that comes after `a`
+over_neighbour : (x n a : ℕ) → n ≤ x → a ≤ n → n ≢ a → (x == a) ≡ false
+over_neighbour x n a h k apart = elim (leb_tells n a) [
+  | inl t ↦ absurd (apart (let u : n ≤ a = t.1 in omega arith))
+  | inr t ↦ (let u : a < n = t.1 in higher x a (omega arith))
+]
+
+module _ (a : ℕ) (es : List Entry) (i j : ℕ) (up : AscendsByPlace es) (first : IsFirst es i a) (after : i < j) (within : j ≤ length es) (same : (d : Entry) → (get_or es (j - 1) d).logged.addr ≡ (get_or es i d).logged.addr) (left : j < length es → (d : Entry) → (get_or es j d).logged.addr ≢ (get_or es i d).logged.addr) where
+  rise : IsNonDecreasingBy (λ e. e.logged.addr) es
+  rise = addresses_rise es up
+
+  before : (k : ℕ) (d : Entry) → k < i → k < length es → ((get_or es k d).logged.addr == a) ≡ false
+  before k d h b = under_neighbour (get_or es k d).logged.addr (get_or es (i - 1) d).logged.addr a
+      (rise k (i - 1) d (omega arith) (omega arith))
+      (let e = first.1 d in let r = rise (i - 1) i d (omega arith) (omega arith) in omega arith)
+      (first.2 (omega arith) d)
+
+  between : (k : ℕ) (d : Entry) → i ≤ k → k < j → k < length es → ((get_or es k d).logged.addr == a) ≡ true
+  between k d h m b =
+      let e = first.1 d in
+      let f = same d in
+      let low = rise i k d h b in
+      let high = rise k (j - 1) d (omega arith) (omega arith) in
+      eq-eqb (get_or es k d).logged.addr a (omega arith)
+
+  beyond : (k : ℕ) (d : Entry) → j ≤ k → k < length es → ((get_or es k d).logged.addr == a) ≡ false
+  beyond k d h b =
+      let e = first.1 d in
+      let r = rise i j d (omega arith) (omega arith) in
+      let apart = left (omega arith) d in
+      over_neighbour (get_or es k d).logged.addr (get_or es j d).logged.addr a
+      (rise j k d h b)
+      (omega arith)
+      (λ q. apart (q ∙ sym e))
+
+  -- the part has all entries of the address, and no other
+  pub part_is : take (j - i) (drop i es) ≡ at_address a es
+  part_is = let whole : i + (j - i) ≡ j = omega arith in sym (filter-window (λ e. e.logged.addr == a) es i (j - i)
+      before
+      (λ k d h m b. between k d h (omega arith) b)
+      (λ k d h b. beyond k d (omega arith) b))

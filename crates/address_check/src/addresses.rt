@@ -1,13 +1,13 @@
 //! The check of all addresses, each with its whole group.
 
-ghost use Rattle.std.specs.Prelude.{◌≡◌, ◌<◌, ◌≤◌, ◌-◌, IfOk, get_or, length, refl};
-ghost use Rattle.line_stamps.specs.Least.{least_of};
+ghost use Rattle.std.specs.Prelude.{◌≡◌, ◌≢◌, ◌↔◌, ◌<◌, ◌≤◌, ◌-◌, IfOk, IsTrue, get_or, length, refl};
 ghost use Rattle.line_stamps.specs.Ordered.{In};
 ghost use Rattle.log_record.specs.declared.record.Entry.{Entry};
 ghost use Rattle.address_check.specs.AddressFaults.{least_address_fault};
 ghost use Rattle.address_check.specs.AddressLaw.{least_fault_at-joined};
-ghost use Rattle.address_check.specs.ByAddress.{faults_at, least_fault_at};
-ghost use Rattle.address_check.specs.FaultOrder.{fault_cmp};
+ghost use Rattle.address_check.specs.ByAddress.{least_fault_at};
+ghost use Rattle.address_check.specs.Groups.{at_address, IsGroup};
+ghost use Rattle.address_check.specs.inner.FirstPlace.{IsFirst};
 
 use super::fault::AddressFault;
 use super::gate::{Gate, Phase};
@@ -28,6 +28,8 @@ fn end_of(entries: &[Entry], start: usize) -> usize
     ensures within { result ≤ length entries.now }
     ensures same { (d : Entry) → (get_or entries.now (result - 1) d).logged.addr
         ≡ (get_or entries.now start d).logged.addr }
+    ensures left { result < length entries.now → (d : Entry) →
+        (get_or entries.now result d).logged.addr ≢ (get_or entries.now start d).logged.addr }
 {
     let addr = entries[start].addr();
     let mut end = start + 1;
@@ -42,6 +44,15 @@ fn end_of(entries: &[Entry], start: usize) -> usize
         }
     }
     end
+}
+
+/// Whether the first record of an address stands at a place.
+fn is_first(entries: &[Entry], place: usize, addr: Addr) -> bool
+    ensures { IsTrue result ↔ IsFirst entries.now place addr }
+{
+    place < entries.len()
+        && entries[place].addr() == addr
+        && (place == 0 || entries[place - 1].addr() != addr)
 }
 
 impl AddressIndex {
@@ -61,11 +72,19 @@ impl AddressIndex {
         Ok(addresses)
     }
 
-    /// The fault of least key at an address.
-    fn fault_at(&self, addr: Addr) -> Option<AddressFault>
-        ensures { result ≡ least_of fault_cmp (faults_at self.now addr) }
+    /// The records of an address, in the order of their keys, and the place after them. They are
+    /// found without a search of the whole list where they begin at `near`.
+    fn group_near(&self, addr: Addr, near: usize) -> (&[Entry], usize)
+        ensures value { result.0.now ≡ at_address addr self.now }
+        ensures is_group { IsGroup result.0.now }
     {
-        group_fault(self.group(addr))
+        let entries = self.all();
+        if is_first(entries, near, addr) {
+            let end = end_of(entries, near);
+            return (&entries[near..end], end);
+        }
+        let end = entries.partition_point(|e| e.addr() <= addr);
+        (self.group(addr), end)
     }
 
     /// The address fault of least key, found by `workers` workers at once, 1 to 64, each with whole
@@ -97,8 +116,12 @@ impl LocalCheck for AddressIndex {
 
     fn fault(&self, addresses: &[Addr]) -> Option<AddressFault> {
         let mut least = None;
+        // The addresses are neighbours in the list: a group begins where the one before it ends.
+        let mut near = 0;
         for addr in addresses {
-            least = lesser_fault(least, self.fault_at(*addr));
+            let (group, end) = self.group_near(*addr, near);
+            least = lesser_fault(least, group_fault(group));
+            near = end;
         }
         least
     }
