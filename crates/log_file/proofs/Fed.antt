@@ -8,9 +8,9 @@ use Rattle.std.proofs.lemmas.Grind.{flat_map-append}
 use Rattle.log_record.specs.declared.record.Record.{Record}
 use Rattle.log_file.specs.declared.fault.LogFault.{LogFault}
 use Rattle.log_file.specs.declared.fault.LogFault.TheVariants.{At, OutOfMemory, Read}
-use Rattle.log_file.specs.Answers.{IsAnswer, IsFaultOrMemory, IsFaultOrDevice, IsReadAnswer}
+use Rattle.log_file.specs.Answers.{IsAnswer, IsFaultOf, IsFaultOrMemory, IsFaultOrDevice, IsReadAnswer}
 use Rattle.log_file.specs.Devices.{Tells}
-use Rattle.log_file.specs.Feeding.{Feeds, IsSettled}
+use Rattle.log_file.specs.Feeding.{Feeds, Finishes, IsSettled}
 use Rattle.log_file.proofs.Devices.{told, consumes_told}
 
 -- the answer of a reader that was fed `front` without a fault and then refused a piece
@@ -51,6 +51,23 @@ source_refused core cores old_core old_cores before after given piece f old new 
       subst (λ (x : Result (Vec Record) LogFault). IsReadAnswer core cores bytes x) (sym is)
           (read_fault core cores bytes f (settled_fault core cores (given ++ piece) (told after) f settled)),
     )
+
+first_fault : (core cores : ℕ) (bytes : List ℕ) (f : LogFault) → IsFaultOf core cores bytes f → IsFaultOrDevice core cores bytes f
+first_fault core cores bytes (At k f) h = h
+first_fault core cores bytes OutOfMemory h = absurd h
+first_fault core cores bytes Read h = absurd h
+
+-- the answer to a source whose bytes were all fed without a fault
+pub source_finished : (core cores old_core old_cores : ℕ) (before : Option (List ℕ)) (bytes : List ℕ)
+    (fed : Result (List ℕ) LogFault) (r : Result (Vec Record) LogFault)
+    → Tells before bytes → old_core ≡ core → old_cores ≡ cores → fed ≡ Ok bytes → Finishes old_core old_cores fed r
+    → (bytes : List ℕ) × Tells before bytes × IsReadAnswer core cores bytes r
+source_finished core cores old_core old_cores before bytes fed r tells core-is cores-is is h =
+    (bytes, tells, answer r (rw (core-is, cores-is, is) at h))
+  where
+    answer : (r : Result (Vec Record) LogFault) → Finishes core cores (Ok bytes) r → IsReadAnswer core cores bytes r
+    answer (Ok log) h = h
+    answer (Err f) h = first_fault core cores bytes f h
 
 -- pieces, cut at one of them
 pieces_at : (vs : List (Vec ℕ)) (i : ℕ) (d : Vec ℕ) → i < length vs

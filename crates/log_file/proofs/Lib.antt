@@ -5,6 +5,7 @@ pub mod Fed
 pub mod FedAll
 pub mod FirstLine
 pub mod Front
+pub mod Fronts
 pub mod LineFeeds
 pub mod Lines
 pub mod Once

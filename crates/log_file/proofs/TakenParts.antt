@@ -44,6 +44,18 @@ settled_longer old rs a b f settled =
     subst (λ (xs : List ℕ). IsSettled old.progress.core old.progress.cores xs f) (append_assoc (read_text old rs) a b)
     (settled_front old.progress.core old.progress.cores (read_text old rs ++ a) b f settled)
 
+-- what settles a chunk of what is left settles the piece
+pub settled_at : (old mid : LineReader) (rs ms : List Record) (piece rest chunk later : List ℕ) (f : LogFault) → chunk ++ later ≡ rest
+    → read_text mid ms ++ rest ≡ read_text old rs ++ piece → SameLog old.progress mid.progress → IsSettledWith mid ms chunk f
+    → IsSettledWith old rs piece f
+settled_at old mid rs ms piece rest chunk later f is text same settled =
+    let whole : (read_text mid ms ++ chunk) ++ later ≡ read_text old rs ++ piece =
+    append_assoc (read_text mid ms) chunk later ∙ ap (λ (xs : List ℕ). read_text mid ms ++ xs) is ∙ text in
+    let longer = settled_front mid.progress.core mid.progress.cores (read_text mid ms ++ chunk) later f settled in
+    subst (λ (xs : List ℕ). IsSettled old.progress.core old.progress.cores xs f) whole
+    (subst (λ (k : ℕ). IsSettled old.progress.core k ((read_text mid ms ++ chunk) ++ later) f) same.cores
+    (subst (λ (k : ℕ). IsSettled k mid.progress.cores ((read_text mid ms ++ chunk) ++ later) f) same.core longer))
+
 -- the answer to the second part is that to both
 pub answer_more : {E : Type 0} (old mid new : LineReader) (rs ms ns : List Record) (a b bytes : List ℕ) (r : Result E LogFault) → a ++ b ≡ bytes
     → Takes old rs a mid ms → SameLog old.progress mid.progress
@@ -133,18 +145,20 @@ read_front format old new chunk records progress none same in_records takes =
     (sym (append_cancel_left wanted (records_text records ++ new.begun.items) chunk joined), subst (λ (f : Format). AllByRecursion (FitsIn f) records) same_format log.each_fits)
 
 pub has_front : (format : Format) (chunk begun : List ℕ) (records : List Record) (front : Front) → chunk ≡ records_text records ++ begun
-    → AllByRecursion (FitsIn format) records → front.records.items ≡ records → front.taken ≡ length chunk - length begun → HasFront format chunk front
-has_front format chunk begun records front is fit same taken =
+    → AllByRecursion (FitsIn format) records → front.len ≡ length chunk → front.records.items ≡ records → front.taken ≡ length chunk - length begun → HasFront format chunk front
+has_front format chunk begun records front is fit whole same taken =
     let long : length chunk ≡ length (records_text records) + length begun = ap length is ∙ length-append (records_text records) begun in
     let many : front.taken ≡ length (records_text records) = omega (arith, taken, long) in
     record {
+      whole = whole;
       within = omega (arith, many, long);
       lines = rw (many, is, same) (take-append_seam (records_text records) begun);
       fit = rw same fit;
     }
 
-pub no_front : (format : Format) (chunk : List ℕ) (front : Front) → front.records.items ≡ [] → front.taken ≡ 0 → HasFront format chunk front
-no_front format chunk front none zero = record {
+pub no_front : (format : Format) (chunk : List ℕ) (front : Front) → front.len ≡ length chunk → front.records.items ≡ [] → front.taken ≡ 0 → HasFront format chunk front
+no_front format chunk front whole none zero = record {
+  whole = whole;
   within = omega (arith, zero);
   lines = rw (none, zero) refl;
   fit = rw none tt;

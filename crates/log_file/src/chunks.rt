@@ -1,17 +1,21 @@
 //! Pieces cut into chunks, whose lines several workers read at once.
 
-ghost use Rattle.std.specs.Prelude.{◌≡◌, ◌≤◌, ◌++◌, [], length};
-ghost use Rattle.log_file.specs.inner.Chunks.{HasFront};
+ghost use Rattle.std.specs.Prelude.{◌≡◌, ◌≤◌, ◌++◌, [], IfOk, IfSome, length};
+ghost use Rattle.std.specs.Thread.{IsSync};
+ghost use Rattle.log_file.specs.inner.Chunks.{HasFront, HasFronts};
 
 use super::line_reader::LineReader;
 use super::taking::take_piece;
 use log_record::{Format, Record};
 use memchr::memchr;
-use std::alloc::Global;
+use std::alloc::{AllocError, Global};
+use std::thread::{Threads, join_mut};
 
 /// The records whose lines stand at the front of a chunk.
 #[derive(Drop)]
 pub(crate) struct Front {
+    /// How many bytes the chunk has.
+    pub(crate) len: usize,
     /// The records.
     pub(crate) records: Vec<Record>,
     /// How many bytes their lines are, each with its line feed.
@@ -19,15 +23,33 @@ pub(crate) struct Front {
 }
 
 impl Front {
-    /// No records.
-    fn empty(alloc: Global) -> Front
+    /// No records of a chunk of this length.
+    fn empty(alloc: Global, len: usize) -> Front
+        ensures len { result.len ≡ len }
         ensures records { result.records.items ≡ [] }
         ensures taken { result.taken ≡ 0 }
     {
         Front {
+            len,
             records: Vec::new(alloc),
             taken: 0,
         }
+    }
+}
+
+/// The fronts of the chunks of a text, one after another, as those of a log of this format.
+#[derive(Drop)]
+pub(crate) struct Fronts {
+    /// The format.
+    pub(crate) format: Format,
+    /// The fronts.
+    pub(crate) list: Vec<Front>,
+}
+
+impl Fronts {
+    /// Whether workers have found records in each chunk after the first line. Where not, a line of it isn't a record's.
+    pub(crate) fn are_read(&self) -> bool {
+        self.list.iter().skip(1).all(|front| front.taken > 0)
     }
 }
 
@@ -52,13 +74,63 @@ pub(crate) fn front_of(alloc: Global, format: Format, chunk: &[u8]) -> Front
     let mut lines = LineReader::behind_a_header(format);
     let mut records = Vec::new(alloc);
     let Ok(()) = take_piece(&mut lines, &mut records, chunk) else {
-        return Front::empty(alloc);
+        return Front::empty(alloc, chunk.len());
     };
     let Some(begun) = lines.begun_line() else {
-        return Front::empty(alloc);
+        return Front::empty(alloc, chunk.len());
     };
     Front {
+        len: chunk.len(),
         records,
         taken: chunk.len() - begun.len(),
+    }
+}
+
+/// The fronts of a text that is cut into its first line, of which no record is read since its beginning may lie before
+/// the text, and a chunk for each of `workers` workers, which read them at once. The calling thread only waits for them.
+fn list_fronts<R: Threads + Sync>(
+    rt: &R,
+    alloc: Global,
+    format: Format,
+    text: &[u8],
+    workers: usize,
+) -> Result<Vec<Front>, AllocError>
+    ensures { IfOk result (λ list. HasFronts format text.now list.items) }
+{
+    if workers == 0 {
+        return Ok(vec![in alloc; Front::empty(alloc, text.len())]?);
+    }
+    let others = workers - 1;
+    let place = (text.len() / workers).saturating_mul(others);
+    let (front, back) = cut(text, place.min(text.len()));
+    let (last, list) = join_mut(
+        rt,
+        &mut || -> Front
+            ensures { HasFront format back.entry.now result }
+        { front_of(alloc, format, back) },
+        &mut || -> Result<Vec<Front>, AllocError>
+            requires { IsSync R.row }
+            ensures { IfOk result (λ list. HasFronts format front.entry.now list.items) }
+        { list_fronts(rt, alloc, format, front, others) },
+    );
+    let mut list = list?;
+    list.push(last)?;
+    Ok(list)
+}
+
+/// What `workers` workers read at once of the lines of a piece, as those of a log of this format; nothing where memory
+/// for it was refused. The piece may begin within a line.
+pub(crate) fn fronts_of<R: Threads + Sync>(
+    rt: &R,
+    alloc: Global,
+    format: Format,
+    piece: &[u8],
+    workers: usize,
+) -> Option<Fronts>
+    ensures { IfSome result (λ fronts. HasFronts fronts.format piece.now fronts.list.items) }
+{
+    match list_fronts(rt, alloc, format, piece, workers) {
+        Ok(list) => Some(Fronts { format, list }),
+        Err(_) => None,
     }
 }

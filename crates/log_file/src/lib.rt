@@ -1,6 +1,7 @@
 //! Log files: the devices that hold them, the reader of one, and its writer.
 #![tactic(auto)]
 
+mod ahead;
 mod byte_sink;
 mod byte_source;
 mod chunks;

@@ -4,6 +4,7 @@ ghost use Rattle.std.specs.Prelude.{◌≡◌, ◌<◌, ◌≤◌, ◌^◌, ℕ,
 ghost use Rattle.log_file.specs.Devices.{Failed, Tells};
 ghost use Rattle.log_file.specs.Answers.{IsReadAnswer};
 
+use super::ahead::read_ahead;
 use super::byte_source::ByteSource;
 use super::fault::LogFault;
 use super::log_reader::LogReader;
@@ -18,46 +19,24 @@ const FIRST_PIECE: usize = 1_024;
 /// The most bytes of a piece that the calling thread takes alone: they stay near the processor.
 const PIECE: usize = 65_536;
 
-/// The most bytes of a piece whose lines several workers read: enough to be worth their threads.
-const SHARED_PIECE: usize = 2_097_152;
-
-/// How many of the workers take a piece of `bytes` bytes: a short one isn't worth their threads.
-fn takers(bytes: usize, workers: usize) -> usize {
-    if bytes < PIECE { 1 } else { workers }
-}
-
-/// The most bytes of a piece, for this number of workers.
-fn piece_len(workers: usize) -> usize
-    ensures { 0 < result }
-{
-    if workers <= 1 { PIECE } else { SHARED_PIECE }
-}
-
 /// The buffer for the next piece, after one of `count` bytes came through this: a greater one where that filled it.
-fn next_buffer(
-    alloc: Global,
-    buf: Vec<u8>,
-    count: usize,
-    workers: usize,
-) -> Result<Vec<u8>, AllocError>
+fn next_buffer(alloc: Global, buf: Vec<u8>, count: usize) -> Result<Vec<u8>, AllocError>
     requires { 0 < vec_len buf }
     ensures { IfOk result (λ next. 0 < vec_len next) }
 {
-    if count < buf.len() || buf.len() >= piece_len(workers) {
+    if count < buf.len() || buf.len() >= PIECE {
         return Ok(buf);
     }
-    vec![in alloc; 0u8; piece_len(workers)]
+    vec![in alloc; 0u8; PIECE]
 }
 
 /// The log that a reader answers that was fed nothing, when it is fed all that the source has, piece by
 /// piece, the first one through this buffer.
-fn read_through<R: Threads + Sync, S: ByteSource>(
-    rt: &R,
+fn read_through<S: ByteSource>(
     alloc: Global,
     source: &mut S,
     mut reader: LogReader,
     mut buf: Vec<u8>,
-    workers: usize,
 ) -> Result<Vec<Record>, LogFault>
     requires fed { reader.fed ≡ Ok [] }
     requires room { 0 < vec_len buf }
@@ -73,8 +52,8 @@ fn read_through<R: Threads + Sync, S: ByteSource>(
         if count == 0 {
             return reader.finish();
         }
-        reader.feed_by(rt, alloc, &room[..count], takers(count, workers))?;
-        buf = next_buffer(alloc, buf, count, workers)?;
+        reader.feed(&room[..count])?;
+        buf = next_buffer(alloc, buf, count)?;
     }
 }
 
@@ -103,5 +82,8 @@ pub fn read_log<R: Threads + Sync, S: ByteSource>(
 {
     let reader = LogReader::new(alloc, core, cores);
     let buf = vec![in alloc; 0u8; FIRST_PIECE]?;
-    read_through(rt, alloc, source, reader, buf, workers)
+    if workers <= 1 {
+        return read_through(alloc, source, reader, buf);
+    }
+    read_ahead(rt, alloc, source, reader, buf, workers)
 }

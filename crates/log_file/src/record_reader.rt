@@ -7,12 +7,14 @@ ghost use Rattle.log_file.specs.Answers.{IsFaultOf};
 ghost use Rattle.log_file.specs.Feeding.{IsSettled};
 ghost use Rattle.log_file.specs.Keeping.{KeepsRecords};
 ghost use Rattle.log_file.specs.Log.{Spells};
+ghost use Rattle.log_file.specs.inner.Chunks.{HasFronts};
 ghost use Rattle.log_file.specs.Standing.{IsInRange, IsSettledWith, SameLog, Stands, TakesRecord};
 
+use super::chunks::Fronts;
 use super::fault::LogFault;
 use super::line_reader::LineReader;
-use super::taking::{take_piece, take_piece_by};
-use log_record::Record;
+use super::taking::{take_fronts, take_piece, take_piece_by};
+use log_record::{Format, Record};
 use mem_op::CoreId;
 use std::alloc::Global;
 use std::marker::Model;
@@ -155,6 +157,39 @@ impl RecordReader {
             self.fault = Some(fault);
         }
         shared
+    }
+
+    /// Takes all of a piece as `feed_all` does, whose chunks' fronts workers have read.
+    pub(crate) fn feed_fronts(
+        &mut self,
+        records: &mut Vec<Record>,
+        piece: &[u8],
+        fronts: &Fronts,
+    ) -> Result<(), LogFault>
+        requires kept { KeepsRecords self.old records.old.items }
+        requires fronts { HasFronts fronts.now.format piece.now fronts.now.list.items }
+        ensures core { self.new.core ≡ self.old.core }
+        ensures cores { self.new.cores ≡ self.old.cores }
+        ensures fed { self.old.fault ≡ None → MatchResult result
+            (λ _. HasAnswered self.new (fed_text self.old records.old.items ++ piece.now) records.new.items)
+            (λ fault. (self.new.fault ≡ Some fault) × IsSettled self.old.core self.old.cores
+            (fed_text self.old records.old.items ++ piece.now) fault) }
+        ensures again { IfSome self.old.fault (λ fault.
+            MatchResult result (λ _. ⊥) (λ f. f ≡ fault) × (self.new.fault ≡ Some fault)) }
+    {
+        if let Some(fault) = self.fault {
+            return Err(fault);
+        }
+        let outcome = take_fronts(&mut self.lines, records, piece, fronts);
+        if let Err(fault) = outcome {
+            self.fault = Some(fault);
+        }
+        outcome
+    }
+
+    /// The format of the log, where its header was read and its end line wasn't.
+    pub(crate) fn format(&self) -> Option<Format> {
+        self.lines.format()
     }
 
     /// Whether the log is whole, where its bytes end here: the fault that came before, or Truncated at

@@ -1,16 +1,15 @@
 //! How the pieces of a log are taken: by the calling thread alone, or with other workers.
 
-ghost use Rattle.std.specs.Prelude.{◌≡◌, ◌<◌, ◌≤◌, length, MatchResult};
-ghost use Rattle.std.specs.Thread.{IsSync};
-ghost use Rattle.log_file.specs.inner.Chunks.{HasFront};
+ghost use Rattle.std.specs.Prelude.{◌≡◌, ◌<◌, ◌≤◌, IfSome, length, MatchResult};
+ghost use Rattle.log_file.specs.inner.Chunks.{HasFront, HasFronts};
 ghost use Rattle.log_file.specs.Standing.{IsInRange, IsSettledWith, SameLog, Stands, Takes};
 
-use super::chunks::{Front, cut, front_of};
+use super::chunks::{Front, Fronts, cut, fronts_of};
 use super::fault::LogFault;
 use super::line_reader::LineReader;
 use log_record::{Format, Record};
 use std::alloc::Global;
-use std::thread::{Threads, join_mut};
+use std::thread::Threads;
 
 /// Takes all of a piece, and keeps its records.
 pub(crate) fn take_piece(
@@ -61,56 +60,34 @@ fn take_front(
     take_piece(lines, records, rest)
 }
 
-/// Takes all of a piece, whose lines `workers` workers read at once, and keeps its records. The calling
-/// thread is a worker itself: it reads the first chunk, and takes the records of the others in order. While
-/// the header, which tells their format, isn't read, or after the end line, it reads the lines alone.
-fn take_lines_by<R: Threads + Sync>(
-    rt: &R,
-    alloc: Global,
+/// Takes all of a piece, whose chunks' fronts workers have read, and keeps its records.
+pub(crate) fn take_fronts(
     lines: &mut LineReader,
     records: &mut Vec<Record>,
     piece: &[u8],
-    workers: usize,
+    fronts: &Fronts,
 ) -> Result<(), LogFault>
     requires in_range { IsInRange lines.old.progress }
     requires stands { Stands lines.old records.old.items }
+    requires fronts { HasFronts fronts.now.format piece.now fronts.now.list.items }
     ensures same { SameLog lines.old.progress lines.new.progress }
     ensures in_range { IsInRange lines.new.progress }
     ensures taken { MatchResult result
         (λ _. Takes lines.old records.old.items piece.now lines.new records.new.items)
         (IsSettledWith lines.old records.old.items piece.now) }
 {
-    if workers <= 1 {
-        return take_piece(lines, records, piece);
+    let mut rest = piece;
+    for front in &fronts.list {
+        let (chunk, later) = rest.split_at(front.len);
+        take_front(lines, records, fronts.format, chunk, front)?;
+        rest = later;
     }
-    let Some(format) = lines.format() else {
-        return take_piece(lines, records, piece);
-    };
-    let others = workers - 1;
-    let share = piece.len() / workers.saturating_add(1);
-    let (earlier, last) = cut(piece, piece.len().saturating_sub(2 * share));
-    let (front, taken) = join_mut(
-        rt,
-        &mut || -> Front
-            ensures { HasFront format last.entry.now result }
-        { front_of(alloc, format, last) },
-        &mut || -> Result<(), LogFault>
-            requires { IsSync R.row × IsInRange lines.now.progress
-                × Stands lines.now records.now.items }
-            ensures same { SameLog lines.entry.now.progress lines.exit.now.progress }
-            ensures in_range { IsInRange lines.exit.now.progress }
-            ensures taken { MatchResult result
-                (λ _. Takes lines.entry.now records.entry.now.items earlier.entry.now
-                lines.exit.now records.exit.now.items)
-                (IsSettledWith lines.entry.now records.entry.now.items earlier.entry.now) }
-        { take_lines_by(rt, alloc, lines, records, earlier, others) },
-    );
-    taken?;
-    take_front(lines, records, format, last, &front)
+    Ok(())
 }
 
 /// Takes all of a piece, whose lines `workers` workers read at once, and keeps its records. The calling
-/// thread reads the first line before the others: it may be the header.
+/// thread reads the first line before the others: it may be the header, which tells their format. After the end
+/// line it reads the lines alone.
 pub(crate) fn take_piece_by<R: Threads + Sync>(
     rt: &R,
     alloc: Global,
@@ -129,5 +106,25 @@ pub(crate) fn take_piece_by<R: Threads + Sync>(
 {
     let (first, rest) = cut(piece, 0);
     take_piece(lines, records, first)?;
-    take_lines_by(rt, alloc, lines, records, rest, workers)
+    match read_by(rt, alloc, lines.format(), rest, workers) {
+        Some(fronts) => take_fronts(lines, records, rest, &fronts),
+        None => take_piece(lines, records, rest),
+    }
+}
+
+/// What `workers` workers read at once of a piece of a log of this format; nothing where the format isn't known, or
+/// there are no two workers.
+fn read_by<R: Threads + Sync>(
+    rt: &R,
+    alloc: Global,
+    format: Option<Format>,
+    piece: &[u8],
+    workers: usize,
+) -> Option<Fronts>
+    ensures { IfSome result (λ fronts. HasFronts fronts.format piece.now fronts.list.items) }
+{
+    if workers <= 1 {
+        return None;
+    }
+    fronts_of(rt, alloc, format?, piece, workers)
 }

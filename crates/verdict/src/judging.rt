@@ -48,8 +48,8 @@ pub(crate) fn answer_to<R: Threads + Sync, S: ByteSource, G: Gate + Sync>(
 /// The verdict on the set of logs that the readers give, file `k` the log of core `k` of as many cores
 /// as there are files. A set that gets Yes is sequentially consistent, whoever made its logs.
 ///
-/// The calling thread reads the files in their order and stops at the first fault; the lines of each
-/// part of a file that it has read are parsed by all workers before it reads on. Then come the phases
+/// The calling thread reads the files in their order and stops at the first fault. Of what it has read of a
+/// file all workers but one parse a part, while that one takes the records of the part before. Then come the phases
 /// `Cores` and, where no core has a fault, `Addresses`, each cut into as many pieces as there are
 /// workers. Each worker enters the gate with the number of its piece, from 1; a single worker is the
 /// calling thread.

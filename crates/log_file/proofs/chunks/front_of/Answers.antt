@@ -19,4 +19,4 @@ returns c =
     let begun = c.take_piece.new.lines.begun.items in
     let read = read_front c.args.format c.behind_a_header-lines.result c.take_piece.new.lines c.args.chunk.now records c.behind_a_header-lines.ensures.progress
     c.behind_a_header-lines.ensures.none_begun c.in-Ok.ensures.same c.in-Some.ensures.some.1 (rw c.new-records.ensures.items at c.in-Ok.ensures.taken) in
-    has_front c.args.format c.args.chunk.now begun records _ read.0 read.1 refl (search rules)
+    has_front c.args.format c.args.chunk.now begun records _ read.0 read.1 refl refl (search rules)

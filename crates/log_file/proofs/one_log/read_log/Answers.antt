@@ -9,7 +9,12 @@ returns-in_err-buf-clause-answer g c =
     let old = g.S.ByteSource.remaining c.args.source.now in
     rw (p.1, p.2) (told old, tells_told old, tt)
 
+pub returns-then-workers-le1-clause-answer : goal.returns-then-workers-le1-clause-answer
+returns-then-workers-le1-clause-answer g c =
+    let answer = c.read_through.ensures.answer in
+    (answer.0, answer.1, rw c.new-reader.ensures at answer.2)
+
 pub returns-clause-answer : goal.returns-clause-answer
 returns-clause-answer g c =
-    let answer = c.read_through.ensures.answer in
+    let answer = c.read_ahead.ensures.answer in
     (answer.0, answer.1, rw c.new-reader.ensures at answer.2)

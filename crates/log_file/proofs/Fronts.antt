@@ -1,0 +1,42 @@
+-- The fronts of chunks that follow one another.
+use Rattle.std.proofs.Common.{◌≡◌, ℕ, zero, suc, ◌+◌, ◌<◌, ◌≤◌, List, [], ◌∷◌, ◌++◌, length, take, drop, get_or, sym, subst, arith}
+use Rattle.std.proofs.lemmas.List.{drop_more, take_all, drop_all, take-append-le, drop-append-le}
+use Rattle.log_record.specs.declared.format.Format.{Format}
+use Rattle.log_file.specs.declared.chunks.Front.{Front}
+use Rattle.log_file.specs.inner.Chunks.{HasFront, HasFronts}
+
+-- a list is at least as long as what is taken of it
+take_within : (n : ℕ) (xs : List ℕ) → n ≡ length (take n xs) → n ≤ length xs
+take_within zero xs e = omega arith
+take_within (suc n) [] e = absurd (omega (arith, e))
+take_within (suc n) (x ∷ xs) e = let l = take_within n xs (omega (arith, e)) in omega (arith, l)
+
+-- the first chunk lies within the text
+pub first_within : (format : Format) (text : List ℕ) (front : Front) → HasFront format (take front.len text) front → front.len ≤ length text
+first_within format text front has = take_within front.len text has.whole
+
+-- the front at a place, and those after it
+pub front_at : (format : Format) (text : List ℕ) (fronts : List Front) (i : ℕ) (d : Front) → i < length fronts → HasFronts format text (drop i fronts)
+    → HasFront format (take (get_or fronts i d).len text) (get_or fronts i d) × HasFronts format (drop (get_or fronts i d).len text) (drop (i + 1) fronts)
+front_at format text fronts i d lt has = subst (λ (fs : List Front). HasFronts format text fs) (drop_more fronts i d lt) has
+
+-- after the last front there is nothing left
+pub none_after : (format : Format) (text : List ℕ) (fronts : List Front) (i : ℕ) → length fronts ≤ i → HasFronts format text (drop i fronts) → text ≡ []
+none_after format text [] zero le has = has
+none_after format text [] (suc i) le has = has
+none_after format text (front ∷ fronts) zero le has = absurd (omega (arith, le))
+none_after format text (front ∷ fronts) (suc i) le has = none_after format text fronts i (omega (arith, le)) has
+
+-- the fronts of two texts are those of both, one after the other
+pub both : (format : Format) (xs ys : List ℕ) (fs gs : List Front) → HasFronts format xs fs → HasFronts format ys gs → HasFronts format (xs ++ ys) (fs ++ gs)
+both format xs ys [] gs p q = subst (λ (text : List ℕ). HasFronts format (text ++ ys) gs) (sym p) q
+both format xs ys (f ∷ fs) gs p q =
+    let le = first_within format xs f p.0 in (
+      subst (λ (text : List ℕ). HasFront format text f) (sym (take-append-le f.len xs ys le)) p.0,
+      subst (λ (text : List ℕ). HasFronts format text (fs ++ gs)) (sym (drop-append-le f.len xs ys le)) (both format (drop f.len xs) ys fs gs p.1 q),
+    )
+
+-- the front of a text that is one chunk
+pub alone : (format : Format) (text : List ℕ) (front : Front) → HasFront format text front → HasFronts format text (front ∷ [])
+alone format text front has =
+    (subst (λ (xs : List ℕ). HasFront format xs front) (sym (take_all front.len text (omega (arith, has.whole)))) has, drop_all front.len text (omega (arith, has.whole)))

@@ -1,0 +1,220 @@
+//! A log read from a device by several workers, who take a piece while they read the lines of the next one.
+
+ghost use Rattle.std.specs.Prelude.{◌≡◌, ◌<◌, ◌≤◌, ◌^◌, ◌+◌, ◌++◌, ℕ, List, [], Ok, Err, IfOk, IfErr, IfSome, IsErrOf, OnOk, length, take, vec_len};
+ghost use Rattle.std.specs.Io.KnownBytes.{Consumes, IsAtEnd};
+ghost use Rattle.std.specs.Thread.{IsSync};
+ghost use Rattle.log_file.specs.Devices.{CountsFailure, Failed, Tells};
+ghost use Rattle.log_file.specs.Answers.{IsReadAnswer};
+ghost use Rattle.log_file.specs.Feeding.{Feeds, fed_len};
+ghost use Rattle.log_file.specs.inner.Chunks.{HasFronts, IsPiece, text_in};
+
+use super::byte_source::ByteSource;
+use super::chunks::{Fronts, fronts_of};
+use super::device_fault::ReadFailed;
+use super::fault::LogFault;
+use super::log_reader::LogReader;
+use log_record::Record;
+use std::alloc::{AllocError, Global};
+use std::thread::{Threads, join_mut};
+
+/// The fewest bytes of a piece that are worth the threads of workers.
+const LEAST: usize = 65_536;
+
+/// The most bytes of a piece.
+const MOST: usize = 2_097_152;
+
+/// A piece that was read.
+#[derive(Drop)]
+struct Piece {
+    /// Its bytes, and room after them.
+    buf: Vec<u8>,
+    /// How many bytes it has.
+    len: usize,
+    /// What workers have read of it, if they have.
+    fronts: Option<Fronts>,
+}
+
+impl Piece {
+    /// A piece of no bytes.
+    fn empty(alloc: Global) -> Piece
+        ensures piece { IsPiece result }
+        ensures none { text_in result ≡ [] }
+        ensures len { result.len ≡ 0 }
+        ensures room { vec_len result.buf ≡ 0 }
+    {
+        Piece {
+            buf: Vec::new(alloc),
+            len: 0,
+            fronts: None,
+        }
+    }
+
+    /// The next piece of a source, read into this buffer; it has no bytes where the source is at its end.
+    fn read<S: ByteSource>(source: &mut S, buf: Vec<u8>) -> Result<Piece, ReadFailed>
+        requires { 0 < vec_len buf }
+        ensures piece { IfOk result IsPiece }
+        ensures room { IfOk result (λ piece. vec_len piece.buf ≡ vec_len buf) }
+        ensures bytes { IfOk result (λ piece.
+            Consumes (S.remaining source.old) (S.remaining source.new) (text_in piece)) }
+        ensures end { IfOk result (λ piece. piece.len ≡ 0 → IsAtEnd (S.remaining source.new)) }
+        ensures counts { CountsFailure (S.failed source.old) (S.failed source.new) result }
+    {
+        let mut buf = buf;
+        let len = source.read(buf.as_mut_slice())?;
+        Ok(Piece {
+            buf,
+            len,
+            fronts: None,
+        })
+    }
+
+    /// Has the reader take the piece.
+    fn feed_to(&self, reader: &mut LogReader) -> Result<(), LogFault>
+        requires { IsPiece self.now }
+        ensures core { reader.new.core ≡ reader.old.core }
+        ensures cores { reader.new.cores ≡ reader.old.cores }
+        ensures fed { Feeds reader.old.core reader.old.cores
+            reader.old.fed (text_in self.now) result reader.new.fed }
+        ensures bounded { OnOk result (fed_len reader.new.fed < 2 ^ 27) }
+    {
+        let text = &self.buf[..self.len];
+        match &self.fronts {
+            Some(fronts) => reader.feed_fronts(text, fronts),
+            None => reader.feed(text),
+        }
+    }
+
+    /// Has the reader take the piece, and the lines of the next one read meanwhile, where that is worth the threads: one
+    /// of `workers` workers takes, and the others read.
+    fn feed_beside<R: Threads + Sync>(
+        &self,
+        rt: &R,
+        alloc: Global,
+        reader: &mut LogReader,
+        next: &mut Piece,
+        workers: usize,
+    ) -> Result<(), LogFault>
+        requires held { IsPiece self.now }
+        requires next { IsPiece next.old }
+        ensures core { reader.new.core ≡ reader.old.core }
+        ensures cores { reader.new.cores ≡ reader.old.cores }
+        ensures fed { Feeds reader.old.core reader.old.cores
+            reader.old.fed (text_in self.now) result reader.new.fed }
+        ensures bounded { OnOk result (fed_len reader.new.fed < 2 ^ 27) }
+        ensures long { OnOk result ((bytes : List ℕ) → reader.old.fed ≡ Ok bytes →
+            fed_len reader.new.fed ≡ fed_len reader.old.fed + self.now.len) }
+        ensures piece { IsPiece next.new }
+        ensures buf { next.new.buf ≡ next.old.buf }
+        ensures len { next.new.len ≡ next.old.len }
+    {
+        let text = &next.buf[..next.len];
+        if text.len() < LEAST {
+            return self.feed_to(reader);
+        }
+        let format = reader.format();
+        let others = workers.saturating_sub(1);
+        let (fed, fronts) = join_mut(
+            rt,
+            &mut || -> Result<(), LogFault>
+                requires { IsPiece self.now }
+                ensures core { reader.exit.now.core ≡ reader.entry.now.core }
+                ensures cores { reader.exit.now.cores ≡ reader.entry.now.cores }
+                ensures fed { Feeds reader.entry.now.core reader.entry.now.cores
+                    reader.entry.now.fed (text_in self.entry.now) result reader.exit.now.fed }
+                ensures bounded { OnOk result (fed_len reader.exit.now.fed < 2 ^ 27) }
+            { self.feed_to(reader) },
+            &mut || -> Option<Fronts>
+                requires { IsSync R.row }
+                ensures { IfSome result (λ fronts. HasFronts fronts.format text.entry.now fronts.list.items) }
+            { fronts_of(rt, alloc, format?, text, others) },
+        );
+        next.fronts = fronts;
+        fed
+    }
+
+    /// Whether workers have read its lines, and found nothing but records.
+    fn is_read(&self) -> bool {
+        match &self.fronts {
+            Some(fronts) => fronts.are_read(),
+            None => false,
+        }
+    }
+
+    /// Holds the piece back where workers have read it; else the reader takes it at once, so that no more is read of a
+    /// log before a fault that shows is told, and its room is left.
+    fn hold_or_feed(self, reader: &mut LogReader) -> Result<Piece, LogFault>
+        requires { IsPiece self }
+        ensures core { reader.new.core ≡ reader.old.core }
+        ensures cores { reader.new.cores ≡ reader.old.cores }
+        ensures piece { IfOk result IsPiece }
+        ensures room { IfOk result (λ held. vec_len held.buf ≡ vec_len self.buf) }
+        ensures fed { IfOk result (λ held. (bytes : List ℕ) → reader.old.fed ≡ Ok bytes →
+            (more : List ℕ) × (reader.new.fed ≡ Ok more) × (more ++ text_in held ≡ bytes ++ text_in self)) }
+        ensures bounded { OnOk result (fed_len reader.old.fed < 2 ^ 27 → fed_len reader.new.fed < 2 ^ 27) }
+        ensures long { IfOk result (λ held. (bytes : List ℕ) → reader.old.fed ≡ Ok bytes →
+            fed_len reader.new.fed + held.len ≡ fed_len reader.old.fed + self.len) }
+        ensures refused { IfErr result (λ fault. Feeds reader.old.core reader.old.cores
+            reader.old.fed (text_in self) (Err fault) reader.new.fed) }
+    {
+        if self.is_read() {
+            return Ok(self);
+        }
+        self.feed_to(reader)?;
+        Ok(Piece {
+            buf: self.buf,
+            len: 0,
+            fronts: None,
+        })
+    }
+
+    /// The buffer for the piece after this one: this, or a greater one where the piece filled its own.
+    fn room_after(&self, alloc: Global, buf: Vec<u8>) -> Result<Vec<u8>, AllocError>
+        requires some { 0 < vec_len self.now.buf }
+        requires few { vec_len self.now.buf ≤ 2097152 }
+        requires little { vec_len buf ≤ 2097152 }
+        ensures some { IfOk result (λ next. 0 < vec_len next) }
+        ensures few { IfOk result (λ next. vec_len next ≤ 2097152) }
+    {
+        let mut room = self.buf.len();
+        if self.len == room {
+            room = if room < LEAST { LEAST } else { MOST };
+        }
+        if buf.len() >= room {
+            return Ok(buf);
+        }
+        vec![in alloc; 0u8; room]
+    }
+}
+
+/// The log that a reader answers that was fed nothing, when it is fed all that the source has, piece by
+/// piece, the first one through this buffer. The calling thread reads the source and then waits for the workers: one
+/// of them takes the piece before, and the others read the lines of this one.
+pub(crate) fn read_ahead<R: Threads + Sync, S: ByteSource>(
+    rt: &R,
+    alloc: Global,
+    source: &mut S,
+    mut reader: LogReader,
+    mut room: Vec<u8>,
+    workers: usize,
+) -> Result<Vec<Record>, LogFault>
+    requires fed { reader.fed ≡ Ok [] }
+    requires room { 0 < vec_len room }
+    requires few { vec_len room ≤ 2097152 }
+    ensures answer { (bytes : List ℕ) × Tells (S.remaining source.old) bytes
+        × IsReadAnswer reader.core reader.cores bytes result }
+    ensures read { IsErrOf result LogFault.Read →
+        Failed (S.failed source.old) (S.failed source.new) }
+    ensures quiet { ¬ IsErrOf result LogFault.Read → S.failed source.new ≡ S.failed source.old }
+{
+    let mut held = Piece::empty(alloc);
+    loop {
+        let mut next = Piece::read(source, room)?;
+        if next.len == 0 {
+            held.feed_to(&mut reader)?;
+            return reader.finish();
+        }
+        held.feed_beside(rt, alloc, &mut reader, &mut next, workers)?;
+        room = next.room_after(alloc, held.buf)?;
+        held = next.hold_or_feed(&mut reader)?;
+    }
+}
