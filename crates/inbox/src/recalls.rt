@@ -33,6 +33,10 @@ impl Inbox {
 
     /// Takes the recall that has waited longest, if one waits.
     pub fn poll<R: Wait>(&self, rt: &R) -> Option<Recall> {
+        // Mostly none waits, which two loads tell.
+        if self.queue.is_empty() {
+            return None;
+        }
         self.queue.pop(rt)
     }
 }

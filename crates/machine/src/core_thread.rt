@@ -96,8 +96,7 @@ fn run_program<T: Port, P: Pace, R: Wait>(
 
 // Whether the core's program has ended.
 fn has_ended(unit: &CoreUnit) -> bool {
-    unit.replays();
-    unit.program_state().next_op(unit.program()).is_none()
+    unit.program_state().position() >= unit.program().instructions().len()
 }
 
 // Makes turns until one more operation is performed: 31 where the pace says Stop, 30 where as many turns as the configuration
@@ -161,10 +160,17 @@ fn answer_recall<T: Port, R: Wait>(
     let Some(own) = inboxes.get(unit.core().get() as usize) else {
         return Ok(());
     };
-    let Some(recall) = own.poll(rt) else {
-        return Ok(());
-    };
-    match unit.recall(&recall) {
+    match own.poll(rt) {
+        Some(recall) => give_back(unit, port, &recall),
+        None => Ok(()),
+    }
+}
+
+// Gives the line back that a recall asks for, where the core has it as Exclusive.
+fn give_back<T: Port>(unit: &mut CoreUnit, port: &mut T, recall: &Recall) -> Result<(), Cause>
+    ensures { SameUnit unit.old unit.new }
+{
+    match unit.recall(recall) {
         Ok(Outcome::Gave(message)) => {
             exchange(unit, port, &message)?;
             Ok(())
