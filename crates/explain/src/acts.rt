@@ -4,10 +4,11 @@ ghost use Rattle.std.specs.Prelude.{◌≡◌, count_by};
 ghost use Rattle.explain.specs.Kinds.{is_load, is_only_store, is_swap};
 ghost use Rattle.explain.specs.WrongReads.{named_id};
 
-use super::shown::id_text;
+use super::shown::ShownId;
 use log_record::{Act, Entry};
 use mem_op::{Op, OpId, Source};
 use std::alloc::{AllocError, Global};
+use std::fmt;
 
 /// The id that the source of an operation names; none where that is the initial 0, or there is no source.
 pub(crate) fn named_id(entry: &Entry) -> Option<OpId>
@@ -20,7 +21,7 @@ pub(crate) fn named_id(entry: &Entry) -> Option<OpId>
 }
 
 /// How many operations there are of each kind.
-#[derive(Clone, Copy, Debug, PartialEq, Eq)]
+#[derive(Clone, Copy)]
 pub(crate) struct Counts {
     pub(crate) loads: usize,
     pub(crate) stores: usize,
@@ -81,34 +82,32 @@ pub(crate) fn source_text(alloc: Global, entry: &Entry) -> Result<String, AllocE
     match &entry.act() {
         Act::Store => Ok(String::new(alloc)),
         Act::Load(Source::Init) | Act::Swap(Source::Init, _) => String::from_str(alloc, "init"),
-        Act::Load(Source::Store(id)) | Act::Swap(Source::Store(id), _) => id_text(alloc, *id),
+        Act::Load(Source::Store(id)) | Act::Swap(Source::Store(id), _) => {
+            ShownId(*id).to_string(alloc)
+        }
+    }
+}
+
+/// What a record does to memory.
+pub(crate) fn op_of(entry: &Entry) -> Op {
+    let addr = entry.addr();
+    match &entry.act() {
+        Act::Store => Op::Store(addr, entry.value()),
+        Act::Load(_) => Op::Load(addr),
+        Act::Swap(..) => Op::Swap(addr, entry.value()),
     }
 }
 
 /// What an operation does, as the end of a sentence.
-pub(crate) fn deed(alloc: Global, entry: &Entry) -> Result<String, AllocError> {
-    let (addr, value) = (entry.addr().get(), entry.value());
-    match &entry.act() {
-        Act::Store => format!(in alloc; "stores {value} at address {addr}"),
-        Act::Load(_) => format!(in alloc; "loads address {addr}"),
-        Act::Swap(..) => format!(in alloc; "swaps {value} into address {addr}"),
-    }
-}
+#[derive(Clone, Copy)]
+pub(crate) struct Deed(pub(crate) Op);
 
-/// What an operation that is due would do.
-pub(crate) fn due_deed(alloc: Global, op: &Op) -> Result<String, AllocError> {
-    match op {
-        Op::Store(addr, value) => {
-            let (addr, value) = (addr.get(), *value);
-            format!(in alloc; "stores {value} at address {addr}")
-        }
-        Op::Load(addr) => {
-            let addr = addr.get();
-            format!(in alloc; "loads address {addr}")
-        }
-        Op::Swap(addr, value) => {
-            let (addr, value) = (addr.get(), *value);
-            format!(in alloc; "swaps {value} into address {addr}")
+impl fmt::Display for Deed {
+    fn fmt<W: fmt::Write>(&self, f: &mut fmt::Formatter<W>) -> fmt::Result {
+        match &self.0 {
+            Op::Store(addr, value) => write!(f, "stores {value} at address {}", addr.get()),
+            Op::Load(addr) => write!(f, "loads address {}", addr.get()),
+            Op::Swap(addr, value) => write!(f, "swaps {value} into address {}", addr.get()),
         }
     }
 }

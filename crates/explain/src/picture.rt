@@ -6,9 +6,10 @@ ghost use Rattle.explain.specs.Pictures.{IsDrawn, IsPicture};
 use super::acts::name;
 use super::explanation::Explanation;
 use super::placing::Placing;
-use super::scene::{Scene, row_of, scene_of};
-use super::shown::id_text;
-use super::svg::Svg;
+use super::scene::{Scene, scene_of};
+use super::shown::ShownId;
+use super::svg::{Svg, TextStyle};
+use super::wrong_read::place_of;
 use log_record::Entry;
 use mem_op::{CoreId, OpId};
 use std::alloc::{AllocError, Global};
@@ -41,18 +42,7 @@ fn paint(alloc: Global, title: &str, scene: &Scene) -> Result<Vec<u8>, AllocErro
         cores: scene.cores(alloc)?,
         placing: Placing::new(longest(notes.as_slice()), longest(texts.as_slice())),
     };
-    let (width, height) = canvas.placing.size(canvas.cores.len(), texts.len());
-    let mut svg = Svg::new(alloc, width, height, title)?;
-    if scene.has_swap() {
-        svg.swap_style()?;
-    }
-    canvas.heads(&mut svg)?;
-    canvas.notes(&mut svg, notes.as_slice())?;
-    canvas.arrows(&mut svg)?;
-    canvas.right_arrow(&mut svg)?;
-    canvas.boxes(&mut svg, texts.as_slice())?;
-    canvas.due(&mut svg)?;
-    svg.finish()
+    canvas.paint(title, notes.as_slice(), texts.as_slice())
 }
 
 /// What is told at the side of each row: its stamp and rank.
@@ -60,8 +50,7 @@ fn notes(alloc: Global, rows: &[Entry]) -> Result<Vec<String>, AllocError> {
     let mut notes = Vec::new(alloc);
     for row in rows {
         let key = row.key();
-        let (stamp, rank) = (key.ts.get(), key.rank.get());
-        notes.push(format!(in alloc; "stamp {stamp}, rank {rank}")?)?;
+        notes.push(format!(in alloc; "stamp {}, rank {}", key.ts.get(), key.rank.get())?)?;
     }
     Ok(notes)
 }
@@ -70,14 +59,17 @@ fn notes(alloc: Global, rows: &[Entry]) -> Result<Vec<String>, AllocError> {
 fn texts(alloc: Global, scene: &Scene) -> Result<Vec<String>, AllocError> {
     let mut texts = Vec::new(alloc);
     for row in scene.rows.iter() {
-        let id = id_text(alloc, row.id())?;
-        let logged = row.logged();
-        texts.push(format!(in alloc; "{id}: {logged}")?)?;
+        texts.push(box_text(alloc, row)?)?;
     }
     if let Some((_, due)) = &scene.due {
         texts.push(due.clone()?)?;
     }
     Ok(texts)
+}
+
+/// The text of an operation's box.
+fn box_text(alloc: Global, row: &Entry) -> Result<String, AllocError> {
+    format!(in alloc; "{}: {}", ShownId(row.id()), row.logged())
 }
 
 /// How many letters the longest text has.
@@ -99,6 +91,29 @@ struct Canvas<'a> {
 }
 
 impl<'a> Canvas<'a> {
+    /// The picture, with these notes and these texts of its boxes.
+    fn paint(&self, title: &str, notes: &[String], texts: &[String]) -> Result<Vec<u8>, AllocError>
+        ensures { IfOk result (λ svg. IsPicture svg.items) }
+    {
+        let (width, height) = self.placing.size(self.cores.len(), texts.len());
+        let mut svg = Svg::new(self.alloc, width, height, title)?;
+        self.parts(&mut svg, notes, texts)?;
+        svg.finish()
+    }
+
+    /// The parts of the picture.
+    fn parts(&self, svg: &mut Svg, notes: &[String], texts: &[String]) -> Result<(), AllocError> {
+        if self.scene.has_swap() {
+            svg.swap_style()?;
+        }
+        self.heads(svg)?;
+        self.notes(svg, notes)?;
+        self.arrows(svg)?;
+        self.right_arrow(svg)?;
+        self.boxes(svg, texts)?;
+        self.due(svg)
+    }
+
     /// The column of a core.
     fn column(&self, core: CoreId) -> usize {
         self.cores
@@ -109,7 +124,7 @@ impl<'a> Canvas<'a> {
 
     /// The column and the row of an operation.
     fn place(&self, id: OpId) -> Option<(usize, usize)> {
-        let row = row_of(self.scene.rows.as_slice(), id)?;
+        let row = place_of(self.scene.rows.as_slice(), id)?;
         Some((self.column(id.core), row))
     }
 
@@ -117,7 +132,7 @@ impl<'a> Canvas<'a> {
     fn heads(&self, svg: &mut Svg) -> Result<(), AllocError> {
         for (column, core) in self.cores.iter().enumerate() {
             let head = format!(in self.alloc; "core {}", core.get())?;
-            svg.text("note", self.placing.head(column), head.as_str())?;
+            svg.text(TextStyle::Note, self.placing.head(column), head.as_str())?;
         }
         Ok(())
     }
@@ -125,7 +140,7 @@ impl<'a> Canvas<'a> {
     /// The notes at the side.
     fn notes(&self, svg: &mut Svg, notes: &[String]) -> Result<(), AllocError> {
         for (row, note) in notes.iter().enumerate() {
-            svg.text("note", self.placing.note(row), note.as_str())?;
+            svg.text(TextStyle::Note, self.placing.note(row), note.as_str())?;
         }
         Ok(())
     }
@@ -174,7 +189,8 @@ impl<'a> Canvas<'a> {
                 name(entry)
             };
             let text = texts.get(row).map_or("", |text| text.as_str());
-            self.one_box(svg, class, (self.column(entry.id().core), row), text)?;
+            let at = (self.column(entry.id().core), row);
+            self.one_box(svg, class, at, TextStyle::Box, text)?;
         }
         Ok(())
     }
@@ -185,6 +201,7 @@ impl<'a> Canvas<'a> {
         svg: &mut Svg,
         class: &str,
         at: (usize, usize),
+        style: TextStyle,
         text: &str,
     ) -> Result<(), AllocError> {
         let (column, row) = at;
@@ -195,7 +212,6 @@ impl<'a> Canvas<'a> {
             placing.wide,
             placing.high(),
         )?;
-        let style = if class == "due" { "red" } else { "" };
         svg.text(style, placing.inside(column, row), text)
     }
 
@@ -205,7 +221,7 @@ impl<'a> Canvas<'a> {
             None => Ok(()),
             Some((core, text)) => {
                 let at = (self.column(*core), self.scene.rows.len());
-                self.one_box(svg, "due", at, text.as_str())
+                self.one_box(svg, "due", at, TextStyle::Red, text.as_str())
             }
         }
     }

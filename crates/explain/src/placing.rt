@@ -15,7 +15,7 @@ const STEP: usize = 44;
 const GAP: usize = 56;
 
 /// The sizes of a picture.
-#[derive(Clone, Copy, Debug, PartialEq, Eq)]
+#[derive(Clone, Copy)]
 pub(crate) struct Placing {
     /// The left side of the first column.
     pub(crate) left: usize,

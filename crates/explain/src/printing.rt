@@ -2,138 +2,162 @@
 
 use super::acts::{name, named_id};
 use super::explanation::{Departure, Due, Explanation, Fall, Summary, Use, WrongRead};
-use super::sentence::{of_departure, of_fall, of_wrong_read};
-use super::shown::{id_text, line_text};
-use super::table::table;
+use super::sentence::{push_departure, push_fall, push_wrong_read};
+use super::shown::{ShownId, ShownLine, ShownOr};
+use super::table::push_table;
 use core_program::print_instruction;
+use line_stamps::Stamp;
 use mem_op::Word;
 use std::alloc::{AllocError, Global};
+use std::fmt;
 
 /// The text of an explanation, which belongs after the line of its verdict.
 pub fn print(alloc: Global, explanation: &Explanation) -> Result<String, AllocError> {
+    let mut text = String::new(alloc);
     match explanation {
-        Explanation::Load(found) => print_wrong_read(alloc, found),
-        Explanation::CoreOrder(fall) => print_fall(alloc, fall),
-        Explanation::Program(departure) => print_departure(alloc, departure),
-        Explanation::Summed(summary) => print_summary(alloc, summary),
-    }
+        Explanation::Load(found) => print_wrong_read(alloc, &mut text, found),
+        Explanation::CoreOrder(fall) => print_fall(&mut text, fall),
+        Explanation::Program(departure) => print_departure(alloc, &mut text, departure),
+        Explanation::Summed(summary) => print_summary(&mut text, summary),
+    }?;
+    Ok(text)
 }
 
-/// The text of a load or a swap that breaks a rule.
-fn print_wrong_read(alloc: Global, found: &WrongRead) -> Result<String, AllocError> {
-    let sentence = of_wrong_read(alloc, found)?;
-    let (kind, load) = (name(&found.load), line_text(alloc, &found.load)?);
-    let right = match &found.right {
-        Some(right) => line_text(alloc, right)?,
-        None => String::from_str(alloc, "the initial 0")?,
-    };
-    let named = named_text(alloc, found)?;
-    let addr = found.load.addr().get();
-    let table = table(alloc, found.rows.as_slice(), found.place)?;
-    format!(in alloc;
-        "{sentence}\n\nthe {kind}        {load}\nit should read  {right}\nit names        {named}\n\naddress {addr} by key:\n{table}"
-    )
+/// Adds the text of a load or a swap that breaks a rule.
+fn print_wrong_read(alloc: Global, text: &mut String, found: &WrongRead) -> Result<(), AllocError> {
+    push_wrong_read(text, found)?;
+    write!(
+        text,
+        "\n\nthe {}        {}\nit should read  {}\nit names        {}\n\naddress {} by key:\n",
+        name(&found.load),
+        ShownLine(&found.load),
+        ShownOr(&found.right, "the initial 0"),
+        Named(found),
+        found.load.addr().get()
+    )?;
+    push_table(alloc, text, found.rows.as_slice(), found.place)
 }
 
 /// What the source of a load names.
-fn named_text(alloc: Global, found: &WrongRead) -> Result<String, AllocError> {
-    let Some(id) = named_id(&found.load) else {
-        return String::from_str(alloc, "the initial 0");
-    };
-    match &found.named {
-        Some(named) => line_text(alloc, named),
-        None => {
-            let id = id_text(alloc, id)?;
-            format!(in alloc; "{id}, which isn't in the logs")
+#[derive(Clone, Copy)]
+struct Named<'a>(&'a WrongRead);
+
+impl<'a> fmt::Display for Named<'a> {
+    fn fmt<W: fmt::Write>(&self, f: &mut fmt::Formatter<W>) -> fmt::Result {
+        let Some(id) = named_id(&self.0.load) else {
+            return f.write_str("the initial 0");
+        };
+        match &self.0.named {
+            Some(named) => ShownLine(named).fmt(f),
+            None => write!(f, "{}, which isn't in the logs", ShownId(id)),
         }
     }
 }
 
-/// The text of a log that falls.
-fn print_fall(alloc: Global, fall: &Fall) -> Result<String, AllocError> {
-    let sentence = of_fall(alloc, fall)?;
-    let before = line_text(alloc, &fall.before)?;
-    let fault = line_text(alloc, &fall.fault)?;
-    format!(in alloc; "{sentence}\n\nbefore it  {before}\nthe fault  {fault}\n")
+/// Adds the text of a log that falls.
+fn print_fall(text: &mut String, fall: &Fall) -> Result<(), AllocError> {
+    push_fall(text, fall)?;
+    let (before, fault) = (ShownLine(&fall.before), ShownLine(&fall.fault));
+    write!(text, "\n\nbefore it  {before}\nthe fault  {fault}\n")
 }
 
-/// The text of a log that isn't its program's.
-fn print_departure(alloc: Global, departure: &Departure) -> Result<String, AllocError> {
-    let sentence = of_departure(alloc, departure)?;
-    let due = match &departure.due {
-        Some(due) => due_text(alloc, due)?,
-        None => String::from_str(alloc, "the end of the program")?,
-    };
-    let registers = registers_text(alloc, &departure.registers)?;
-    let found = match &departure.found {
-        Some(found) => line_text(alloc, found)?,
-        None => String::from_str(alloc, "the end of the log")?,
-    };
-    format!(in alloc;
-        "{sentence}\n\ndue        {due}\nregisters  {registers}\nfound      {found}\n"
+/// Adds the text of a log that isn't its program's.
+fn print_departure(
+    alloc: Global,
+    text: &mut String,
+    departure: &Departure,
+) -> Result<(), AllocError> {
+    push_departure(text, departure)?;
+    let due = due_text(alloc, &departure.due)?;
+    write!(
+        text,
+        "\n\ndue        {due}\nregisters  {}\nfound      {}\n",
+        Registers(&departure.registers),
+        ShownOr(&departure.found, "the end of the log")
     )
 }
 
-/// An instruction, and where it stands.
-fn due_text(alloc: Global, due: &Due) -> Result<String, AllocError> {
-    let line = due.line;
+/// The instruction that was due, and where it stands.
+fn due_text(alloc: Global, due: &Option<Due>) -> Result<String, AllocError> {
+    let Some(due) = due else {
+        return String::from_str(alloc, "the end of the program");
+    };
     let instruction = print_instruction(alloc, &due.instruction)?;
-    format!(in alloc; "programs line {line}: {instruction}")
+    format!(in alloc; "programs line {}: {instruction}", due.line)
 }
 
 /// The registers that hold something else than 0.
-fn registers_text(alloc: Global, registers: &[Word; 16]) -> Result<String, AllocError> {
-    let mut text = String::new(alloc);
-    for (number, word) in registers.iter().enumerate() {
-        if *word != 0 {
-            write!(text, "r{number} {word}, ")?;
+#[derive(Clone, Copy)]
+struct Registers<'a>(&'a [Word; 16]);
+
+impl<'a> fmt::Display for Registers<'a> {
+    fn fmt<W: fmt::Write>(&self, f: &mut fmt::Formatter<W>) -> fmt::Result {
+        let mut rest = "all 0";
+        for (number, word) in self.0.iter().enumerate() {
+            if *word != 0 {
+                write!(f, "r{number} {word}, ")?;
+                rest = "the others 0";
+            }
         }
+        f.write_str(rest)
     }
-    text.push_str(if text.is_empty() {
-        "all 0"
-    } else {
-        "the others 0"
-    })?;
-    Ok(text)
 }
 
-/// The text of what a set has that gets Yes.
-fn print_summary(alloc: Global, summary: &Summary) -> Result<String, AllocError> {
-    let (cores, loads, stores) = (summary.cores, summary.loads, summary.stores);
-    let swaps = swaps_text(alloc, summary.swaps)?;
-    let addresses = summary.addresses;
-    let most_used = uses_text(alloc, summary.most_used.as_slice())?;
-    let stamps = match &summary.stamps {
-        Some((least, greatest)) => {
-            let (least, greatest) = (least.get(), greatest.get());
-            format!(in alloc; "{least} to {greatest}")?
-        }
-        None => String::from_str(alloc, "none")?,
-    };
-    let sharing = summary.sharing;
-    format!(in alloc;
-        "\ncores          {cores}\nloads          {loads}\nstores         {stores}\n{swaps}addresses      {addresses}\nmost used      {most_used}\nstamps         {stamps}\nshared stamps  {sharing} operations\n"
+/// Adds the text of what a set has that gets Yes.
+fn print_summary(text: &mut String, summary: &Summary) -> Result<(), AllocError> {
+    write!(
+        text,
+        "\ncores          {}\nloads          {}\nstores         {}\n{}addresses      {}\nmost used      {}\nstamps         {}\nshared stamps  {} operations\n",
+        summary.cores,
+        summary.loads,
+        summary.stores,
+        Swaps(summary.swaps),
+        summary.addresses,
+        Uses(summary.most_used.as_slice()),
+        StampRange(&summary.stamps),
+        summary.sharing
     )
 }
 
-/// How many swaps there are, where there are any.
-fn swaps_text(alloc: Global, swaps: usize) -> Result<String, AllocError> {
-    if swaps == 0 {
-        return Ok(String::new(alloc));
+/// The line of how many swaps there are, where there are any.
+#[derive(Clone, Copy)]
+struct Swaps(usize);
+
+impl fmt::Display for Swaps {
+    fn fmt<W: fmt::Write>(&self, f: &mut fmt::Formatter<W>) -> fmt::Result {
+        if self.0 == 0 {
+            return Ok(());
+        }
+        write!(f, "swaps          {}\n", self.0)
     }
-    format!(in alloc; "swaps          {swaps}\n")
+}
+
+/// The range of the stamps.
+#[derive(Clone, Copy)]
+struct StampRange<'a>(&'a Option<(Stamp, Stamp)>);
+
+impl<'a> fmt::Display for StampRange<'a> {
+    fn fmt<W: fmt::Write>(&self, f: &mut fmt::Formatter<W>) -> fmt::Result {
+        match self.0 {
+            Some((least, greatest)) => write!(f, "{} to {}", least.get(), greatest.get()),
+            None => f.write_str("none"),
+        }
+    }
 }
 
 /// The most used addresses, each with the number of its operations.
-fn uses_text(alloc: Global, uses: &[Use]) -> Result<String, AllocError> {
-    if uses.is_empty() {
-        return String::from_str(alloc, "none");
+#[derive(Clone, Copy)]
+struct Uses<'a>(&'a [Use]);
+
+impl<'a> fmt::Display for Uses<'a> {
+    fn fmt<W: fmt::Write>(&self, f: &mut fmt::Formatter<W>) -> fmt::Result {
+        if self.0.is_empty() {
+            return f.write_str("none");
+        }
+        for (place, it) in self.0.iter().enumerate() {
+            let between = if place == 0 { "" } else { ", " };
+            write!(f, "{between}{} ({})", it.addr.get(), it.operations)?;
+        }
+        Ok(())
     }
-    let mut text = String::new(alloc);
-    for (place, it) in uses.iter().enumerate() {
-        let (addr, operations) = (it.addr.get(), it.operations);
-        text.push_str(if place == 0 { "" } else { ", " })?;
-        write!(text, "{addr} ({operations})")?;
-    }
-    Ok(text)
 }

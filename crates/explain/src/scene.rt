@@ -4,7 +4,9 @@ ghost use Rattle.std.specs.Prelude.{◌↔◌, IfOk, IsSome};
 ghost use Rattle.explain.specs.Pictures.{IsDrawn};
 
 use super::acts::{is_swap, named_id};
-use super::explanation::{Departure, Explanation, Fall, WrongRead};
+use super::explanation::{Departure, Due, Explanation, Fall, WrongRead};
+use super::summary::by_key;
+use super::wrong_read::place_of;
 use core_program::print_instruction;
 use log_record::Entry;
 use mem_op::{CoreId, OpId};
@@ -30,15 +32,16 @@ pub(crate) fn scene_of(
 ) -> Result<Option<Scene>, AllocError>
     ensures { IfOk result (λ scene. IsSome scene ↔ IsDrawn explanation.now) }
 {
-    match explanation {
-        Explanation::Load(found) => Ok(Some(of_wrong_read(alloc, found)?)),
-        Explanation::CoreOrder(fall) => Ok(Some(of_fall(alloc, fall)?)),
-        Explanation::Program(departure) => Ok(Some(of_departure(alloc, departure)?)),
+    let scene = match explanation {
+        Explanation::Load(found) => of_wrong_read(alloc, found),
+        Explanation::CoreOrder(fall) => of_fall(alloc, fall),
+        Explanation::Program(departure) => of_departure(alloc, departure),
         Explanation::Summed(summary) => match &summary.rows {
-            Some(rows) => Ok(Some(of_all(alloc, rows.as_slice())?)),
-            None => Ok(None),
+            Some(rows) => of_all(alloc, rows.as_slice()),
+            None => return Ok(None),
         },
-    }
+    };
+    Ok(Some(scene?))
 }
 
 /// All operations of a set.
@@ -57,14 +60,10 @@ fn of_wrong_read(alloc: Global, found: &WrongRead) -> Result<Scene, AllocError> 
     add(&mut rows, &found.right)?;
     add(&mut rows, &found.named)?;
     rows.sort_unstable_by_key(|entry| entry.key());
-    let wanted = match &found.right {
-        Some(right) => Some(right.id()),
-        None => None,
-    };
     Ok(Scene {
         rows,
         faulty: Some(found.load.id()),
-        wanted,
+        wanted: id_of(&found.right),
         due: None,
     })
 }
@@ -74,23 +73,16 @@ fn add(rows: &mut Vec<Entry>, entry: &Option<Entry>) -> Result<(), AllocError> {
     let Some(entry) = entry else {
         return Ok(());
     };
-    if row_of(rows.as_slice(), entry.id()).is_none() {
+    if place_of(rows.as_slice(), entry.id()).is_none() {
         rows.push(*entry)?;
     }
     Ok(())
 }
 
-/// The place of an operation.
-pub(crate) fn row_of(rows: &[Entry], id: OpId) -> Option<usize> {
-    rows.iter().position(|row| row.id() == id)
-}
-
 /// The operations of a core around the one at which its log falls, which should come after the one before it.
 fn of_fall(alloc: Global, fall: &Fall) -> Result<Scene, AllocError> {
-    let mut rows = Vec::from_slice(alloc, fall.rows.as_slice())?;
-    rows.sort_unstable_by_key(|entry| entry.key());
     Ok(Scene {
-        rows,
+        rows: by_key(alloc, fall.rows.as_slice())?,
         faulty: Some(fall.fault.id()),
         wanted: Some(fall.before.id()),
         due: None,
@@ -99,22 +91,31 @@ fn of_fall(alloc: Global, fall: &Fall) -> Result<Scene, AllocError> {
 
 /// The operations of a core around the one that isn't its program's, with the instruction that was due.
 fn of_departure(alloc: Global, departure: &Departure) -> Result<Scene, AllocError> {
-    let mut rows = Vec::from_slice(alloc, departure.rows.as_slice())?;
-    rows.sort_unstable_by_key(|entry| entry.key());
-    let faulty = match &departure.found {
-        Some(found) => Some(found.id()),
-        None => None,
-    };
-    let due = match &departure.due {
-        Some(due) => print_instruction(alloc, &due.instruction)?,
-        None => String::from_str(alloc, "the end")?,
-    };
     Ok(Scene {
-        rows,
-        faulty,
+        rows: by_key(alloc, departure.rows.as_slice())?,
+        faulty: id_of(&departure.found),
         wanted: None,
-        due: Some((departure.id.core, format!(in alloc; "due: {due}")?)),
+        due: Some((departure.id.core, due_text(alloc, &departure.due)?)),
     })
+}
+
+/// What was due.
+fn due_text(alloc: Global, due: &Option<Due>) -> Result<String, AllocError> {
+    match due {
+        Some(due) => {
+            let instruction = print_instruction(alloc, &due.instruction)?;
+            format!(in alloc; "due: {instruction}")
+        }
+        None => String::from_str(alloc, "due: the end"),
+    }
+}
+
+/// The id of an operation, where there is one.
+fn id_of(entry: &Option<Entry>) -> Option<OpId> {
+    match entry {
+        Some(entry) => Some(entry.id()),
+        None => None,
+    }
 }
 
 impl Scene {
@@ -146,6 +147,6 @@ impl Scene {
 
     /// The row of the operation that another names as its source, if it is shown.
     pub(crate) fn source_row(&self, row: &Entry) -> Option<usize> {
-        row_of(self.rows.as_slice(), named_id(row)?)
+        place_of(self.rows.as_slice(), named_id(row)?)
     }
 }

@@ -1,126 +1,147 @@
 //! What is wrong, in a sentence.
 
-use super::acts::{deed, due_deed, name, named_id};
+use super::acts::{Deed, name, named_id, op_of};
 use super::explanation::{Departure, Fall, WrongRead};
-use super::shown::id_text;
+use super::shown::ShownId;
 use address_check::is_store;
-use log_record::Entry;
-use std::alloc::{AllocError, Global};
+use std::alloc::AllocError;
+use std::fmt::Display;
 use verdict::Rule;
 
-/// What is wrong with a load, or with what a swap reads.
-pub(crate) fn of_wrong_read(alloc: Global, found: &WrongRead) -> Result<String, AllocError> {
+/// Adds what is wrong with a load, or with what a swap reads.
+pub(crate) fn push_wrong_read(text: &mut String, found: &WrongRead) -> Result<(), AllocError> {
     if found.rule == Rule::Value {
-        return of_value(alloc, found);
+        return push_wrong_value(text, found);
     }
-    let load = id_text(alloc, found.load.id())?;
-    let addr = found.load.addr().get();
-    let Some(named) = named_id(&found.load) else {
-        let last = last_store(alloc, found, "before it")?;
-        return format!(in alloc; "{load} read the initial 0 of address {addr}{last}.");
-    };
-    let source = id_text(alloc, named)?;
-    let why = of_source(alloc, found)?;
-    format!(in alloc; "{load} read address {addr} from {source}{why}.")
+    let (load, addr) = (ShownId(found.load.id()), found.load.addr().get());
+    match named_id(&found.load) {
+        Some(named) => {
+            let source = ShownId(named);
+            write!(text, "{load} read address {addr} from {source}")?;
+            push_wrong_source(text, found)
+        }
+        None => {
+            write!(text, "{load} read the initial 0 of address {addr}")?;
+            push_last_store(text, found, "before it")
+        }
+    }?;
+    text.push('.')
 }
 
-/// What is wrong with a value.
-fn of_value(alloc: Global, found: &WrongRead) -> Result<String, AllocError> {
-    let load = id_text(alloc, found.load.id())?;
+/// Adds what is wrong with a value.
+fn push_wrong_value(text: &mut String, found: &WrongRead) -> Result<(), AllocError> {
+    let load = ShownId(found.load.id());
     let (addr, value) = (found.load.addr().get(), found.load.logged().word_answered());
     match &found.right {
-        None => {
-            format!(in alloc;
-                "{load} read {value} as the initial word of address {addr}, but that is 0."
-            )
-        }
+        None => write!(
+            text,
+            "{load} read {value} as the initial word of address {addr}, but that is 0."
+        ),
         Some(right) => {
-            let (store, stored) = (id_text(alloc, right.id())?, right.value());
-            format!(in alloc;
+            let (store, stored) = (ShownId(right.id()), right.value());
+            write!(
+                text,
                 "{load} read {value} from {store} at address {addr}, but {store} stored {stored} there."
             )
         }
     }
 }
 
-/// What is wrong with the record that a source names.
-fn of_source(alloc: Global, found: &WrongRead) -> Result<String, AllocError> {
-    let rest = right_store(alloc, found)?;
+/// Adds what is wrong with the record that a source names.
+fn push_wrong_source(text: &mut String, found: &WrongRead) -> Result<(), AllocError> {
+    let load = &found.load;
     let Some(named) = &found.named else {
-        return format!(in alloc; ", which isn't in the logs; {rest}");
+        return push_wrong_store(text, found, "isn't in the logs");
     };
     if !is_store(named) {
-        let kind = name(named);
-        return format!(in alloc; ", which is a {kind}; {rest}");
+        return push_wrong_store(text, found, format_args!("is a {}", name(named)));
     }
-    if named.id() == found.load.id() {
-        return format!(in alloc; ", which is its own store; {rest}");
+    if named.id() == load.id() {
+        return push_wrong_store(text, found, "is its own store");
     }
-    if named.addr() != found.load.addr() {
+    if named.addr() != load.addr() {
         let other = named.addr().get();
-        return format!(in alloc; ", which stores at address {other}; {rest}");
+        return push_wrong_store(text, found, format_args!("stores at address {other}"));
     }
-    if named.key() > found.load.key() {
-        return format!(in alloc; ", which comes after it; {rest}");
+    if named.key() > load.key() {
+        return push_wrong_store(text, found, "comes after it");
     }
-    last_store(alloc, found, "after that")
+    push_last_store(text, found, "after that")
 }
 
-/// The store that should have been read, which came before it or after another.
-fn last_store(alloc: Global, found: &WrongRead, when: &str) -> Result<String, AllocError> {
+/// Adds what the record that a source names is, which can't be read, and the store that should have been read.
+fn push_wrong_store<D: Display + Drop>(
+    text: &mut String,
+    found: &WrongRead,
+    what: D,
+) -> Result<(), AllocError> {
+    write!(text, ", which {what}; ")?;
+    push_right_store(text, found)
+}
+
+/// Adds the store that should have been read, which came before it or after another.
+fn push_last_store(text: &mut String, found: &WrongRead, when: &str) -> Result<(), AllocError> {
     match &found.right {
-        None => format!(in alloc; ", and no store comes before it"),
+        None => text.push_str(", and no store comes before it"),
         Some(right) => {
-            let (store, stored) = (id_text(alloc, right.id())?, right.value());
-            format!(in alloc; ", but {store} had stored {stored} there {when}")
+            let (store, stored) = (ShownId(right.id()), right.value());
+            write!(text, ", but {store} had stored {stored} there {when}")
         }
     }
 }
 
-/// The store that should have been read, if there is one.
-fn right_store(alloc: Global, found: &WrongRead) -> Result<String, AllocError> {
+/// Adds the store that should have been read, if there is one.
+fn push_right_store(text: &mut String, found: &WrongRead) -> Result<(), AllocError> {
     let addr = found.load.addr().get();
     match &found.right {
-        None => format!(in alloc; "no store to address {addr} comes before it"),
+        None => write!(text, "no store to address {addr} comes before it"),
         Some(right) => {
-            let (store, stored) = (id_text(alloc, right.id())?, right.value());
-            format!(in alloc; "the last store to address {addr} before it is {store}, of {stored}")
+            let (store, stored) = (ShownId(right.id()), right.value());
+            write!(
+                text,
+                "the last store to address {addr} before it is {store}, of {stored}"
+            )
         }
     }
 }
 
-/// What falls along a core's log.
-pub(crate) fn of_fall(alloc: Global, fall: &Fall) -> Result<String, AllocError> {
-    let id = id_text(alloc, fall.fault.id())?;
+/// Adds what falls along a core's log.
+pub(crate) fn push_fall(text: &mut String, fall: &Fall) -> Result<(), AllocError> {
+    let id = ShownId(fall.fault.id());
     let (before, after) = (fall.before.key(), fall.fault.key());
-    let (stamp, to) = (before.ts.get(), after.ts.get());
+    let stamp = before.ts.get();
+    let to = after.ts.get();
     if to < stamp {
-        return format!(in alloc; "At {id} the stamp fell from {stamp} to {to}.");
+        return write!(text, "At {id} the stamp fell from {stamp} to {to}.");
     }
-    let (rank, to) = (before.rank.get(), after.rank.get());
-    format!(in alloc; "At {id} the rank fell from {rank} to {to}, at stamp {stamp}.")
+    let rank = before.rank.get();
+    let to = after.rank.get();
+    write!(
+        text,
+        "At {id} the rank fell from {rank} to {to}, at stamp {stamp}."
+    )
 }
 
-/// What a core's log has in place of what its program does.
-pub(crate) fn of_departure(alloc: Global, departure: &Departure) -> Result<String, AllocError> {
-    let id = id_text(alloc, departure.id)?;
-    let due = match &departure.due {
-        Some(due) => due_deed(alloc, &due.op)?,
-        None => String::from_str(alloc, "had ended")?,
+/// Adds what a core's log has in place of what its program does.
+pub(crate) fn push_departure(text: &mut String, departure: &Departure) -> Result<(), AllocError> {
+    push_found(text, departure)?;
+    match &departure.due {
+        Some(due) => write!(text, "{}", Deed(due.op)),
+        None => text.push_str("had ended"),
+    }?;
+    let is_other = departure.found.is_some() && departure.due.is_some();
+    text.push_str(if is_other { " there." } else { "." })
+}
+
+/// Adds what a core's log has where its program does something else.
+fn push_found(text: &mut String, departure: &Departure) -> Result<(), AllocError> {
+    let Some(found) = &departure.found else {
+        let (core, id) = (departure.id.core.get(), ShownId(departure.id));
+        return write!(
+            text,
+            "The log of core {core} ends before {id}, where its program "
+        );
     };
-    match &departure.found {
-        Some(found) => of_found(alloc, found, due.as_str(), departure.due.is_some()),
-        None => {
-            let core = departure.id.core.get();
-            format!(in alloc; "The log of core {core} ends before {id}, where its program {due}.")
-        }
-    }
-}
-
-/// What a record does in place of what is due.
-fn of_found(alloc: Global, found: &Entry, due: &str, is_due: bool) -> Result<String, AllocError> {
-    let id = id_text(alloc, found.id())?;
-    let deed = deed(alloc, found)?;
-    let there = if is_due { " there" } else { "" };
-    format!(in alloc; "{id} {deed}, but its program {due}{there}.")
+    let (id, deed) = (ShownId(found.id()), Deed(op_of(found)));
+    write!(text, "{id} {deed}, but its program ")
 }

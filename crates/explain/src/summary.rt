@@ -4,7 +4,7 @@ ghost use Rattle.std.specs.Prelude.{◌≡◌, ◌≤◌, ◌↔◌, IfOk, IfSom
 ghost use Rattle.explain.specs.Explanations.{IsSummary};
 ghost use Rattle.explain.specs.Pictures.{most_drawn};
 
-use super::acts::{Counts, count};
+use super::acts::count;
 use super::explanation::{Summary, Use};
 use address_check::AddressIndex;
 use line_stamps::Stamp;
@@ -106,6 +106,15 @@ fn sharing(
     Ok(beside_the_same(stamps(alloc, entries)?.as_slice()))
 }
 
+/// These entries in the order of their keys.
+pub(crate) fn by_key(alloc: Global, entries: &[Entry]) -> Result<Vec<Entry>, AllocError>
+    ensures { IfOk result (λ rows. IsPermutation entries.now rows.items) }
+{
+    let mut rows = Vec::from_slice(alloc, entries)?;
+    rows.sort_unstable_by_key(|entry| entry.key());
+    Ok(rows)
+}
+
 /// All entries in the order of their keys, where they are few enough to be drawn.
 fn rows(alloc: Global, entries: &[Entry]) -> Result<Option<Vec<Entry>>, AllocError>
     ensures all { IfOk result (λ rows. IfSome rows (λ rows. IsPermutation entries.now rows.items)) }
@@ -114,9 +123,15 @@ fn rows(alloc: Global, entries: &[Entry]) -> Result<Option<Vec<Entry>>, AllocErr
     if entries.len() > DRAWN {
         return Ok(None);
     }
-    let mut rows = Vec::from_slice(alloc, entries)?;
-    rows.sort_unstable_by_key(|entry| entry.key());
-    Ok(Some(rows))
+    Ok(Some(by_key(alloc, entries)?))
+}
+
+/// The most used of the addresses, the most used first.
+fn most_used(uses: Vec<Use>) -> Result<Vec<Use>, AllocError> {
+    let mut most = uses;
+    most.sort_by_key(|it| Reverse(it.operations))?;
+    most.truncate(MOST_USED);
+    Ok(most)
 }
 
 /// What the records of a set of this number of cores have.
@@ -130,26 +145,19 @@ pub(crate) fn summary(
     ensures cores { IfOk result (λ summary. summary.cores ≡ cores) }
 {
     let entries = index.all();
-    let Counts {
-        loads,
-        stores,
-        swaps,
-    } = count(entries);
-    let mut uses = uses(alloc, entries)?;
+    let counts = count(entries);
+    let uses = uses(alloc, entries)?;
     let addresses = uses.len();
-    uses.sort_by_key(|it| Reverse(it.operations))?;
-    uses.truncate(MOST_USED);
     let stamps = range_of(entries);
-    let sharing = sharing(alloc, entries, &stamps)?;
     Ok(Summary {
         cores,
-        loads,
-        stores,
-        swaps,
+        loads: counts.loads,
+        stores: counts.stores,
+        swaps: counts.swaps,
         addresses,
-        most_used: uses,
+        most_used: most_used(uses)?,
         stamps,
-        sharing,
+        sharing: sharing(alloc, entries, &stamps)?,
         rows: rows(alloc, entries)?,
     })
 }

@@ -5,6 +5,7 @@ ghost use Rattle.explain.specs.Escapes.{escaped};
 ghost use Rattle.explain.specs.Pictures.{IsPicture};
 
 use std::alloc::{AllocError, Global};
+use std::fmt;
 
 /// The colours, which serve on white and on dark: texts of boxes stand on the boxes' own light colours.
 const STYLE: &str = "<style>\
@@ -30,10 +31,38 @@ path{fill:none;stroke:#6f8fb3;stroke-width:1.5}\
 const SWAP_STYLE: &str = "<style>.swap{fill:#e7e3f6}</style>\n";
 
 /// A place of a picture.
-#[derive(Clone, Copy, Debug, PartialEq, Eq)]
+#[derive(Clone, Copy)]
 pub(crate) struct Point {
     pub(crate) x: usize,
     pub(crate) y: usize,
+}
+
+impl fmt::Display for Point {
+    fn fmt<W: fmt::Write>(&self, f: &mut fmt::Formatter<W>) -> fmt::Result {
+        write!(f, "{},{}", self.x, self.y)
+    }
+}
+
+/// How a text is drawn.
+#[derive(Clone, Copy)]
+pub(crate) enum TextStyle {
+    /// As the text of a box.
+    Box,
+    /// As a note beside the boxes.
+    Note,
+    /// As what is wrong.
+    Red,
+}
+
+impl TextStyle {
+    /// The attribute of the text's element.
+    fn attribute(self) -> &'static str {
+        match self {
+            TextStyle::Box => "",
+            TextStyle::Note => " class=\"note\"",
+            TextStyle::Red => " class=\"red\"",
+        }
+    }
 }
 
 /// A picture that is written.
@@ -55,14 +84,18 @@ impl Svg {
             alloc,
             bytes: Vec::new(alloc),
         };
-        svg.raw(format!(in alloc;
-            "xmlns=\"http://www.w3.org/2000/svg\" viewBox=\"0 0 {width} {height}\" width=\"{width}\" height=\"{height}\">\n"
-        )?.as_str())?;
-        svg.raw("<title>")?;
-        svg.escaped(title)?;
-        svg.raw("</title>\n")?;
-        svg.raw(STYLE)?;
+        svg.begin(width, height, title)?;
         Ok(svg)
+    }
+
+    /// Adds what comes before the parts.
+    fn begin(&mut self, width: usize, height: usize, title: &str) -> Result<(), AllocError> {
+        self.add(format_args!(
+            "xmlns=\"http://www.w3.org/2000/svg\" viewBox=\"0 0 {width} {height}\" width=\"{width}\" height=\"{height}\">\n<title>"
+        ))?;
+        self.escaped(title)?;
+        self.raw("</title>\n")?;
+        self.raw(STYLE)
     }
 
     /// Tells the colour of swaps.
@@ -71,14 +104,13 @@ impl Svg {
     }
 
     /// A text, which begins at a point.
-    pub(crate) fn text(&mut self, class: &str, at: Point, text: &str) -> Result<(), AllocError> {
-        let Point { x, y } = at;
-        let open = if class.is_empty() {
-            format!(in self.alloc; "<text x=\"{x}\" y=\"{y}\">")?
-        } else {
-            format!(in self.alloc; "<text class=\"{class}\" x=\"{x}\" y=\"{y}\">")?
-        };
-        self.raw(open.as_str())?;
+    pub(crate) fn text(
+        &mut self,
+        style: TextStyle,
+        at: Point,
+        text: &str,
+    ) -> Result<(), AllocError> {
+        self.add(format_args!("<text{} x=\"{}\" y=\"{}\">", style.attribute(), at.x, at.y))?;
         self.escaped(text)?;
         self.raw("</text>\n")
     }
@@ -91,23 +123,23 @@ impl Svg {
         width: usize,
         height: usize,
     ) -> Result<(), AllocError> {
-        let Point { x, y } = at;
-        let element = format!(in self.alloc;
-            "<rect class=\"{class}\" x=\"{x}\" y=\"{y}\" width=\"{width}\" height=\"{height}\" rx=\"5\"/>\n"
-        )?;
-        self.raw(element.as_str())
+        self.add(format_args!(
+            "<rect class=\"{class}\" x=\"{}\" y=\"{}\" width=\"{width}\" height=\"{height}\" rx=\"5\"/>\n",
+            at.x, at.y
+        ))
     }
 
     /// A bent arrow: from a point, towards two others, to the last.
     pub(crate) fn arrow(&mut self, is_right: bool, points: [Point; 4]) -> Result<(), AllocError> {
         let [a, b, c, d] = points;
-        let class = if is_right { " class=\"right\"" } else { "" };
-        let tip = if is_right { "red" } else { "tip" };
-        let element = format!(in self.alloc;
-            "<path{class} d=\"M{},{} C{},{} {},{} {},{}\" marker-end=\"url(#{tip})\"/>\n",
-            a.x, a.y, b.x, b.y, c.x, c.y, d.x, d.y
-        )?;
-        self.raw(element.as_str())
+        let (class, tip) = if is_right {
+            (" class=\"right\"", "red")
+        } else {
+            ("", "tip")
+        };
+        self.add(format_args!(
+            "<path{class} d=\"M{a} C{b} {c} {d}\" marker-end=\"url(#{tip})\"/>\n"
+        ))
     }
 
     /// The bytes of the picture, with what each begins with and ends with.
@@ -119,6 +151,12 @@ impl Svg {
         let mut bytes = Vec::from_slice(svg.alloc, b"<svg ")?;
         bytes.extend_from_slice(svg.bytes.as_slice())?;
         Ok(bytes)
+    }
+
+    /// Adds what is shown, as it is.
+    fn add<D: fmt::Display + Drop>(&mut self, shown: D) -> Result<(), AllocError> {
+        let text = format!(in self.alloc; "{shown}")?;
+        self.raw(text.as_str())
     }
 
     /// Adds a text as it is.
@@ -138,12 +176,12 @@ fn push_escaped(bytes: &mut Vec<u8>, text: &[u8]) -> Result<(), AllocError>
 {
     for byte in text {
         match *byte {
-            b'&' => bytes.extend_from_slice(b"&amp;")?,
-            b'<' => bytes.extend_from_slice(b"&lt;")?,
-            b'>' => bytes.extend_from_slice(b"&gt;")?,
-            b'"' => bytes.extend_from_slice(b"&quot;")?,
-            other => bytes.push(other)?,
-        }
+            b'&' => bytes.extend_from_slice(b"&amp;"),
+            b'<' => bytes.extend_from_slice(b"&lt;"),
+            b'>' => bytes.extend_from_slice(b"&gt;"),
+            b'"' => bytes.extend_from_slice(b"&quot;"),
+            other => bytes.extend_from_slice(&[other]),
+        }?;
     }
     Ok(())
 }

@@ -1,40 +1,70 @@
 //! Tables of aligned columns.
 
 use super::acts::{name, source_text, value_text};
-use super::shown::id_text;
+use super::shown::ShownId;
 use log_record::Entry;
 use std::alloc::{AllocError, Global};
 
-/// The columns of a table of records, and whether each is of numbers.
-const COLUMNS: [(&str, bool); 6] = [
-    ("op", false),
-    ("stamp", true),
-    ("rank", true),
-    ("act", false),
-    ("value", true),
-    ("source", false),
+/// What a column tells of each record.
+#[derive(Clone, Copy)]
+enum Column {
+    /// Its id.
+    Id,
+    /// Its stamp.
+    Stamp,
+    /// Its rank.
+    Rank,
+    /// The name of its operation.
+    Act,
+    /// Its word, or those of a swap.
+    Value,
+    /// Where the word that it read came from.
+    Source,
+}
+
+/// The columns of a table of records, their names, and whether each is of numbers.
+const COLUMNS: [(Column, &str, bool); 6] = [
+    (Column::Id, "op", false),
+    (Column::Stamp, "stamp", true),
+    (Column::Rank, "rank", true),
+    (Column::Act, "act", false),
+    (Column::Value, "value", true),
+    (Column::Source, "source", false),
 ];
 
-/// The cells of a record.
-fn cells(alloc: Global, entry: &Entry) -> Result<Vec<String>, AllocError> {
-    let key = entry.key();
+/// The cell of a record in a column.
+fn cell(alloc: Global, column: Column, entry: &Entry) -> Result<String, AllocError> {
+    match column {
+        Column::Id => ShownId(entry.id()).to_string(alloc),
+        Column::Stamp => entry.key().ts.get().to_string(alloc),
+        Column::Rank => entry.key().rank.get().to_string(alloc),
+        Column::Act => String::from_str(alloc, name(entry)),
+        Column::Value => value_text(alloc, entry),
+        Column::Source => source_text(alloc, entry),
+    }
+}
+
+/// The cells of a record; with none, the names of the columns.
+fn cells(alloc: Global, entry: Option<&Entry>) -> Result<Vec<String>, AllocError> {
     let mut cells = Vec::new(alloc);
-    cells.push(id_text(alloc, entry.id())?)?;
-    cells.push(key.ts.get().to_string(alloc)?)?;
-    cells.push(key.rank.get().to_string(alloc)?)?;
-    cells.push(String::from_str(alloc, name(entry))?)?;
-    cells.push(value_text(alloc, entry)?)?;
-    cells.push(source_text(alloc, entry)?)?;
+    for (column, head, _) in &COLUMNS {
+        let cell = match entry {
+            Some(entry) => cell(alloc, *column, entry),
+            None => String::from_str(alloc, head),
+        };
+        cells.push(cell?)?;
+    }
     Ok(cells)
 }
 
-/// The names of the columns.
-fn heads(alloc: Global) -> Result<Vec<String>, AllocError> {
-    let mut heads = Vec::new(alloc);
-    for (head, _) in COLUMNS {
-        heads.push(String::from_str(alloc, head)?)?;
+/// The rows of a table of these records, of which the first names the columns.
+fn rows_of(alloc: Global, entries: &[Entry]) -> Result<Vec<Vec<String>>, AllocError> {
+    let mut rows = Vec::new(alloc);
+    rows.push(cells(alloc, None)?)?;
+    for entry in entries {
+        rows.push(cells(alloc, Some(entry))?)?;
     }
-    Ok(heads)
+    Ok(rows)
 }
 
 /// Widens columns for these cells.
@@ -44,6 +74,15 @@ fn widen(widths: &mut [usize; 6], cells: &Vec<String>) {
             widths[column] = widths[column].max(cell.len());
         }
     }
+}
+
+/// How wide the columns of these rows are.
+fn widths_of(rows: &[Vec<String>]) -> [usize; 6] {
+    let mut widths = [0; 6];
+    for row in rows {
+        widen(&mut widths, row);
+    }
+    widths
 }
 
 /// Adds spaces to a text.
@@ -71,7 +110,22 @@ fn push_cell(
     }
 }
 
-/// Adds the line of a row, without spaces at its end.
+/// Adds the cells of a row.
+fn push_cells(
+    text: &mut String,
+    cells: &Vec<String>,
+    widths: &[usize; 6],
+) -> Result<(), AllocError> {
+    for (column, cell) in cells.iter().enumerate() {
+        if column < widths.len() {
+            text.push_str(if column == 0 { " " } else { "  " })?;
+            push_cell(text, cell.as_str(), widths[column], COLUMNS[column].2)?;
+        }
+    }
+    Ok(())
+}
+
+/// The line of a row, without spaces at its end.
 fn push_row(
     alloc: Global,
     text: &mut String,
@@ -81,40 +135,23 @@ fn push_row(
 ) -> Result<(), AllocError> {
     let mut line = String::new(alloc);
     line.push(mark)?;
-    for (column, cell) in cells.iter().enumerate() {
-        if column < widths.len() {
-            line.push_str(if column == 0 { " " } else { "  " })?;
-            push_cell(&mut line, cell.as_str(), widths[column], COLUMNS[column].1)?;
-        }
-    }
-    text.push_str(line.as_str().trim_end())?;
-    text.push('\n')?;
-    Ok(())
+    push_cells(&mut line, cells, widths)?;
+    write!(text, "{}\n", line.as_str().trim_end())
 }
 
-/// The rows of a table of these records.
-fn rows_of(alloc: Global, entries: &[Entry]) -> Result<Vec<Vec<String>>, AllocError> {
-    let mut rows = Vec::new(alloc);
-    for entry in entries {
-        rows.push(cells(alloc, entry)?)?;
-    }
-    Ok(rows)
-}
-
-/// A table of records, a line each, with a mark at one of them.
-pub(crate) fn table(alloc: Global, entries: &[Entry], marked: usize) -> Result<String, AllocError> {
-    let heads = heads(alloc)?;
+/// Adds a table of records, a line each, with a mark at one of them.
+pub(crate) fn push_table(
+    alloc: Global,
+    text: &mut String,
+    entries: &[Entry],
+    marked: usize,
+) -> Result<(), AllocError> {
     let rows = rows_of(alloc, entries)?;
-    let mut widths = [0; 6];
-    widen(&mut widths, &heads);
-    for row in rows.iter() {
-        widen(&mut widths, row);
-    }
-    let mut text = String::new(alloc);
-    push_row(alloc, &mut text, ' ', &heads, &widths)?;
+    let widths = widths_of(rows.as_slice());
+    let marked = marked.saturating_add(1);
     for (place, row) in rows.iter().enumerate() {
         let mark = if place == marked { '>' } else { ' ' };
-        push_row(alloc, &mut text, mark, row, &widths)?;
+        push_row(alloc, text, mark, row, &widths)?;
     }
-    Ok(text)
+    Ok(())
 }
