@@ -1,2 +1,4 @@
+mod Local
 mod Reading
+mod Rules
 mod Subcommands

@@ -1,14 +1,15 @@
 use Rattle.std.proofs.Common.{◌∙◌, ap}
 use Rattle.std.specs.Prelude.{codes}
-use Rattle.std.proofs.lemmas.Result.{IfOk-weaker}
-use Rattle.clap.specs.Words.{App}
-use Rattle.command_line.specs.Grammar.{with_number}
+use Rattle.clap.specs.Words.{App, with_rule}
+use Rattle.command_line.specs.Grammar.{number_option}
+use Rattle.command_line.proofs.Local.{made_of}
 use Rattle.command_line.proofs.grammar.with_limits.Goals as goal
 
-pub returns-clause-app : goal.returns-clause-app
-returns-clause-app c =
-    let two = c.in_ok-command-2.ensures.app ∙ ap (λ (app : App). with_number app (codes "lease")) c.in_ok-command.ensures.app in
-    let three = c.in_ok-command-3.ensures.app ∙ ap (λ (app : App). with_number app (codes "period")) two in
-    let four = c.in_ok-command-4.ensures.app ∙ ap (λ (app : App). with_number app (codes "cache")) three in
-    let five = c.in_ok-command-5.ensures.app ∙ ap (λ (app : App). with_number app (codes "slice-lines")) four in
-    IfOk-weaker c.with_number-6.result _ _ (λ made is. is ∙ ap (λ (app : App). with_number app (codes "inbox")) five) c.with_number-6.ensures.app
+pub returns : goal.returns
+returns c =
+    let one = c.in_ok-command.ensures in
+    let two = c.in_ok-command-2.ensures ∙ ap (λ (app : App). with_rule app (number_option (codes "lease"))) one in
+    let three = c.in_ok-command-3.ensures ∙ ap (λ (app : App). with_rule app (number_option (codes "period"))) two in
+    let four = c.in_ok-command-4.ensures ∙ ap (λ (app : App). with_rule app (number_option (codes "cache"))) three in
+    let five = c.in_ok-command-5.ensures ∙ ap (λ (app : App). with_rule app (number_option (codes "slice-lines"))) four in
+    made_of c.with_number-6.result _ _ (ap (λ (app : App). with_rule app (number_option (codes "inbox"))) five) c.with_number-6.ensures
