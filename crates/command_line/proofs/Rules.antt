@@ -1,10 +1,14 @@
--- What each setting of an argument changes of its rule.
-use Rattle.std.proofs.Common.{◌≡◌, ◌∙◌, ap, ℕ, true, Option, Some, Bor}
-use Rattle.clap.specs.Words.{Rule, Text, rule_of}
+-- What each setting of an argument changes of its rule, and the rules of the arguments that are made so.
+use Rattle.std.proofs.Common.{◌≡◌, ◌∙◌, ap, ℕ, true, codes, Option, Some, Bor}
+use Rattle.clap.specs.Lexer.{usize_max}
+use Rattle.clap.specs.Words.{Rule, Text, new_rule, rule_of}
 use Rattle.clap.specs.declared.builder.action.ArgAction.{ArgAction}
+use Rattle.clap.specs.declared.builder.action.ArgAction.TheVariants.{Append, Set, SetTrue}
 use Rattle.clap.specs.declared.builder.arg.Arg.{Arg}
 use Rattle.clap.specs.declared.builder.range.ValueRange.{ValueRange}
 use Rattle.clap.specs.declared.builder.value_parser.ValueParser.{ValueParser}
+use Rattle.clap.specs.declared.builder.value_parser.ValueParser.TheVariants.{Unsigned}
+use Rattle.command_line.specs.Grammar as grammar
 
 pub long_set : (a b : Arg) (name : Bor Text) (rule : Rule) → b ≡ record a { long = Some name } → rule_of a ≡ rule
     → rule_of b ≡ record rule { long = Some name.now }
@@ -35,3 +39,33 @@ range_set a b range rule set to is =
 -- a text of help changes nothing
 pub help_set : (a b : Arg) (text : Option (Bor Text)) (rule : Rule) → b ≡ record a { help = text } → rule_of a ≡ rule → rule_of b ≡ rule
 help_set a b text rule set is = ap rule_of set ∙ is
+
+pub number_rule : (a b c d e f : Arg) (name : Bor Text) (names : _) (text : Option (Bor Text)) → rule_of a ≡ new_rule name.now
+    → b ≡ record a { long = Some name } → c ≡ record b { val_names = names } → (rule_of (record b { val_names = names })).value_names ≡ 1
+    → d ≡ record c { value_parser = d.value_parser } → d.value_parser ≡ Some (Unsigned 0 18446744073709551615)
+    → e ≡ record d { action = Some Set } → f ≡ record e { help = text } → rule_of f ≡ grammar.number_option name.now
+number_rule a b c d e f name names text fresh long value one parsed unsigned acts helped =
+    help_set e f text _ helped (action_set d e Set _ acts (parser_set c d _ _ parsed unsigned
+    (value_set b c names _ value one (long_set a b name _ long fresh))))
+
+pub file_rule : (a b c d e : Arg) (name : Bor Text) (names : _) (text : Option (Bor Text)) → rule_of a ≡ new_rule name.now
+    → b ≡ record a { long = Some name } → c ≡ record b { val_names = names } → (rule_of (record b { val_names = names })).value_names ≡ 1
+    → d ≡ record c { action = Some Set } → e ≡ record d { help = text } → rule_of e ≡ grammar.file_option name.now
+file_rule a b c d e name names text fresh long value one acts helped =
+    help_set d e text _ helped (action_set c d Set _ acts (value_set b c names _ value one (long_set a b name _ long fresh)))
+
+pub flag_rule : (a b c d : Arg) (name : Bor Text) (text : Option (Bor Text)) → rule_of a ≡ new_rule name.now → b ≡ record a { long = Some name }
+    → c ≡ record b { action = Some SetTrue } → d ≡ record c { help = text } → rule_of d ≡ grammar.flag name.now
+flag_rule a b c d name text fresh long acts helped =
+    help_set c d text _ helped (action_set b c SetTrue _ acts (long_set a b name _ long fresh))
+
+pub name_rule : (a b c d : Arg) (name : Bor Text) (text : Option (Bor Text)) → rule_of a ≡ new_rule name.now → b ≡ record a { required = true }
+    → c ≡ record b { action = Some Set } → d ≡ record c { help = text } → rule_of d ≡ grammar.name name.now
+name_rule a b c d name text fresh required acts helped =
+    help_set c d text _ helped (action_set b c Set _ acts (required_set a b _ required fresh))
+
+pub files_rule : (a b c d e : Arg) (text : Option (Bor Text)) → rule_of a ≡ new_rule (codes "FILE") → b ≡ record a { required = true }
+    → c ≡ record b { num_vals = c.num_vals } → c.num_vals ≡ Some (record { start_inclusive = 1; end_inclusive = usize_max })
+    → d ≡ record c { action = Some Append } → e ≡ record d { help = text } → rule_of e ≡ grammar.files
+files_rule a b c d e text fresh required ranged many acts helped =
+    help_set d e text _ helped (action_set c d Append _ acts (range_set b c _ _ ranged many (required_set a b _ required fresh)))

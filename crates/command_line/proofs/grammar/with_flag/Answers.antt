@@ -1,21 +1,14 @@
-use Rattle.std.proofs.Common.{◌≡◌, ap}
-use Rattle.clap.specs.declared.builder.action.ArgAction.TheVariants.{SetTrue}
-use Rattle.clap.specs.Words.{Rule, app_of, rule_of, with_rule}
-use Rattle.command_line.specs.Grammar.{flag}
+use Rattle.std.proofs.Common.{ap}
+use Rattle.clap.specs.Words.{Rule, app_of, with_rule}
 use Rattle.command_line.proofs.Local.{made_of}
-use Rattle.command_line.proofs.Rules.{action_set, help_set, long_set}
+use Rattle.command_line.proofs.Rules.{flag_rule}
 use Rattle.command_line.proofs.grammar.with_flag.Goals as goal
 
 pub with_argument-requires : goal.with_argument-requires
-with_argument-requires c =
-    let long = long_set c.new.result c.long.result c.args.name _ c.long.ensures c.new.ensures.rule in
-    let acts = action_set c.long.result c.action.result SetTrue _ c.action.ensures long in
-    let rule : rule_of c.help-argument.result ≡ flag c.args.name.now = help_set c.action.result c.help-argument.result _ _ c.help-argument.ensures acts in
-    ap (λ (r : Rule). r.is_simple) rule
+with_argument-requires c = ap (λ (r : Rule). r.is_simple)
+    (flag_rule c.new.result c.long.result c.action.result c.help-argument.result c.args.name _ c.new.ensures.rule c.long.ensures c.action.ensures c.help-argument.ensures)
 
 pub returns : goal.returns
-returns c =
-    let long = long_set c.new.result c.long.result c.args.name _ c.long.ensures c.new.ensures.rule in
-    let acts = action_set c.long.result c.action.result SetTrue _ c.action.ensures long in
-    let rule : rule_of c.help-argument.result ≡ flag c.args.name.now = help_set c.action.result c.help-argument.result _ _ c.help-argument.ensures acts in
-    made_of c.with_argument.result _ _ (ap (λ (r : Rule). with_rule (app_of c.args.command) r) rule) c.with_argument.ensures
+returns c = made_of c.with_argument.result _ _
+    (ap (λ (r : Rule). with_rule (app_of c.args.command) r)
+    (flag_rule c.new.result c.long.result c.action.result c.help-argument.result c.args.name _ c.new.ensures.rule c.long.ensures c.action.ensures c.help-argument.ensures)) c.with_argument.ensures

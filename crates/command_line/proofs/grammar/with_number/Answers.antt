@@ -1,29 +1,16 @@
-use Rattle.std.proofs.Common.{◌≡◌, ap, refl, rules}
-use Rattle.std.specs.Prelude.{Some}
-use Rattle.clap.specs.declared.builder.action.ArgAction.TheVariants.{Set}
-use Rattle.clap.specs.declared.builder.value_parser.ValueParser.TheVariants.{Unsigned}
-use Rattle.clap.specs.Words.{Rule, app_of, rule_of, with_rule}
-use Rattle.command_line.specs.Grammar.{number_option}
+use Rattle.std.proofs.Common.{ap, refl, rules}
+use Rattle.clap.specs.Words.{Rule, app_of, with_rule}
 use Rattle.command_line.proofs.Local.{made_of}
-use Rattle.command_line.proofs.Rules.{action_set, help_set, long_set, parser_set, value_set}
+use Rattle.command_line.proofs.Rules.{number_rule}
 use Rattle.command_line.proofs.grammar.with_number.Goals as goal
 
 pub with_argument-requires : goal.with_argument-requires
-with_argument-requires c =
-    let long = long_set c.new.result c.long.result c.args.name _ c.long.ensures c.new.ensures.rule in
-    let value = value_set c.long.result c.value_name.result _ _ c.value_name.ensures refl long in
-    let unsigned : c.value_parser-2.result.value_parser ≡ Some (Unsigned 0 18446744073709551615) = search rules in
-    let parsed = parser_set c.value_name.result c.value_parser-2.result _ _ c.value_parser-2.ensures.others unsigned value in
-    let acts = action_set c.value_parser-2.result c.action.result Set _ c.action.ensures parsed in
-    let rule : rule_of c.help-argument.result ≡ number_option c.args.name.now = help_set c.action.result c.help-argument.result _ _ c.help-argument.ensures acts in
-    ap (λ (r : Rule). r.is_simple) rule
+with_argument-requires c = ap (λ (r : Rule). r.is_simple)
+    (number_rule c.new.result c.long.result c.value_name.result c.value_parser-2.result c.action.result c.help-argument.result c.args.name _ _
+    c.new.ensures.rule c.long.ensures c.value_name.ensures refl c.value_parser-2.ensures.others (search rules) c.action.ensures c.help-argument.ensures)
 
 pub returns : goal.returns
-returns c =
-    let long = long_set c.new.result c.long.result c.args.name _ c.long.ensures c.new.ensures.rule in
-    let value = value_set c.long.result c.value_name.result _ _ c.value_name.ensures refl long in
-    let unsigned : c.value_parser-2.result.value_parser ≡ Some (Unsigned 0 18446744073709551615) = search rules in
-    let parsed = parser_set c.value_name.result c.value_parser-2.result _ _ c.value_parser-2.ensures.others unsigned value in
-    let acts = action_set c.value_parser-2.result c.action.result Set _ c.action.ensures parsed in
-    let rule : rule_of c.help-argument.result ≡ number_option c.args.name.now = help_set c.action.result c.help-argument.result _ _ c.help-argument.ensures acts in
-    made_of c.with_argument.result _ _ (ap (λ (r : Rule). with_rule (app_of c.args.command) r) rule) c.with_argument.ensures
+returns c = made_of c.with_argument.result _ _
+    (ap (λ (r : Rule). with_rule (app_of c.args.command) r)
+    (number_rule c.new.result c.long.result c.value_name.result c.value_parser-2.result c.action.result c.help-argument.result c.args.name _ _
+    c.new.ensures.rule c.long.ensures c.value_name.ensures refl c.value_parser-2.ensures.others (search rules) c.action.ensures c.help-argument.ensures)) c.with_argument.ensures
