@@ -7,7 +7,7 @@ ghost use Rattle.audit.specs.Lists.{transcripts, histories, transcript_of, histo
 ghost use Rattle.audit.specs.inner.Fronts.{FrontsFit, IsOneOn, Merging, Reached, SliceStuck, Small, goes_alone, waits_for};
 ghost use Rattle.audit.specs.inner.Steps.{Enabled};
 
-use super::lists::{entry_at, history_at, is_same, served_entry, slice_of, transcript_at};
+use super::lists::{entry_at, history_at, is_same, served_entry, slice_of};
 use core_unit::{CoreEntry, CoreUnit};
 use line_stamps::{Message, Reply};
 use manager_slice::{HistoryEntry, ManagerSlice};
@@ -39,10 +39,10 @@ fn set_due(due: &mut [usize], slice: usize, value: usize)
 }
 
 // Whether a core's entry at a place is its own.
-fn is_alone(transcript: &[CoreEntry], at: usize) -> bool
-    ensures { result ≡ goes_alone transcript.now at }
+fn is_alone(units: &[CoreUnit], core: usize, at: usize) -> bool
+    ensures { result ≡ goes_alone (transcript_of (transcripts units.now) core) at }
 {
-    match entry_at(transcript, at) {
+    match entry_at(units, core, at) {
         None => false,
         Some(CoreEntry::Got(..)) => false,
         Some(CoreEntry::Performed) => true,
@@ -52,13 +52,13 @@ fn is_alone(transcript: &[CoreEntry], at: usize) -> bool
     }
 }
 
-// Whether this reply to this message is taken at a place.
-fn is_got(transcript: &[CoreEntry], at: usize, message: &Message, reply: &Reply) -> bool
+// Whether a core takes this reply to this message at a place.
+fn is_got(units: &[CoreUnit], core: usize, at: usize, message: &Message, reply: &Reply) -> bool
     ensures { MatchBool result
-        (slice_get transcript.now at ≡ Some (Got message.now reply.now))
-        (slice_get transcript.now at ≢ Some (Got message.now reply.now)) }
+        (slice_get (transcript_of (transcripts units.now) core) at ≡ Some (Got message.now reply.now))
+        (slice_get (transcript_of (transcripts units.now) core) at ≢ Some (Got message.now reply.now)) }
 {
-    match entry_at(transcript, at) {
+    match &entry_at(units, core, at) {
         Some(CoreEntry::Got(asked, answer)) => is_same(asked, answer, message, reply),
         None => false,
         Some(CoreEntry::Performed) => false,
@@ -69,12 +69,12 @@ fn is_got(transcript: &[CoreEntry], at: usize, message: &Message, reply: &Reply)
 }
 
 // The slice, of so many, whose reply a core takes at a place, if it takes one there.
-fn waited_for(transcript: &[CoreEntry], at: usize, count: usize) -> Option<usize>
+fn waited_for(units: &[CoreUnit], core: usize, at: usize, count: usize) -> Option<usize>
     requires { 0 < count }
-    ensures value { result ≡ waits_for count (slice_get transcript.now at) }
+    ensures value { result ≡ waits_for count (slice_get (transcript_of (transcripts units.now) core) at) }
     ensures in_range { IfSome result (λ slice. slice < count) }
 {
-    match entry_at(transcript, at) {
+    match entry_at(units, core, at) {
         Some(CoreEntry::Got(message, _)) => Some(slice_of(count, message.addr())),
         None => None,
         Some(CoreEntry::Performed) => None,
@@ -105,7 +105,7 @@ fn slice_step(
         Some(HistoryEntry::Evicted(_)) => Some(SliceStep::Evicts),
         Some(HistoryEntry::Served(by, message, reply)) => {
             let core = by.get() as usize;
-            if !is_got(transcript_at(units, core), cores[core], message, reply) {
+            if !is_got(units, core, cores[core], message, reply) {
                 return None;
             }
             if slice_of(slices.len(), message.addr()) != slice {
@@ -134,8 +134,7 @@ pub(crate) fn core_on(
     ensures on { IsOneOn core cores.old cores.new }
     ensures alone { goes_alone (transcript_of (transcripts units.now) core) (slice_index cores.new core) ≡ false }
 {
-    let transcript = transcript_at(units, core);
-    while is_alone(transcript, cores[core]) {
+    while is_alone(units, core, cores[core]) {
         bump(cores, core);
     }
 }
@@ -164,8 +163,7 @@ fn pass(
     bump(cores, core);
     bump(fronts, slice);
     core_on(units, slices, cores, fronts, core);
-    let transcript = transcript_at(units, core);
-    let Some(waited) = waited_for(transcript, cores[core], slices.len()) else {
+    let Some(waited) = waited_for(units, core, cores[core], slices.len()) else {
         return;
     };
     set_due(due, waited, 1);

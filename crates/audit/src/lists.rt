@@ -1,6 +1,6 @@
 //! The lists of a run, and what stands in them.
 
-ghost use Rattle.std.specs.Prelude.{◌≡◌, ◌≢◌, ◌<◌, ◌≤◌, length, MatchBool, slice_get};
+ghost use Rattle.std.specs.Prelude.{◌≡◌, ◌≢◌, ◌<◌, ◌≤◌, get_or, length, MatchBool, slice_get};
 ghost use Rattle.std.specs.Option.{option_copied};
 ghost use Rattle.core_unit.specs.declared.entry.CoreEntry.TheVariants.{Got};
 ghost use Rattle.audit.specs.Lists.{transcripts, histories, transcript_of, history_of};
@@ -26,13 +26,13 @@ pub(crate) fn slice_of(count: usize, addr: Addr) -> usize
     addr.get() as usize % count
 }
 
-/// The transcript of a core, which is empty where it has no unit.
-pub(crate) fn transcript_at(units: &[CoreUnit], core: usize) -> &[CoreEntry]
-    ensures { result.now ≡ transcript_of (transcripts units.now) core }
+/// How many entries a core has: none where it has no unit.
+pub(crate) fn entry_count(units: &[CoreUnit], core: usize) -> usize
+    ensures { result ≡ length (transcript_of (transcripts units.now) core) }
 {
     match units.get(core) {
-        Some(unit) => unit.transcript(),
-        None => &[],
+        Some(unit) => unit.transcript().len(),
+        None => 0,
     }
 }
 
@@ -46,11 +46,22 @@ pub(crate) fn history_at(slices: &[ManagerSlice], slice: usize) -> &[HistoryEntr
     }
 }
 
-/// The entry at a place of a transcript, if there is one.
-pub(crate) fn entry_at(transcript: &[CoreEntry], at: usize) -> Option<&CoreEntry>
-    ensures { option_copied result ≡ slice_get transcript.now at }
+/// The entry of a core at a place, if there is one.
+pub(crate) fn entry_at(units: &[CoreUnit], core: usize, at: usize) -> Option<CoreEntry>
+    ensures { result ≡ slice_get (transcript_of (transcripts units.now) core) at }
 {
-    transcript.get(at)
+    units.get(core)?.transcript().get(at)
+}
+
+/// The entry of a core at a place where it has one.
+pub(crate) fn entry_there(units: &[CoreUnit], core: usize, at: usize) -> CoreEntry
+    requires { at < length (transcript_of (transcripts units.now) core) }
+    ensures { result ≡ get_or (transcript_of (transcripts units.now) core) at result }
+{
+    match entry_at(units, core, at) {
+        Some(entry) => entry,
+        None => unreachable!(),
+    }
 }
 
 /// The entry at a place of a history, if there is one.

@@ -8,7 +8,7 @@ ghost use Rattle.audit.specs.inner.Fronts.{FrontsFit, Merging, Reached, Small, S
 
 use super::fault::AuditFault;
 use super::fronts::{core_on, move_slice};
-use super::lists::{CORES, SLICES, entry_at, history_at, slice_of, transcript_at};
+use super::lists::{CORES, SLICES, entry_at, entry_count, entry_there, history_at, slice_of};
 use super::pairs::is_of_slice;
 use core_unit::{CoreEntry, CoreUnit};
 use manager_slice::ManagerSlice;
@@ -20,7 +20,7 @@ fn lengths(units: &[CoreUnit], slices: &[ManagerSlice])
     ensures { Small (transcripts units.now) (histories slices.now) }
 {
     for core in 0..CORES {
-        let _ = transcript_at(units, core).len();
+        let _ = entry_count(units, core);
     }
     for slice in 0..SLICES {
         let _ = history_at(slices, slice).len();
@@ -97,7 +97,7 @@ pub(crate) fn core_left(units: &[CoreUnit], cores: &[usize]) -> Option<usize>
         × ((d : ℕ) → d < c → length (transcript_of (transcripts units.now) d) ≤ slice_index cores.now d)) }
 {
     for core in 0..CORES {
-        if cores[core] < transcript_at(units, core).len() {
+        if cores[core] < entry_count(units, core) {
             return Some(core);
         }
     }
@@ -120,14 +120,15 @@ pub(crate) fn slice_left(slices: &[ManagerSlice], fronts: &[usize]) -> Option<us
 }
 
 // How many replies of a slice a core took before a place.
-fn gots_before(transcript: &[CoreEntry], count: usize, slice: usize, at: usize) -> usize
+fn gots_before(units: &[CoreUnit], core: usize, count: usize, slice: usize, at: usize) -> usize
     requires some { 0 < count }
-    requires within { at ≤ length transcript.now }
-    ensures { result ≡ length (gots count slice (take at transcript.now)) }
+    requires within { at ≤ length (transcript_of (transcripts units.now) core) }
+    ensures { result ≡ length (gots count slice (take at (transcript_of (transcripts units.now) core))) }
 {
     let mut taken = 0;
     for k in 0..at {
-        if !is_of_slice(&transcript[k], count, slice) {
+        let entry = entry_there(units, core, k);
+        if !is_of_slice(&entry, count, slice) {
             continue;
         }
         taken += 1;
@@ -151,12 +152,11 @@ pub(crate) fn unmerged_at(
     requires stuck { Stuck (transcripts units.now) (histories slices.now) cores.now fronts.now }
     ensures { IsFirstUnmerged (transcripts units.now) (histories slices.now) result.core result.slice result.place }
 {
-    let transcript = transcript_at(units, core);
     let at = cores[core];
-    let Some(CoreEntry::Got(message, _)) = entry_at(transcript, at) else {
+    let Some(CoreEntry::Got(message, _)) = entry_at(units, core, at) else {
         unreachable!()
     };
     let slice = slice_of(slices.len(), message.addr());
-    let place = gots_before(transcript, slices.len(), slice, at);
+    let place = gots_before(units, core, slices.len(), slice, at);
     AuditFault { core, slice, place }
 }

@@ -6,7 +6,7 @@ ghost use Rattle.audit.specs.Pairs.{PairAgrees, Agrees, IsFirstDifference, gots,
 ghost use Rattle.audit.specs.inner.Words.{got_in, served_in, IsNextServed};
 
 use super::fault::AuditFault;
-use super::lists::{CORES, history_at, is_same, served_entry, slice_of, transcript_at};
+use super::lists::{CORES, entry_count, entry_there, history_at, is_same, served_entry, slice_of};
 use core_unit::{CoreEntry, CoreUnit};
 use manager_slice::{HistoryEntry, ManagerSlice};
 
@@ -66,7 +66,7 @@ fn next_served(history: &[HistoryEntry], core: usize, from: usize) -> Option<usi
 // The first place at which the messages of the core that the slice served differ from those that the
 // core got answered, if they do.
 fn pair_fault(
-    transcript: &[CoreEntry],
+    units: &[CoreUnit],
     history: &[HistoryEntry],
     count: usize,
     core: usize,
@@ -74,19 +74,20 @@ fn pair_fault(
 ) -> Option<usize>
     requires { 0 < count }
     ensures { MatchOption result
-        (serveds core history.now ≡ gots count slice transcript.now)
-        (λ k. DiffersAt (serveds core history.now) (gots count slice transcript.now) k) }
+        (serveds core history.now ≡ gots count slice (transcript_of (transcripts units.now) core))
+        (λ k. DiffersAt (serveds core history.now) (gots count slice (transcript_of (transcripts units.now) core)) k) }
 {
     let mut seen = 0;
     let mut place = 0;
-    for entry in transcript {
-        if !is_of_slice(entry, count, slice) {
+    for k in 0..entry_count(units, core) {
+        let entry = entry_there(units, core, k);
+        if !is_of_slice(&entry, count, slice) {
             continue;
         }
         let Some(at) = next_served(history, core, seen) else {
             return Some(place);
         };
-        if !is_served(history, at, entry) {
+        if !is_served(history, at, &entry) {
             return Some(place);
         }
         seen = at + 1;
@@ -109,10 +110,9 @@ fn core_fault(units: &[CoreUnit], slices: &[ManagerSlice], core: usize) -> Optio
         (gots (length slices.now) f.slice (transcript_of (transcripts units.now) core)) f.place
         × ((s : ℕ) → s < f.slice → PairAgrees (transcripts units.now) (histories slices.now) core s)) }
 {
-    let transcript = transcript_at(units, core);
     for slice in 0..slices.len() {
         let history = history_at(slices, slice);
-        if let Some(place) = pair_fault(transcript, history, slices.len(), core, slice) {
+        if let Some(place) = pair_fault(units, history, slices.len(), core, slice) {
             return Some(AuditFault { core, slice, place });
         }
     }

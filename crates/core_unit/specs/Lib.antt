@@ -5,4 +5,5 @@ pub mod Laws
 pub mod Outcomes
 pub mod Parts
 pub mod Replay
+pub mod Transcript
 pub mod inner

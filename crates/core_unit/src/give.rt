@@ -44,7 +44,7 @@ impl CoreUnit {
             return Ok(Outcome::NoEffect);
         };
         *hand = Some(*message);
-        transcript.push_reserved(CoreEntry::Gave(*message));
+        transcript.push(CoreEntry::Gave(*message));
         Ok(Outcome::Gave(*message))
     }
 
@@ -85,11 +85,11 @@ impl CoreUnit {
         match &cache.evict(addr) {
             Evicted::GiveBack(message) => {
                 *hand = Some(*message);
-                transcript.push_reserved(CoreEntry::Gave(*message));
+                transcript.push(CoreEntry::Gave(*message));
                 Ok(Outcome::Gave(*message))
             }
             Evicted::Dropped => {
-                transcript.push_reserved(CoreEntry::Dropped(addr));
+                transcript.push(CoreEntry::Dropped(addr));
                 Ok(Outcome::Dropped(addr))
             }
             Evicted::Nothing => Ok(Outcome::NoEffect),

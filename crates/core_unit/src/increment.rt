@@ -34,10 +34,10 @@ impl CoreUnit {
         }
         check_room(transcript)?;
         let after = self_increment(*pts)?;
-        transcript.reserve(1)?;
+        transcript.reserve()?;
         *pts = after;
         *r = Rank::ZERO;
-        transcript.push_reserved(CoreEntry::Bumped);
+        transcript.push(CoreEntry::Bumped);
         Ok(Outcome::Bumped)
     }
 }

@@ -18,4 +18,5 @@ mod unit;
 pub use entry::CoreEntry;
 pub use fault::UnitFault;
 pub use outcome::Outcome;
+pub use transcript::Transcript;
 pub use unit::CoreUnit;

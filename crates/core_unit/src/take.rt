@@ -60,7 +60,7 @@ impl CoreUnit {
         } = self;
         make_room(transcript)?;
         *hand = None;
-        transcript.push_reserved(CoreEntry::Got(*message, Reply::Taken));
+        transcript.push(CoreEntry::Got(*message, Reply::Taken));
         Ok(Outcome::Took)
     }
 
@@ -89,7 +89,7 @@ impl CoreUnit {
         }
         cache.fill(addr, reply)?;
         *hand = None;
-        transcript.push_reserved(CoreEntry::Got(*message, *reply));
+        transcript.push(CoreEntry::Got(*message, *reply));
         Ok(Outcome::Took)
     }
 }

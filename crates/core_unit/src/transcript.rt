@@ -1,21 +1,135 @@
 //! Transcripts that grow.
 
-ghost use Rattle.std.specs.Prelude.{◌≡◌, ◌+◌, ◌<◌, ◌≤◌, ◌++◌, ◌∷◌, [], vec_len, vec_capacity, MatchResult, OnOk, IfErr, length};
+ghost use Rattle.std.specs.Prelude.{◌≡◌, ◌+◌, ◌<◌, ◌≤◌, ◌++◌, ◌∷◌, [], true, IfErr, IfOk, MatchResult, OnOk, length, slice_get, vec_len, vec_capacity};
 ghost use Rattle.manager_slice.specs.Limits.{entry_limit};
 ghost use Rattle.core_unit.specs.Outcomes.{IsLackOfRoom};
+ghost use Rattle.core_unit.specs.declared.entry.CoreEntry.TheVariants as entry;
 ghost use Rattle.core_unit.specs.declared.fault.UnitFault.TheVariants.{TranscriptFull};
 
 use super::entry::CoreEntry;
 use super::fault::UnitFault;
+use std::alloc::{AllocError, Global};
+use std::marker::Model;
 
 /// How many entries a transcript has at most.
 const ENTRY_LIMIT: usize = 1_048_576;
 
+/// How many entries an operation makes whose line another core wants too: the line comes, the
+/// operation is performed, the line is given back, and that is taken.
+const OPERATION_ENTRIES: usize = 4;
+
+/// An entry as a transcript keeps it. It takes 8 bytes, where one with a message and its reply takes 104.
+#[derive(Clone, Copy, Debug, PartialEq, Eq)]
+enum Step {
+    /// The next operation was performed.
+    Performed,
+    /// The entry at this place of the others.
+    Other(u32),
+}
+
+/// What a core did, in order: at most 1,048,576 entries. Operations, of which there are most, take few bytes.
+#[derive(Drop)]
+pub struct Transcript {
+    steps: Vec<Step>,
+    /// The entries that aren't operations.
+    others: Vec<CoreEntry>,
+}
+
+impl Model for Transcript {
+    ghost use Rattle.std.specs.Prelude.{nat_lt, ◌&&◌, vec_len, vec_capacity};
+    ghost use Rattle.core_unit.specs.Transcript.{IsTranscript, TranscriptParts, entries_of};
+
+    ghost Value = { TranscriptParts };
+
+    ghost view = { λ t. record {
+      entries = entries_of t.others.items t.steps.items;
+      has_room = nat_lt (vec_len t.steps) (vec_capacity t.steps)
+          && nat_lt (vec_len t.others) (vec_capacity t.others);
+    } };
+
+    ghost invariant = { λ t. IsTranscript t.others.items t.steps.items };
+}
+
+impl Transcript {
+    /// A transcript of no entry, with room for as many operations whose lines other cores want too. Err
+    /// where memory was refused.
+    pub(crate) fn with_room(alloc: Global, operations: usize) -> Result<Transcript, AllocError>
+        ensures { IfOk result (λ t. t.entries ≡ []) }
+    {
+        let entries = operations.saturating_mul(OPERATION_ENTRIES);
+        let steps = Vec::with_capacity(alloc, entries)?;
+        let others = Vec::with_capacity(alloc, entries.saturating_sub(operations))?;
+        Ok(Transcript { steps, others })
+    }
+
+    /// How many entries there are.
+    pub fn len(&self) -> usize
+        ensures len { result ≡ length self.now.entries }
+        ensures limit { length self.now.entries ≤ entry_limit }
+    {
+        self.steps.len()
+    }
+
+    /// The entry at a place, from 0; none after the last.
+    pub fn get(&self, place: usize) -> Option<CoreEntry>
+        ensures { result ≡ slice_get self.now.entries place }
+    {
+        match self.steps.get(place)? {
+            Step::Performed => Some(CoreEntry::Performed),
+            Step::Other(other) => self.others.get(*other as usize).copied(),
+        }
+    }
+
+    /// Makes room for one more entry. Err where memory was refused.
+    pub(crate) fn reserve(&mut self) -> Result<(), AllocError>
+        ensures entries { self.new.entries ≡ self.old.entries }
+        ensures room { OnOk result (self.new.has_room ≡ true) }
+    {
+        self.steps.reserve(1)?;
+        self.others.reserve(1)?;
+        Ok(())
+    }
+
+    /// One operation more.
+    pub(crate) fn push_performed(&mut self)
+        requires room { self.old.has_room ≡ true }
+        requires fits { length self.old.entries < entry_limit }
+        ensures { self.new.entries ≡ self.old.entries ++ entry.Performed ∷ [] }
+    {
+        self.steps.push_reserved(Step::Performed);
+    }
+
+    /// One entry more that isn't an operation.
+    pub(crate) fn push(&mut self, entry: CoreEntry)
+        requires room { self.old.has_room ≡ true }
+        requires fits { length self.old.entries < entry_limit }
+        ensures { self.new.entries ≡ self.old.entries ++ entry ∷ [] }
+    {
+        let place = self.others.len() as u32;
+        push_other(&mut self.others, entry);
+        self.steps.push_reserved(Step::Other(place));
+    }
+}
+
+// Adds an entry. It is spelled out at each push, since the prover can't follow one that is passed on whole.
+fn push_other(others: &mut Vec<CoreEntry>, entry: CoreEntry)
+    requires { vec_len others.old < vec_capacity others.old }
+    ensures { others.new.items ≡ others.old.items ++ entry ∷ [] }
+{
+    match entry {
+        CoreEntry::Performed => others.push_reserved(CoreEntry::Performed),
+        CoreEntry::Dropped(addr) => others.push_reserved(CoreEntry::Dropped(addr)),
+        CoreEntry::Gave(message) => others.push_reserved(CoreEntry::Gave(message)),
+        CoreEntry::Got(message, reply) => others.push_reserved(CoreEntry::Got(message, reply)),
+        CoreEntry::Bumped => others.push_reserved(CoreEntry::Bumped),
+    }
+}
+
 /// 13 TranscriptFull where one more entry doesn't fit.
-pub(crate) fn check_room(transcript: &[CoreEntry]) -> Result<(), UnitFault>
+pub(crate) fn check_room(transcript: &Transcript) -> Result<(), UnitFault>
     ensures { MatchResult result
-        (λ _. length transcript.now < entry_limit)
-        (λ fault. (fault ≡ TranscriptFull) × (entry_limit ≤ length transcript.now)) }
+        (λ _. length transcript.now.entries < entry_limit)
+        (λ fault. (fault ≡ TranscriptFull) × (entry_limit ≤ length transcript.now.entries)) }
 {
     if transcript.len() >= ENTRY_LIMIT {
         return Err(UnitFault::TranscriptFull);
@@ -25,13 +139,13 @@ pub(crate) fn check_room(transcript: &[CoreEntry]) -> Result<(), UnitFault>
 
 /// Makes room for one more entry: 13 TranscriptFull where it doesn't fit, or else 10 OutOfMemory. A
 /// refusal changes nothing.
-pub(crate) fn make_room(transcript: &mut Vec<CoreEntry>) -> Result<(), UnitFault>
-    ensures items { transcript.new.items ≡ transcript.old.items }
-    ensures room { OnOk result (vec_len transcript.new < vec_capacity transcript.new) }
-    ensures fits { OnOk result (length transcript.old.items < entry_limit) }
-    ensures refused { IfErr result (λ fault. IsLackOfRoom transcript.old.items fault) }
+pub(crate) fn make_room(transcript: &mut Transcript) -> Result<(), UnitFault>
+    ensures entries { transcript.new.entries ≡ transcript.old.entries }
+    ensures room { OnOk result (transcript.new.has_room ≡ true) }
+    ensures fits { OnOk result (length transcript.old.entries < entry_limit) }
+    ensures refused { IfErr result (λ fault. IsLackOfRoom transcript.old.entries fault) }
 {
     check_room(transcript)?;
-    transcript.reserve(1)?;
+    transcript.reserve()?;
     Ok(())
 }

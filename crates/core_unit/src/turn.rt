@@ -7,7 +7,6 @@ ghost use Rattle.core_unit.specs.Core.{next_of, next_request, op_addr, record_of
 ghost use Rattle.core_unit.specs.Outcomes.{Meets, miss_outcome, op_outcome, turn_outcome};
 ghost use Rattle.core_unit.specs.Parts.{core_of, SameUnit};
 
-use super::entry::CoreEntry;
 use super::fault::UnitFault;
 use super::operation::{Look, after, op_addr, perform_at};
 use super::outcome::Outcome;
@@ -73,7 +72,7 @@ impl CoreUnit {
         check_room(transcript)?;
         let (pts_after, r_after) = after(config, log.len() as u64 + 1, made.ts, made.rank)?;
         log.reserve(1)?;
-        transcript.reserve(1)?;
+        transcript.reserve()?;
         let id = OpId {
             core: *core,
             index: OpIndex::new(log.len() as u64).unwrap(),
@@ -83,7 +82,7 @@ impl CoreUnit {
         *pts = pts_after;
         *r = r_after;
         log.push_reserved(*made);
-        transcript.push_reserved(CoreEntry::Performed);
+        transcript.push_performed();
         Ok(Outcome::Performed(id))
     }
 

@@ -8,8 +8,8 @@ ghost use Rattle.manager_slice.specs.Limits.{entry_limit};
 ghost use Rattle.core_unit.specs.Kept.{Replays};
 ghost use Rattle.core_unit.specs.declared.fault.UnitFault.TheVariants.{OutOfMemory};
 
-use super::entry::CoreEntry;
 use super::fault::UnitFault;
+use super::transcript::Transcript;
 use core_program::{Program, ProgramState};
 use lease_rule::Config;
 use line_stamps::{Message, Rank, Stamp};
@@ -18,10 +18,6 @@ use mem_op::{Addr, CoreId};
 use private_cache::PrivateCache;
 use std::alloc::Global;
 use std::marker::Model;
-
-/// How many entries an operation makes whose line another core wants too: the line comes, the
-/// operation is performed, the line is given back, and that is taken.
-const OPERATION_ENTRIES: usize = 4;
 
 /// A core with its program. It is always in the state to which its transcript leads, entry by entry
 /// through the table of the private cache, from the start of its program; a request in hand is the
@@ -37,7 +33,7 @@ pub struct CoreUnit {
     pub(crate) r: Rank,
     pub(crate) cache: PrivateCache,
     pub(crate) hand: Option<Message>,
-    pub(crate) transcript: Vec<CoreEntry>,
+    pub(crate) transcript: Transcript,
     pub(crate) log: Vec<Record>,
 }
 
@@ -60,7 +56,7 @@ impl Model for CoreUnit {
       r = u.r;
       cache = u.cache;
       hand = u.hand;
-      transcript = u.transcript.items;
+      transcript = u.transcript.entries;
       log = u.log.items;
     } };
 
@@ -73,7 +69,7 @@ impl Model for CoreUnit {
       r = u.r;
       cache = u.cache;
       hand = u.hand;
-      transcript = u.transcript.items;
+      transcript = u.transcript.entries;
       log = u.log.items;
     }) };
 }
@@ -104,7 +100,7 @@ impl CoreUnit {
         let cache = PrivateCache::new(alloc, config)?;
         // Jumps only skip, so there are at most as many operations as instructions.
         let operations = program.instructions().len();
-        let transcript = Vec::with_capacity(alloc, operations * OPERATION_ENTRIES)?;
+        let transcript = Transcript::with_room(alloc, operations)?;
         let log = Vec::with_capacity(alloc, operations)?;
         Ok(CoreUnit {
             core,
@@ -156,11 +152,11 @@ impl CoreUnit {
     }
 
     /// What it did so far, in order: at most 1,048,576 entries.
-    pub fn transcript(&self) -> &[CoreEntry]
-        ensures entries { result.now ≡ self.now.transcript }
+    pub fn transcript(&self) -> &Transcript
+        ensures entries { result.now.entries ≡ self.now.transcript }
         ensures limit { length self.now.transcript ≤ entry_limit }
     {
-        self.transcript.as_slice()
+        &self.transcript
     }
 
     /// The records of the operations that it performed, in order: at most 1,048,576.

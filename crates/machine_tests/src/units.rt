@@ -84,6 +84,16 @@ pub(super) fn meets(rt: &impl Abort, unit: &mut CoreUnit, rows: &[Row]) {
     }
 }
 
+// The core has this transcript, and nothing after it.
+pub(super) fn did(rt: &impl Abort, unit: &CoreUnit, entries: &[CoreEntry]) {
+    let transcript = unit.transcript();
+    assert_eq!(rt; transcript.len(), entries.len());
+    for (place, entry) in entries.iter().enumerate() {
+        assert_eq!(rt; transcript.get(place), Some(*entry));
+    }
+    assert_eq!(rt; transcript.get(entries.len()), None);
+}
+
 // The core's log has these lines.
 pub(super) fn logs(rt: &impl Abort, unit: &CoreUnit, lines: &[&str]) {
     assert_eq!(rt; unit.log().len(), lines.len());
@@ -125,7 +135,7 @@ fn idle_recalls(rt: HostRuntime) -> Result<(), Fail> {
         CoreEntry::Gave(*given),
         CoreEntry::Got(*given, Reply::Taken),
     ];
-    assert_eq!(rt; unit.transcript(), entries.as_slice());
+    did(&rt, &unit, &entries);
     logs(&rt, &unit, &["S 0 1 1 0"]);
     Ok(())
 }

@@ -34,13 +34,6 @@ fn run_of_every_event(alloc: Global) -> Result<Core, Fail> {
     Ok(ran(alloc, &programs, &config, &events)?)
 }
 
-// The core has this transcript.
-fn did(rt: &impl Abort, machine: &Core, core: CoreId, entries: &[CoreEntry]) -> Result<(), Fail> {
-    let unit = machine.unit(core).ok_or("the core is there")?;
-    assert_eq!(rt; unit.transcript(), entries);
-    Ok(())
-}
-
 #[test]
 fn every_event_has_its_effect(rt: HostRuntime) -> Result<(), Fail> {
     let machine = run_of_every_event(rt.alloc())?;
@@ -58,7 +51,7 @@ fn every_event_has_its_effect(rt: HostRuntime) -> Result<(), Fail> {
         CoreEntry::Got(read(1, None, 1), *filled),
         CoreEntry::Performed,
     ];
-    did(&rt, &machine, core(0), own)?;
+    units::did(&rt, machine.unit(core(0)).ok_or("core 0 is there")?, own);
     let shared = &Reply::ShRep(stored(1, id(0, 0), 1, 20));
     let other = &[
         CoreEntry::Bumped,
@@ -66,7 +59,7 @@ fn every_event_has_its_effect(rt: HostRuntime) -> Result<(), Fail> {
         CoreEntry::Got(read(0, None, 2), *shared),
         CoreEntry::Performed,
     ];
-    did(&rt, &machine, core(1), other)?;
+    units::did(&rt, machine.unit(core(1)).ok_or("core 1 is there")?, other);
     memory_is_at(&rt, &machine, 20)
 }
 

@@ -6,30 +6,30 @@ use Rattle.audit.proofs.Orders.{core_alone}
 use Rattle.audit.proofs.Progress.{fit_core, sum_fits}
 use Rattle.audit.proofs.fronts.core_on.Goals as goal
 
-pub loop-transcript-preserved : goal.loop-transcript-preserved
-loop-transcript-preserved c =
+pub loop-cores-preserved : goal.loop-cores-preserved
+loop-cores-preserved c =
     let ts = transcripts c.args.units.now in
     let hs = histories c.args.slices.now in
-    let p = c.loop-transcript.cores in
-    let within : c.args.core < length p = omega (arith, c.requires.core, c.requires.cores, c.loop-transcript.invariant.on.count) in
+    let p = c.loop-cores.cores in
+    let within : c.args.core < length p = omega (arith, c.requires.core, c.requires.cores, c.loop-cores.invariant.on.count) in
     let goes : goes_alone (transcript_of ts c.args.core) (slice_index p c.args.core) ≡ true =
-    ap (λ t. goes_alone t (slice_index p c.args.core)) (sym c.transcript_at-transcript.ensures) ∙ (sym c.is_alone.ensures ∙ c.loop-transcript-test.true) in
+    sym c.is_alone.ensures ∙ c.loop-cores-test.true in
     let e = own_there (transcript_of ts c.args.core) (slice_index p c.args.core) goes in
     rw c.bump.ensures (record {
-      reached = core_alone ts hs p c.args.fronts.now c.args.core e.0 c.loop-transcript.invariant.reached within e.1 e.2;
-      fit = fit_core ts hs p c.args.fronts.now c.args.core e.0 c.loop-transcript.invariant.fit within e.1;
-      on = on_again c.args.core c.args.cores.now p _ c.loop-transcript.invariant.on (one_on p c.args.core within);
+      reached = core_alone ts hs p c.args.fronts.now c.args.core e.0 c.loop-cores.invariant.reached within e.1 e.2;
+      fit = fit_core ts hs p c.args.fronts.now c.args.core e.0 c.loop-cores.invariant.fit within e.1;
+      on = on_again c.args.core c.args.cores.now p _ c.loop-cores.invariant.on (one_on p c.args.core within);
     })
 
-pub loop-transcript-smaller : goal.loop-transcript-smaller
-loop-transcript-smaller c =
+pub loop-cores-smaller : goal.loop-cores-smaller
+loop-cores-smaller c =
     let ts = transcripts c.args.units.now in
     let hs = histories c.args.slices.now in
-    let p = c.loop-transcript.cores in
-    let within : c.args.core < length p = omega (arith, c.requires.core, c.requires.cores, c.loop-transcript.invariant.on.count) in
+    let p = c.loop-cores.cores in
+    let within : c.args.core < length p = omega (arith, c.requires.core, c.requires.cores, c.loop-cores.invariant.on.count) in
     let goes : goes_alone (transcript_of ts c.args.core) (slice_index p c.args.core) ≡ true =
-    ap (λ t. goes_alone t (slice_index p c.args.core)) (sym c.transcript_at-transcript.ensures) ∙ (sym c.is_alone.ensures ∙ c.loop-transcript-test.true) in
+    sym c.is_alone.ensures ∙ c.loop-cores-test.true in
     let e = own_there (transcript_of ts c.args.core) (slice_index p c.args.core) goes in
-    let fit = fit_core ts hs p c.args.fronts.now c.args.core e.0 c.loop-transcript.invariant.fit within e.1 in
+    let fit = fit_core ts hs p c.args.fronts.now c.args.core e.0 c.loop-cores.invariant.fit within e.1 in
     let most = sum_fits ts _ fit.cores in
     rw c.bump.ensures (omega (arith, most, sum_on p c.args.core within))

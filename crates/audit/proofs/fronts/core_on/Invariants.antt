@@ -3,12 +3,12 @@ use Rattle.audit.specs.Lists.{transcripts, histories}
 use Rattle.audit.specs.inner.Fronts.{Reached, FrontsFit, IsOneOn}
 use Rattle.audit.proofs.fronts.core_on.Given as goal
 
-abbrev pub invariant-loop-transcript : goal.invariant-loop-transcript
-invariant-loop-transcript l = record {
+abbrev pub invariant-loop-cores : goal.invariant-loop-cores
+invariant-loop-cores l = record {
   reached : Reached (transcripts l.units) (histories l.slices) l.cores l.fronts;
   fit : FrontsFit (transcripts l.units) (histories l.slices) l.cores l.fronts;
   on : IsOneOn l.core l.initial.cores l.cores;
 }
 
-abbrev pub decreases-loop-transcript : goal.decreases-loop-transcript
-decreases-loop-transcript l = sum (map length (transcripts l.units)) - sum l.cores
+abbrev pub decreases-loop-cores : goal.decreases-loop-cores
+decreases-loop-cores l = sum (map length (transcripts l.units)) - sum l.cores

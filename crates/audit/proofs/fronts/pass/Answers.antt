@@ -36,8 +36,7 @@ returns-clause-merging c =
     let below : c.in-Some.waited < length c.args.due.now = omega (arith, c.in-Some.ensures.in_range, c.requires.most, c.requires.merging.due) in
     let waits : waits_for (length hs) (slice_get (transcript_of ts c.args.core) (slice_index c.core_on.new.cores c.args.core)) ≡ Some c.in-Some.waited =
     ap (λ n. waits_for n (slice_get (transcript_of ts c.args.core) (slice_index c.core_on.new.cores c.args.core))) (sym count)
-    ∙ (ap (λ t. waits_for (length c.args.slices.now) (slice_get t (slice_index c.core_on.new.cores c.args.core))) (sym c.transcript_at-transcript.ensures)
-    ∙ sym c.in-Some.ensures.value) in
+    ∙ sym c.in-Some.ensures.value in
     let on = on_again c.args.core p _ _ (one_on p c.args.core c.requires.enabled.0) (rw c.bump.ensures at c.core_on.ensures.on) in
     let reached = rw c.bump-2.ensures at c.core_on.ensures.reached in
     let fit = rw c.bump-2.ensures at c.core_on.ensures.fit in

@@ -8,13 +8,13 @@ use Rattle.core_unit.proofs.unit.CoreUnit.look_to_swap.Goals as goal
 
 pub returns-in-Err : goal.returns-in-Err
 returns-in-Err c =
-    let was : UnitParts = record { core = c.self.inside.core; program = c.self.inside.program; config = c.self.inside.config; state = c.self.inside.state; pts = c.self.inside.pts; r = c.self.inside.r; cache = c.self.inside.cache; hand = c.self.inside.hand; transcript = c.self.inside.transcript.items; log = c.self.inside.log.items } in
+    let was : UnitParts = record { core = c.self.inside.core; program = c.self.inside.program; config = c.self.inside.config; state = c.self.inside.state; pts = c.self.inside.pts; r = c.self.inside.r; cache = c.self.inside.cache; hand = c.self.inside.hand; transcript = c.self.inside.transcript.entries; log = c.self.inside.log.items } in
     let e = rw c.in-Err.is at c.peek_swap.ensures c.args.value (source.Store (next_id was.core (core_of was None))) in
     rw (← c.self.view_is) e
 
 pub returns-in-Ok-Hit : goal.returns-in-Ok-Hit
 returns-in-Ok-Hit c =
-    let was : UnitParts = record { core = c.self.inside.core; program = c.self.inside.program; config = c.self.inside.config; state = c.self.inside.state; pts = c.self.inside.pts; r = c.self.inside.r; cache = c.self.inside.cache; hand = c.self.inside.hand; transcript = c.self.inside.transcript.items; log = c.self.inside.log.items } in
+    let was : UnitParts = record { core = c.self.inside.core; program = c.self.inside.program; config = c.self.inside.config; state = c.self.inside.state; pts = c.self.inside.pts; r = c.self.inside.r; cache = c.self.inside.cache; hand = c.self.inside.hand; transcript = c.self.inside.transcript.entries; log = c.self.inside.log.items } in
     let u = core_of was None in
     let own = source.Store (next_id was.core u) in
     let e = rw c.in-Ok-Hit.is at c.peek_swap.ensures c.args.value own in
@@ -24,7 +24,7 @@ returns-in-Ok-Hit c =
 
 pub returns-in-Ok-Miss : goal.returns-in-Ok-Miss
 returns-in-Ok-Miss c =
-    let was : UnitParts = record { core = c.self.inside.core; program = c.self.inside.program; config = c.self.inside.config; state = c.self.inside.state; pts = c.self.inside.pts; r = c.self.inside.r; cache = c.self.inside.cache; hand = c.self.inside.hand; transcript = c.self.inside.transcript.items; log = c.self.inside.log.items } in
+    let was : UnitParts = record { core = c.self.inside.core; program = c.self.inside.program; config = c.self.inside.config; state = c.self.inside.state; pts = c.self.inside.pts; r = c.self.inside.r; cache = c.self.inside.cache; hand = c.self.inside.hand; transcript = c.self.inside.transcript.entries; log = c.self.inside.log.items } in
     let u = core_of was None in
     let own = source.Store (next_id was.core u) in
     let e = rw c.in-Ok-Miss.is at c.peek_swap.ensures c.args.value own in
