@@ -1,17 +1,18 @@
 -- Answers to bytes that were fed in pieces.
-use Rattle.std.proofs.Common.{◌≡◌, ℕ, ◌+◌, ◌<◌, List, ◌∷◌, ◌++◌, length, get_or, take, drop, Option, Result, Ok, Err, sym, ap, subst, ◌∙◌, append_assoc}
+use Rattle.std.proofs.Common.{◌≡◌, ℕ, ◌+◌, ◌<◌, List, [], ◌∷◌, ◌++◌, length, get_or, take, drop, Option, Result, Ok, Err, IsErrAnd, sym, ap, subst, ◌∙◌, append_assoc, append-nil}
 use Rattle.std.specs.Global.{Vec}
 use Rattle.std.specs.List.{flat_map}
-use Rattle.std.specs.Io.KnownBytes.{Consumes}
+use Rattle.std.specs.Io.KnownBytes.{Consumes, IsAtEnd}
 use Rattle.std.proofs.lemmas.List.{take-append-drop, drop_more}
 use Rattle.std.proofs.lemmas.Grind.{flat_map-append}
+use Rattle.std.proofs.lemmas.Result.{err_from_is_err_and}
 use Rattle.log_record.specs.declared.record.Record.{Record}
 use Rattle.log_file.specs.declared.fault.LogFault.{LogFault}
 use Rattle.log_file.specs.declared.fault.LogFault.TheVariants.{At, OutOfMemory, Read}
 use Rattle.log_file.specs.Answers.{IsAnswer, IsFaultOf, IsFaultOrMemory, IsFaultOrDevice, IsReadAnswer}
 use Rattle.log_file.specs.Devices.{Tells}
-use Rattle.log_file.specs.Feeding.{Feeds, Finishes, IsSettled}
-use Rattle.log_file.proofs.Devices.{told, consumes_told}
+use Rattle.log_file.specs.Feeding.{Feeding, Feeds, Finishes, IsSettled}
+use Rattle.log_file.proofs.Devices.{told, tells_told, consumes_told, consumes_end, consumes_more}
 
 -- the answer of a reader that was fed `front` without a fault and then refused a piece
 refused_as : (core cores old_core old_cores : ℕ) (front piece : List ℕ) (f : LogFault)
@@ -31,26 +32,56 @@ settled_fault core cores front rest (At k f) h = h rest
 settled_fault core cores front rest OutOfMemory h = tt
 settled_fault core cores front rest Read h = h
 
+-- a reader was fed, without a fault, all that was read of a source but these last bytes
+pub record IsFedBut (first now : Feeding) (before after : Option (List ℕ)) (last : List ℕ) : Type 0 where
+  pub core : now.core ≡ first.core
+  pub cores : now.cores ≡ first.cores
+  pub given : List ℕ
+  pub fed : now.fed ≡ Ok given
+  pub read : Consumes before after (given ++ last)
+
+-- the last bytes were fed too, and others were read
+pub fed_last : {first old : Feeding} {before mid : Option (List ℕ)} {last : List ℕ} (new : Feeding)
+    (after : Option (List ℕ)) (next : List ℕ) (h : IsFedBut first old before mid last) → new.core ≡ old.core
+    → new.cores ≡ old.cores → new.fed ≡ Ok (h.given ++ last) → Consumes mid after next
+    → IsFedBut first new before after next
+fed_last {first} {old} {before} {mid} {last} new after next h core cores fed read = record {
+  core = core ∙ h.core;
+  cores = cores ∙ h.cores;
+  given = h.given ++ last;
+  fed = fed;
+  read = consumes_more before mid after (h.given ++ last) next h.read read;
+}
+
+-- a fault that may be answered to all that a source tells is an answer to it
+answered_told : (first : Feeding) (before : Option (List ℕ)) (bytes : List ℕ) (f : LogFault)
+    (r : Result (Vec Record) LogFault) → IsErrAnd r (λ x. x ≡ f) → Tells before bytes
+    → IsFaultOrDevice first.core first.cores bytes f
+    → (bytes : List ℕ) × Tells before bytes × IsReadAnswer first.core first.cores bytes r
+answered_told first before bytes f r is tells fault = let p = err_from_is_err_and r is in rw (p.1, p.2) (bytes, tells, fault)
+
+-- a failed read or lack of memory, which may be answered to any source
+pub source_unread : (first : Feeding) (before : Option (List ℕ)) (f : LogFault) (r : Result (Vec Record) LogFault)
+    → IsErrAnd r (λ x. x ≡ f) → IsFaultOrDevice first.core first.cores (told before) f
+    → (bytes : List ℕ) × Tells before bytes × IsReadAnswer first.core first.cores bytes r
+source_unread first before f r is fault = answered_told first before (told before) f r is (tells_told before) fault
+
 read_fault : (core cores : ℕ) (bytes : List ℕ) (f : LogFault) → IsFaultOrMemory core cores bytes f
     → IsFaultOrDevice core cores bytes f
 read_fault core cores bytes (At k f) h = h
 read_fault core cores bytes OutOfMemory h = tt
 read_fault core cores bytes Read h = absurd h
 
--- the answer to a source whose bytes so far are refused
-pub source_refused : (core cores old_core old_cores : ℕ) (before after : Option (List ℕ)) (given piece : List ℕ)
-    (f : LogFault) (old new : Result (List ℕ) LogFault) (r : Result (Vec Record) LogFault)
-    → r ≡ Err f → Consumes before after (given ++ piece) → old_core ≡ core → old_cores ≡ cores → old ≡ Ok given
-    → Feeds old_core old_cores old piece (Err f) new
-    → (bytes : List ℕ) × Tells before bytes × IsReadAnswer core cores bytes r
-source_refused core cores old_core old_cores before after given piece f old new r is p core-is cores-is fed h =
-    let settled = refused_as core cores old_core old_cores given piece f old new core-is cores-is fed h in
-    let bytes = (given ++ piece) ++ told after in (
-      bytes,
-      consumes_told before after (given ++ piece) p,
-      subst (λ (x : Result (Vec Record) LogFault). IsReadAnswer core cores bytes x) (sym is)
-          (read_fault core cores bytes f (settled_fault core cores (given ++ piece) (told after) f settled)),
-    )
+-- the answer to a source whose last bytes so far are refused
+pub source_refused : {first old : Feeding} {before after : Option (List ℕ)} {last : List ℕ} (f : LogFault)
+    (new : Result (List ℕ) LogFault) (r : Result (Vec Record) LogFault) → IsErrAnd r (λ x. x ≡ f)
+    → IsFedBut first old before after last → Feeds old.core old.cores old.fed last (Err f) new
+    → (bytes : List ℕ) × Tells before bytes × IsReadAnswer first.core first.cores bytes r
+source_refused {first} {old} {before} {after} {last} f new r is h fed =
+    let bytes = h.given ++ last in
+    let settled = refused_as first.core first.cores old.core old.cores h.given last f old.fed new h.core h.cores h.fed fed in
+    answered_told first before (bytes ++ told after) f r is (consumes_told before after bytes h.read)
+    (read_fault first.core first.cores (bytes ++ told after) f (settled_fault first.core first.cores bytes (told after) f settled))
 
 first_fault : (core cores : ℕ) (bytes : List ℕ) (f : LogFault) → IsFaultOf core cores bytes f → IsFaultOrDevice core cores bytes f
 first_fault core cores bytes (At k f) h = h
@@ -58,16 +89,18 @@ first_fault core cores bytes OutOfMemory h = absurd h
 first_fault core cores bytes Read h = absurd h
 
 -- the answer to a source whose bytes were all fed without a fault
-pub source_finished : (core cores old_core old_cores : ℕ) (before : Option (List ℕ)) (bytes : List ℕ)
-    (fed : Result (List ℕ) LogFault) (r : Result (Vec Record) LogFault)
-    → Tells before bytes → old_core ≡ core → old_cores ≡ cores → fed ≡ Ok bytes → Finishes old_core old_cores fed r
-    → (bytes : List ℕ) × Tells before bytes × IsReadAnswer core cores bytes r
-source_finished core cores old_core old_cores before bytes fed r tells core-is cores-is is h =
-    (bytes, tells, answer r (rw (core-is, cores-is, is) at h))
+pub source_finished : {first now : Feeding} {before after : Option (List ℕ)} {last : List ℕ}
+    (r : Result (Vec Record) LogFault) → IsFedBut first now before after last → last ≡ [] → IsAtEnd after
+    → Finishes now.core now.cores now.fed r
+    → (bytes : List ℕ) × Tells before bytes × IsReadAnswer first.core first.cores bytes r
+source_finished {first} {now} {before} {after} {last} r h none end finishes =
+    let all : Consumes before after h.given =
+    subst (λ (xs : List ℕ). Consumes before after xs) (ap (λ (xs : List ℕ). h.given ++ xs) none ∙ append-nil h.given) h.read in
+    (h.given, consumes_end before after h.given all end, answer r (rw (h.core, h.cores, h.fed) at finishes))
   where
-    answer : (r : Result (Vec Record) LogFault) → Finishes core cores (Ok bytes) r → IsReadAnswer core cores bytes r
+    answer : (r : Result (Vec Record) LogFault) → Finishes first.core first.cores (Ok h.given) r → IsReadAnswer first.core first.cores h.given r
     answer (Ok log) h = h
-    answer (Err f) h = first_fault core cores bytes f h
+    answer (Err f) h = first_fault first.core first.cores _ f h
 
 -- pieces, cut at one of them
 pieces_at : (vs : List (Vec ℕ)) (i : ℕ) (d : Vec ℕ) → i < length vs

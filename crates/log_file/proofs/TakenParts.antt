@@ -17,7 +17,7 @@ use Rattle.log_file.specs.declared.chunks.Front.{Front}
 use Rattle.log_file.specs.inner.Chunks.{HasFront, records_text}
 use Rattle.log_file.specs.Feeding.{IsSettled}
 use Rattle.log_file.specs.Log.{IsLog, begun, text_of, with_lf}
-use Rattle.log_file.specs.Standing.{IsInRecords, IsPassed, IsSettledWith, IsSound, SameLog, Stands, Takes, read_text}
+use Rattle.log_file.specs.Standing.{IsInRecords, IsPassed, IsSettledWith, IsSound, SameLog, Stands, Takes, read_text, IsInRange}
 use Rattle.log_file.proofs.Once.{one_format}
 use Rattle.log_file.proofs.Settled.{settled_front}
 
@@ -44,17 +44,23 @@ settled_longer old rs a b f settled =
     subst (λ (xs : List ℕ). IsSettled old.progress.core old.progress.cores xs f) (append_assoc (read_text old rs) a b)
     (settled_front old.progress.core old.progress.cores (read_text old rs ++ a) b f settled)
 
+-- all of a piece was taken but the rest
+pub record TakesBut (old now : LineReader) (before records : List Record) (piece rest : List ℕ) : Type 0 where
+  pub same : SameLog old.progress now.progress
+  pub in_range : IsInRange now.progress
+  pub stands : Stands now records
+  pub text : read_text now records ++ rest ≡ read_text old before ++ piece
+
 -- what settles a chunk of what is left settles the piece
-pub settled_at : (old mid : LineReader) (rs ms : List Record) (piece rest chunk later : List ℕ) (f : LogFault) → chunk ++ later ≡ rest
-    → read_text mid ms ++ rest ≡ read_text old rs ++ piece → SameLog old.progress mid.progress → IsSettledWith mid ms chunk f
-    → IsSettledWith old rs piece f
-settled_at old mid rs ms piece rest chunk later f is text same settled =
+pub settled_at : {old mid : LineReader} {rs ms : List Record} {piece rest : List ℕ} (chunk later : List ℕ) (f : LogFault)
+    → TakesBut old mid rs ms piece rest → chunk ++ later ≡ rest → IsSettledWith mid ms chunk f → IsSettledWith old rs piece f
+settled_at {old} {mid} {rs} {ms} {piece} chunk later f taken is settled =
     let whole : (read_text mid ms ++ chunk) ++ later ≡ read_text old rs ++ piece =
-    append_assoc (read_text mid ms) chunk later ∙ ap (λ (xs : List ℕ). read_text mid ms ++ xs) is ∙ text in
+    append_assoc (read_text mid ms) chunk later ∙ ap (λ (xs : List ℕ). read_text mid ms ++ xs) is ∙ taken.text in
     let longer = settled_front mid.progress.core mid.progress.cores (read_text mid ms ++ chunk) later f settled in
     subst (λ (xs : List ℕ). IsSettled old.progress.core old.progress.cores xs f) whole
-    (subst (λ (k : ℕ). IsSettled old.progress.core k ((read_text mid ms ++ chunk) ++ later) f) same.cores
-    (subst (λ (k : ℕ). IsSettled k mid.progress.cores ((read_text mid ms ++ chunk) ++ later) f) same.core longer))
+    (subst (λ (k : ℕ). IsSettled old.progress.core k ((read_text mid ms ++ chunk) ++ later) f) taken.same.cores
+    (subst (λ (k : ℕ). IsSettled k mid.progress.cores ((read_text mid ms ++ chunk) ++ later) f) taken.same.core longer))
 
 -- the answer to the second part is that to both
 pub answer_more : {E : Type 0} (old mid new : LineReader) (rs ms ns : List Record) (a b bytes : List ℕ) (r : Result E LogFault) → a ++ b ≡ bytes

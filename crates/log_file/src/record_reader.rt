@@ -8,6 +8,7 @@ ghost use Rattle.log_file.specs.Feeding.{IsSettled};
 ghost use Rattle.log_file.specs.Keeping.{KeepsRecords};
 ghost use Rattle.log_file.specs.Log.{Spells};
 ghost use Rattle.log_file.specs.inner.Chunks.{HasFronts};
+ghost use Rattle.log_file.specs.inner.FedAll.{AnswersPiece};
 ghost use Rattle.log_file.specs.Standing.{IsInRange, IsSettledWith, SameLog, Stands, TakesRecord};
 
 use super::chunks::Fronts;
@@ -39,6 +40,17 @@ fn next_record(lines: &mut LineReader, piece: &[u8]) -> Result<(usize, Option<Re
         }
     }
     Ok((piece.len(), None))
+}
+
+/// Keeps the fault of an outcome, where it is one, and answers the outcome.
+fn remember<T>(kept: &mut Option<LogFault>, outcome: Result<T, LogFault>) -> Result<T, LogFault>
+    ensures same { result ≡ outcome }
+    ensures kept { MatchResult outcome (λ _. kept.new ≡ kept.old) (λ fault. kept.new ≡ Some fault) }
+{
+    if let Err(fault) = outcome {
+        *kept = Some(fault);
+    }
+    outcome
 }
 
 /// Reads the log of one core, fed in pieces of any cutting, and answers its records one at a time. It
@@ -93,14 +105,8 @@ impl RecordReader {
         ensures again { IfSome self.old.fault (λ fault.
             MatchResult result (λ _. ⊥) (λ f. f ≡ fault) × (self.new.fault ≡ Some fault)) }
     {
-        if let Some(fault) = self.fault {
-            return Err(fault);
-        }
-        let outcome = next_record(&mut self.lines, piece);
-        if let Err(fault) = outcome {
-            self.fault = Some(fault);
-        }
-        outcome
+        self.faultless()?;
+        remember(&mut self.fault, next_record(&mut self.lines, piece))
     }
 
     /// Takes all of a piece, and keeps its records after these, which were answered before. Lack of
@@ -111,23 +117,10 @@ impl RecordReader {
         piece: &[u8],
     ) -> Result<(), LogFault>
         requires { KeepsRecords self.old records.old.items }
-        ensures core { self.new.core ≡ self.old.core }
-        ensures cores { self.new.cores ≡ self.old.cores }
-        ensures fed { self.old.fault ≡ None → MatchResult result
-            (λ _. HasAnswered self.new (fed_text self.old records.old.items ++ piece.now) records.new.items)
-            (λ fault. (self.new.fault ≡ Some fault) × IsSettled self.old.core self.old.cores
-            (fed_text self.old records.old.items ++ piece.now) fault) }
-        ensures again { IfSome self.old.fault (λ fault.
-            MatchResult result (λ _. ⊥) (λ f. f ≡ fault) × (self.new.fault ≡ Some fault)) }
+        ensures { AnswersPiece self.old records.old.items piece.now result self.new records.new.items }
     {
-        if let Some(fault) = self.fault {
-            return Err(fault);
-        }
-        let outcome = take_piece(&mut self.lines, records, piece);
-        if let Err(fault) = outcome {
-            self.fault = Some(fault);
-        }
-        outcome
+        self.faultless()?;
+        remember(&mut self.fault, take_piece(&mut self.lines, records, piece))
     }
 
     /// Takes all of a piece as `feed_all` does; `workers` workers read its lines at once. 0 counts as 1.
@@ -140,23 +133,13 @@ impl RecordReader {
         workers: usize,
     ) -> Result<(), LogFault>
         requires { KeepsRecords self.old records.old.items }
-        ensures core { self.new.core ≡ self.old.core }
-        ensures cores { self.new.cores ≡ self.old.cores }
-        ensures fed { self.old.fault ≡ None → MatchResult result
-            (λ _. HasAnswered self.new (fed_text self.old records.old.items ++ piece.now) records.new.items)
-            (λ fault. (self.new.fault ≡ Some fault) × IsSettled self.old.core self.old.cores
-            (fed_text self.old records.old.items ++ piece.now) fault) }
-        ensures again { IfSome self.old.fault (λ fault.
-            MatchResult result (λ _. ⊥) (λ f. f ≡ fault) × (self.new.fault ≡ Some fault)) }
+        ensures { AnswersPiece self.old records.old.items piece.now result self.new records.new.items }
     {
-        if let Some(fault) = self.fault {
-            return Err(fault);
-        }
-        let shared = take_piece_by(rt, alloc, &mut self.lines, records, piece, workers);
-        if let Err(fault) = shared {
-            self.fault = Some(fault);
-        }
-        shared
+        self.faultless()?;
+        remember(
+            &mut self.fault,
+            take_piece_by(rt, alloc, &mut self.lines, records, piece, workers),
+        )
     }
 
     /// Takes all of a piece as `feed_all` does, whose chunks' fronts workers have read.
@@ -168,23 +151,23 @@ impl RecordReader {
     ) -> Result<(), LogFault>
         requires kept { KeepsRecords self.old records.old.items }
         requires fronts { HasFronts fronts.now.format piece.now fronts.now.list.items }
-        ensures core { self.new.core ≡ self.old.core }
-        ensures cores { self.new.cores ≡ self.old.cores }
-        ensures fed { self.old.fault ≡ None → MatchResult result
-            (λ _. HasAnswered self.new (fed_text self.old records.old.items ++ piece.now) records.new.items)
-            (λ fault. (self.new.fault ≡ Some fault) × IsSettled self.old.core self.old.cores
-            (fed_text self.old records.old.items ++ piece.now) fault) }
-        ensures again { IfSome self.old.fault (λ fault.
-            MatchResult result (λ _. ⊥) (λ f. f ≡ fault) × (self.new.fault ≡ Some fault)) }
+        ensures { AnswersPiece self.old records.old.items piece.now result self.new records.new.items }
     {
-        if let Some(fault) = self.fault {
-            return Err(fault);
+        self.faultless()?;
+        remember(
+            &mut self.fault,
+            take_fronts(&mut self.lines, records, piece, fronts),
+        )
+    }
+
+    /// Answers the fault that is kept, where one is.
+    fn faultless(&self) -> Result<(), LogFault>
+        ensures { MatchResult result (λ _. self.now.fault ≡ None) (λ fault. self.now.fault ≡ Some fault) }
+    {
+        match self.fault {
+            Some(fault) => Err(fault),
+            None => Ok(()),
         }
-        let outcome = take_fronts(&mut self.lines, records, piece, fronts);
-        if let Err(fault) = outcome {
-            self.fault = Some(fault);
-        }
-        outcome
     }
 
     /// The format of the log, where its header was read and its end line wasn't.
@@ -201,9 +184,7 @@ impl RecordReader {
             (IsFaultOf self.now.core self.now.cores bytes) }
         ensures again { IfSome self.now.fault (λ fault. MatchResult result (λ _. ⊥) (λ f. f ≡ fault)) }
     {
-        if let Some(fault) = self.fault {
-            return Err(fault);
-        }
+        self.faultless()?;
         self.lines.finish()
     }
 

@@ -1,16 +1,14 @@
 -- The bytes that were read were all fed, but those of the piece that is held, and no read failed.
-use Rattle.std.proofs.Common.{◌≡◌, ◌+◌, ◌-◌, ◌<◌, ◌≤◌, ◌^◌, ◌++◌, Ok, List, ℕ}
+use Rattle.std.proofs.Common.{◌≡◌, ◌+◌, ◌-◌, ◌<◌, ◌≤◌, ◌^◌}
 use Rattle.std.specs.Prelude.{vec_len}
-use Rattle.std.specs.Io.KnownBytes.{Consumes}
 use Rattle.log_file.specs.Feeding.{fed_len}
 use Rattle.log_file.specs.inner.Chunks.{IsPiece, text_in}
+use Rattle.log_file.proofs.Fed.{IsFedBut}
 use Rattle.log_file.proofs.ahead.read_ahead.Given as goal
 
 abbrev pub invariant-loop-held : goal.invariant-loop-held
 invariant-loop-held g l =
-    (l.reader.core ≡ l.fn.reader.core) × (l.reader.cores ≡ l.fn.reader.cores)
-    × ((given : List ℕ) × (l.reader.fed ≡ Ok given)
-    × Consumes (g.S.ByteSource.remaining l.fn.source) (g.S.ByteSource.remaining l.source) (given ++ text_in l.held))
+    IsFedBut l.fn.reader l.reader (g.S.ByteSource.remaining l.fn.source) (g.S.ByteSource.remaining l.source) (text_in l.held)
     × (fed_len l.reader.fed < 2 ^ 27)
     × (g.S.ByteSource.failed l.source ≡ g.S.ByteSource.failed l.fn.source)
     × IsPiece l.held × (vec_len l.held.buf ≤ 2097152)

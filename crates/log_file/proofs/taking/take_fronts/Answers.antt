@@ -14,5 +14,4 @@ returns-in_err-take_front-clause-taken c =
     let later = c.split_at.result.1.now in
     let whole : chunk ++ later ≡ loop.rest.now = rw (c.split_at.ensures.front, c.split_at.ensures.back) (take-append-drop _ loop.rest.now) in
     let settled : IsSettledWith loop.lines loop.records.items chunk c.in_err-take_front.field-0.0 = search rules in
-    rw (p.1, p.2) (settled_at c.args.lines.now loop.lines c.args.records.now.items loop.records.items c.args.piece.now loop.rest.now chunk later c.in_err-take_front.field-0.0
-    whole loop.invariant.text loop.invariant.same settled)
+    rw (p.1, p.2) (settled_at chunk later c.in_err-take_front.field-0.0 loop.invariant.taken whole settled)

@@ -3,11 +3,7 @@ use Rattle.log_file.proofs.FedAll.{open_after, few_after}
 use Rattle.log_file.proofs.log_reader.LogReader.feed.Goals as goal
 
 pub returns-clause-at_once : goal.returns-clause-at_once
-returns-clause-at_once c =
-    let fed = c.feed_all.ensures in
-    open_after c.self.inside.reader c.feed_all.new.self c.feed_all.new.records.items _ c.feed_all.result fed.fed fed.again
+returns-clause-at_once c = open_after c.feed_all.result c.feed_all.ensures
 
 pub returns-clause-bounded : goal.returns-clause-bounded
-returns-clause-bounded c =
-    let fed = c.feed_all.ensures in
-    few_after c.self.inside.reader c.feed_all.new.self c.feed_all.new.records.items _ c.feed_all.result fed.fed fed.again
+returns-clause-bounded c = few_after c.feed_all.result c.feed_all.ensures

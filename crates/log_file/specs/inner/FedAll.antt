@@ -1,0 +1,18 @@
+-- What a reader of records answers to a piece that it takes all of.
+use Rattle.std.specs.Prelude.{◌≡◌, ◌++◌, ℕ, List, None, Some, Result, IfSome, MatchResult}
+use Rattle.log_record.specs.declared.record.Record.{Record}
+use Rattle.log_file.specs.declared.fault.LogFault.{LogFault}
+use Rattle.log_file.specs.Answering.{Answering, HasAnswered, fed_text}
+use Rattle.log_file.specs.Feeding.{IsSettled}
+
+-- the reader is of the same log
+pub record AnswersPiece (old : Answering) (before : List Record) (piece : List ℕ) (r : Result (Unit {0}) LogFault)
+    (new : Answering) (records : List Record) : Type 0 where
+  pub core : new.core ≡ old.core
+  pub cores : new.cores ≡ old.cores
+  -- where no fault came before: it has answered the records of all bytes, or keeps their fault
+  pub fed : old.fault ≡ None → MatchResult r
+      (λ _. HasAnswered new (fed_text old before ++ piece) records)
+      (λ fault. (new.fault ≡ Some fault) × IsSettled old.core old.cores (fed_text old before ++ piece) fault)
+  -- where one did: it answers that one again, and keeps it
+  pub again : IfSome old.fault (λ fault. MatchResult r (λ _. ⊥) (λ f. f ≡ fault) × (new.fault ≡ Some fault))
