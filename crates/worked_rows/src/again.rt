@@ -1,5 +1,7 @@
 //! What has to come where a call is made again in another way, whatever its row says.
 
+ghost use Rattle.std.specs.Prelude.{◌<◌};
+
 use super::call::{Done, Outputs, SOUND, call};
 use super::compare::{Expected, compare};
 use super::fault::RowsFault;
@@ -32,21 +34,28 @@ pub(crate) fn wrong_again<R: Threads + Wait + Sync + Print>(
     let Some(command) = words.get(1).copied() else {
         return Ok(0);
     };
+    let again = Again {
+        rt,
+        alloc,
+        words,
+        given,
+        expected: *expected,
+    };
     let mut wrong = Wrong { count: 0 };
     wrong.unless(is_seen(command, done));
     if command == "check" && !expected.told.starts_with("error") {
-        wrong.unless(by_workers(rt, alloc, words, given, expected)?);
-        wrong.unless(as_order(rt, alloc, words, given, expected)?);
-        wrong.unless(as_explanation(rt, alloc, words, given, expected)?);
-        wrong.unless(cut_off(rt, alloc, words, given, expected)?);
+        wrong.unless(again.by_workers()?);
+        wrong.unless(again.as_order()?);
+        wrong.unless(again.as_explanation()?);
+        wrong.unless(again.cut_off()?);
     }
     if (command == "sim" || command == "run") && expected.status == 0 {
-        wrong.unless(judged(rt, alloc, words, given, expected, done)?);
+        wrong.unless(again.judged(done)?);
     }
     if !expected.printed.contains('*') && !expected.told.contains('*') {
-        wrong.unless(failing_writes(rt, alloc, words, given, expected)?);
-        wrong.unless(failing_complaints(rt, alloc, words, given, expected)?);
-        wrong.unless(failing_reads(rt, alloc, words, given, expected)?);
+        wrong.unless(again.failing_writes()?);
+        wrong.unless(again.failing_complaints()?);
+        wrong.unless(again.failing_reads()?);
     }
     Ok(wrong.count)
 }
@@ -76,111 +85,241 @@ fn is_seen(command: &str, done: &Done) -> bool {
     }
 }
 
-/// A check answers the same by any number of workers.
-fn by_workers<R: Threads + Wait + Sync + Print>(
-    rt: &R,
+/// A call of a row, to be made again in other ways.
+#[derive(Drop)]
+struct Again<'a, R> {
+    rt: &'a R,
     alloc: Global,
-    words: &[&str],
-    given: Given<'_>,
-    expected: &Expected<'_>,
-) -> Result<bool, RowsFault> {
-    if have(words, "--workers") {
-        return Ok(true);
-    }
-    let mut is_good = true;
-    for option in ["--workers=1", "--workers=2", "--workers=64"] {
-        let words = other_call(alloc, "check", Some(option), words)?;
-        let done = call(rt, alloc, words.as_slice(), given, SOUND)?;
-        is_good = compare(rt, words.as_slice(), expected, &done)? && is_good;
-    }
-    Ok(is_good)
+    words: &'a [&'a str],
+    given: Given<'a>,
+    expected: Expected<'a>,
 }
 
-/// Where an order is written the verdict goes to standard error, and only with a Yes the order is whole.
-fn as_order<R: Threads + Wait + Sync + Print>(
-    rt: &R,
-    alloc: Global,
-    words: &[&str],
-    given: Given<'_>,
-    expected: &Expected<'_>,
-) -> Result<bool, RowsFault> {
-    if have(words, "--") {
-        return Ok(true);
+impl<'a, R: Threads + Wait + Sync + Print> Again<'a, R> {
+    /// Whether a call with these words does what it should, over these files and where writes go so.
+    fn does(
+        &self,
+        words: &[&str],
+        given: Given<'_>,
+        outputs: Outputs<'_>,
+        wanted: &Expected<'_>,
+    ) -> Result<bool, RowsFault> {
+        let done = call(self.rt, self.alloc, words, given, outputs)?;
+        compare(self.rt, words, wanted, &done)
     }
-    let words = other_call(alloc, "order", None, words)?;
-    let done = call(rt, alloc, words.as_slice(), given, SOUND)?;
-    let wanted = Expected {
-        printed: "**\n",
-        told: if expected.status < 2 {
-            expected.printed
+
+    /// A check answers the same by any number of workers.
+    fn by_workers(&self) -> Result<bool, RowsFault> {
+        if have(self.words, "--workers") {
+            return Ok(true);
+        }
+        let mut is_good = true;
+        for option in ["--workers=1", "--workers=2", "--workers=64"] {
+            let words = other_call(self.alloc, "check", Some(option), self.words)?;
+            is_good = self.does(words.as_slice(), self.given, SOUND, &self.expected)? && is_good;
+        }
+        Ok(is_good)
+    }
+
+    /// Where an order is written the verdict goes to standard error, and only with a Yes the order is whole.
+    fn as_order(&self) -> Result<bool, RowsFault> {
+        if have(self.words, "--") {
+            return Ok(true);
+        }
+        let words = other_call(self.alloc, "order", None, self.words)?;
+        let done = call(self.rt, self.alloc, words.as_slice(), self.given, SOUND)?;
+        let told = if self.expected.status < 2 {
+            self.expected.printed
         } else {
-            expected.told
-        },
-        ..*expected
-    };
-    let is_good = compare(rt, words.as_slice(), &wanted, &done)?;
-    let is_whole = done.printed.as_str().contains("end");
-    Ok(is_good && is_whole == (expected.status == 0))
-}
-
-/// An explanation begins with the verdict's line.
-fn as_explanation<R: Threads + Wait + Sync + Print>(
-    rt: &R,
-    alloc: Global,
-    words: &[&str],
-    given: Given<'_>,
-    expected: &Expected<'_>,
-) -> Result<bool, RowsFault> {
-    if have(words, "--workers") {
-        return Ok(true);
+            self.expected.told
+        };
+        let wanted = Expected {
+            printed: "**\n",
+            told,
+            ..self.expected
+        };
+        let is_good = compare(self.rt, words.as_slice(), &wanted, &done)?;
+        let is_whole = done.printed.as_str().contains("end");
+        Ok(is_good && is_whole == (self.expected.status == 0))
     }
-    let words = other_call(alloc, "explain", None, words)?;
-    let done = call(rt, alloc, words.as_slice(), given, SOUND)?;
-    let printed = if expected.status < 2 {
-        format!(in alloc; "{}**\n", expected.printed)?
-    } else {
-        String::new(alloc)
-    };
-    let wanted = Expected {
-        printed: printed.as_str(),
-        ..*expected
-    };
-    compare(rt, words.as_slice(), &wanted, &done)
-}
 
-/// Each proper beginning of a log is cut off at the line after its last line feed.
-fn cut_off<R: Threads + Wait + Sync + Print>(
-    rt: &R,
-    alloc: Global,
-    words: &[&str],
-    given: Given<'_>,
-    expected: &Expected<'_>,
-) -> Result<bool, RowsFault> {
-    if have(words, "--") || expected.status > 1 {
-        return Ok(true);
+    /// An explanation begins with the verdict's line.
+    fn as_explanation(&self) -> Result<bool, RowsFault> {
+        if have(self.words, "--workers") {
+            return Ok(true);
+        }
+        let words = other_call(self.alloc, "explain", None, self.words)?;
+        let printed = if self.expected.status < 2 {
+            format!(in self.alloc; "{}**\n", self.expected.printed)?
+        } else {
+            String::new(self.alloc)
+        };
+        let wanted = Expected {
+            printed: printed.as_str(),
+            ..self.expected
+        };
+        self.does(words.as_slice(), self.given, SOUND, &wanted)
     }
-    let mut is_good = true;
-    for (number, name) in words.iter().skip(2).enumerate() {
-        if let Some(file) = find(given.files, name) {
-            for length in 0..file.bytes.len().min(LONGEST_CUT) {
-                let told = told_of_beginning(alloc, number, &file.bytes[..length])?;
-                let files = with_beginning(alloc, given.files, name, length)?;
-                let given = Given {
-                    files: files.as_slice(),
-                    ..given
-                };
-                let wanted = Expected {
-                    status: 2,
-                    printed: "",
-                    told: told.as_str(),
-                    ..*expected
-                };
-                let done = call(rt, alloc, words, given, SOUND)?;
-                is_good = compare(rt, words, &wanted, &done)? && is_good;
+
+    /// Each proper beginning of a log is cut off at the line after its last line feed.
+    fn cut_off(&self) -> Result<bool, RowsFault> {
+        if have(self.words, "--") || self.expected.status > 1 {
+            return Ok(true);
+        }
+        let mut is_good = true;
+        for (number, name) in self.words.iter().skip(2).enumerate() {
+            if let Some(file) = find(self.given.files, name) {
+                is_good = self.cut_off_in(number, file)? && is_good;
             }
         }
+        Ok(is_good)
     }
-    Ok(is_good)
+
+    /// Each proper beginning of this log, which is the one of this number, is cut off at the line after its last line feed.
+    fn cut_off_in(&self, number: usize, file: &File) -> Result<bool, RowsFault> {
+        let mut is_good = true;
+        for length in 0..file.bytes.len().min(LONGEST_CUT) {
+            let told = told_of_beginning(self.alloc, number, &file.bytes[..length])?;
+            let files = with_beginning(self.alloc, self.given.files, file.name.as_str(), length)?;
+            let given = Given {
+                files: files.as_slice(),
+                ..self.given
+            };
+            let wanted = Expected {
+                status: 2,
+                printed: "",
+                told: told.as_str(),
+                ..self.expected
+            };
+            is_good = self.does(self.words, given, SOUND, &wanted)? && is_good;
+        }
+        Ok(is_good)
+    }
+
+    /// The logs of a run that is done get Yes against its programs.
+    fn judged(&self, done: &Done) -> Result<bool, RowsFault> {
+        let alloc = self.alloc;
+        let [.., programs, _] = self.words else {
+            return Ok(false);
+        };
+        let mut names = Vec::new(alloc);
+        let mut files = Vec::new(alloc);
+        if let Some(file) = find(self.given.files, programs) {
+            files.push(file.copy(alloc)?)?;
+        }
+        for file in &done.put {
+            names.push(String::from_str(alloc, file.name.as_str())?)?;
+            files.push(file.copy(alloc)?)?;
+        }
+        let names = texts_of(alloc, names.as_slice())?;
+        let mut words = Vec::new(alloc);
+        words.push("tardis")?;
+        words.push("check")?;
+        words.push("--program")?;
+        words.push(*programs)?;
+        for name in names.as_slice() {
+            words.push(*name)?;
+        }
+        let given = Given {
+            files: files.as_slice(),
+            slow: None,
+            room: 0,
+        };
+        let operations = done.printed.as_str().strip_prefix("done: ").unwrap_or("?");
+        let yes = format!(in alloc; "yes: {operations}")?;
+        let wanted = Expected {
+            printed: yes.as_str(),
+            ..self.expected
+        };
+        self.does(words.as_slice(), given, SOUND, &wanted)
+    }
+
+    /// Where a write of standard output fails, it has taken a beginning, and 29 is told.
+    fn failing_writes(&self) -> Result<bool, RowsFault> {
+        let mut is_good = true;
+        for write in 0..WRITES {
+            let outputs = Outputs {
+                writes: &failing_at(write),
+                complaints: &[],
+            };
+            let wanted = match self.expected.printed.get(..4 * write) {
+                Some(taken) if taken.len() < self.expected.printed.len() => Expected {
+                    status: 4,
+                    printed: taken,
+                    told: "refused: output: 29 Write\n",
+                    ..self.expected
+                },
+                _ => self.expected,
+            };
+            is_good = self.does(self.words, self.given, outputs, &wanted)? && is_good;
+        }
+        Ok(is_good)
+    }
+
+    /// A write of standard error that fails is passed over.
+    fn failing_complaints(&self) -> Result<bool, RowsFault> {
+        let mut is_good = true;
+        for write in 0..WRITES {
+            let outputs = Outputs {
+                writes: &[],
+                complaints: &failing_at(write),
+            };
+            let told = self.expected.told;
+            let wanted = Expected {
+                told: told.get(..4 * write).unwrap_or(told),
+                ..self.expected
+            };
+            is_good = self.does(self.words, self.given, outputs, &wanted)? && is_good;
+        }
+        Ok(is_good)
+    }
+
+    /// Where a read of a file fails, up to the one that finds its end, 28 is told.
+    fn failing_reads(&self) -> Result<bool, RowsFault> {
+        if self.expected.status > 1 {
+            return Ok(true);
+        }
+        let mut is_good = true;
+        for file in self.given.files {
+            let reads = file.bytes.len().div_ceil(10).saturating_add(1);
+            if have_word(self.words, file.name.as_str()) && reads < READS {
+                for good in 0..=reads {
+                    let is_due = self.failing_read(file, good)?;
+                    is_good = is_good && is_due == (good < reads);
+                }
+            }
+        }
+        Ok(is_good)
+    }
+
+    /// Whether a call tells 28 where a read of a file fails after so many good ones; if not, it does what it should without.
+    fn failing_read(&self, file: &'a File, good: usize) -> Result<bool, RowsFault> {
+        let mut steps = [Step::Move(9); READS];
+        if let Some(step) = steps.get_mut(good) {
+            *step = Step::Fail;
+        }
+        let given = Given {
+            slow: Some((file.name.as_str(), &steps)),
+            ..self.given
+        };
+        let done = call(self.rt, self.alloc, self.words, given, SOUND)?;
+        let told = done.told.as_str();
+        if done.status == 4 && told.starts_with("refused: ") && told.ends_with(": 28 Read\n") {
+            let is_named = names_log(self.alloc, self.words, told, file)?;
+            return Ok(is_named && !done.printed.as_str().contains("end"));
+        }
+        compare(self.rt, self.words, &self.expected, &done)?;
+        Ok(false)
+    }
+}
+
+/// Writes of four bytes each, of which this one fails.
+fn failing_at(write: usize) -> [Step; WRITES]
+    requires { write < 8 }
+{
+    let mut steps = [Step::Move(3); WRITES];
+    steps[write] = Step::Fail;
+    steps
 }
 
 /// What is told of a file that has only this beginning of a log.
@@ -210,160 +349,6 @@ fn with_beginning(
         all.push(copy)?;
     }
     Ok(all)
-}
-
-/// The logs of a run that is done get Yes against its programs.
-fn judged<R: Threads + Wait + Sync + Print>(
-    rt: &R,
-    alloc: Global,
-    words: &[&str],
-    given: Given<'_>,
-    expected: &Expected<'_>,
-    done: &Done,
-) -> Result<bool, RowsFault> {
-    let [.., programs, _] = words else {
-        return Ok(false);
-    };
-    let mut names = Vec::new(alloc);
-    let mut files = Vec::new(alloc);
-    if let Some(file) = find(given.files, programs) {
-        files.push(file.copy(alloc)?)?;
-    }
-    for file in &done.put {
-        names.push(String::from_str(alloc, file.name.as_str())?)?;
-        files.push(file.copy(alloc)?)?;
-    }
-    let names = texts_of(alloc, names.as_slice())?;
-    let mut words = Vec::new(alloc);
-    words.push("tardis")?;
-    words.push("check")?;
-    words.push("--program")?;
-    words.push(*programs)?;
-    for name in names.as_slice() {
-        words.push(*name)?;
-    }
-    let again = Given {
-        files: files.as_slice(),
-        slow: None,
-        room: 0,
-    };
-    let judged = call(rt, alloc, words.as_slice(), again, SOUND)?;
-    let operations = done.printed.as_str().strip_prefix("done: ").unwrap_or("?");
-    let yes = format!(in alloc; "yes: {operations}")?;
-    let wanted = Expected {
-        printed: yes.as_str(),
-        ..*expected
-    };
-    compare(rt, words.as_slice(), &wanted, &judged)
-}
-
-/// Where a write of standard output fails, it has taken a beginning, and 29 is told.
-fn failing_writes<R: Threads + Wait + Sync + Print>(
-    rt: &R,
-    alloc: Global,
-    words: &[&str],
-    given: Given<'_>,
-    expected: &Expected<'_>,
-) -> Result<bool, RowsFault> {
-    let mut is_good = true;
-    for write in 0..WRITES {
-        let mut steps = [Step::Move(3); WRITES];
-        steps[write] = Step::Fail;
-        let outputs = Outputs {
-            writes: &steps,
-            complaints: &[],
-        };
-        let wanted = match expected.printed.get(..4 * write) {
-            Some(taken) if taken.len() < expected.printed.len() => Expected {
-                status: 4,
-                printed: taken,
-                told: "refused: output: 29 Write\n",
-                ..*expected
-            },
-            _ => *expected,
-        };
-        let done = call(rt, alloc, words, given, outputs)?;
-        is_good = compare(rt, words, &wanted, &done)? && is_good;
-    }
-    Ok(is_good)
-}
-
-/// A write of standard error that fails is passed over.
-fn failing_complaints<R: Threads + Wait + Sync + Print>(
-    rt: &R,
-    alloc: Global,
-    words: &[&str],
-    given: Given<'_>,
-    expected: &Expected<'_>,
-) -> Result<bool, RowsFault> {
-    let mut is_good = true;
-    for write in 0..WRITES {
-        let mut steps = [Step::Move(3); WRITES];
-        steps[write] = Step::Fail;
-        let outputs = Outputs {
-            writes: &[],
-            complaints: &steps,
-        };
-        let wanted = Expected {
-            told: expected.told.get(..4 * write).unwrap_or(expected.told),
-            ..*expected
-        };
-        let done = call(rt, alloc, words, given, outputs)?;
-        is_good = compare(rt, words, &wanted, &done)? && is_good;
-    }
-    Ok(is_good)
-}
-
-/// Where a read of a file fails, up to the one that finds its end, 28 is told.
-fn failing_reads<R: Threads + Wait + Sync + Print>(
-    rt: &R,
-    alloc: Global,
-    words: &[&str],
-    given: Given<'_>,
-    expected: &Expected<'_>,
-) -> Result<bool, RowsFault> {
-    if expected.status > 1 {
-        return Ok(true);
-    }
-    let mut is_good = true;
-    for file in given.files {
-        let reads = file.bytes.len().div_ceil(10).saturating_add(1);
-        if have_word(words, file.name.as_str()) && reads < READS {
-            for good in 0..=reads {
-                let is_due = failing_read(rt, alloc, words, given, expected, file, good)?;
-                is_good = is_good && is_due == (good < reads);
-            }
-        }
-    }
-    Ok(is_good)
-}
-
-/// Whether a call tells 28 where a read of a file fails after so many good ones; if not, it does what it should without.
-fn failing_read<'a, R: Threads + Wait + Sync + Print>(
-    rt: &R,
-    alloc: Global,
-    words: &[&str],
-    given: Given<'a>,
-    expected: &Expected<'_>,
-    file: &'a File,
-    good: usize,
-) -> Result<bool, RowsFault> {
-    let mut steps = [Step::Move(9); READS];
-    if let Some(step) = steps.get_mut(good) {
-        *step = Step::Fail;
-    }
-    let given = Given {
-        slow: Some((file.name.as_str(), &steps)),
-        ..given
-    };
-    let done = call(rt, alloc, words, given, SOUND)?;
-    let told = done.told.as_str();
-    if done.status == 4 && told.starts_with("refused: ") && told.ends_with(": 28 Read\n") {
-        let is_named = names_log(alloc, words, told, file)?;
-        return Ok(is_named && !done.printed.as_str().contains("end"));
-    }
-    compare(rt, words, expected, &done)?;
-    Ok(false)
 }
 
 /// Whether a refusal names the place of a file among the logs, in a call that has no options and reads logs alone.
