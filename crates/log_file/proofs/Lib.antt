@@ -6,6 +6,7 @@ pub mod FedAll
 pub mod FirstLine
 pub mod Front
 pub mod Fronts
+pub mod Joined
 pub mod LineFeeds
 pub mod Lines
 pub mod Once

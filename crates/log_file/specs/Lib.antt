@@ -9,6 +9,7 @@ pub mod Laws
 pub mod Log
 pub mod OneLine
 pub mod SetFaults
+pub mod SetKeeping
 pub mod ReadFaults
 pub mod RecordKeeping
 pub mod Sets

@@ -10,6 +10,7 @@ mod fault;
 mod laws;
 mod line_reader;
 mod log_reader;
+mod log_set;
 mod mem_sink;
 mod mem_source;
 mod one_line;
@@ -33,6 +34,7 @@ pub use laws::{
     spelled_has_no_fault,
 };
 pub use log_reader::LogReader;
+pub use log_set::LogSet;
 pub use mem_sink::MemSink;
 pub use mem_source::MemSource;
 pub use one_log::read_log;
