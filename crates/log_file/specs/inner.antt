@@ -1,3 +1,4 @@
 -- Definitions that serve private contracts alone.
 pub mod Chunks
 pub mod FedAll
+pub mod Listing

@@ -18,6 +18,7 @@ mod one_log;
 mod pieces;
 mod progress;
 mod read;
+mod record_list;
 mod record_reader;
 mod set;
 mod step;

@@ -14,6 +14,7 @@ ghost use Rattle.log_file.specs.Standing.{IsInRange, IsSettledWith, SameLog, Sta
 use super::chunks::Fronts;
 use super::fault::LogFault;
 use super::line_reader::LineReader;
+use super::record_list::RecordList;
 use super::taking::{take_fronts, take_piece, take_piece_by};
 use log_record::{Format, Record};
 use mem_op::CoreId;
@@ -111,29 +112,31 @@ impl RecordReader {
 
     /// Takes all of a piece, and keeps its records after these, which were answered before. Lack of
     /// memory for them is a fault too.
-    pub(crate) fn feed_all(
+    pub(crate) fn feed_all<L: RecordList>(
         &mut self,
-        records: &mut Vec<Record>,
+        records: &mut L,
         piece: &[u8],
     ) -> Result<(), LogFault>
-        requires { KeepsRecords self.old records.old.items }
-        ensures { AnswersPiece self.old records.old.items piece.now result self.new records.new.items }
+        requires { KeepsRecords self.old (L.records records.old) }
+        ensures base { L.base records.new ≡ L.base records.old }
+        ensures fed { AnswersPiece self.old (L.records records.old) piece.now result self.new (L.records records.new) }
     {
         self.faultless()?;
         remember(&mut self.fault, take_piece(&mut self.lines, records, piece))
     }
 
     /// Takes all of a piece as `feed_all` does; `workers` workers read its lines at once. 0 counts as 1.
-    pub(crate) fn feed_all_by<R: Threads + Sync>(
+    pub(crate) fn feed_all_by<R: Threads + Sync, L: RecordList>(
         &mut self,
         rt: &R,
         alloc: Global,
-        records: &mut Vec<Record>,
+        records: &mut L,
         piece: &[u8],
         workers: usize,
     ) -> Result<(), LogFault>
-        requires { KeepsRecords self.old records.old.items }
-        ensures { AnswersPiece self.old records.old.items piece.now result self.new records.new.items }
+        requires { KeepsRecords self.old (L.records records.old) }
+        ensures base { L.base records.new ≡ L.base records.old }
+        ensures fed { AnswersPiece self.old (L.records records.old) piece.now result self.new (L.records records.new) }
     {
         self.faultless()?;
         remember(
@@ -143,15 +146,16 @@ impl RecordReader {
     }
 
     /// Takes all of a piece as `feed_all` does, whose chunks' fronts workers have read.
-    pub(crate) fn feed_fronts(
+    pub(crate) fn feed_fronts<L: RecordList>(
         &mut self,
-        records: &mut Vec<Record>,
+        records: &mut L,
         piece: &[u8],
         fronts: &Fronts,
     ) -> Result<(), LogFault>
-        requires kept { KeepsRecords self.old records.old.items }
+        requires kept { KeepsRecords self.old (L.records records.old) }
         requires fronts { HasFronts fronts.now.format piece.now fronts.now.list.items }
-        ensures { AnswersPiece self.old records.old.items piece.now result self.new records.new.items }
+        ensures base { L.base records.new ≡ L.base records.old }
+        ensures fed { AnswersPiece self.old (L.records records.old) piece.now result self.new (L.records records.new) }
     {
         self.faultless()?;
         remember(

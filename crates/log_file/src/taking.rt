@@ -7,28 +7,30 @@ ghost use Rattle.log_file.specs.Standing.{IsInRange, IsSettledWith, SameLog, Sta
 use super::chunks::{Front, Fronts, cut, fronts_of};
 use super::fault::LogFault;
 use super::line_reader::LineReader;
-use log_record::{Format, Record};
+use super::record_list::RecordList;
+use log_record::Format;
 use std::alloc::Global;
 use std::thread::Threads;
 
 /// Takes all of a piece, and keeps its records.
-pub(crate) fn take_piece(
+pub(crate) fn take_piece<L: RecordList>(
     lines: &mut LineReader,
-    records: &mut Vec<Record>,
+    records: &mut L,
     piece: &[u8],
 ) -> Result<(), LogFault>
     requires in_range { IsInRange lines.old.progress }
-    requires stands { Stands lines.old records.old.items }
+    requires stands { Stands lines.old (L.records records.old) }
     ensures same { SameLog lines.old.progress lines.new.progress }
     ensures in_range { IsInRange lines.new.progress }
+    ensures base { L.base records.new ≡ L.base records.old }
     ensures taken { MatchResult result
-        (λ _. Takes lines.old records.old.items piece.now lines.new records.new.items)
-        (IsSettledWith lines.old records.old.items piece.now) }
+        (λ _. Takes lines.old (L.records records.old) piece.now lines.new (L.records records.new))
+        (IsSettledWith lines.old (L.records records.old) piece.now) }
 {
     let mut rest = piece;
     while let Some(line) = lines.next_line(rest)? {
         if let Some(logged) = line.logged {
-            records.push(logged)?;
+            records.keep(logged)?;
         }
         rest = &rest[line.taken..];
     }
@@ -36,45 +38,47 @@ pub(crate) fn take_piece(
 }
 
 /// Takes all of a chunk, whose front a worker has read as that of a log of this format.
-fn take_front(
+fn take_front<L: RecordList>(
     lines: &mut LineReader,
-    records: &mut Vec<Record>,
+    records: &mut L,
     format: Format,
     chunk: &[u8],
     front: &Front,
 ) -> Result<(), LogFault>
     requires in_range { IsInRange lines.old.progress }
-    requires stands { Stands lines.old records.old.items }
+    requires stands { Stands lines.old (L.records records.old) }
     requires front { HasFront format chunk.now front.now }
     ensures same { SameLog lines.old.progress lines.new.progress }
     ensures in_range { IsInRange lines.new.progress }
+    ensures base { L.base records.new ≡ L.base records.old }
     ensures taken { MatchResult result
-        (λ _. Takes lines.old records.old.items chunk.now lines.new records.new.items)
-        (IsSettledWith lines.old records.old.items chunk.now) }
+        (λ _. Takes lines.old (L.records records.old) chunk.now lines.new (L.records records.new))
+        (IsSettledWith lines.old (L.records records.old) chunk.now) }
 {
     if !lines.pass(format, front.records.len()) {
         return take_piece(lines, records, chunk);
     }
-    records.extend_from_slice(front.records.as_slice())?;
+    records.keep_all(front.records.as_slice())?;
     let (_, rest) = chunk.split_at(front.taken);
     take_piece(lines, records, rest)
 }
 
 /// Takes all of a piece, whose chunks' fronts workers have read, and keeps its records.
-pub(crate) fn take_fronts(
+pub(crate) fn take_fronts<L: RecordList>(
     lines: &mut LineReader,
-    records: &mut Vec<Record>,
+    records: &mut L,
     piece: &[u8],
     fronts: &Fronts,
 ) -> Result<(), LogFault>
     requires in_range { IsInRange lines.old.progress }
-    requires stands { Stands lines.old records.old.items }
+    requires stands { Stands lines.old (L.records records.old) }
     requires fronts { HasFronts fronts.now.format piece.now fronts.now.list.items }
     ensures same { SameLog lines.old.progress lines.new.progress }
     ensures in_range { IsInRange lines.new.progress }
+    ensures base { L.base records.new ≡ L.base records.old }
     ensures taken { MatchResult result
-        (λ _. Takes lines.old records.old.items piece.now lines.new records.new.items)
-        (IsSettledWith lines.old records.old.items piece.now) }
+        (λ _. Takes lines.old (L.records records.old) piece.now lines.new (L.records records.new))
+        (IsSettledWith lines.old (L.records records.old) piece.now) }
 {
     let mut rest = piece;
     for front in &fronts.list {
@@ -88,21 +92,22 @@ pub(crate) fn take_fronts(
 /// Takes all of a piece, whose lines `workers` workers read at once, and keeps its records. The calling
 /// thread reads the first line before the others: it may be the header, which tells their format. After the end
 /// line it reads the lines alone.
-pub(crate) fn take_piece_by<R: Threads + Sync>(
+pub(crate) fn take_piece_by<R: Threads + Sync, L: RecordList>(
     rt: &R,
     alloc: Global,
     lines: &mut LineReader,
-    records: &mut Vec<Record>,
+    records: &mut L,
     piece: &[u8],
     workers: usize,
 ) -> Result<(), LogFault>
     requires in_range { IsInRange lines.old.progress }
-    requires stands { Stands lines.old records.old.items }
+    requires stands { Stands lines.old (L.records records.old) }
     ensures same { SameLog lines.old.progress lines.new.progress }
     ensures in_range { IsInRange lines.new.progress }
+    ensures base { L.base records.new ≡ L.base records.old }
     ensures taken { MatchResult result
-        (λ _. Takes lines.old records.old.items piece.now lines.new records.new.items)
-        (IsSettledWith lines.old records.old.items piece.now) }
+        (λ _. Takes lines.old (L.records records.old) piece.now lines.new (L.records records.new))
+        (IsSettledWith lines.old (L.records records.old) piece.now) }
 {
     let (first, rest) = cut(piece, 0);
     take_piece(lines, records, first)?;

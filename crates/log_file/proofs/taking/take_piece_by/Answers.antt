@@ -11,15 +11,15 @@ returns-in_err-take_piece-clause-taken g c =
     let first = c.cut.result.0.now in
     let rest = c.cut.result.1.now in
     let whole : first ++ rest ≡ c.args.piece.now = search rules in
-    let settled : IsSettledWith c.args.lines.now c.args.records.now.items first c.in_err-take_piece.field-0.0 = search rules in
-    rw (p.1, p.2, sym whole) (settled_longer c.args.lines.now c.args.records.now.items first rest c.in_err-take_piece.field-0.0 settled)
+    let settled : IsSettledWith c.args.lines.now (g.L.RecordList.records c.args.records.now) first c.in_err-take_piece.field-0.0 = search rules in
+    rw (p.1, p.2, sym whole) (settled_longer c.args.lines.now (g.L.RecordList.records c.args.records.now) first rest c.in_err-take_piece.field-0.0 settled)
 
 pub returns-in-Some-clause-taken : goal.returns-in-Some-clause-taken
 returns-in-Some-clause-taken g c =
     let first = c.cut.result.0.now in
     let rest = c.cut.result.1.now in
     let whole : first ++ rest ≡ c.args.piece.now = search rules in
-    answer_more c.args.lines.now _ c.take_fronts.new.lines c.args.records.now.items _ c.take_fronts.new.records.items
+    answer_more c.args.lines.now _ c.take_fronts.new.lines (g.L.RecordList.records c.args.records.now) _ (g.L.RecordList.records c.take_fronts.new.records)
     first rest c.args.piece.now c.take_fronts.result whole (search rules) (search rules) c.take_fronts.ensures.taken
 
 pub returns-in-None-clause-taken : goal.returns-in-None-clause-taken
@@ -27,5 +27,5 @@ returns-in-None-clause-taken g c =
     let first = c.cut.result.0.now in
     let rest = c.cut.result.1.now in
     let whole : first ++ rest ≡ c.args.piece.now = search rules in
-    answer_more c.args.lines.now _ c.take_piece-in-None.new.lines c.args.records.now.items _ c.take_piece-in-None.new.records.items
+    answer_more c.args.lines.now _ c.take_piece-in-None.new.lines (g.L.RecordList.records c.args.records.now) _ (g.L.RecordList.records c.take_piece-in-None.new.records)
     first rest c.args.piece.now c.take_piece-in-None.result whole (search rules) (search rules) c.take_piece-in-None.ensures.taken

@@ -3,4 +3,4 @@ use Rattle.log_file.proofs.FedAll.{few_after}
 use Rattle.log_file.proofs.log_reader.LogReader.feed_fronts.Goals as goal
 
 pub returns-clause-bounded : goal.returns-clause-bounded
-returns-clause-bounded c = few_after c.feed_fronts.result c.feed_fronts.ensures
+returns-clause-bounded c = few_after c.feed_fronts.result c.feed_fronts.ensures.fed

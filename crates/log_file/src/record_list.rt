@@ -1,0 +1,46 @@
+//! Lists that keep the records of a log as they are read.
+
+ghost use Rattle.std.specs.Prelude.{◌≡◌, ◌<◌, ◌≤◌, ◌+◌, ◌++◌, ◌∷◌, [], List, OnOk, length};
+ghost use Rattle.mem_op.specs.Limits.{operation_limit};
+ghost use Rattle.log_file.specs.inner.Listing.{Base};
+
+use log_record::Record;
+use std::alloc::AllocError;
+
+/// Keeps the records of a log, one after another.
+pub(crate) trait RecordList {
+    ghost use Rattle.log_record.specs.declared.record.Record.{Record};
+
+    /// Its records.
+    ghost records: { Self → List Record };
+
+    /// What stays as it is while records are kept.
+    ghost base: { Self → Base };
+
+    /// Keeps one more record.
+    fn keep(&mut self, logged: Record) -> Result<(), AllocError>
+        requires { length (records self.old) < operation_limit }
+        ensures base { base self.new ≡ base self.old }
+        ensures kept { OnOk result (records self.new ≡ records self.old ++ logged ∷ []) };
+
+    /// Keeps these records after its own.
+    fn keep_all(&mut self, more: &[Record]) -> Result<(), AllocError>
+        requires { length (records self.old) + length more.now ≤ operation_limit }
+        ensures base { base self.new ≡ base self.old }
+        ensures kept { OnOk result (records self.new ≡ records self.old ++ more.now) };
+}
+
+impl RecordList for Vec<Record> {
+    ghost records = { λ list. list.items };
+
+    ghost base = { λ _. record { core = 0; before = [] } };
+
+    fn keep(&mut self, logged: Record) -> Result<(), AllocError> {
+        self.push(logged)?;
+        Ok(())
+    }
+
+    fn keep_all(&mut self, more: &[Record]) -> Result<(), AllocError> {
+        self.extend_from_slice(more)
+    }
+}
