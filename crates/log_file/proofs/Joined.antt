@@ -1,7 +1,7 @@
 -- The logs of a set in one list of entries: where each begins and ends, and one more of them.
 use Rattle.std.specs.Prelude.{◌≡◌, ℕ, zero, suc, ◌+◌, ◌-◌, ◌≤◌, ◌<◌, List, [], ◌∷◌, ◌++◌, Some, None, drop, length, map, option_map, refl, slice_get, take}
 use Rattle.std.proofs.Common.{◌∙◌, ap, get_or, append_assoc, append-nil, arith, length-append, subst, sym}
-use Rattle.std.proofs.lemmas.List.{drop_at, drop-drop, take_at}
+use Rattle.std.proofs.lemmas.List.{drop_at, drop-append-le, drop-drop, length-drop, length-map, map-append, take_at}
 use Rattle.std.proofs.lemmas.Option.{get_or_from_slice_get, slice_get_past, slice_get_read, slice_get_within, slice_get-get_or}
 use Rattle.std.proofs.lemmas.List.Elements.{All-get_or}
 use Rattle.mem_op.specs.Limits.{operation_limit}
@@ -9,6 +9,7 @@ use Rattle.log_record.specs.declared.record.Record.{Record}
 use Rattle.log_record.specs.declared.record.Entry.{Entry}
 use Rattle.log_record.specs.Entries.{core_entries, entries_from, entries}
 use Rattle.log_file.specs.declared.log_set.LogSet.TheInside.{Inside}
+use Rattle.log_file.specs.inner.EntryKeeping.{KeepsEntries, records_after}
 use Rattle.log_file.specs.SetKeeping.{IsLogSet, KeepsLogs, ends_from, keeps_set, logs_in, logs_to, start_in}
 
 -- ---- the entries of a log
@@ -154,3 +155,25 @@ part_short {list} {logs} {k} {end} set f =
 pub set_kept : (set : Inside) {logs : List (List Record)} → logs_in set ≡ logs → keeps_set set → KeepsLogs set.entries.items set.ends.items logs × IsLogSet logs
 set_kept set is h =
     subst (λ (ls : List (List Record)). KeepsLogs set.entries.items set.ends.items ls × IsLogSet ls) is h
+
+-- ---- one record more of the last core
+
+pub one_kept : (core start : ℕ) (list new : List Entry) (e : Entry) (r : Record) → KeepsEntries core start list
+    → e ≡ record { id = record { core = core; index = length list - start }; logged = r } → new ≡ list ++ e ∷ [] → KeepsEntries core start new
+one_kept core start list new e r h is pushed =
+    let records = records_after start list in
+    let grown : drop start new ≡ drop start list ++ e ∷ [] = ap (drop start) pushed ∙ drop-append-le start list (e ∷ []) h.within in
+    let e-logged : e.logged ≡ r = ap (λ (x : Entry). x.logged) is in
+    let more : records_after start new ≡ records ++ r ∷ [] =
+    ap (map (λ (x : Entry). x.logged)) grown ∙ map-append (λ (x : Entry). x.logged) (drop start list) (e ∷ [])
+    ∙ ap (λ (x : Record). records ++ x ∷ []) e-logged in
+    let many : length list - start ≡ 0 + length records = omega (arith, length-map (drop start list) (λ (x : Entry). x.logged), length-drop start list) in
+    record {
+      within = omega (arith, h.within, ap length pushed, length-append list (e ∷ []));
+      own =
+          grown ∙ ap (λ es. es ++ e ∷ []) h.own
+          ∙ ap (λ (x : Entry). core_entries core 0 records ++ x ∷ []) is
+          ∙ ap (λ (n : ℕ). core_entries core 0 records ++ record { id = record { core = core; index = n }; logged = r } ∷ []) many
+          ∙ sym (core_entries-append core 0 records (r ∷ []))
+          ∙ ap (core_entries core 0) (sym more);
+    }

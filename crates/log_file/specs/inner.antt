@@ -1,4 +1,6 @@
 -- Definitions that serve private contracts alone.
 pub mod Chunks
+pub mod EntryFeeding
+pub mod EntryKeeping
 pub mod FedAll
 pub mod Listing

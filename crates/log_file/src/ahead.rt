@@ -1,21 +1,24 @@
-//! A log read from a device by several workers, who take a piece while they read the lines of the next one.
+//! A log read from a device, by one thread or by several workers, who take a piece while they read the lines of the
+//! next one.
 
 ghost use Rattle.std.specs.Prelude.{◌≡◌, ◌<◌, ◌≤◌, ◌^◌, ◌+◌, ◌++◌, ℕ, List, [], Ok, Err, IfOk, IfErr, IfSome, IsErrOf, OnOk, length, take, vec_len};
 ghost use Rattle.std.specs.Io.KnownBytes.{Consumes, IsAtEnd};
 ghost use Rattle.std.specs.Thread.{IsSync};
 ghost use Rattle.log_file.specs.Devices.{CountsFailure, Failed, Tells};
-ghost use Rattle.log_file.specs.Answers.{IsReadAnswer};
 ghost use Rattle.log_file.specs.Feeding.{Feeds, fed_len};
+ghost use Rattle.log_file.specs.inner.FedAll.{IsFedAll};
 ghost use Rattle.log_file.specs.inner.Chunks.{HasFronts, IsPiece, text_in};
 
 use super::byte_source::ByteSource;
 use super::chunks::{Fronts, fronts_of};
 use super::device_fault::ReadFailed;
 use super::fault::LogFault;
-use super::log_reader::LogReader;
-use log_record::Record;
+use super::piece_reader::PieceReader;
 use std::alloc::{AllocError, Global};
 use std::thread::{Threads, join_mut};
+
+/// The most bytes of the first piece: a short log needs room for no more.
+const FIRST: usize = 1_024;
 
 /// The fewest bytes of a piece that are worth the threads of workers.
 const LEAST: usize = 65_536;
@@ -69,59 +72,62 @@ impl Piece {
     }
 
     /// Has the reader take the piece.
-    fn feed_to(&self, reader: &mut LogReader) -> Result<(), LogFault>
+    fn feed_to<P: PieceReader>(&self, reader: &mut P) -> Result<(), LogFault>
         requires { IsPiece self.now }
-        ensures core { reader.new.core ≡ reader.old.core }
-        ensures cores { reader.new.cores ≡ reader.old.cores }
-        ensures fed { Feeds reader.old.core reader.old.cores
-            reader.old.fed (text_in self.now) result reader.new.fed }
-        ensures bounded { OnOk result (fed_len reader.new.fed < 2 ^ 27) }
+        ensures base { P.base reader.new ≡ P.base reader.old }
+        ensures core { (P.feeding reader.new).core ≡ (P.feeding reader.old).core }
+        ensures cores { (P.feeding reader.new).cores ≡ (P.feeding reader.old).cores }
+        ensures fed { Feeds (P.feeding reader.old).core (P.feeding reader.old).cores
+            (P.feeding reader.old).fed (text_in self.now) result (P.feeding reader.new).fed }
+        ensures bounded { OnOk result (fed_len (P.feeding reader.new).fed < 2 ^ 27) }
     {
         let text = &self.buf[..self.len];
         match &self.fronts {
-            Some(fronts) => reader.feed_fronts(text, fronts),
-            None => reader.feed(text),
+            Some(fronts) => reader.take_fronts(text, fronts),
+            None => reader.take_piece(text),
         }
     }
 
     /// Has the reader take the piece, and the lines of the next one read meanwhile, where that is worth the threads: one
     /// of `workers` workers takes, and the others read.
-    fn feed_beside<R: Threads + Sync>(
+    fn feed_beside<R: Threads + Sync, P: PieceReader + Send>(
         &self,
         rt: &R,
         alloc: Global,
-        reader: &mut LogReader,
+        reader: &mut P,
         next: &mut Piece,
         workers: usize,
     ) -> Result<(), LogFault>
         requires held { IsPiece self.now }
         requires next { IsPiece next.old }
-        ensures core { reader.new.core ≡ reader.old.core }
-        ensures cores { reader.new.cores ≡ reader.old.cores }
-        ensures fed { Feeds reader.old.core reader.old.cores
-            reader.old.fed (text_in self.now) result reader.new.fed }
-        ensures bounded { OnOk result (fed_len reader.new.fed < 2 ^ 27) }
-        ensures long { OnOk result ((bytes : List ℕ) → reader.old.fed ≡ Ok bytes →
-            fed_len reader.new.fed ≡ fed_len reader.old.fed + self.now.len) }
+        ensures base { P.base reader.new ≡ P.base reader.old }
+        ensures core { (P.feeding reader.new).core ≡ (P.feeding reader.old).core }
+        ensures cores { (P.feeding reader.new).cores ≡ (P.feeding reader.old).cores }
+        ensures fed { Feeds (P.feeding reader.old).core (P.feeding reader.old).cores
+            (P.feeding reader.old).fed (text_in self.now) result (P.feeding reader.new).fed }
+        ensures bounded { OnOk result (fed_len (P.feeding reader.new).fed < 2 ^ 27) }
+        ensures long { OnOk result ((bytes : List ℕ) → (P.feeding reader.old).fed ≡ Ok bytes →
+            fed_len (P.feeding reader.new).fed ≡ fed_len (P.feeding reader.old).fed + self.now.len) }
         ensures piece { IsPiece next.new }
         ensures buf { next.new.buf ≡ next.old.buf }
         ensures len { next.new.len ≡ next.old.len }
     {
         let text = &next.buf[..next.len];
-        if text.len() < LEAST {
+        if workers <= 1 || text.len() < LEAST {
             return self.feed_to(reader);
         }
         let format = reader.format();
-        let others = workers.saturating_sub(1);
+        let others = workers - 1;
         let (fed, fronts) = join_mut(
             rt,
             &mut || -> Result<(), LogFault>
                 requires { IsPiece self.now }
-                ensures core { reader.exit.now.core ≡ reader.entry.now.core }
-                ensures cores { reader.exit.now.cores ≡ reader.entry.now.cores }
-                ensures fed { Feeds reader.entry.now.core reader.entry.now.cores
-                    reader.entry.now.fed (text_in self.entry.now) result reader.exit.now.fed }
-                ensures bounded { OnOk result (fed_len reader.exit.now.fed < 2 ^ 27) }
+                ensures base { P.base reader.exit.now ≡ P.base reader.entry.now }
+                ensures core { (P.feeding reader.exit.now).core ≡ (P.feeding reader.entry.now).core }
+                ensures cores { (P.feeding reader.exit.now).cores ≡ (P.feeding reader.entry.now).cores }
+                ensures fed { Feeds (P.feeding reader.entry.now).core (P.feeding reader.entry.now).cores
+                    (P.feeding reader.entry.now).fed (text_in self.entry.now) result (P.feeding reader.exit.now).fed }
+                ensures bounded { OnOk result (fed_len (P.feeding reader.exit.now).fed < 2 ^ 27) }
             { self.feed_to(reader) },
             &mut || -> Option<Fronts>
                 requires { IsSync R.row }
@@ -142,19 +148,20 @@ impl Piece {
 
     /// Holds the piece back where workers have read it; else the reader takes it at once, so that no more is read of a
     /// log before a fault that shows is told, and its room is left.
-    fn hold_or_feed(self, reader: &mut LogReader) -> Result<Piece, LogFault>
+    fn hold_or_feed<P: PieceReader>(self, reader: &mut P) -> Result<Piece, LogFault>
         requires { IsPiece self }
-        ensures core { reader.new.core ≡ reader.old.core }
-        ensures cores { reader.new.cores ≡ reader.old.cores }
+        ensures base { P.base reader.new ≡ P.base reader.old }
+        ensures core { (P.feeding reader.new).core ≡ (P.feeding reader.old).core }
+        ensures cores { (P.feeding reader.new).cores ≡ (P.feeding reader.old).cores }
         ensures piece { IfOk result IsPiece }
         ensures room { IfOk result (λ held. vec_len held.buf ≡ vec_len self.buf) }
-        ensures fed { IfOk result (λ held. (bytes : List ℕ) → reader.old.fed ≡ Ok bytes →
-            (more : List ℕ) × (reader.new.fed ≡ Ok more) × (more ++ text_in held ≡ bytes ++ text_in self)) }
-        ensures bounded { OnOk result (fed_len reader.old.fed < 2 ^ 27 → fed_len reader.new.fed < 2 ^ 27) }
-        ensures long { IfOk result (λ held. (bytes : List ℕ) → reader.old.fed ≡ Ok bytes →
-            fed_len reader.new.fed + held.len ≡ fed_len reader.old.fed + self.len) }
-        ensures refused { IfErr result (λ fault. Feeds reader.old.core reader.old.cores
-            reader.old.fed (text_in self) (Err fault) reader.new.fed) }
+        ensures fed { IfOk result (λ held. (bytes : List ℕ) → (P.feeding reader.old).fed ≡ Ok bytes →
+            (more : List ℕ) × ((P.feeding reader.new).fed ≡ Ok more) × (more ++ text_in held ≡ bytes ++ text_in self)) }
+        ensures bounded { OnOk result (fed_len (P.feeding reader.old).fed < 2 ^ 27 → fed_len (P.feeding reader.new).fed < 2 ^ 27) }
+        ensures long { IfOk result (λ held. (bytes : List ℕ) → (P.feeding reader.old).fed ≡ Ok bytes →
+            fed_len (P.feeding reader.new).fed + held.len ≡ fed_len (P.feeding reader.old).fed + self.len) }
+        ensures refused { IfErr result (λ fault. Feeds (P.feeding reader.old).core (P.feeding reader.old).cores
+            (P.feeding reader.old).fed (text_in self) (Err fault) (P.feeding reader.new).fed) }
     {
         if self.is_read() {
             return Ok(self);
@@ -167,8 +174,14 @@ impl Piece {
         })
     }
 
-    /// The buffer for the piece after this one: this, or a greater one where the piece filled its own.
-    fn room_after(&self, alloc: Global, buf: Vec<u8>) -> Result<Vec<u8>, AllocError>
+    /// The buffer for the piece after this one: this, or a greater one where the piece filled its own. A thread that
+    /// reads alone has small ones, which stay near the processor.
+    fn room_after(
+        &self,
+        alloc: Global,
+        buf: Vec<u8>,
+        workers: usize,
+    ) -> Result<Vec<u8>, AllocError>
         requires some { 0 < vec_len self.now.buf }
         requires few { vec_len self.now.buf ≤ 2097152 }
         requires little { vec_len buf ≤ 2097152 }
@@ -177,7 +190,11 @@ impl Piece {
     {
         let mut room = self.buf.len();
         if self.len == room {
-            room = if room < LEAST { LEAST } else { MOST };
+            room = if workers <= 1 || room < LEAST {
+                LEAST
+            } else {
+                MOST
+            };
         }
         if buf.len() >= room {
             return Ok(buf);
@@ -186,35 +203,33 @@ impl Piece {
     }
 }
 
-/// The log that a reader answers that was fed nothing, when it is fed all that the source has, piece by
-/// piece, the first one through this buffer. The calling thread reads the source and then waits for the workers: one
-/// of them takes the piece before, and the others read the lines of this one.
-pub(crate) fn read_ahead<R: Threads + Sync, S: ByteSource>(
+/// Has a reader that was fed nothing take all that the source has, piece by piece. The calling thread reads the source.
+/// Where there are two workers or more it then waits for them: one of them takes the piece before, and the others read
+/// the lines of this one.
+pub(crate) fn read_ahead<R: Threads + Sync, S: ByteSource, P: PieceReader + Send>(
     rt: &R,
     alloc: Global,
     source: &mut S,
-    mut reader: LogReader,
-    mut room: Vec<u8>,
+    reader: &mut P,
     workers: usize,
-) -> Result<Vec<Record>, LogFault>
-    requires fed { reader.fed ≡ Ok [] }
-    requires room { 0 < vec_len room }
-    requires few { vec_len room ≤ 2097152 }
+) -> Result<(), LogFault>
+    requires { (P.feeding reader.old).fed ≡ Ok [] }
+    ensures base { P.base reader.new ≡ P.base reader.old }
     ensures answer { (bytes : List ℕ) × Tells (S.remaining source.old) bytes
-        × IsReadAnswer reader.core reader.cores bytes result }
+        × IsFedAll (P.feeding reader.old) bytes result (P.feeding reader.new) }
     ensures read { IsErrOf result LogFault.Read →
         Failed (S.failed source.old) (S.failed source.new) }
     ensures quiet { ¬ IsErrOf result LogFault.Read → S.failed source.new ≡ S.failed source.old }
 {
+    let mut room = vec![in alloc; 0u8; FIRST]?;
     let mut held = Piece::empty(alloc);
     loop {
         let mut next = Piece::read(source, room)?;
         if next.len == 0 {
-            held.feed_to(&mut reader)?;
-            return reader.finish();
+            return held.feed_to(reader);
         }
-        held.feed_beside(rt, alloc, &mut reader, &mut next, workers)?;
-        room = next.room_after(alloc, held.buf)?;
-        held = next.hold_or_feed(&mut reader)?;
+        held.feed_beside(rt, alloc, reader, &mut next, workers)?;
+        room = next.room_after(alloc, held.buf, workers)?;
+        held = next.hold_or_feed(reader)?;
     }
 }

@@ -1,11 +1,11 @@
 //! A log read in pieces.
 
 ghost use Rattle.std.specs.Prelude.{◌≡◌, ◌<◌, ◌≤◌, ◌^◌, [], Ok, OnOk};
-ghost use Rattle.log_file.specs.inner.Chunks.{HasFronts};
 ghost use Rattle.log_file.specs.Feeding.{Feeds, Finishes, IsOpen, fed_len};
 
 use super::chunks::Fronts;
 use super::fault::LogFault;
+use super::piece_reader::PieceReader;
 use super::record_reader::RecordReader;
 use log_record::{Format, Record};
 use mem_op::CoreId;
@@ -78,28 +78,29 @@ impl LogReader {
             .feed_all_by(rt, alloc, &mut self.records, piece, workers)
     }
 
-    /// Takes the next bytes as `feed` does, whose chunks' fronts workers have read.
-    pub(crate) fn feed_fronts(&mut self, piece: &[u8], fronts: &Fronts) -> Result<(), LogFault>
-        requires { HasFronts fronts.now.format piece.now fronts.now.list.items }
-        ensures core { self.new.core ≡ self.old.core }
-        ensures cores { self.new.cores ≡ self.old.cores }
-        ensures fed { Feeds self.old.core self.old.cores
-            self.old.fed piece.now result self.new.fed }
-        ensures bounded { OnOk result (fed_len self.new.fed < 2 ^ 27) }
-    {
-        self.reader.feed_fronts(&mut self.records, piece, fronts)
-    }
-
-    /// The format of the log, where its header was read and its end line wasn't.
-    pub(crate) fn format(&self) -> Option<Format> {
-        self.reader.format()
-    }
-
     /// The log of the bytes that were fed, or their first fault.
     pub fn finish(self) -> Result<Vec<Record>, LogFault>
         ensures { Finishes self.core self.cores self.fed result }
     {
         self.reader.finish()?;
         Ok(self.records)
+    }
+}
+
+impl PieceReader for LogReader {
+    ghost feeding = { λ reader. reader };
+
+    ghost base = { λ _. record { core = 0; before = [] } };
+
+    fn take_piece(&mut self, piece: &[u8]) -> Result<(), LogFault> {
+        self.feed(piece)
+    }
+
+    fn take_fronts(&mut self, piece: &[u8], fronts: &Fronts) -> Result<(), LogFault> {
+        self.reader.feed_fronts(&mut self.records, piece, fronts)
+    }
+
+    fn format(&self) -> Option<Format> {
+        self.reader.format()
     }
 }
