@@ -1,7 +1,9 @@
 -- Bytes that devices give and take, one piece after another.
-use Rattle.std.proofs.Common.{◌≡◌, ℕ, zero, suc, ◌+◌, List, [], ◌∷◌, ◌++◌, take, drop, Option, None, Some, refl, sym, ap, ◌∙◌, arith, append_assoc, append-nil}
+use Rattle.std.proofs.Common.{◌≡◌, ℕ, zero, suc, ◌+◌, List, [], ◌∷◌, ◌++◌, take, drop, Option, None, Some, refl, sym, ap, ◌∙◌, arith, append_assoc, append-nil, inl, inr}
+use Rattle.std.proofs.lemmas.Bool.{cases_lt}
+use Rattle.std.specs.Prelude.{◌-◌, ◌^◌, min}
 use Rattle.std.specs.Io.KnownBytes.{Consumes, IsAtEnd, Appends}
-use Rattle.log_file.specs.Devices.{Tells}
+use Rattle.log_file.specs.Devices.{Failed, Tells}
 
 -- ---- sources
 
@@ -13,6 +15,15 @@ told (Some bytes) = bytes
 pub tells_told : (o : Option (List ℕ)) → Tells o (told o)
 tells_told None = tt
 tells_told (Some bytes) = refl
+
+-- nothing was read yet
+pub consumes_none : (o : Option (List ℕ)) (xs : List ℕ) → xs ≡ [] → Consumes o o ([] ++ xs)
+consumes_none None xs none = tt
+consumes_none (Some told) xs none = ap (λ (ys : List ℕ). ys ++ told) (sym none)
+
+-- an Err that is counted is a failure
+pub counted_failed : (old new : ℕ) → new ≡ min (old + 1) (2 ^ 64 - 1) → Failed old new
+counted_failed old new is = elim (cases_lt old (2 ^ 64 - 1)) [ inl less ↦ inl (omega (arith, is, less)) | inr most ↦ inr (omega (arith, is, most)) ]
 
 pub consumes_more : (old mid new : Option (List ℕ)) (a b : List ℕ) → Consumes old mid a → Consumes mid new b
     → Consumes old new (a ++ b)

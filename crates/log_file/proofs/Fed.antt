@@ -1,5 +1,5 @@
 -- Answers to bytes that were fed in pieces.
-use Rattle.std.proofs.Common.{◌≡◌, ℕ, ◌+◌, ◌<◌, List, [], ◌∷◌, ◌++◌, length, get_or, take, drop, Option, Result, Ok, Err, IsErrAnd, sym, ap, subst, ◌∙◌, append_assoc, append-nil}
+use Rattle.std.proofs.Common.{◌≡◌, ℕ, ◌+◌, ◌<◌, List, [], ◌∷◌, ◌++◌, length, get_or, take, drop, Option, Result, Ok, Err, IsErrAnd, refl, sym, ap, subst, ◌∙◌, append_assoc, append-nil}
 use Rattle.std.specs.Global.{Vec}
 use Rattle.std.specs.List.{flat_map}
 use Rattle.std.specs.Io.KnownBytes.{Consumes, IsAtEnd}
@@ -9,9 +9,10 @@ use Rattle.std.proofs.lemmas.Result.{err_from_is_err_and}
 use Rattle.log_record.specs.declared.record.Record.{Record}
 use Rattle.log_file.specs.declared.fault.LogFault.{LogFault}
 use Rattle.log_file.specs.declared.fault.LogFault.TheVariants.{At, OutOfMemory, Read}
-use Rattle.log_file.specs.Answers.{IsAnswer, IsFaultOf, IsFaultOrMemory, IsFaultOrDevice, IsReadAnswer}
+use Rattle.log_file.specs.Answers.{IsAnswer, IsFaultOrMemory, IsFaultOrDevice}
 use Rattle.log_file.specs.Devices.{Tells}
-use Rattle.log_file.specs.Feeding.{Feeding, Feeds, Finishes, IsSettled}
+use Rattle.log_file.specs.Feeding.{Feeding, Feeds, IsSettled}
+use Rattle.log_file.specs.inner.FedAll.{IsFedAll}
 use Rattle.log_file.proofs.Devices.{told, tells_told, consumes_told, consumes_end, consumes_more}
 
 -- the answer of a reader that was fed `front` without a fault and then refused a piece
@@ -54,17 +55,17 @@ fed_last {first} {old} {before} {mid} {last} new after next h core cores fed rea
 }
 
 -- a fault that may be answered to all that a source tells is an answer to it
-answered_told : (first : Feeding) (before : Option (List ℕ)) (bytes : List ℕ) (f : LogFault)
-    (r : Result (Vec Record) LogFault) → IsErrAnd r (λ x. x ≡ f) → Tells before bytes
+answered_told : (first now : Feeding) (before : Option (List ℕ)) (bytes : List ℕ) (f : LogFault)
+    (r : Result (Unit {0}) LogFault) → IsErrAnd r (λ x. x ≡ f) → Tells before bytes
     → IsFaultOrDevice first.core first.cores bytes f
-    → (bytes : List ℕ) × Tells before bytes × IsReadAnswer first.core first.cores bytes r
-answered_told first before bytes f r is tells fault = let p = err_from_is_err_and r is in rw (p.1, p.2) (bytes, tells, fault)
+    → (bytes : List ℕ) × Tells before bytes × IsFedAll first bytes r now
+answered_told first now before bytes f r is tells fault = let p = err_from_is_err_and r is in rw (p.1, p.2) (bytes, tells, fault)
 
 -- a failed read or lack of memory, which may be answered to any source
-pub source_unread : (first : Feeding) (before : Option (List ℕ)) (f : LogFault) (r : Result (Vec Record) LogFault)
+pub source_unread : (first now : Feeding) (before : Option (List ℕ)) (f : LogFault) (r : Result (Unit {0}) LogFault)
     → IsErrAnd r (λ x. x ≡ f) → IsFaultOrDevice first.core first.cores (told before) f
-    → (bytes : List ℕ) × Tells before bytes × IsReadAnswer first.core first.cores bytes r
-source_unread first before f r is fault = answered_told first before (told before) f r is (tells_told before) fault
+    → (bytes : List ℕ) × Tells before bytes × IsFedAll first bytes r now
+source_unread first now before f r is fault = answered_told first now before (told before) f r is (tells_told before) fault
 
 read_fault : (core cores : ℕ) (bytes : List ℕ) (f : LogFault) → IsFaultOrMemory core cores bytes f
     → IsFaultOrDevice core cores bytes f
@@ -74,33 +75,28 @@ read_fault core cores bytes Read h = absurd h
 
 -- the answer to a source whose last bytes so far are refused
 pub source_refused : {first old : Feeding} {before after : Option (List ℕ)} {last : List ℕ} (f : LogFault)
-    (new : Result (List ℕ) LogFault) (r : Result (Vec Record) LogFault) → IsErrAnd r (λ x. x ≡ f)
+    (now : Feeding) (new : Result (List ℕ) LogFault) (r : Result (Unit {0}) LogFault) → IsErrAnd r (λ x. x ≡ f)
     → IsFedBut first old before after last → Feeds old.core old.cores old.fed last (Err f) new
-    → (bytes : List ℕ) × Tells before bytes × IsReadAnswer first.core first.cores bytes r
-source_refused {first} {old} {before} {after} {last} f new r is h fed =
+    → (bytes : List ℕ) × Tells before bytes × IsFedAll first bytes r now
+source_refused {first} {old} {before} {after} {last} f now new r is h fed =
     let bytes = h.given ++ last in
     let settled = refused_as first.core first.cores old.core old.cores h.given last f old.fed new h.core h.cores h.fed fed in
-    answered_told first before (bytes ++ told after) f r is (consumes_told before after bytes h.read)
+    answered_told first now before (bytes ++ told after) f r is (consumes_told before after bytes h.read)
     (read_fault first.core first.cores (bytes ++ told after) f (settled_fault first.core first.cores bytes (told after) f settled))
 
-first_fault : (core cores : ℕ) (bytes : List ℕ) (f : LogFault) → IsFaultOf core cores bytes f → IsFaultOrDevice core cores bytes f
-first_fault core cores bytes (At k f) h = h
-first_fault core cores bytes OutOfMemory h = absurd h
-first_fault core cores bytes Read h = absurd h
-
--- the answer to a source whose bytes were all fed without a fault
-pub source_finished : {first now : Feeding} {before after : Option (List ℕ)} {last : List ℕ}
-    (r : Result (Vec Record) LogFault) → IsFedBut first now before after last → last ≡ [] → IsAtEnd after
-    → Finishes now.core now.cores now.fed r
-    → (bytes : List ℕ) × Tells before bytes × IsReadAnswer first.core first.cores bytes r
-source_finished {first} {now} {before} {after} {last} r h none end finishes =
-    let all : Consumes before after h.given =
-    subst (λ (xs : List ℕ). Consumes before after xs) (ap (λ (xs : List ℕ). h.given ++ xs) none ∙ append-nil h.given) h.read in
-    (h.given, consumes_end before after h.given all end, answer r (rw (h.core, h.cores, h.fed) at finishes))
-  where
-    answer : (r : Result (Vec Record) LogFault) → Finishes first.core first.cores (Ok h.given) r → IsReadAnswer first.core first.cores h.given r
-    answer (Ok log) h = h
-    answer (Err f) h = first_fault first.core first.cores _ f h
+-- the answer to a source that is at its end, where the last bytes are fed
+pub source_finished : {first old : Feeding} {before mid : Option (List ℕ)} {last : List ℕ} (new : Feeding)
+    (after : Option (List ℕ)) (next : List ℕ) (r : Result (Unit {0}) LogFault) → IsFedBut first old before mid last
+    → Consumes mid after next → next ≡ [] → IsAtEnd after → new.core ≡ old.core → new.cores ≡ old.cores
+    → Feeds old.core old.cores old.fed last r new.fed
+    → (bytes : List ℕ) × Tells before bytes × IsFedAll first bytes r new
+source_finished {first} {old} {before} {mid} {last} new after next (Ok x) h read none end core cores feeds =
+    let all = fed_last new after next h core cores (rw h.fed at feeds) read in
+    let whole : Consumes before after all.given =
+    subst (λ (xs : List ℕ). Consumes before after xs) (ap (λ (xs : List ℕ). all.given ++ xs) none ∙ append-nil all.given) all.read in
+    (all.given, consumes_end before after all.given whole end, λ i. record { core = all.core i; cores = all.cores i; fed = all.fed i })
+source_finished {first} {old} {before} {mid} {last} new after next (Err f) h read none end core cores feeds =
+    source_refused f new new.fed (Err f) refl h feeds
 
 -- pieces, cut at one of them
 pieces_at : (vs : List (Vec ℕ)) (i : ℕ) (d : Vec ℕ) → i < length vs

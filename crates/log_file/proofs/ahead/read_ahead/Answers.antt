@@ -1,49 +1,80 @@
 -- A read that fails, a piece that is refused, and the end.
-use Rattle.std.proofs.Common.{rules, refl, arith, ◌≡◌, ◌<◌, ◌+◌, ◌-◌, ◌^◌, ◌++◌, [], ℕ, ◌∙◌}
+use Rattle.std.proofs.Common.{rules, refl, ap, arith, ◌≡◌, ◌<◌, ◌+◌, ◌-◌, ◌^◌, ◌++◌, [], ℕ, ◌∙◌}
 use Rattle.std.specs.Io.KnownBytes.{Consumes}
 use Rattle.log_file.specs.declared.fault.LogFault.TheVariants.{OutOfMemory, Read}
 use Rattle.log_file.specs.Feeding.{fed_len}
 use Rattle.log_file.specs.inner.Chunks.{text_in}
+use Rattle.log_file.proofs.Devices.{consumes_none, counted_failed}
 use Rattle.log_file.proofs.Fed.{fed_last, source_finished, source_refused, source_unread}
 use Rattle.log_file.proofs.ahead.read_ahead.Goals as goal
 
+pub returns-in_err-room-clause-answer : goal.returns-in_err-room-clause-answer
+returns-in_err-room-clause-answer g c =
+    let first = g.P.PieceReader.feeding c.args.reader.now in
+    source_unread first first (g.S.ByteSource.remaining c.args.source.now) OutOfMemory c.from_residual.result c.from_residual.ensures.1 tt
+
 pub returns-in_err-next-clause-answer : goal.returns-in_err-next-clause-answer
 returns-in_err-next-clause-answer g c =
-    source_unread c.args.reader (g.S.ByteSource.remaining c.args.source.now) Read c.from_residual.result c.from_residual.ensures.1 tt
-
-pub returns-in_err-feed_to-clause-answer : goal.returns-in_err-feed_to-clause-answer
-returns-in_err-feed_to-clause-answer g c =
-    source_refused c.in_err-feed_to.field-0.0 c.feed_to.new.reader.fed c.from_residual-in_err-feed_to.result
-    c.from_residual-in_err-feed_to.ensures.1 c.loop-held.invariant.0 c.in_err-feed_to.ensures.fed
+    let feeding = g.P.PieceReader.feeding in
+    source_unread (feeding c.args.reader.now) (feeding c.loop-held.reader) (g.S.ByteSource.remaining c.args.source.now) Read c.from_residual-in_err-next.result c.from_residual-in_err-next.ensures.1 tt
 
 pub returns-then-next-eq0-clause-answer : goal.returns-then-next-eq0-clause-answer
 returns-then-next-eq0-clause-answer g c =
     let next = c.in_ok-next.next in
     let held = c.loop-held.invariant.0 in
-    let taken = c.in_ok-feed_to.ensures in
+    let taken = c.feed_to.ensures in
     let none : text_in next ≡ [] = rw c.if-next-eq0.true refl in
-    let all = fed_last c.feed_to.new.reader (g.S.ByteSource.remaining c.read.new.source) (text_in next) held taken.core taken.cores (rw held.fed at taken.fed) c.in_ok-next.ensures.bytes in
-    source_finished c.finish.result all none (c.in_ok-next.ensures.end c.if-next-eq0.true) c.finish.ensures
+    source_finished (g.P.PieceReader.feeding c.feed_to.new.reader) (g.S.ByteSource.remaining c.read.new.source) (text_in next) c.feed_to.result held
+    c.in_ok-next.ensures.bytes none (c.in_ok-next.ensures.end c.if-next-eq0.true) taken.core taken.cores taken.fed
 
 pub returns-in_err-feed_beside-clause-answer : goal.returns-in_err-feed_beside-clause-answer
 returns-in_err-feed_beside-clause-answer g c =
-    source_refused c.in_err-feed_beside.field-0.0 c.feed_beside.new.reader.fed c.from_residual-in_err-feed_beside.result
+    let now = g.P.PieceReader.feeding c.feed_beside.new.reader in
+    source_refused c.in_err-feed_beside.field-0.0 now now.fed c.from_residual-in_err-feed_beside.result
     c.from_residual-in_err-feed_beside.ensures.1 c.loop-held.invariant.0 c.in_err-feed_beside.ensures.fed
 
-pub returns-in_err-room-clause-answer : goal.returns-in_err-room-clause-answer
-returns-in_err-room-clause-answer g c =
-    source_unread c.args.reader (g.S.ByteSource.remaining c.args.source.now) OutOfMemory c.from_residual-in_err-room.result c.from_residual-in_err-room.ensures.1 tt
+pub returns-in_err-room-2-clause-answer : goal.returns-in_err-room-2-clause-answer
+returns-in_err-room-2-clause-answer g c =
+    let feeding = g.P.PieceReader.feeding in
+    source_unread (feeding c.args.reader.now) (feeding c.feed_beside.new.reader) (g.S.ByteSource.remaining c.args.source.now) OutOfMemory c.from_residual-in_err-room-2.result c.from_residual-in_err-room-2.ensures.1 tt
 
 pub returns-in_err-held-clause-answer : goal.returns-in_err-held-clause-answer
 returns-in_err-held-clause-answer g c =
     let rem = g.S.ByteSource.remaining in
+    let feeding = g.P.PieceReader.feeding in
     let held = c.loop-held.invariant.0 in
     let beside = c.in_ok-feed_beside.ensures in
     let next = c.feed_beside.new.next in
     let read : Consumes (rem c.loop-held.source) (rem c.read.new.source) (text_in next) = rw (beside.buf, beside.len) c.in_ok-next.ensures.bytes in
-    let all = fed_last c.feed_beside.new.reader (rem c.read.new.source) (text_in next) held beside.core beside.cores (rw held.fed at beside.fed) read in
-    source_refused c.in_err-held.field-0.0 c.hold_or_feed.new.reader.fed c.from_residual-in_err-held.result
+    let all = fed_last (feeding c.feed_beside.new.reader) (rem c.read.new.source) (text_in next) held beside.core beside.cores (rw held.fed at beside.fed) read in
+    let now = feeding c.hold_or_feed.new.reader in
+    source_refused c.in_err-held.field-0.0 now now.fed c.from_residual-in_err-held.result
     c.from_residual-in_err-held.ensures.1 all c.in_err-held.ensures.refused
+
+pub loop-held-init : goal.loop-held-init
+loop-held-init g c =
+    let none = c.empty-held.ensures in
+    let room = c.in_ok-room.ensures.len in (
+      record {
+        core = refl;
+        cores = refl;
+        given = [];
+        fed = c.requires;
+        read = consumes_none (g.S.ByteSource.remaining c.args.source.now) (text_in c.empty-held.result) none.none;
+      },
+      omega (arith, ap fed_len c.requires),
+      refl,
+      none.piece,
+      omega (arith, none.room),
+      omega (arith, room),
+      omega (arith, room),
+      refl,
+    )
+
+pub returns-in_err-next-clause-read : goal.returns-in_err-next-clause-read
+returns-in_err-next-clause-read g c =
+    λ is. counted_failed (g.S.ByteSource.failed c.args.source.now) (g.S.ByteSource.failed c.read.new.source)
+    (rw c.loop-held.invariant.2 at c.in_err-next.ensures.counts)
 
 pub loop-held-preserved : goal.loop-held-preserved
 loop-held-preserved g c =
@@ -53,7 +84,7 @@ loop-held-preserved g c =
     let held = c.in_ok-held.ensures in
     let next = c.feed_beside.new.next in
     let read : Consumes (rem c.loop-held.source) (rem c.read.new.source) (text_in next) = rw (beside.buf, beside.len) c.in_ok-next.ensures.bytes in
-    let all = fed_last c.feed_beside.new.reader (rem c.read.new.source) (text_in next) inv.0 beside.core beside.cores (rw inv.0.fed at beside.fed) read in
+    let all = fed_last (g.P.PieceReader.feeding c.feed_beside.new.reader) (rem c.read.new.source) (text_in next) inv.0 beside.core beside.cores (rw inv.0.fed at beside.fed) read in
     let more = held.fed all.given all.fed in (
       record {
         core = held.core ∙ all.core;
@@ -66,8 +97,9 @@ loop-held-preserved g c =
       c.in_ok-next.ensures.counts ∙ inv.2,
       held.piece,
       search rules,
-      c.in_ok-room.ensures.some,
-      c.in_ok-room.ensures.few,
+      c.in_ok-room-2.ensures.some,
+      c.in_ok-room-2.ensures.few,
+      search rules,
     )
 
 less : (m n : ℕ) → m < n → m < 2 ^ 28 → 2 ^ 28 - n < 2 ^ 28 - m
@@ -86,4 +118,4 @@ loop-held-smaller g c =
     let few = inv.1 in
     let some = c.if-next-eq0.false in
     let same = beside.len in
-    less (fed_len c.loop-held.reader.fed + c.loop-held.held.len) (fed_len c.hold_or_feed.new.reader.fed + c.in_ok-held.held.len) (omega arith) (omega arith)
+    less (fed_len (g.P.PieceReader.feeding c.loop-held.reader).fed + c.loop-held.held.len) (fed_len (g.P.PieceReader.feeding c.hold_or_feed.new.reader).fed + c.in_ok-held.held.len) (omega arith) (omega arith)

@@ -8,11 +8,12 @@ use Rattle.log_file.proofs.ahead.read_ahead.Given as goal
 
 abbrev pub invariant-loop-held : goal.invariant-loop-held
 invariant-loop-held g l =
-    IsFedBut l.fn.reader l.reader (g.S.ByteSource.remaining l.fn.source) (g.S.ByteSource.remaining l.source) (text_in l.held)
-    × (fed_len l.reader.fed < 2 ^ 27)
+    IsFedBut (g.P.PieceReader.feeding l.fn.reader) (g.P.PieceReader.feeding l.reader) (g.S.ByteSource.remaining l.fn.source) (g.S.ByteSource.remaining l.source) (text_in l.held)
+    × (fed_len (g.P.PieceReader.feeding l.reader).fed < 2 ^ 27)
     × (g.S.ByteSource.failed l.source ≡ g.S.ByteSource.failed l.fn.source)
     × IsPiece l.held × (vec_len l.held.buf ≤ 2097152)
     × (0 < vec_len l.room) × (vec_len l.room ≤ 2097152)
+    × (g.P.PieceReader.base l.reader ≡ g.P.PieceReader.base l.fn.reader)
 
 abbrev pub decreases-loop-held : goal.decreases-loop-held
-decreases-loop-held g l = 2 ^ 28 - (fed_len l.reader.fed + l.held.len)
+decreases-loop-held g l = 2 ^ 28 - (fed_len (g.P.PieceReader.feeding l.reader).fed + l.held.len)
