@@ -52,6 +52,40 @@ logs_again at c (log ∷ logs) =
 pub kept_again : (list : List Entry) (ends : List ℕ) (logs : List (List Record)) → KeepsLogs list ends logs → logs_to 0 ends list ≡ logs
 kept_again list ends logs h = ap (λ es. logs_to 0 ends es) h.all ∙ ap (λ ks. logs_to 0 ks (entries logs)) h.places ∙ logs_again 0 0 logs
 
+-- the end of one more log
+ends_from-push : (at c : ℕ) (logs : List (List Record)) (log : List Record)
+    → ends_from at (logs ++ log ∷ []) ≡ ends_from at logs ++ (at + length (entries_from c logs) + length log) ∷ []
+ends_from-push at c [] log = ap (λ (n : ℕ). n ∷ []) (let z : at + length log ≡ at + 0 + length log = omega arith in z)
+ends_from-push at c (x ∷ xs) log =
+    let long = length-append (core_entries c 0 x) (entries_from (suc c) xs) in
+    ap (λ (ns : List ℕ). (at + length x) ∷ ns) (ends_from-push (at + length x) (suc c) xs log)
+    ∙ ap (λ (n : ℕ). (at + length x) ∷ (ends_from (at + length x) xs ++ n ∷ []))
+    (let z : at + length x + length (entries_from (suc c) xs) + length log ≡ at + length (entries_from c (x ∷ xs)) + length log = omega (arith, long, length-core_entries c 0 x) in z)
+
+-- one more log is kept
+pub log_kept : (list new : List Entry) (ends more : List ℕ) (logs : List (List Record)) (log : List Record) (core : ℕ)
+    → KeepsLogs list ends logs → core ≡ length logs → new ≡ list ++ core_entries core 0 log → more ≡ ends ++ length new ∷ []
+    → KeepsLogs new more (logs ++ log ∷ [])
+log_kept list new ends more logs log core h at read pushed =
+    let core-is : core ≡ 0 + length logs = omega (arith, at) in
+    let all : new ≡ entries logs ++ core_entries core 0 log = read ∙ ap (λ es. es ++ core_entries core 0 log) h.all in
+    let long : length new ≡ 0 + length (entries logs) + length log =
+    omega (arith, ap length all, length-append (entries logs) (core_entries core 0 log), length-core_entries core 0 log) in
+    record {
+      all =
+          all ∙ ap (λ (n : ℕ). entries logs ++ core_entries n 0 log) core-is
+          ∙ sym (entries_from-push 0 logs log);
+      places =
+          pushed ∙ ap (λ (ns : List ℕ). ns ++ length new ∷ []) h.places
+          ∙ ap (λ (n : ℕ). ends_from 0 logs ++ n ∷ []) long ∙ sym (ends_from-push 0 0 logs log);
+    }
+
+-- what is kept of logs is kept of those that are read back
+pub set_made : (list : List Entry) (ends : List ℕ) (logs : List (List Record)) → KeepsLogs list ends logs → IsLogSet logs
+    → KeepsLogs list ends (logs_to 0 ends list) × IsLogSet (logs_to 0 ends list)
+set_made list ends logs h set =
+    subst (λ (ls : List (List Record)). KeepsLogs list ends ls × IsLogSet ls) (sym (kept_again list ends logs h)) (h, set)
+
 -- ---- where the entries of a log are
 
 pub length-ends_from : (at : ℕ) (logs : List (List Record)) → length (ends_from at logs) ≡ length logs

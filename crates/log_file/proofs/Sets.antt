@@ -94,27 +94,22 @@ spell_push k n (u ∷ ts) (m ∷ logs) t l p q = (
 abbrev pub LogsSoFar : {A : Type 0} → (A → Option (List ℕ)) → List A → ℕ → ℕ → List (List Record) → Type 0
 LogsSoFar rem xs i n logs = (texts : List (List ℕ)) × TellEach rem (take i xs) texts × SpellFrom 0 n texts logs
 
-pub set_more : {A : Type 0} (rem : A → Option (List ℕ)) (xs : List A) (i n : ℕ) (d : A) (vs ws : List (Vec Record))
-    (v : Vec Record) (t : List ℕ) → i < length xs → LogsSoFar rem xs i n (record_lists vs)
-    → Tells (rem (get_or xs i d)) t → Spells i n t v.items → ws ≡ vs ++ v ∷ []
-    → LogsSoFar rem xs (i + 1) n (record_lists ws)
-set_more {A} rem xs i n d vs ws v t lt far tells spells e =
+pub set_more : {A : Type 0} (rem : A → Option (List ℕ)) (xs : List A) (i n : ℕ) (d : A) (logs : List (List Record))
+    (log : List Record) (t : List ℕ) → i < length xs → LogsSoFar rem xs i n logs → Tells (rem (get_or xs i d)) t
+    → Spells i n t log → LogsSoFar rem xs (i + 1) n (logs ++ log ∷ [])
+set_more {A} rem xs i n d logs log t lt far tells spells =
     let len : length far.0 ≡ i = sym (tell_length rem (take i xs) far.0 far.1) ∙ omega (arith, length-take i xs) in
-    let logs-is : record_lists ws ≡ record_lists vs ++ v.items ∷ [] = ap record_lists e
-    ∙ map_push (λ (x : Vec Record). x.items) vs v in
     let at : i ≡ 0 + length far.0 = omega arith in (
       far.0 ++ t ∷ [],
       tell_one rem xs i d far.0 t lt far.1 tells,
-      subst (λ ls. SpellFrom 0 n (far.0 ++ t ∷ []) ls)
-          (sym logs-is) (spell_push 0 n far.0 (record_lists vs) t v.items far.2
-          (subst (λ (c : ℕ). Spells c n t v.items) at spells)),
+      spell_push 0 n far.0 logs t log far.2 (subst (λ (c : ℕ). Spells c n t log) at spells),
     )
 
-pub set_refused : {A : Type 0} (rem : A → Option (List ℕ)) (xs : List A) (i n : ℕ) (d : A) (vs : List (Vec Record))
-    (t : List ℕ) (f : LogFault) → i < length xs → n ≡ length xs → LogsSoFar rem xs i n (record_lists vs)
+pub set_refused : {A : Type 0} (rem : A → Option (List ℕ)) (xs : List A) (i n : ℕ) (d : A) (logs : List (List Record))
+    (t : List ℕ) (f : LogFault) → i < length xs → n ≡ length xs → LogsSoFar rem xs i n logs
     → Tells (rem (get_or xs i d)) t → IsFaultOrDevice i n t f
     → (texts : List (List ℕ)) × TellEach rem xs texts × IsSetFault texts i f
-set_refused {A} rem xs i n d vs t f lt n-is far tells holds = (whole, all, fault f holds)
+set_refused {A} rem xs i n d logs t f lt n-is far tells holds = (whole, all, fault f holds)
   where
     whole : List (List ℕ)
     whole = far.0 ++ (t ∷ map (λ (s : A). told (rem s)) (drop (i + 1) xs))
@@ -130,7 +125,7 @@ set_refused {A} rem xs i n d vs t f lt n-is far tells holds = (whole, all, fault
 
     before : SpellBefore whole i
     before k lt' =
-        let q = spelled_at 0 n far.0 (record_lists vs) k far.2 (omega (arith, len)) in
+        let q = spelled_at 0 n far.0 logs k far.2 (omega (arith, len)) in
         let zero-add : 0 + k ≡ k = omega arith in
         let n-whole : n ≡ length whole = n-is ∙ sym count in
         let text-is : get_or far.0 k [] ≡ text_at whole k = sym
@@ -157,34 +152,48 @@ set_refused {A} rem xs i n d vs t f lt n-is far tells holds = (whole, all, fault
     fault OutOfMemory h = (omega (arith, count), before)
     fault Read h = (omega (arith, count), before)
 
-pub set_done : {A : Type 0} (rem : A → Option (List ℕ)) (xs : List A) (i n : ℕ) (vs : List (Vec Record))
-    → length xs ≤ i → n ≡ length xs → LogsSoFar rem xs i n (record_lists vs) → (texts : List (List ℕ))
-    × TellEach rem xs texts × SpellSet texts (record_lists vs)
-set_done {A} rem xs i n vs le n-is far =
+pub set_done : {A : Type 0} (rem : A → Option (List ℕ)) (xs : List A) (i n : ℕ) (logs : List (List Record))
+    → length xs ≤ i → n ≡ length xs → LogsSoFar rem xs i n logs → (texts : List (List ℕ))
+    × TellEach rem xs texts × SpellSet texts logs
+set_done {A} rem xs i n logs le n-is far =
     let all : TellEach rem xs far.0 = subst (λ ys. TellEach rem ys far.0) (take_all i xs le) far.1 in
     let count : n ≡ length far.0 = n-is ∙ tell_length rem xs far.0 all in
-    (far.0, all, subst (λ (m : ℕ). SpellFrom 0 m far.0 (record_lists vs)) count far.2)
+    (far.0, all, subst (λ (m : ℕ). SpellFrom 0 m far.0 logs) count far.2)
 
-spelled_count : (k n : ℕ) (ts : List (List ℕ)) (vs : List (Vec Record)) → SpellFrom k n ts (record_lists vs)
-    → length vs ≡ length ts
+spelled_count : (k n : ℕ) (ts : List (List ℕ)) (logs : List (List Record)) → SpellFrom k n ts logs → length logs ≡ length ts
 spelled_count k n [] [] p = refl
-spelled_count k n [] (v ∷ vs) p = absurd p
+spelled_count k n [] (log ∷ logs) p = absurd p
 spelled_count k n (t ∷ ts) [] p = absurd p
-spelled_count k n (t ∷ ts) (v ∷ vs) p = ap suc (spelled_count (k + 1) n ts vs p.1)
+spelled_count k n (t ∷ ts) (log ∷ logs) p = ap suc (spelled_count (k + 1) n ts logs p.1)
 
-pub set_count : {A : Type 0} (rem : A → Option (List ℕ)) (xs : List A) (i n : ℕ) (vs : List (Vec Record))
-    → length xs ≤ i → LogsSoFar rem xs i n (record_lists vs) → length vs ≡ length xs
-set_count {A} rem xs i n vs le far =
-    spelled_count 0 n far.0 vs far.2 ∙ sym (tell_length rem (take i xs) far.0 far.1) ∙ ap length (take_all i xs le)
+-- there are as many logs as readers so far
+pub count_so_far : {A : Type 0} (rem : A → Option (List ℕ)) (xs : List A) (i n : ℕ) (logs : List (List Record))
+    → i ≤ length xs → LogsSoFar rem xs i n logs → length logs ≡ i
+count_so_far rem xs i n logs le far =
+    spelled_count 0 n far.0 logs far.2 ∙ sym (tell_length rem (take i xs) far.0 far.1) ∙ omega (arith, le, length-take i xs)
 
-pub spelled_short : (k n : ℕ) (ts : List (List ℕ)) (vs : List (Vec Record)) → SpellFrom k n ts (record_lists vs)
-    → All (λ (v : Vec Record). vec_len v ≤ operation_limit) vs
-spelled_short k n [] [] p = All-nil (λ (v : Vec Record). vec_len v ≤ operation_limit)
-spelled_short k n [] (v ∷ vs) p = absurd p
+pub set_count : {A : Type 0} (rem : A → Option (List ℕ)) (xs : List A) (i n : ℕ) (logs : List (List Record))
+    → length xs ≤ i → LogsSoFar rem xs i n logs → length logs ≡ length xs
+set_count {A} rem xs i n logs le far =
+    spelled_count 0 n far.0 logs far.2 ∙ sym (tell_length rem (take i xs) far.0 far.1) ∙ ap length (take_all i xs le)
+
+pub spelled_short : (k n : ℕ) (ts : List (List ℕ)) (logs : List (List Record)) → SpellFrom k n ts logs
+    → All (λ (log : List Record). length log ≤ operation_limit) logs
+spelled_short k n [] [] p = All-nil (λ (log : List Record). length log ≤ operation_limit)
+spelled_short k n [] (log ∷ logs) p = absurd p
 spelled_short k n (t ∷ ts) [] p = absurd p
-spelled_short k n (t ∷ ts) (v ∷ vs) p =
+spelled_short k n (t ∷ ts) (log ∷ logs) p =
+    All-cons (λ (l : List Record). length l ≤ operation_limit) log logs p.0.1.0.few (spelled_short (k + 1) n ts logs p.1)
+
+-- the same of vectors
+pub vectors_short : (k n : ℕ) (ts : List (List ℕ)) (vs : List (Vec Record)) → SpellFrom k n ts (record_lists vs)
+    → All (λ (v : Vec Record). vec_len v ≤ operation_limit) vs
+vectors_short k n [] [] p = All-nil (λ (v : Vec Record). vec_len v ≤ operation_limit)
+vectors_short k n [] (v ∷ vs) p = absurd p
+vectors_short k n (t ∷ ts) [] p = absurd p
+vectors_short k n (t ∷ ts) (v ∷ vs) p =
     All-cons (λ (w : Vec Record). vec_len w ≤ operation_limit) v vs (omega (arith, v.ok.0, p.0.1.0.few))
-    (spelled_short (k + 1) n ts vs p.1)
+    (vectors_short (k + 1) n ts vs p.1)
 
 -- the reader at i failed
 pub set_failed : {A : Type 0} (count : A → ℕ) (old new : List A) (i : ℕ) (x y : A) → i < length old

@@ -46,6 +46,11 @@ abbrev pub IsSetAnswer : List (List ℕ) → Result (Vec (Vec Record)) SetFault 
 IsSetAnswer texts (Ok logs) = SpellSet texts (record_lists logs.items)
 IsSetAnswer texts (Err e) = IsSetFault texts e.file e.fault
 
+-- the same of a set whose logs are in one list
+abbrev pub IsLogSetAnswer : List (List ℕ) → Result (List (List Record)) SetFault → Type 0
+IsLogSetAnswer texts (Ok logs) = SpellSet texts logs
+IsLogSetAnswer texts (Err e) = IsSetFault texts e.file e.fault
+
 -- ---- the readers
 
 -- the texts are those that the readers tell

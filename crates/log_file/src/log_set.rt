@@ -1,14 +1,19 @@
 //! The logs of a set, in one list of entries.
 
-ghost use Rattle.std.specs.Prelude.{◌≡◌, ◌≤◌, [], All, IfSome, length, option_map, slice_get};
+ghost use Rattle.std.specs.Prelude.{◌≡◌, ◌≤◌, ◌+◌, ℕ, List, All, IfErr, IfOk, IfSome, drop, length, option_map, slice_get};
 ghost use Rattle.mem_op.specs.Limits.{operation_limit};
 ghost use Rattle.log_record.specs.Entries.{core_entries, entries};
 ghost use Rattle.log_file.specs.SetKeeping.{start_in};
+ghost use Rattle.log_file.specs.Sets.{IsLogSetAnswer, ReaderFailed, TellEach};
 
+use super::byte_source::ByteSource;
+use super::fault::{LogFault, SetFault};
+use super::one_log::read_entries;
 use log_record::Entry;
 use mem_op::CoreId;
 use std::alloc::Global;
 use std::marker::Model;
+use std::thread::Threads;
 
 /// The logs of a set in one list, each record with its id, core 0's first: at most 64 logs, each of at most 1,048,576
 /// records.
@@ -33,14 +38,43 @@ impl Model for LogSet {
 }
 
 impl LogSet {
-    /// The set of no logs.
-    pub(crate) fn new(alloc: Global) -> LogSet
-        ensures { result ≡ [] }
+    /// The logs of a set, one from each reader in their order, or the fault of the first file that has one, as `read_set`
+    /// answers them. Their records are read straight into the one list.
+    pub fn read<R: Threads + Sync, S: ByteSource>(
+        rt: &R,
+        alloc: Global,
+        readers: &mut [S],
+        workers: usize,
+    ) -> Result<LogSet, SetFault>
+        requires { length readers.old ≤ 64 }
+        // There are texts, those that the readers tell, of which this is the answer.
+        ensures answer { (texts : List (List ℕ)) × TellEach S.remaining readers.old texts
+            × IsLogSetAnswer texts result }
+        // A failed read is answered only where that reader failed in this call.
+        ensures read { IfErr result (λ e. e.fault ≡ LogFault.Read →
+            ReaderFailed S.failed readers.old readers.new e.file) }
+        // The readers after the file that is refused aren't read.
+        ensures unread { IfErr result (λ e.
+            drop (e.file + 1) readers.new ≡ drop (e.file + 1) readers.old) }
+        ensures count { IfOk result (λ set. length set ≡ length readers.old) }
     {
-        LogSet {
-            entries: Vec::new(alloc),
-            ends: Vec::new(alloc),
+        let cores = readers.len() as u64;
+        let mut entries = Vec::new(alloc);
+        let mut ends = Vec::new(alloc);
+        for (file, reader) in readers.iter_mut().enumerate() {
+            let core = CoreId::at(file);
+            entries = match read_entries(rt, alloc, reader, core, cores, workers, entries) {
+                Ok(entries) => entries,
+                Err(fault) => return Err(SetFault { file, fault }),
+            };
+            if ends.push(entries.len()).is_err() {
+                return Err(SetFault {
+                    file,
+                    fault: LogFault::OutOfMemory,
+                });
+            }
         }
+        Ok(LogSet { entries, ends })
     }
 
     /// How many logs there are.
