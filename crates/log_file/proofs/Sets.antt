@@ -4,7 +4,7 @@ use Rattle.std.specs.Prelude.{vec_len}
 use Rattle.std.specs.List.{All}
 use Rattle.std.proofs.lemmas.List.Elements.{All-nil, All-cons}
 use Rattle.std.specs.Global.{Vec}
-use Rattle.std.proofs.lemmas.List.{take-append-drop, drop_more, get_or-drop, drop-drop, length-take, drop-set-lt, map_push, take_all, take_more}
+use Rattle.std.proofs.lemmas.List.{take-append-drop, drop_more, get_or-drop, drop-drop, length-take, drop-set-lt, take_all, take_more}
 use Rattle.std.proofs.lemmas.List.{get_or_append_left, get_or-append-add, get_or-set_same, length-set}
 use Rattle.std.proofs.lemmas.Option.{slice_get-get_or}
 use Rattle.mem_op.specs.Limits.{operation_limit}

@@ -176,12 +176,7 @@ impl Piece {
 
     /// The buffer for the piece after this one: this, or a greater one where the piece filled its own. A thread that
     /// reads alone has small ones, which stay near the processor.
-    fn room_after(
-        &self,
-        alloc: Global,
-        buf: Vec<u8>,
-        workers: usize,
-    ) -> Result<Vec<u8>, AllocError>
+    fn room_after(&self, alloc: Global, buf: Vec<u8>, workers: usize) -> Result<Vec<u8>, AllocError>
         requires some { 0 < vec_len self.now.buf }
         requires few { vec_len self.now.buf ≤ 2097152 }
         requires little { vec_len buf ≤ 2097152 }

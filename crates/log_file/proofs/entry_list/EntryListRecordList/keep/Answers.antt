@@ -1,6 +1,5 @@
 -- The entries after the first ones are still those of their records.
 use Rattle.std.proofs.Common.{rules, ◌≡◌, ◌∙◌, ◌++◌, ◌∷◌, [], ◌-◌, ℕ, ap, arith, length}
-use Rattle.log_record.specs.declared.record.Entry.{Entry}
 use Rattle.log_file.proofs.Joined.{one_kept}
 use Rattle.log_file.proofs.entry_list.EntryListRecordList.keep.Goals as goal
 

@@ -1,7 +1,6 @@
 -- The set so far, one more file; and the file that is refused.
 use Rattle.std.proofs.Common.{◌≡◌, ◌∙◌, ◌++◌, ◌∷◌, [], ◌<◌, ℕ, List, Err, ap, arith, length, refl, rules, subst, sym}
 use Rattle.log_record.specs.declared.record.Record.{Record}
-use Rattle.log_record.specs.Entries.{core_entries}
 use Rattle.log_file.specs.declared.fault.LogFault.TheVariants.{OutOfMemory}
 use Rattle.log_file.specs.Devices.{Tells}
 use Rattle.log_file.specs.Answers.{IsFaultOrDevice}
