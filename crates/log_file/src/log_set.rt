@@ -39,7 +39,9 @@ impl Model for LogSet {
 
 impl LogSet {
     /// The logs of a set, one from each reader in their order, or the fault of the first file that has one, as `read_set`
-    /// answers them. Their records are read straight into the one list.
+    /// answers: file k is to be the log of core k, and the cores as many as the readers. 10 comes where a growth was
+    /// refused, 28 where a read failed. The records are read straight into the one list. The calling thread reads the
+    /// files; `workers` workers read their lines (0 counts as 1), and the answer doesn't depend on how many.
     pub fn read<R: Threads + Sync, S: ByteSource>(
         rt: &R,
         alloc: Global,
