@@ -4,4 +4,5 @@ pub mod ByAddress
 pub mod FaultOrder
 pub mod FaultParts
 pub mod Groups
+pub mod Ids
 pub mod inner
