@@ -1,12 +1,12 @@
--- The least fault of all entries, address by address.
-use Rattle.std.specs.Prelude.{◌≡◌, ℕ, zero, suc, ◌+◌, ◌-◌, ◌<◌, ◌≤◌, Bool, true, false, cond, ◌&&◌, ◌==◌, List, [], ◌∷◌, ◌++◌, length, take, Option, refl, filter}
-use Rattle.std.proofs.Common.{sym, ◌∙◌, ap, inl, inr, arith, get_or, subst}
+-- The least fault of all entries, by spans of addresses.
+use Rattle.std.specs.Prelude.{◌≡◌, ℕ, ◌+◌, ◌-◌, ◌<◌, ◌≤◌, Bool, true, false, cond, ◌&&◌, ◌==◌, List, [], ◌∷◌, ◌++◌, length, take, Option, refl, filter}
+use Rattle.std.proofs.Common.{sym, ◌∙◌, ap, inl, inr, arith, get_or}
 use Rattle.std.specs.List.{filter_map, flat_map, cons_option}
 use Rattle.std.specs.List.Sorted.{IsNonDecreasingBy}
 use Rattle.std.specs.Ordering.{is_lt}
 use Rattle.std.proofs.lemmas.Bool.{and_parts, eqb-true, eq-eqb}
-use Rattle.std.proofs.lemmas.Bool.Decides.{leb_tells}
-use Rattle.std.proofs.lemmas.List.{append-nil, take_more, take_all}
+use Rattle.std.proofs.lemmas.Bool.Decides.{leb_tells, nat_tests}
+use Rattle.std.proofs.lemmas.List.{append-nil, take_more}
 use Rattle.line_stamps.specs.Least.{lesser, least_of}
 use Rattle.line_stamps.specs.Ordered.{In}
 use Rattle.line_stamps.proofs.Ordered.{In-append_left, In-append_right, In-filter, In-filtered, In-filter_map, filter_map-In, In-flat_map, flat_map-In, same_least}
@@ -16,14 +16,16 @@ use Rattle.address_check.specs.declared.fault.AddressFault.{AddressFault}
 use Rattle.address_check.specs.contracts.fault.AddressFaultOrd.TheImpl.{ghosts}
 use Rattle.address_check.specs.FaultOrder.{fault_cmp}
 use Rattle.address_check.specs.AddressFaults.{is_store, is_earlier_store, latest, right_store, act_fault, address_fault, address_faults, least_address_fault}
-use Rattle.address_check.specs.AddressLaw.{fault_total, least_fault_at-joined}
-use Rattle.address_check.specs.ByAddress.{faults_at, least_fault_at}
+use Rattle.address_check.specs.declared.span.AddrSpan.{AddrSpan}
+use Rattle.address_check.specs.AddressLaw.{fault_total, least_fault_in-joined}
+use Rattle.address_check.specs.BySpan.{has_address, HaveAddress, in_span, faults_in, least_fault_in}
 use Rattle.address_check.specs.Groups.{at_address}
+use Rattle.address_check.proofs.Pairs.{place_of}
 use Rattle.address_check.proofs.Totals.{tied_faults}
 
--- ---- an entry breaks in its group what it breaks among all
+-- ---- an entry breaks among those at its address what it breaks among all
 
-filter_map_same : {X Y : Type 0} (f g : X → Option Y) (xs : List X) → ((x : X) → In x xs → f x ≡ g x) → filter_map f xs ≡ filter_map g xs
+pub filter_map_same : {X Y : Type 0} (f g : X → Option Y) (xs : List X) → ((x : X) → In x xs → f x ≡ g x) → filter_map f xs ≡ filter_map g xs
 filter_map_same f g [] h = refl
 filter_map_same f g (x ∷ xs) h = rw (h x (inl refl)) (ap (cons_option (g x)) (filter_map_same f g xs (λ y q. h y (inr q))))
 
@@ -38,88 +40,76 @@ filter_twice {X} p q (x ∷ xs) h = go (q x) refl (p x) refl (filter_twice p q x
     go false e true f rest = absurd (let t : q x ≡ true = h x f in cc)
     go false e false f rest = rest
 
-same_address : (load x : Entry) → is_earlier_store load x ≡ true → x.logged.addr ≡ load.logged.addr
+pub same_address : (load x : Entry) → is_earlier_store load x ≡ true → x.logged.addr ≡ load.logged.addr
 same_address load x t =
     let u = and_parts (is_store x.logged.act && (x.logged.addr == load.logged.addr)) (is_lt (entry_cmp x load)) t in
     let v = and_parts (is_store x.logged.act) (x.logged.addr == load.logged.addr) u.0 in
     eqb-true _ _ v.1
 
+-- the right store of an entry among those at some addresses, its own among them, is that among all
+right_among : (es : List Entry) (test : ℕ → Bool) (e : Entry) → test e.logged.addr ≡ true → right_store (filter (λ x. test x.logged.addr) es) e ≡ right_store es e
+right_among es test e here = ap latest (filter_twice (is_earlier_store e) (λ x. test x.logged.addr) es (λ x t. ap test (same_address e x t) ∙ here))
+
 -- the right store of an entry among those of its address is that among all
 pub right_in_group : (es : List Entry) (addr : ℕ) (e : Entry) → e.logged.addr ≡ addr → right_store (at_address addr es) e ≡ right_store es e
-right_in_group es addr e here = ap latest (filter_twice (is_earlier_store e) (λ x. x.logged.addr == addr) es (λ x t. eq-eqb _ _ (same_address e x t ∙ here)))
+right_in_group es addr e here = right_among es (λ a. a == addr) e (eq-eqb _ _ here)
 
-fault_in_group : (es : List Entry) (addr : ℕ) (e : Entry) → In e (at_address addr es) → address_fault (at_address addr es) e ≡ address_fault es e
-fault_in_group es addr e h = ap (act_fault e.logged.act e) (right_in_group es addr e (eqb-true _ _ (In-filter (λ x. x.logged.addr == addr) es e h).1))
+fault_in_part : (es : List Entry) (span : AddrSpan) (e : Entry) → In e (in_span span es) → address_fault (in_span span es) e ≡ address_fault es e
+fault_in_part es span e h = ap (act_fault e.logged.act e) (right_among es (has_address span) e (In-filter (λ x. has_address span x.logged.addr) es e h).1)
 
--- the least fault of a group looked at alone is the least at its address
-pub group_alone : (es : List Entry) (addr : ℕ) → least_address_fault (at_address addr es) ≡ least_of fault_cmp (faults_at es addr)
-group_alone es addr = ap (least_of fault_cmp) (filter_map_same (address_fault (at_address addr es)) (address_fault es) (at_address addr es) (fault_in_group es addr))
+-- the least fault of the entries of a span looked at alone is the least at its addresses
+pub part_alone : (es : List Entry) (span : AddrSpan) → least_address_fault (in_span span es) ≡ least_of fault_cmp (faults_in es span)
+part_alone es span = ap (least_of fault_cmp) (filter_map_same (address_fault (in_span span es)) (address_fault es) (in_span span es) (fault_in_part es span))
 
--- ---- all addresses
+-- ---- all spans
 
--- addresses that have every entry have the least fault
-pub least_by_addresses : (es : List Entry) (addresses : List ℕ) → ((e : Entry) → In e es → In e.logged.addr addresses) → least_fault_at es addresses ≡ least_address_fault es
-least_by_addresses es addresses whole =
-    same_least fault_cmp fault_total (flat_map (faults_at es) addresses) (address_faults es) (λ x y p q tied. tied_faults x y tied) of_all of_addresses
+-- spans that have the address of every entry have the least fault
+pub least_by_spans : (es : List Entry) (spans : List AddrSpan) → ((e : Entry) → In e es → HaveAddress e.logged.addr spans) → least_fault_in es spans ≡ least_address_fault es
+least_by_spans es spans whole =
+    same_least fault_cmp fault_total (flat_map (faults_in es) spans) (address_faults es) (λ x y p q tied. tied_faults x y tied) of_all of_spans
   where
-    of_all : (f : AddressFault) → In f (flat_map (faults_at es) addresses) → In f (address_faults es)
+    of_all : (f : AddressFault) → In f (flat_map (faults_in es) spans) → In f (address_faults es)
     of_all f p =
-        let at = flat_map-In (faults_at es) addresses f p in
-        let found = filter_map-In (address_fault es) (at_address at.0 es) f at.2 in
-        In-filter_map (address_fault es) es found.0 f (In-filter (λ x. x.logged.addr == at.0) es found.0 found.1).0 found.2
+        let at = flat_map-In (faults_in es) spans f p in
+        let found = filter_map-In (address_fault es) (in_span at.0 es) f at.2 in
+        In-filter_map (address_fault es) es found.0 f (In-filter (λ x. has_address at.0 x.logged.addr) es found.0 found.1).0 found.2
 
-    of_addresses : (f : AddressFault) → In f (address_faults es) → In f (flat_map (faults_at es) addresses)
-    of_addresses f p =
+    of_spans : (f : AddressFault) → In f (address_faults es) → In f (flat_map (faults_in es) spans)
+    of_spans f p =
         let found = filter_map-In (address_fault es) es f p in
-        let addr = found.0.logged.addr in
-        In-flat_map (faults_at es) addresses addr f (whole found.0 found.1)
-        (In-filter_map (address_fault es) (at_address addr es) found.0 f (In-filtered (λ x. x.logged.addr == addr) es found.0 found.1 (eq-eqb addr addr refl)) found.2)
+        let at = whole found.0 found.1 in
+        In-flat_map (faults_in es) spans at.0 f at.1
+        (In-filter_map (address_fault es) (in_span at.0 es) found.0 f (In-filtered (λ x. has_address at.0 x.logged.addr) es found.0 found.1 at.2) found.2)
 
--- the least fault of the first addresses, with that of one more
-pub least_with_address : (es : List Entry) (addresses : List ℕ) (k addr : ℕ) → k < length addresses → addr ≡ get_or addresses k addr → lesser ghosts.cmp (least_fault_at es (take k addresses)) (least_of fault_cmp (faults_at es addr)) ≡ least_fault_at es (take (k + 1) addresses)
-least_with_address es addresses k addr l here =
-    ap (λ fs. lesser ghosts.cmp (least_fault_at es (take k addresses)) (least_of fault_cmp fs)) (sym (append-nil (faults_at es addr)))
-    ∙ sym (least_fault_at-joined es (take k addresses) (addr ∷ []))
-    ∙ ap (least_fault_at es) (ap (λ a. take k addresses ++ a ∷ []) here ∙ sym (take_more addresses k addr l))
+-- the least fault of the first spans, with that of one more
+pub least_with_span : (es : List Entry) (spans : List AddrSpan) (k : ℕ) (d : AddrSpan) → k < length spans → lesser ghosts.cmp (least_fault_in es (take k spans)) (least_of fault_cmp (faults_in es (get_or spans k d))) ≡ least_fault_in es (take (k + 1) spans)
+least_with_span es spans k d l =
+    ap (λ fs. lesser ghosts.cmp (least_fault_in es (take k spans)) (least_of fault_cmp fs)) (sym (append-nil (faults_in es (get_or spans k d))))
+    ∙ sym (least_fault_in-joined es (take k spans) (get_or spans k d ∷ []))
+    ∙ ap (least_fault_in es) (sym (take_more spans k d l))
 
--- ---- the list of the addresses
+-- ---- the cuts between spans
 
--- the addresses of the first entries stand in a list
-abbrev pub HaveAddresses : List Entry → List ℕ → Type 0
-HaveAddresses es addresses = (e : Entry) → In e es → In e.logged.addr addresses
+-- the addresses below a number are in some spans
+abbrev pub HaveBelow : ℕ → List AddrSpan → Type 0
+HaveBelow bound spans = (addr : ℕ) → addr < bound → HaveAddress addr spans
 
-pub have_all : (es : List Entry) (addresses : List ℕ) (start : ℕ) → HaveAddresses (take start es) addresses → length es ≤ start → HaveAddresses es addresses
-have_all es addresses start h l e p = h e (subst (In e) (sym (take_all start es l)) p)
+abbrev span_of : ℕ → ℕ → AddrSpan
+span_of start end = record { start = start; end = end }
 
-In-take_place : {X : Type 0} (x : X) (n : ℕ) (xs : List X) → In x (take n xs) → (k : ℕ) × (k < n) × (k < length xs) × (get_or xs k x ≡ x)
-In-take_place x zero xs h = absurd h
-In-take_place x (suc n) [] h = absurd h
-In-take_place x (suc n) (y ∷ ys) (inl e) = (0, omega arith, omega arith, e)
-In-take_place x (suc n) (y ∷ ys) (inr h) = let t = In-take_place x n ys h in (suc t.0, (let a : t.0 < n = t.1 in omega arith), (let a : t.0 < length ys = t.2 in omega arith), t.3)
+-- with the span from the bound on
+pub have_more : (spans : List AddrSpan) (start end : ℕ) → HaveBelow start spans → HaveBelow end (spans ++ span_of start end ∷ [])
+have_more spans start end h addr l = elim (leb_tells start addr) [
+  | inl from ↦ (span_of start end, In-append_right (span_of start end) spans (span_of start end ∷ []) (inl refl), (let a : start ≤ addr = from.1 in grind (arith, nat_tests)))
+  | inr before ↦ (let t = h addr before.1 in (t.0, In-append_left t.0 spans (span_of start end ∷ []) t.1, t.2))
+]
 
-same_read : {X : Type 0} (xs : List X) (k : ℕ) (c d : X) → k < length xs → get_or xs k c ≡ get_or xs k d
-same_read [] k c d l = absurd (omega arith)
-same_read (x ∷ xs) zero c d l = refl
-same_read (x ∷ xs) (suc k) c d l = same_read xs k c d (omega arith)
-
-place-In_take : {X : Type 0} (x : X) (n k : ℕ) (xs : List X) → k < n → k < length xs → get_or xs k x ≡ x → In x (take n xs)
-place-In_take x zero k xs l m e = absurd (omega arith)
-place-In_take x (suc n) k [] l m e = absurd (omega arith)
-place-In_take x (suc n) zero (y ∷ ys) l m e = inl e
-place-In_take x (suc n) (suc k) (y ∷ ys) l m e = inr (place-In_take x n k ys (omega arith) (omega arith) e)
-
--- with the address of the entry at `start`, the addresses of all up to the last entry of that address
-pub have_more : (es : List Entry) (addresses : List ℕ) (start end : ℕ) (e : Entry) → IsNonDecreasingBy (λ e. e.logged.addr) es → HaveAddresses (take start es) addresses → start < end → end ≤ length es → e ≡ get_or es start e → ((d : Entry) → (get_or es (end - 1) d).logged.addr ≡ (get_or es start d).logged.addr) → HaveAddresses (take end es) (addresses ++ e.logged.addr ∷ [])
-have_more es addresses start end e up h after within at same x p =
-    let t = In-take_place x end es p in
-    elim (leb_tells start t.0) [
-      | inl above ↦ (
-          let k : t.0 < end = t.1 in
-          let low = up start t.0 x above.1 t.2 in
-          let high = up t.0 (end - 1) x (omega arith) (omega arith) in
-          let last = same x in
-          let here : e.logged.addr ≡ (get_or es start x).logged.addr = ap (λ (y : Entry). y.logged.addr) (at ∙ same_read es start e x (omega arith)) in
-          let x_is : (get_or es t.0 x).logged.addr ≡ x.logged.addr = ap (λ (y : Entry). y.logged.addr) t.3 in
-          In-append_right x.logged.addr addresses (e.logged.addr ∷ []) (inl (omega arith)))
-      | inr before ↦ In-append_left x.logged.addr addresses (e.logged.addr ∷ []) (h x (place-In_take x start t.0 es before.1 t.2 t.3))
-    ]
+-- no address is above that of the last entry
+pub have_all : (es : List Entry) (spans : List AddrSpan) (last : Entry) → IsNonDecreasingBy (λ e. e.logged.addr) es → last ≡ get_or es (length es - 1) last → HaveBelow (last.logged.addr + 1) spans → (e : Entry) → In e es → HaveAddress e.logged.addr spans
+have_all es spans last up at h e p =
+    let t = place_of e es p in
+    let below : t.0 < length es = t.1 in
+    let high = up t.0 (length es - 1) last (omega arith) (omega arith) in
+    let here : (get_or es t.0 last).logged.addr ≡ e.logged.addr = ap (λ (x : Entry). x.logged.addr) (t.2 last) in
+    let top : last.logged.addr ≡ (get_or es (length es - 1) last).logged.addr = ap (λ (x : Entry). x.logged.addr) at in
+    h e.logged.addr (omega arith)

@@ -3,6 +3,7 @@ pub mod Collecting
 pub mod GroupPass
 pub mod Meeting
 pub mod Pairs
+pub mod Parts
 pub mod Pieces
 pub mod Sorting
 pub mod Totals

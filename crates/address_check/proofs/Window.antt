@@ -12,8 +12,9 @@ use Rattle.std.proofs.lemmas.List.Kept.{AllPairs-filter}
 use Rattle.line_stamps.proofs.Ordered.{In-get_or, In-filter}
 use Rattle.log_record.specs.declared.record.Entry.{Entry}
 use Rattle.log_record.specs.Entries.{entry_cmp}
+use Rattle.address_check.specs.declared.span.AddrSpan.{AddrSpan}
+use Rattle.address_check.specs.BySpan.{has_address, in_span}
 use Rattle.address_check.specs.Groups.{place_cmp, AscendsByPlace, at_address, IsGroup}
-use Rattle.address_check.specs.inner.FirstPlace.{IsFirst}
 
 -- a list that a test cuts in three
 filter-window : {X : Type 0} (p : X → Bool) (xs : List X) (i n : ℕ) → ((k : ℕ) (d : X) → k < i → k < length xs → p (get_or xs k d) ≡ false) → ((k : ℕ) (d : X) → i ≤ k → k < i + n → k < length xs → p (get_or xs k d) ≡ true) → ((k : ℕ) (d : X) → i + n ≤ k → k < length xs → p (get_or xs k d) ≡ false) → filter p xs ≡ take n (drop i xs)
@@ -67,6 +68,28 @@ window_ends a (e ∷ es) i j below upto bi = elim (leb_tells i j) [
   | inr h ↦ absurd (clash a (e ∷ es) i j below upto (get_or (e ∷ es) j e) (below.0 j e (omega arith) h.1) (upto.1 j e (omega arith) (omega arith)))
 ]
 
+-- the part of the list at the addresses of a span
+module _ (span : AddrSpan) (es : List Entry) (i j : ℕ) (under_start : IsPartitionPoint (λ e. nat_lt e.logged.addr span.start ≡ true) (λ e. nat_lt e.logged.addr span.start ≡ false) es i) (under_end : IsPartitionPoint (λ e. nat_lt e.logged.addr span.end ≡ true) (λ e. nat_lt e.logged.addr span.end ≡ false) es j) where
+  inside : (e : Entry) → nat_lt e.logged.addr span.start ≡ false → nat_lt e.logged.addr span.end ≡ true → has_address span e.logged.addr ≡ true
+  inside e h k = grind (arith, nat_tests)
+
+  too_low : (e : Entry) → nat_lt e.logged.addr span.start ≡ true → has_address span e.logged.addr ≡ false
+  too_low e h = grind (arith, nat_tests)
+
+  too_high : (e : Entry) → nat_lt e.logged.addr span.end ≡ false → has_address span e.logged.addr ≡ false
+  too_high e h = grind (arith, nat_tests)
+
+  -- to the end that isn't before the start
+  pub span_is : (m : ℕ) → i ≤ m → j ≤ m → ((k : ℕ) → i ≤ k → k < m → k < j) → take (m - i) (drop i es) ≡ in_span span es
+  span_is m le lj within = let whole : i + (m - i) ≡ m = omega arith in sym (filter-window (λ e. has_address span e.logged.addr) es i (m - i)
+      (λ k d h b. too_low (get_or es k d) (under_start.0 k d (omega arith) h))
+      (λ k d h n b. inside (get_or es k d) (under_start.1 k d h b) (under_end.0 k d (omega arith) (within k h (omega arith))))
+      (λ k d h b. too_high (get_or es k d) (under_end.1 k d (omega arith) b)))
+
+-- it ascends as the whole does
+pub span_ascends : (span : AddrSpan) (es : List Entry) → AscendsByPlace es → AscendsByPlace (in_span span es)
+span_ascends span es up = AllPairs-filter (λ x y. place_cmp x y ≡ Less) (λ e. has_address span e.logged.addr) es up
+
 -- what comes before by place comes before by key, where the addresses are one
 pub before_by_key : (x y : Entry) → x.logged.addr ≡ y.logged.addr → place_cmp x y ≡ Less → entry_cmp x y ≡ Less
 before_by_key x y e h = go (nat_cmp x.logged.addr y.logged.addr) refl h
@@ -87,6 +110,13 @@ is_group_at a es up = record { one_address = same; ascends = λ i j d p q. befor
     same i j d p q = here i d (omega arith) ∙ sym (here j d q)
 
 -- ---- a part of the list from the first entry of an address to its last
+
+-- an entry of an address stands at a place, and none right before it
+abbrev pub IsFirst : List Entry → ℕ → ℕ → Type 0
+IsFirst es place addr =
+    (place < length es)
+    × ((d : Entry) → (get_or es place d).logged.addr ≡ addr)
+    × (0 < place → (d : Entry) → (get_or es (place - 1) d).logged.addr ≢ addr)
 
 lower : (x a : ℕ) → x < a → (x == a) ≡ false
 lower x a h = grind (arith, nat_tests)
@@ -112,7 +142,7 @@ module _ (a : ℕ) (es : List Entry) (i j : ℕ) (up : AscendsByPlace es) (first
   rise : IsNonDecreasingBy (λ e. e.logged.addr) es
   rise = addresses_rise es up
 
-  before : (k : ℕ) (d : Entry) → k < i → k < length es → ((get_or es k d).logged.addr == a) ≡ false
+  pub before : (k : ℕ) (d : Entry) → k < i → k < length es → ((get_or es k d).logged.addr == a) ≡ false
   before k d h b = under_neighbour (get_or es k d).logged.addr (get_or es (i - 1) d).logged.addr a
       (rise k (i - 1) d (omega arith) (omega arith))
       (let e = first.1 d in let r = rise (i - 1) i d (omega arith) (omega arith) in omega arith)

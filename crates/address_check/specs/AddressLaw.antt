@@ -1,5 +1,5 @@
 -- The law of the check of addresses, which an `impl` cites.
-use Rattle.std.specs.Prelude.{◌≡◌, ℕ, List, ◌++◌, refl}
+use Rattle.std.specs.Prelude.{◌≡◌, List, ◌++◌, refl}
 use Rattle.std.specs.List.{flat_map}
 use Rattle.std.proofs.Common.{subst, ◌∙◌, ap}
 use Rattle.std.proofs.lemmas.List.Concat.{flat_map-append}
@@ -16,7 +16,8 @@ use Rattle.address_check.specs.declared.fault.AddressRule.TheVariants.{Source, V
 use Rattle.address_check.specs.declared.fault.AddressFault.{AddressFault}
 use Rattle.address_check.specs.contracts.fault.AddressFaultOrd.TheImpl.{ghosts}
 use Rattle.address_check.specs.FaultOrder.{rule_number, fault_cmp}
-use Rattle.address_check.specs.ByAddress.{faults_at, least_fault_at}
+use Rattle.address_check.specs.declared.span.AddrSpan.{AddrSpan}
+use Rattle.address_check.specs.BySpan.{faults_in, least_fault_in}
 
 pub fault_total : IsTotalOrder fault_cmp
 fault_total = then_total (on_total (λ f. f.key) key_total) (on_total (λ f. rule_number f.rule) nat_cmp_total)
@@ -34,8 +35,8 @@ by_rules k l Value Value = refl
 pub derived_cmp : fault_cmp ≡ ghosts.cmp
 derived_cmp = λ i a b. by_rules a.key b.key a.rule b.rule i
 
--- the fault of two lists of addresses joined is the lesser of theirs
-pub least_fault_at-joined : (es : List Entry) (xs ys : List ℕ) → least_fault_at es (xs ++ ys) ≡ lesser ghosts.cmp (least_fault_at es xs) (least_fault_at es ys)
-least_fault_at-joined es xs ys =
-    subst (λ (R : AddressFault → AddressFault → Ordering). least_fault_at es (xs ++ ys) ≡ lesser R (least_fault_at es xs) (least_fault_at es ys)) derived_cmp
-    (ap (least_of fault_cmp) (flat_map-append (faults_at es) xs ys) ∙ least_of-append fault_cmp fault_total (flat_map (faults_at es) xs) (flat_map (faults_at es) ys))
+-- the fault of two lists of spans joined is the lesser of theirs
+pub least_fault_in-joined : (es : List Entry) (xs ys : List AddrSpan) → least_fault_in es (xs ++ ys) ≡ lesser ghosts.cmp (least_fault_in es xs) (least_fault_in es ys)
+least_fault_in-joined es xs ys =
+    subst (λ (R : AddressFault → AddressFault → Ordering). least_fault_in es (xs ++ ys) ≡ lesser R (least_fault_in es xs) (least_fault_in es ys)) derived_cmp
+    (ap (least_of fault_cmp) (flat_map-append (faults_in es) xs ys) ∙ least_of-append fault_cmp fault_total (flat_map (faults_in es) xs) (flat_map (faults_in es) ys))

@@ -1,6 +1,6 @@
 pub mod AddressFaults
 pub mod AddressLaw
-pub mod ByAddress
+pub mod BySpan
 pub mod FaultOrder
 pub mod FaultParts
 pub mod Groups

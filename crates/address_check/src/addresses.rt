@@ -1,22 +1,21 @@
 //! The check of all addresses, each with its whole group.
 
-ghost use Rattle.std.specs.Prelude.{◌≡◌, ◌≢◌, ◌↔◌, ◌<◌, ◌≤◌, ◌-◌, IfOk, IsTrue, get_or, length, refl};
+ghost use Rattle.std.specs.Prelude.{◌≡◌, ◌≢◌, ◌<◌, ◌≤◌, ◌-◌, IfOk, get_or, length, refl};
 ghost use Rattle.line_stamps.specs.Ordered.{In};
 ghost use Rattle.log_record.specs.declared.record.Entry.{Entry};
 ghost use Rattle.address_check.specs.AddressFaults.{least_address_fault};
-ghost use Rattle.address_check.specs.AddressLaw.{least_fault_at-joined};
-ghost use Rattle.address_check.specs.ByAddress.{least_fault_at};
-ghost use Rattle.address_check.specs.Groups.{at_address, IsGroup};
-ghost use Rattle.address_check.specs.inner.FirstPlace.{IsFirst};
+ghost use Rattle.address_check.specs.AddressLaw.{least_fault_in-joined};
+ghost use Rattle.address_check.specs.BySpan.{in_span, least_fault_in, HaveAddress};
+ghost use Rattle.address_check.specs.Groups.{AscendsByPlace};
 
 use super::fault::AddressFault;
 use super::gate::{Gate, Phase};
 use super::group::group_fault;
 use super::index::AddressIndex;
 use super::local_check::{LocalCheck, lesser_fault};
+use super::span::AddrSpan;
 use super::workers::fault_by_workers;
 use log_record::Entry;
-use mem_op::Addr;
 use std::alloc::{AllocError, Global};
 use std::thread::Threads;
 
@@ -46,45 +45,59 @@ fn end_of(entries: &[Entry], start: usize) -> usize
     end
 }
 
-/// Whether the first record of an address stands at a place.
-fn is_first(entries: &[Entry], place: usize, addr: Addr) -> bool
-    ensures { IsTrue result ↔ IsFirst entries.now place addr }
+/// The fault of least key among records by address and then by key. They are looked at once, group
+/// after group.
+fn part_fault(part: &[Entry]) -> Option<AddressFault>
+    requires { AscendsByPlace part.now }
+    ensures { result ≡ least_address_fault part.now }
 {
-    place < entries.len()
-        && entries[place].addr() == addr
-        && (place == 0 || entries[place - 1].addr() != addr)
+    let mut least = None;
+    let mut start = 0;
+    while start < part.len() {
+        let end = end_of(part, start);
+        let group = &part[start..end];
+        least = lesser_fault(least, group_fault(group));
+        start = end;
+    }
+    least
 }
 
 impl AddressIndex {
-    /// The addresses that the records have, each once, from the lowest. Err where memory was refused.
-    fn addresses(&self, alloc: Global) -> Result<Vec<Addr>, AllocError>
-        ensures { IfOk result
-            (λ addresses. (e : Entry) → In e self.now → In e.logged.addr addresses.items) }
+    /// Spans, `count` of them at most, one of which has each address that a record has. They are cut at
+    /// the addresses of records that stand evenly far apart. Err where memory was refused.
+    fn spans(&self, alloc: Global, count: usize) -> Result<Vec<AddrSpan>, AllocError>
+        requires { 0 < count }
+        ensures { IfOk result (λ spans. (e : Entry) → In e self.now → HaveAddress e.logged.addr spans.items) }
     {
         let entries = self.all();
-        let mut addresses = Vec::new(alloc);
+        let mut spans = Vec::new(alloc);
+        let Some(last) = entries.last() else {
+            return Ok(spans);
+        };
+        let size = entries.len().div_ceil(count);
         let mut start = 0;
-        while start < entries.len() {
-            let addr = entries[start].addr();
-            addresses.push(addr)?;
-            start = end_of(entries, start);
+        for number in 1..count {
+            if let Some(entry) = entries.get(size.saturating_mul(number)) {
+                let end = entry.addr().get();
+                spans.push(AddrSpan { start, end })?;
+                start = end;
+            }
         }
-        Ok(addresses)
+        let end = last.addr().get() + 1;
+        spans.push(AddrSpan { start, end })?;
+        Ok(spans)
     }
 
-    /// The records of an address, in the order of their keys, and the place after them. They are
-    /// found without a search of the whole list where they begin at `near`.
-    fn group_near(&self, addr: Addr, near: usize) -> (&[Entry], usize)
-        ensures value { result.0.now ≡ at_address addr self.now }
-        ensures is_group { IsGroup result.0.now }
+    /// The records at the addresses of a span, in their order.
+    fn part(&self, span: &AddrSpan) -> &[Entry]
+        ensures value { result.now ≡ in_span span.now self.now }
+        ensures ascends { AscendsByPlace result.now }
     {
         let entries = self.all();
-        if is_first(entries, near, addr) {
-            let end = end_of(entries, near);
-            return (&entries[near..end], end);
-        }
-        let end = entries.partition_point(|e| e.addr() <= addr);
-        (self.group(addr), end)
+        let start = entries.partition_point(|e| e.addr().get() < span.start);
+        let below = entries.partition_point(|e| e.addr().get() < span.end);
+        let end = below.max(start);
+        &entries[start..end]
     }
 
     /// The address fault of least key, found by `workers` workers at once, 1 to 64, each with whole
@@ -100,33 +113,29 @@ impl AddressIndex {
         requires few { workers ≤ 64 }
         ensures { IfOk result (λ fault. fault ≡ least_address_fault self.now) }
     {
-        let addresses = self.addresses(alloc)?;
-        let fault = fault_by_workers(rt, alloc, gate, Phase::Addresses, self, &addresses, workers)?;
+        let spans = self.spans(alloc, workers)?;
+        let fault = fault_by_workers(rt, alloc, gate, Phase::Addresses, self, &spans, workers)?;
         Ok(fault)
     }
 }
 
-// An item stands for the whole group of its address, so no list of items splits one.
+// An item stands for the whole groups of its addresses, so no list of items splits one.
 impl LocalCheck for AddressIndex {
-    type Item = Addr;
+    type Item = AddrSpan;
 
     type Fault = AddressFault;
 
-    ghost fault_of = { λ index addresses. least_fault_at index addresses };
+    ghost fault_of = { λ index spans. least_fault_in index spans };
 
-    fn fault(&self, addresses: &[Addr]) -> Option<AddressFault> {
+    fn fault(&self, spans: &[AddrSpan]) -> Option<AddressFault> {
         let mut least = None;
-        // The addresses are neighbours in the list: a group begins where the one before it ends.
-        let mut near = 0;
-        for addr in addresses {
-            let (group, end) = self.group_near(*addr, near);
-            least = lesser_fault(least, group_fault(group));
-            near = end;
+        for span in spans {
+            least = lesser_fault(least, part_fault(self.part(span)));
         }
         least
     }
 
     ghost empty = { λ index. refl };
 
-    ghost joined = { λ index xs ys. least_fault_at-joined index xs ys };
+    ghost joined = { λ index xs ys. least_fault_in-joined index xs ys };
 }

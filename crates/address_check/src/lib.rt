@@ -8,6 +8,7 @@ mod gate;
 mod group;
 mod index;
 mod local_check;
+mod span;
 mod spread;
 mod workers;
 
@@ -16,4 +17,5 @@ pub use gate::{Gate, Phase};
 pub use group::{group_fault, is_store};
 pub use index::AddressIndex;
 pub use local_check::{LocalCheck, lesser_fault};
+pub use span::AddrSpan;
 pub use workers::fault_by_workers;
