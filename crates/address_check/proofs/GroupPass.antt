@@ -1,5 +1,5 @@
 -- The pass over a group that keeps its last store.
-use Rattle.std.specs.Prelude.{◌≡◌, ℕ, ◌+◌, ◌<◌, ◌≤◌, Bool, true, false, cond, ◌&&◌, ◌==◌, List, [], ◌∷◌, ◌++◌, Option, Some, None, is_some, find, reverse, take, drop, length, refl, ◌⊎◌, slice_get}
+use Rattle.std.specs.Prelude.{◌≡◌, ℕ, ◌+◌, ◌<◌, ◌≤◌, Bool, true, false, cond, ◌&&◌, ◌==◌, List, [], ◌∷◌, ◌++◌, Option, Some, None, find, reverse, take, drop, length, refl, ◌⊎◌, slice_get}
 use Rattle.std.proofs.Common.{sym, ◌∙◌, ap, subst, inl, inr, get_or}
 use Rattle.std.specs.Ordering.{is_lt}
 use Rattle.std.proofs.lemmas.Bool.{and_parts, and_from, eq-eqb, false_from_ne_true}
@@ -123,7 +123,7 @@ key_of_fault (Load source) e r f h = key_of_broken e (broken_rule source e.logge
 key_of_fault (Swap source read) e r f h = key_of_broken e (broken_rule source read r) f h
 
 -- the first fault is the least
-first_is_least : (group : List Entry) (last : Option Entry) (k : ℕ) (e : Entry) (f : AddressFault) → IsGroup group → CleanSoFar group last k → k < length group → e ≡ get_or group k e → address_fault group e ≡ Some f → least_address_fault group ≡ Some f
+pub first_is_least : (group : List Entry) (last : Option Entry) (k : ℕ) (e : Entry) (f : AddressFault) → IsGroup group → CleanSoFar group last k → k < length group → e ≡ get_or group k e → address_fault group e ≡ Some f → least_address_fault group ≡ Some f
 first_is_least group last k e f g h l at q =
     one_least fault_cmp fault_total (address_faults group) (address_faults group) (least_address_fault group) (Some f) (λ x y p r t. tied_faults x y t) (λ x p. p) (λ x p. p) (least_is fault_cmp fault_total (address_faults group))
     (In-filter_map (address_fault group) group e f here q, λ x p. above x (filter_map-In (address_fault group) group x p))
@@ -158,12 +158,3 @@ none_at_end group last k h l = go (least_address_fault group) (least_is fault_cm
         let m : address_fault group t.0 ≡ None = h.clean t.0 (subst (λ z. In t.0 z) (sym (take_all k group l)) t.1) in
         let w : address_fault group t.0 ≡ Some f = t.2 in
         cc
-
--- a fault that the pass finds is the least
-pub found_least : (group : List Entry) (last : Option Entry) (k : ℕ) (e : Entry) (o : Option AddressFault) → IsGroup group → CleanSoFar group last k → k < length group → e ≡ get_or group k e → o ≡ address_fault group e → is_some o ≡ true → o ≡ least_address_fault group
-found_least group last k e None g h l at q s = cc
-found_least group last k e (Some f) g h l at q s = sym (first_is_least group last k e f g h l at (sym q))
-
-pub none_found : (o r : Option AddressFault) → o ≡ r → is_some o ≡ false → r ≡ None
-none_found None r q s = sym q
-none_found (Some f) r q s = cc

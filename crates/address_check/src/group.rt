@@ -8,52 +8,52 @@ use super::fault::{AddressFault, AddressRule};
 use log_record::{Act, Entry};
 use mem_op::{Source, Word};
 
-/// Whether an operation writes the word of its address.
-pub fn is_store(entry: &Entry) -> bool
-    ensures { result ≡ is_store entry.now.logged.act }
+/// Whether an act writes the word of its address.
+fn writes(act: &Act) -> bool
+    ensures { result ≡ is_store act.now }
 {
-    match &entry.act() {
+    match act {
         Act::Load(_) => false,
         Act::Store | Act::Swap(..) => true,
     }
 }
 
-/// What an operation that read a value breaks, with this source, where this is the store that it should
-/// have read.
-fn read_fault(
-    entry: &Entry,
-    source: &Source,
-    read: Word,
-    right: Option<&Entry>,
-) -> Option<AddressFault>
-    ensures { result ≡ fault_by entry.now (broken_rule source.now read (option_copied right.entry)) }
+/// Whether an operation writes the word of its address.
+pub fn is_store(entry: &Entry) -> bool
+    ensures { result ≡ is_store entry.now.logged.act }
+{
+    writes(&entry.act())
+}
+
+/// The rule that a read of a word breaks, with this source, where this is the store that it should have
+/// read.
+fn broken_rule(source: &Source, read: Word, right: Option<&Entry>) -> Option<AddressRule>
+    ensures { result ≡ broken_rule source.now read (option_copied right.entry) }
 {
     let (named, value) = match (source, right) {
         (Source::Init, None) => (true, 0),
         (Source::Store(id), Some(store)) => (*id == store.id(), store.value()),
         _ => (false, 0),
     };
-    let rule = if !named {
-        AddressRule::Source
+    if !named {
+        Some(AddressRule::Source)
     } else if read != value {
-        AddressRule::Value
+        Some(AddressRule::Value)
     } else {
-        return None;
-    };
-    Some(AddressFault {
-        key: entry.key(),
-        rule,
-    })
+        None
+    }
 }
 
-/// What an operation breaks, where this is the store that it should have read.
-fn act_fault(entry: &Entry, right: Option<&Entry>) -> Option<AddressFault>
-    ensures { result ≡ act_fault entry.now.logged.act entry.now (option_copied right.entry) }
+/// The rule that an operation of this act breaks, where this is the store that it should have read.
+fn act_rule(entry: &Entry, act: &Act, right: Option<&Entry>) -> Option<AddressRule>
+    requires { act.now ≡ entry.now.logged.act }
+    ensures { fault_by entry.now result
+        ≡ act_fault entry.now.logged.act entry.now (option_copied right.entry) }
 {
-    match &entry.act() {
-        Act::Load(source) => read_fault(entry, source, entry.value(), right),
+    match act {
+        Act::Load(source) => broken_rule(source, entry.value(), right),
         Act::Store => None,
-        Act::Swap(source, read) => read_fault(entry, source, *read, right),
+        Act::Swap(source, read) => broken_rule(source, *read, right),
     }
 }
 
@@ -64,11 +64,13 @@ pub fn group_fault(group: &[Entry]) -> Option<AddressFault>
 {
     let mut last = None;
     for entry in group {
-        let fault = act_fault(entry, last);
-        if fault.is_some() {
-            return fault;
+        // What was done takes some work to tell, so it is asked once.
+        let act = entry.act();
+        if let Some(rule) = act_rule(entry, &act, last) {
+            let key = entry.key();
+            return Some(AddressFault { key, rule });
         }
-        if is_store(entry) {
+        if writes(&act) {
             last = Some(entry);
         }
     }
