@@ -5,6 +5,7 @@ pub mod Meeting
 pub mod Pairs
 pub mod Parts
 pub mod Pieces
+pub mod Runs
 pub mod Sorting
 pub mod Totals
 pub mod Window

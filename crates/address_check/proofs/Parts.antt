@@ -5,7 +5,7 @@ use Rattle.std.specs.List.{filter_map}
 use Rattle.std.specs.declared.cmp.Ordering.{Ordering}
 use Rattle.std.proofs.Math.Seq.{take-add}
 use Rattle.std.proofs.lemmas.Bool.{eqb-true, eq-eqb, false_from_ne_true}
-use Rattle.std.proofs.lemmas.List.{append-nil, take_all}
+use Rattle.std.proofs.lemmas.List.{append-nil, take_all, get_or-drop, length-drop}
 use Rattle.std.proofs.lemmas.List.Elements.{filter-append, filter_map-append}
 use Rattle.line_stamps.specs.Least.{lesser, least_of}
 use Rattle.line_stamps.specs.Ordered.{In}
@@ -17,9 +17,10 @@ use Rattle.address_check.specs.contracts.fault.AddressFaultOrd.TheImpl.{ghosts}
 use Rattle.address_check.specs.FaultOrder.{fault_cmp}
 use Rattle.address_check.specs.AddressLaw.{fault_total, derived_cmp}
 use Rattle.address_check.specs.AddressFaults.{is_earlier_store, latest, act_fault, address_fault, address_faults, least_address_fault}
-use Rattle.address_check.specs.Groups.{AscendsByPlace, at_address, IsGroup}
+use Rattle.address_check.specs.Groups.{AscendsByPlace, at_address}
 use Rattle.address_check.proofs.ByAddress.{filter_map_same, same_address}
-use Rattle.address_check.proofs.Window.{IsFirst, before, part_is, is_group_at}
+use Rattle.address_check.proofs.Runs.{some_entry, same_read}
+use Rattle.address_check.proofs.Window.{IsFirst, before, part_is}
 
 -- ---- two lists that share no address
 
@@ -64,15 +65,6 @@ module _ (xs ys : List Entry) (none : ShareNone xs ys) where
 abbrev pub IsCut : List Entry → ℕ → Type 0
 IsCut es place = 0 < place → place < length es → (d : Entry) → (get_or es (place - 1) d).logged.addr ≢ (get_or es place d).logged.addr
 
-same_read : {X : Type 0} (xs : List X) (k : ℕ) (c d : X) → k < length xs → get_or xs k c ≡ get_or xs k d
-same_read [] k c d l = absurd (omega arith)
-same_read (x ∷ xs) zero c d l = refl
-same_read (x ∷ xs) (suc k) c d l = same_read xs k c d (omega arith)
-
-some_entry : (es : List Entry) (k : ℕ) → k < length es → Entry
-some_entry [] k l = absurd (omega arith)
-some_entry (e ∷ es) k l = e
-
 In-take_place : {X : Type 0} (x : X) (n : ℕ) (xs : List X) → In x (take n xs) → (k : ℕ) × (k < n) × (k < length xs) × (get_or xs k x ≡ x)
 In-take_place x zero xs h = absurd h
 In-take_place x (suc n) [] h = absurd h
@@ -95,10 +87,7 @@ module _ (es : List Entry) (i j : ℕ) (up : AscendsByPlace es) (cut : IsCut es 
   group_is : take (j - i) (drop i es) ≡ at_address addr es
   group_is = part_is addr es i j up first after within same left
 
-  pub group_stands : IsGroup (take (j - i) (drop i es))
-  group_stands = subst IsGroup (sym group_is) (is_group_at addr es up)
-
-  pub next_cut : IsCut es j
+  next_cut : IsCut es j
   next_cut p l d e = left l d (sym e ∙ same d)
 
   apart : ShareNone (take i es) (take (j - i) (drop i es))
@@ -111,10 +100,43 @@ module _ (es : List Entry) (i j : ℕ) (up : AscendsByPlace es) (cut : IsCut es 
       cc
 
   -- the least fault up to the end of the group
-  pub least_with_group : lesser ghosts.cmp (least_address_fault (take i es)) (least_address_fault (take (j - i) (drop i es))) ≡ least_address_fault (take j es)
+  least_with_group : lesser ghosts.cmp (least_address_fault (take i es)) (least_address_fault (take (j - i) (drop i es))) ≡ least_address_fault (take j es)
   least_with_group =
       sym (least_of_both (take i es) (take (j - i) (drop i es)) apart)
       ∙ ap least_address_fault (sym (take-add i (j - i) es) ∙ ap (λ n. take n es) (let whole : i + (j - i) ≡ j = omega arith in whole))
+
+-- what is left from a place on
+abbrev rest : List Entry → ℕ → List Entry
+rest es i = take (length es - i) (drop i es)
+
+-- the same, where the group is at the head of what is left
+module _ (es : List Entry) (i n : ℕ) (up : AscendsByPlace es) (cut : IsCut es i) (some : i < length es) (after : 0 < n) (within : n ≤ length (rest es i)) (same : (d : Entry) → (get_or (rest es i) (n - 1) d).logged.addr ≡ (get_or (rest es i) 0 d).logged.addr) (left : n < length (rest es i) → (d : Entry) → (get_or (rest es i) n d).logged.addr ≢ (get_or (rest es i) 0 d).logged.addr) where
+  rest_is : rest es i ≡ drop i es
+  rest_is = take_all (length es - i) (drop i es) (let l = length-drop i es in omega arith)
+
+  len : length (rest es i) ≡ length es - i
+  len = ap length rest_is ∙ length-drop i es
+
+  read : (k m : ℕ) (d : Entry) → i + k ≡ m → (get_or (rest es i) k d).logged.addr ≡ (get_or es m d).logged.addr
+  read k m d e = ap (λ (x : Entry). x.logged.addr) (ap (λ r. get_or r k d) rest_is ∙ get_or-drop i es k d ∙ ap (λ p. get_or es p d) e)
+
+  far : i + n ≤ length es
+  far = let l = len in omega arith
+
+  same_far : (d : Entry) → (get_or es (i + n - 1) d).logged.addr ≡ (get_or es i d).logged.addr
+  same_far d = sym (read (n - 1) (i + n - 1) d (omega arith)) ∙ same d ∙ read 0 i d (omega arith)
+
+  left_far : i + n < length es → (d : Entry) → (get_or es (i + n) d).logged.addr ≢ (get_or es i d).logged.addr
+  left_far l d q = left (let m = len in omega arith) d (read n (i + n) d refl ∙ q ∙ sym (read 0 i d (omega arith)))
+
+  pub cut_after : IsCut es (i + n)
+  cut_after = next_cut es i (i + n) up cut (omega arith) far same_far left_far
+
+  pub least_with_first : lesser ghosts.cmp (least_address_fault (take i es)) (least_address_fault (take n (rest es i))) ≡ least_address_fault (take (i + n) es)
+  least_with_first =
+      ap (λ r. lesser ghosts.cmp (least_address_fault (take i es)) (least_address_fault (take n r))) rest_is
+      ∙ ap (λ m. lesser ghosts.cmp (least_address_fault (take i es)) (least_address_fault (take m (drop i es)))) (let whole : n ≡ i + n - i = omega arith in whole)
+      ∙ least_with_group es i (i + n) up cut (omega arith) far same_far left_far
 
 pub least_of_whole : (es : List Entry) (n : ℕ) → length es ≤ n → least_address_fault (take n es) ≡ least_address_fault es
 least_of_whole es n l = ap least_address_fault (take_all n es l)

@@ -1,6 +1,6 @@
 //! The check of all addresses, each with its whole group.
 
-ghost use Rattle.std.specs.Prelude.{◌≡◌, ◌≢◌, ◌<◌, ◌≤◌, ◌-◌, IfOk, get_or, length, refl};
+ghost use Rattle.std.specs.Prelude.{◌≡◌, ◌<◌, ◌≤◌, IfOk, refl};
 ghost use Rattle.line_stamps.specs.Ordered.{In};
 ghost use Rattle.log_record.specs.declared.record.Entry.{Entry};
 ghost use Rattle.address_check.specs.AddressFaults.{least_address_fault};
@@ -10,7 +10,7 @@ ghost use Rattle.address_check.specs.Groups.{AscendsByPlace};
 
 use super::fault::AddressFault;
 use super::gate::{Gate, Phase};
-use super::group::group_fault;
+use super::group::part_fault;
 use super::index::AddressIndex;
 use super::local_check::{LocalCheck, lesser_fault};
 use super::span::AddrSpan;
@@ -18,49 +18,6 @@ use super::workers::fault_by_workers;
 use log_record::Entry;
 use std::alloc::{AllocError, Global};
 use std::thread::Threads;
-
-/// The place after the last record of the address of the one at `start`: a step doubles while it stays
-/// at the address, and is halved where it leaves it.
-fn end_of(entries: &[Entry], start: usize) -> usize
-    requires { start < length entries.now }
-    ensures after { start < result }
-    ensures within { result ≤ length entries.now }
-    ensures same { (d : Entry) → (get_or entries.now (result - 1) d).logged.addr
-        ≡ (get_or entries.now start d).logged.addr }
-    ensures left { result < length entries.now → (d : Entry) →
-        (get_or entries.now result d).logged.addr ≢ (get_or entries.now start d).logged.addr }
-{
-    let addr = entries[start].addr();
-    let mut end = start + 1;
-    let mut step: usize = 1;
-    while step > 0 {
-        let reach = step.saturating_add(end);
-        if reach <= entries.len() && entries[reach - 1].addr() == addr {
-            end = reach;
-            step = step.saturating_mul(2);
-        } else {
-            step /= 2;
-        }
-    }
-    end
-}
-
-/// The fault of least key among records by address and then by key. They are looked at once, group
-/// after group.
-fn part_fault(part: &[Entry]) -> Option<AddressFault>
-    requires { AscendsByPlace part.now }
-    ensures { result ≡ least_address_fault part.now }
-{
-    let mut least = None;
-    let mut start = 0;
-    while start < part.len() {
-        let end = end_of(part, start);
-        let group = &part[start..end];
-        least = lesser_fault(least, group_fault(group));
-        start = end;
-    }
-    least
-}
 
 impl AddressIndex {
     /// Spans, `count` of them at most, one of which has each address that a record has. They are cut at
@@ -130,7 +87,8 @@ impl LocalCheck for AddressIndex {
     fn fault(&self, spans: &[AddrSpan]) -> Option<AddressFault> {
         let mut least = None;
         for span in spans {
-            least = lesser_fault(least, part_fault(self.part(span)));
+            let part = self.part(span);
+            least = lesser_fault(least, part_fault(part));
         }
         least
     }

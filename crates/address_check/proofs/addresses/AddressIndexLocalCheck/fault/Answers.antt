@@ -8,7 +8,7 @@ use Rattle.address_check.proofs.addresses.AddressIndexLocalCheck.fault.Goals as 
 
 pub loop-span-preserved : goal.loop-span-preserved
 loop-span-preserved c =
-    let in_one = c.part_fault.ensures ∙ ap least_address_fault c.part.ensures.value ∙ part_alone c.args.self.now _ in
+    let in_one = c.part_fault.ensures ∙ ap least_address_fault c.part-part.ensures.value ∙ part_alone c.args.self.now _ in
     c.lesser_fault-least.ensures
     ∙ ap (λ least. lesser ghosts.cmp least c.part_fault.result) c.loop-span.invariant
     ∙ ap (lesser ghosts.cmp _) in_one
