@@ -63,6 +63,7 @@ fn records_stand_by_address_and_key(rt: HostRuntime) -> Result<(), Fail> {
     assert_sound_group(&rt, alloc, &index, 0, &all[..2])?;
     assert_sound_group(&rt, alloc, &index, 1, &all[2..])?;
     assert_sound_group(&rt, alloc, &index, 2, &[])?;
-    assert_eq!(rt; index.fault(&[Addr::new(0)?, Addr::new(1)?]), None);
+    let spans = [AddrSpan { start: 0, end: 1 }, AddrSpan { start: 1, end: 2 }];
+    assert_eq!(rt; index.fault(spans.as_slice()), None);
     Ok(())
 }
