@@ -1,4 +1,5 @@
 pub mod ConformingFacts
 pub mod FaultFacts
+pub mod LoggedFacts
 pub mod OrderFaultFacts
 pub mod ProgramFaultFacts

@@ -13,7 +13,7 @@ use Rattle.core_check.specs.declared.fault.RuleFault.{RuleFault}
 use Rattle.core_check.specs.CoreOrder.{falls, is_core_fault}
 use Rattle.core_check.specs.CoreFaults.{breaks_core_order, order_fault, order_faults}
 
-nothing_falls_to_none : (earlier : Option Record) → falls earlier None ≡ false
+pub nothing_falls_to_none : (earlier : Option Record) → falls earlier None ≡ false
 nothing_falls_to_none None = refl
 nothing_falls_to_none (Some r) = refl
 

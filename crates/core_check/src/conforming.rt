@@ -5,6 +5,7 @@ ghost use Rattle.core_program.specs.Conforming.{Conforms, DiffersAt, program_fau
 ghost use Rattle.core_program.specs.Running.{is_issued};
 ghost use Rattle.log_record.specs.Entries.{operation_of};
 
+use super::logged::Logged;
 use core_program::{Program, ProgramState};
 use log_record::{Act, Record};
 use mem_op::Op;
@@ -12,21 +13,22 @@ use mem_op::Op;
 /// The least index of a log at which the record isn't the operation that the program issues there,
 /// given the logged values of the loads before; the log's length where it ends before the program;
 /// none where the log conforms to the program. Takes no memory.
-pub fn conforms(program: &Program, log: &[Record]) -> Option<usize>
-    ensures fault { result ≡ program_fault program.now (map operation_of log.now) }
+pub fn conforms<L: Logged>(program: &Program, log: &[L]) -> Option<usize>
+    ensures fault { result ≡ program_fault program.now (map operation_of (L.records_of log.now)) }
 
     // So it is by the paths that the program allows.
-    ensures conforms { (result ≡ None) ↔ Conforms program.now (map operation_of log.now) }
-    ensures differs { IfSome result (DiffersAt program.now (map operation_of log.now)) }
+    ensures conforms { (result ≡ None) ↔ Conforms program.now (map operation_of (L.records_of log.now)) }
+    ensures differs { IfSome result (DiffersAt program.now (map operation_of (L.records_of log.now))) }
 
-    ensures within { IfSome result (λ i. i ≤ length log.now) }
+    ensures within { IfSome result (λ i. i ≤ length (L.records_of log.now)) }
     ensures few { IfSome result (λ i. i ≤ 4096) }
 {
     // So the index is small.
     prove!(program.instructions().len() <= 4_096);
     let mut state = ProgramState::new(program);
-    for (i, logged) in log.iter().enumerate() {
-        if !is_issued(&state.next_op(program), logged) {
+    for (i, item) in log.iter().enumerate() {
+        let logged = item.logged();
+        if !is_issued(&state.next_op(program), &logged) {
             return Some(i);
         }
         state.answer(program, logged.word_answered());

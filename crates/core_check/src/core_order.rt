@@ -1,22 +1,29 @@
 //! The order of a core's records.
 
-ghost use Rattle.std.specs.Prelude.{◌<◌, length, IfSome};
+ghost use Rattle.std.specs.Prelude.{◌≡◌, ◌<◌, length, IfSome};
+ghost use Rattle.std.specs.Ordering.{is_lt};
 ghost use Rattle.core_program.specs.Least.{IsLeastWhere};
-ghost use Rattle.core_check.specs.CoreOrder.{is_core_fault};
+ghost use Rattle.core_check.specs.CoreOrder.{is_core_fault, stamp_cmp};
 
-use log_record::Record;
+use super::logged::Logged;
 
 /// The least index above 0 of a log at which `(ts, rank)` is less than at the index before, or none
 /// where it never falls. Takes no memory.
-pub fn core_fault(log: &[Record]) -> Option<usize>
-    ensures least { IsLeastWhere (is_core_fault log.now) result }
-    ensures within { IfSome result (λ i. i < length log.now) }
+pub fn core_fault<L: Logged>(log: &[L]) -> Option<usize>
+    ensures least { IsLeastWhere (is_core_fault (L.records_of log.now)) result }
+    ensures within { IfSome result (λ i. i < length (L.records_of log.now)) }
 {
     for i in 1..log.len() {
-        let (earlier, later) = (&log[i - 1], &log[i]);
-        if (later.ts, later.rank) < (earlier.ts, earlier.rank) {
+        if falls(&log[i - 1], &log[i]) {
             return Some(i);
         }
     }
     None
+}
+
+// Whether `(ts, rank)` of the later item is less than that of the earlier.
+fn falls<L: Logged>(earlier: &L, later: &L) -> bool
+    ensures { result ≡ is_lt (stamp_cmp (L.record_of later.now) (L.record_of earlier.now)) }
+{
+    later.stamp_and_rank() < earlier.stamp_and_rank()
 }

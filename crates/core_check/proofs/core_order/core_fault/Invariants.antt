@@ -4,4 +4,4 @@ use Rattle.core_check.specs.CoreOrder.{is_core_fault}
 use Rattle.core_check.proofs.core_order.core_fault.Given as goal
 
 abbrev pub invariant-loop-i : goal.invariant-loop-i
-invariant-loop-i l = (k : ℕ) → k < l.i → is_core_fault l.log k ≡ false
+invariant-loop-i g l = (k : ℕ) → k < l.i → is_core_fault (g.L.Logged.records_of l.log) k ≡ false
