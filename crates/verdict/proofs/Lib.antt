@@ -1,5 +1,6 @@
 pub mod Bridge
 pub mod CoreFacts
+pub mod EntryLogs
 pub mod Examinations
 pub mod FlatAnswers
 pub mod FlatRuns

@@ -1,8 +1,8 @@
 //! What a verdict stands on.
 
 use super::answer::Verdict;
-use super::log_set::LogSet;
 use address_check::AddressIndex;
+use log_file::LogSet;
 
 /// What a verdict stands on.
 #[derive(Drop)]

@@ -9,10 +9,10 @@ ghost use Rattle.line_stamps.specs.Least.{least_of};
 ghost use Rattle.verdict.specs.CoreFaultsOf.{core_faults, given, least_of_core, least_of_cores, faults_by_programs};
 ghost use Rattle.verdict.specs.CoreLaw.{least_of_cores-joined};
 
-use super::log_set::LogSet;
 use address_check::{Gate, LocalCheck, Phase, fault_by_workers, lesser_fault};
 use core_check::{CoreRule, RuleFault, conforms, core_fault};
 use core_program::ProgramSet;
+use log_file::LogSet;
 use mem_op::{CoreId, OpId, OpIndex};
 use std::alloc::{AllocError, Global};
 use std::thread::Threads;

@@ -10,9 +10,9 @@ use super::answer::Verdict;
 use super::basis::{Basis, Examined};
 use super::cores::CoreCheck;
 use super::fault::Fault;
-use super::log_set::LogSet;
 use address_check::{AddressIndex, Gate};
 use core_program::ProgramSet;
+use log_file::LogSet;
 use std::alloc::{AllocError, Global};
 use std::thread::Threads;
 
@@ -37,7 +37,7 @@ pub(crate) fn examine_set<R: Threads + Sync, G: Gate + Sync>(
             basis: Basis::Logs(set),
         });
     }
-    let index = AddressIndex::build(rt, alloc, set.into_logs())?;
+    let index = AddressIndex::of_entries(rt, set.into_entries());
     let verdict = match index.least_fault(rt, alloc, gate, workers)? {
         Some(fault) => Verdict::No(Fault::from(fault)),
         None => Verdict::Yes(index.all().len()),

@@ -13,10 +13,9 @@ use super::basis::Examined;
 use super::counts::{check_counts, check_programs};
 use super::examine_set::examine_set;
 use super::judge_fault::JudgeFault;
-use super::log_set::LogSet;
 use address_check::Gate;
 use core_program::ProgramSet;
-use log_file::{ByteSource, read_set};
+use log_file::{ByteSource, LogSet};
 use std::alloc::Global;
 use std::thread::Threads;
 
@@ -43,7 +42,7 @@ pub(crate) fn examination<R: Threads + Sync, S: ByteSource, G: Gate + Sync>(
 {
     let files = readers.len();
     check_counts(files, workers)?;
-    let set = LogSet::new(read_set(rt, alloc, readers, workers)?);
+    let set = LogSet::read(rt, alloc, readers, workers)?;
     let examined = examine_set(rt, alloc, programs, set, workers, gate)?;
     Ok(examined)
 }
