@@ -1,5 +1,5 @@
 pub mod CoreFaulted
-pub mod CoreRecords
+pub mod CoreLogs
 pub mod Counting
 pub mod Drawing
 pub mod Examining

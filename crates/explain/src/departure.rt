@@ -1,33 +1,33 @@
 //! The explanation of a log that isn't its program's.
 
 ghost use Rattle.std.specs.Prelude.{◌≡◌, ◌<◌, ◌≤◌, ℕ, IfOk, IfSome, IsSome, length, map, option_map, slice_get, slice_index};
-ghost use Rattle.mem_op.specs.Limits.{operation_limit};
 ghost use Rattle.core_program.specs.Running.{IsAtRest, next_op, state_after};
 ghost use Rattle.core_program.specs.State.{State, reg};
 ghost use Rattle.log_record.specs.Entries.{operation_of};
 ghost use Rattle.verdict.specs.CoreFaultsOf.{given};
-ghost use Rattle.explain.specs.LogFaults.{IsDeparture, IsDepartureBy, of_core};
+ghost use Rattle.explain.specs.LogFaults.{IsDeparture, IsDepartureBy};
 ghost use Rattle.explain.specs.ProgramOf.{program_of};
+ghost use Rattle.explain.specs.inner.CoreLog.{records_of, IsLogOf};
 
-use super::around::{entry_at, records_around};
+use super::around::entries_around;
 use super::explanation::{Departure, Due};
 use core_program::{Program, ProgramSet, ProgramState, Register};
-use log_record::{Entry, Record};
+use log_record::Entry;
 use mem_op::{CoreId, OpId, Word};
 use std::alloc::{AllocError, Global};
 
 /// Where a core is in its program after these records.
-fn state_after(program: &Program, log: &[Record]) -> ProgramState
+fn state_after(program: &Program, log: &[Entry]) -> ProgramState
     ensures rests { IsAtRest program.now result }
     ensures follows { (state : State)
-        → state_after program.now (map operation_of log.now) ≡ Some state → result ≡ state }
+        → state_after program.now (map operation_of (records_of log.now)) ≡ Some state → result ≡ state }
 {
     let mut state = ProgramState::new(program);
-    for logged in log {
+    for item in log {
         if state.next_op(program).is_none() {
             break;
         }
-        state.answer(program, logged.word_answered());
+        state.answer(program, item.logged().word_answered());
     }
     state
 }
@@ -74,16 +74,11 @@ fn registers(state: &ProgramState) -> [Word; 16]
     words
 }
 
-/// The record of an index of a core's log; none at its end.
-fn found_at(core: CoreId, log: &[Record], index: usize) -> Option<Entry>
-    requires { length log.now ≤ operation_limit }
-    ensures { result ≡ slice_get (of_core core log.now) index }
+/// The entry at an index; none at the end.
+fn found_at(log: &[Entry], index: usize) -> Option<Entry>
+    ensures { result ≡ slice_get log.now index }
 {
-    if index < log.len() {
-        Some(entry_at(core, log, index))
-    } else {
-        None
-    }
+    log.get(index).copied()
 }
 
 /// What stands at this id, which is at most just past the end of its log, and what its core's program does there.
@@ -91,21 +86,21 @@ fn departure_from(
     alloc: Global,
     programs: &ProgramSet,
     program: &Program,
-    log: &[Record],
+    log: &[Entry],
     id: OpId,
 ) -> Result<Departure, AllocError>
     requires inside { id.index ≤ length log.now }
-    requires few { length log.now ≤ operation_limit }
-    ensures { IfOk result (IsDeparture program.now log.now id) }
+    requires whole { IsLogOf id.core log.now }
+    ensures { IfOk result (IsDeparture program.now (records_of log.now) id) }
 {
     let index = id.index.get() as usize;
     let state = state_after(program, &log[..index]);
     Ok(Departure {
         id,
-        found: found_at(id.core, log, index),
+        found: found_at(log, index),
         due: due(programs, id.core, program, &state),
         registers: registers(&state),
-        rows: records_around(alloc, id.core, log, index)?,
+        rows: entries_around(alloc, log, index)?,
     })
 }
 
@@ -114,11 +109,11 @@ fn departure_from(
 pub(crate) fn departure(
     alloc: Global,
     programs: Option<&ProgramSet>,
-    log: &[Record],
+    log: &[Entry],
     id: OpId,
 ) -> Result<Option<Departure>, AllocError>
-    requires { length log.now ≤ operation_limit }
-    ensures found { IfOk result (λ o. IfSome o (IsDepartureBy (given programs.entry) log.now id)) }
+    requires { IsLogOf id.core log.now }
+    ensures found { IfOk result (λ o. IfSome o (IsDepartureBy (given programs.entry) (records_of log.now) id)) }
     ensures explained { IfOk result (λ o. IsSome (program_of (given programs.entry) id.core)
         → id.index ≤ length log.now → IsSome o) }
 {

@@ -1,5 +1,5 @@
 -- What an examination answers.
-use Rattle.std.specs.Prelude.{◌≡◌, List, ℕ, Option, None, Some, Result, Ok, Err, IfOk, IsErrAnd, OnOk, length}
+use Rattle.std.specs.Prelude.{◌≡◌, List, ℕ, Option, None, Some, Result, Ok, Err, IfOk, IsErrAnd, length}
 use Rattle.std.proofs.Common.{sym, subst, ◌∙◌}
 use Rattle.core_program.specs.declared.instruction.Instruction.{Instruction}
 use Rattle.verdict.specs.declared.answer.Verdict.{Verdict}

@@ -4,8 +4,6 @@ use Rattle.std.specs.Prelude.{map}
 use Rattle.std.proofs.lemmas.Slice.Zip.{AllZip-long}
 use Rattle.verdict.specs.CoreFaultsOf.{given}
 use Rattle.verdict.specs.Counts.{IsBadCount}
-use Rattle.verdict.specs.Bases.{IsExaminedBy, verdict_in}
-use Rattle.verdict.specs.Judgement.{IsAnswerAgainst, IsYes, SpellConsistentSet, SpellFlatRunBy}
 use Rattle.verdict.proofs.Told.{told, each_tells}
 use Rattle.verdict.proofs.Examinations.{answers, examined_flat, examined_sound, nothing_said, refused_so}
 use Rattle.verdict.proofs.examining.examine.Goals as goal
