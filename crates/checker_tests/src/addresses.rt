@@ -1,8 +1,9 @@
 //! Worked sets of records.
 
 use address_check::*;
+use log_file::{LogSet, MemSource};
 use log_record::{Entry, Format, Record, read_line};
-use mem_op::Addr;
+use mem_op::{Addr, CoreId};
 use std::alloc::Global;
 use std::process::Abort;
 use std::test::*;
@@ -65,5 +66,29 @@ fn records_stand_by_address_and_key(rt: HostRuntime) -> Result<(), Fail> {
     assert_sound_group(&rt, alloc, &index, 2, &[])?;
     let spans = [AddrSpan { start: 0, end: 1 }, AddrSpan { start: 1, end: 2 }];
     assert_eq!(rt; index.fault(spans.as_slice()), None);
+    Ok(())
+}
+
+#[test]
+fn a_set_is_read_into_one_list(rt: HostRuntime) -> Result<(), Fail> {
+    let alloc = rt.alloc();
+    let first = b"tardis-log 1 core 0 of 2\nS 0 1 1 0\nL 1 0 1 0 init\nend 2\n";
+    let second = b"tardis-log 1 core 1 of 2\nS 1 1 12 0\nend 1\n";
+    for workers in [0, 1, 2, 64] {
+        let first = MemSource::new(first.as_slice(), &[]);
+        let second = MemSource::new(second.as_slice(), &[]);
+        let mut readers = vec![in alloc; first, second]?;
+        let set = LogSet::read(&rt, alloc, readers.as_mut_slice(), workers)?;
+        assert_eq!(rt; set.len(), 2);
+        assert_eq!(rt; set.get(CoreId::new(0)?).map(<[Entry]>::len), Some(2));
+        let log = set.get(CoreId::new(1)?).unwrap_or(&[]);
+        assert_eq!(rt; ids(alloc, log)?.as_slice(), [(1, 0)].as_slice());
+        assert!(rt; set.get(CoreId::new(2)?).is_none());
+        let all = set.into_entries();
+        assert_eq!(rt;
+            ids(alloc, all.as_slice())?.as_slice(),
+            [(0, 0), (0, 1), (1, 0)].as_slice()
+        );
+    }
     Ok(())
 }
