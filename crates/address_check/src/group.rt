@@ -86,7 +86,7 @@ fn end_of(entries: &[Entry], start: usize) -> usize
 }
 
 /// The fault of least key at the address of the first record, and the place after the last one of that
-/// address. Each record is looked at once, and none behind one that breaks a rule.
+/// address. Each record is looked at once, and none after one that breaks a rule.
 fn first_group_fault(entries: &[Entry]) -> (Option<AddressFault>, usize)
     requires some { 0 < length entries.now }
     requires ascends { AscendsByPlace entries.now }
