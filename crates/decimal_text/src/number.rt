@@ -1,4 +1,5 @@
-//! Numbers and texts at the front of bytes, as functions of the bytes.
+//! Numbers and texts at the front of bytes, as functions of the bytes. They are inlined into the loop that reads the
+//! lines of a log, where a call for each number would take as long as its digits.
 
 ghost use Rattle.std.specs.Prelude.{◌≡◌, ℕ, ◌+◌, ◌-◌, ◌*◌, ◌<◌, [], ◌∷◌, option_map, IsTrue};
 ghost use Rattle.decimal_text.specs.Numbers.{as_u64};
@@ -13,6 +14,7 @@ fn with_digit(value: Option<u64>, digit: u8) -> Option<u64>
 }
 
 /// The number that the digits at the front go on to, of any size, and the bytes after them.
+#[cold]
 fn long_number(start: u64, bytes: &[u8]) -> (Option<u64>, &[u8])
     ensures value { result.0 ≡ as_u64 (onward start bytes.now).0 }
     ensures rest { result.1.now ≡ (onward start bytes.now).1 }
@@ -28,6 +30,7 @@ fn long_number(start: u64, bytes: &[u8]) -> (Option<u64>, &[u8])
 
 /// The number that the digits at the front go on to, and the bytes after them. Below 10^18 another digit fits
 /// 64 bits; from there on each is looked at.
+#[inline(always)]
 fn digits(start: u64, bytes: &[u8]) -> (Option<u64>, &[u8])
     requires { start < 10 }
     ensures value { result.0 ≡ as_u64 (onward start bytes.now).0 }
@@ -46,6 +49,7 @@ fn digits(start: u64, bytes: &[u8]) -> (Option<u64>, &[u8])
 }
 
 /// The number at the front, and the bytes after it. After a 0 no further digit is part of the number.
+#[inline(always)]
 #[tactic(auto, unfolding(crate::specs::Reading::number_at))]
 pub(crate) fn number(bytes: &[u8]) -> Option<(Option<u64>, &[u8])>
     ensures { front_now result ≡ front_map as_u64 (number_at bytes.now) }
@@ -58,6 +62,7 @@ pub(crate) fn number(bytes: &[u8]) -> Option<(Option<u64>, &[u8])>
 }
 
 /// The bytes after this text.
+#[inline(always)]
 #[tactic(auto, using(crate::proofs::Numbers::after_is))]
 pub(crate) fn behind_text<'a>(text: &[u8], bytes: &'a [u8]) -> Option<&'a [u8]>
     ensures { option_map (λ x. x.now) result ≡ after text.now bytes.now }
@@ -66,6 +71,7 @@ pub(crate) fn behind_text<'a>(text: &[u8], bytes: &'a [u8]) -> Option<&'a [u8]>
 }
 
 /// The bytes after this byte.
+#[inline(always)]
 #[tactic(auto, unfolding(crate::specs::Reading::after))]
 fn behind_byte(byte: u8, bytes: &[u8]) -> Option<&[u8]>
     ensures { option_map (λ x. x.now) result ≡ after (byte ∷ []) bytes.now }
@@ -77,6 +83,7 @@ fn behind_byte(byte: u8, bytes: &[u8]) -> Option<&[u8]>
 }
 
 /// A number, and the bytes after the byte that ends it.
+#[inline(always)]
 #[tactic(auto, unfolding(crate::specs::Reading::field_at))]
 pub(crate) fn field(end: u8, bytes: &[u8]) -> Option<(Option<u64>, &[u8])>
     ensures { front_now result ≡ front_map as_u64 (field_at end bytes.now) }

@@ -8,6 +8,7 @@ use super::number::{behind_text, field, last, number};
 
 /// The longest number at the front, and the bytes after it; None where there is no number. After a 0 no
 /// further digit is part of the number. A number that 64 bits don't hold is None.
+#[inline(always)]
 #[tactic(auto, using(crate::proofs::Meaning::number_found, crate::proofs::Meaning::number_none))]
 pub fn read_number(bytes: &[u8]) -> Option<(Option<u64>, &[u8])>
     ensures found { IfSome result
@@ -21,6 +22,7 @@ pub fn read_number(bytes: &[u8]) -> Option<(Option<u64>, &[u8])>
 
 /// The number at the front, and the bytes after the byte that ends it; None where no number with that byte
 /// after it is there. A number that 64 bits don't hold is None.
+#[inline(always)]
 #[tactic(auto, using(crate::proofs::Meaning::field_found, crate::proofs::Meaning::field_none))]
 pub fn read_field(end: u8, bytes: &[u8]) -> Option<(Option<u64>, &[u8])>
     requires { ¬ IsTrue (is_digit end) }
@@ -45,6 +47,7 @@ pub fn read_last(bytes: &[u8]) -> Option<Option<u64>>
 }
 
 /// The bytes after this text; None where they don't begin with it.
+#[inline(always)]
 #[tactic(auto, using(crate::proofs::Meaning::text_found, crate::proofs::Meaning::text_none))]
 pub fn after_text<'a>(text: &[u8], bytes: &'a [u8]) -> Option<&'a [u8]>
     ensures found { IfSome result (λ rest. bytes.now ≡ text.now ++ rest.now) }

@@ -55,6 +55,7 @@ impl RecordList for EntryList {
 
     ghost base = { λ list. list.base };
 
+    #[inline(always)]
     fn keep(&mut self, logged: Record) -> Result<(), AllocError> {
         let index = OpIndex::at(self.entries.len() - self.start);
         let id = OpId {

@@ -34,6 +34,7 @@ pub(crate) struct LineReader {
 }
 
 /// The bytes that were begun, or else the line.
+#[inline(always)]
 fn begun_or<'a>(begun: &'a [u8], line: &'a [u8]) -> &'a [u8]
     ensures none { begun.now ≡ [] → result.now ≡ line.now }
     ensures some { 0 < length begun.now → result.now ≡ begun.now }
@@ -124,6 +125,7 @@ impl LineReader {
     }
 
     /// Ends the line with its last part, and answers the record if it is one.
+    #[inline(always)]
     fn end(&mut self, part: &[u8]) -> Result<Option<Record>, LogFault>
         requires { IsInRange self.old.progress }
         ensures same { SameLog self.old.progress self.new.progress }
@@ -146,6 +148,7 @@ impl LineReader {
 
     /// Takes the bytes of the piece up to its first line feed, and answers what line they end.
     /// Where no line feed is in the piece, it takes all of it as a part of a line: None.
+    #[inline(always)]
     pub(crate) fn next_line(&mut self, piece: &[u8]) -> Result<Option<TakenLine>, LogFault>
         requires { IsInRange self.old.progress }
         ensures same { SameLog self.old.progress self.new.progress }

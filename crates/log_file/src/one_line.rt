@@ -48,6 +48,7 @@ pub(crate) fn check_header(line: &[u8], core: u64, cores: u64) -> Result<Format,
 
 /// The record that a whole line of a log of this format is, after the header and `count` records;
 /// None where it is the end line.
+#[inline(always)]
 pub(crate) fn check_body(
     format: Format,
     line: &[u8],

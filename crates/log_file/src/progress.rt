@@ -67,6 +67,7 @@ pub(crate) struct Progress {
 
 impl Progress {
     /// Takes a whole line, without its line feed, and answers the record if it is one.
+    #[inline(always)]
     pub(crate) fn take_line(&mut self, line: &[u8]) -> Result<Option<Record>, LogFault>
         requires { IsInRange self.old }
         ensures same { SameLog self.old self.new }

@@ -16,6 +16,7 @@ use line_stamps::{Rank, Stamp};
 use mem_op::{Addr, CoreId, OpId, OpIndex, Source};
 
 /// The id, where the core and the index are in range.
+#[inline(always)]
 fn id_in_range(core: Option<u64>, index: Option<u64>) -> Option<OpId>
     ensures found { IfSome result
         (λ id. (core ≡ as_u64 id.core) × (index ≡ as_u64 id.index) × (id.core < 64) × (id.index < operation_limit)) }
@@ -29,6 +30,7 @@ fn id_in_range(core: Option<u64>, index: Option<u64>) -> Option<OpId>
 }
 
 /// The source, where its numbers are in range.
+#[inline(always)]
 fn source_in_range(raw: RawSource) -> Option<Source>
     ensures found { IfSome result (λ s. (raw ≡ raw_source_of s) × SourceFits s) }
     ensures none { IfNone result ((s : Source) → raw ≡ raw_source_of s → SourceFits s → ⊥) }
@@ -40,6 +42,7 @@ fn source_in_range(raw: RawSource) -> Option<Source>
 }
 
 /// The act, where its numbers are in range.
+#[inline(always)]
 fn act_in_range(raw: RawAct) -> Option<FlatAct>
     ensures found { IfSome result (λ a. (raw ≡ raw_act_of a) × ActFits a) }
     ensures none { IfNone result ((a : Act) → raw ≡ raw_act_of a → ActFits a → ⊥) }
@@ -52,6 +55,7 @@ fn act_in_range(raw: RawAct) -> Option<FlatAct>
 }
 
 /// The record, where all its numbers are in range.
+#[inline(always)]
 pub(crate) fn in_range(raw: RawRecord) -> Option<Record>
     ensures found { IfSome result (λ r. (raw ≡ raw_of r) × Fits r) }
     ensures none { IfNone result ((r : Record) → raw ≡ raw_of r → Fits r → ⊥) }

@@ -1,4 +1,5 @@
-//! Reads a record's line from left to right.
+//! Reads a record's line from left to right. All of it is inlined into the loop that reads the lines of a log, so that
+//! what is read of a line stays in registers.
 
 ghost use Rattle.std.specs.Prelude.{◌≡◌, option_map};
 ghost use Rattle.decimal_text.specs.Reading.{front_now, front_map};
@@ -9,6 +10,7 @@ use super::raw::{Letter, RawAct, RawFields, RawRecord, RawSource};
 use decimal_text::{after_text, read_field, read_number};
 
 /// A core, a dot and an index.
+#[inline(always)]
 #[tactic(auto, unfolding(crate::specs::inner::Reading::store_source_at))]
 fn store_source(bytes: &[u8]) -> Option<(RawSource, &[u8])>
     ensures { front_now result ≡ front_map raw_source_of (store_source_at bytes.now) }
@@ -19,6 +21,7 @@ fn store_source(bytes: &[u8]) -> Option<(RawSource, &[u8])>
 }
 
 /// A source, and the bytes after it.
+#[inline(always)]
 #[tactic(auto, unfolding(crate::specs::inner::Reading::source_at, decimal_text::specs::Reading::after))]
 fn source(bytes: &[u8]) -> Option<(RawSource, &[u8])>
     ensures { front_now result ≡ front_map raw_source_of (source_at bytes.now) }
@@ -30,6 +33,7 @@ fn source(bytes: &[u8]) -> Option<(RawSource, &[u8])>
 }
 
 /// An address, a value and a stamp, each with a space after it.
+#[inline(always)]
 #[tactic(auto, unfolding(crate::specs::inner::Reading::fields_at))]
 fn fields(bytes: &[u8]) -> Option<(RawFields, &[u8])>
     ensures { front_now result ≡ front_map raw_fields_of (fields_at bytes.now) }
@@ -41,6 +45,7 @@ fn fields(bytes: &[u8]) -> Option<(RawFields, &[u8])>
 }
 
 /// The letter that a record's line begins with, and the bytes after its space.
+#[inline(always)]
 #[tactic(auto, unfolding(crate::specs::inner::Reading::letter_at, crate::specs::inner::Reading::reading_letter_at, decimal_text::specs::Reading::after))]
 fn letter(bytes: &[u8]) -> Option<(Letter, &[u8])>
     ensures { front_now result ≡ letter_at bytes.now }
@@ -55,6 +60,7 @@ fn letter(bytes: &[u8]) -> Option<(Letter, &[u8])>
 
 /// The act, from the bytes after the rank: the source of a load's or a swap's, and then the word that a
 /// swap read.
+#[inline(always)]
 #[tactic(auto, unfolding(crate::specs::inner::Reading::act_at))]
 fn act(letter: Letter, bytes: &[u8]) -> Option<(RawAct, &[u8])>
     ensures { front_now result ≡ front_map raw_act_of (act_at letter bytes.now) }
@@ -71,6 +77,7 @@ fn act(letter: Letter, bytes: &[u8]) -> Option<(RawAct, &[u8])>
 }
 
 /// A record's letter and its fields.
+#[inline(always)]
 #[tactic(auto, unfolding(crate::specs::inner::Reading::lettered_at))]
 fn lettered(bytes: &[u8]) -> Option<(RawRecord, &[u8])>
     ensures { front_now result ≡ front_map raw_of (lettered_at bytes.now) }
@@ -83,6 +90,7 @@ fn lettered(bytes: &[u8]) -> Option<(RawRecord, &[u8])>
 }
 
 /// The record whose line this is, its numbers of any size.
+#[inline(always)]
 #[tactic(auto, unfolding(crate::specs::inner::Reading::record_of))]
 pub(crate) fn raw_record(line: &[u8]) -> Option<RawRecord>
     ensures { result ≡ option_map raw_of (record_of line.now) }

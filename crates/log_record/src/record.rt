@@ -43,6 +43,7 @@ impl Record {
     }
 
     /// A record of these parts, its act flat.
+    #[inline(always)]
     pub(crate) fn of_flat(value: Word, ts: Stamp, rank: Rank, addr: Addr, act: FlatAct) -> Record
         ensures { result ≡ record { value = value; ts = ts; rank = rank; addr = addr; act = act } }
     {
@@ -128,6 +129,7 @@ impl Model for Entry {
 
 impl Entry {
     /// A record with its id.
+    #[inline(always)]
     pub fn new(id: OpId, logged: &Record) -> Entry
         ensures { result ≡ record { id = id; logged = logged.now } }
     {
