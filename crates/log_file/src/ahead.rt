@@ -15,6 +15,7 @@ use super::device_fault::ReadFailed;
 use super::fault::LogFault;
 use super::piece_reader::PieceReader;
 use std::alloc::{AllocError, Global};
+use std::mem::replace;
 use std::thread::{Threads, join_mut};
 
 /// The most bytes of the first piece: a short log needs room for no more.
@@ -37,33 +38,51 @@ struct Piece {
     fronts: Option<Fronts>,
 }
 
+/// Reads at most `limit` bytes into the front of a buffer, and answers how many.
+fn read_front<S: ByteSource>(
+    source: &mut S,
+    buf: &mut [u8],
+    limit: usize,
+) -> Result<usize, ReadFailed>
+    requires { limit ≤ length buf.old }
+    ensures bound { IfOk result (λ len. len ≤ limit) }
+    ensures bytes { IfOk result (λ len.
+        Consumes (S.remaining source.old) (S.remaining source.new) (take len buf.new)) }
+    ensures end { IfOk result (λ len. len ≡ 0 → 0 < limit → IsAtEnd (S.remaining source.new)) }
+    ensures counts { CountsFailure (S.failed source.old) (S.failed source.new) result }
+{
+    let (front, _) = buf.split_at_mut(limit);
+    source.read(front)
+}
+
 impl Piece {
-    /// A piece of no bytes.
-    fn empty(alloc: Global) -> Piece
+    /// A piece of no bytes, with this buffer.
+    fn empty(buf: Vec<u8>) -> Piece
         ensures piece { IsPiece result }
         ensures none { text_in result ≡ [] }
         ensures len { result.len ≡ 0 }
-        ensures room { vec_len result.buf ≡ 0 }
     {
         Piece {
-            buf: Vec::new(alloc),
+            buf,
             len: 0,
             fronts: None,
         }
     }
 
-    /// The next piece of a source, read into this buffer; it has no bytes where the source is at its end.
-    fn read<S: ByteSource>(source: &mut S, buf: Vec<u8>) -> Result<Piece, ReadFailed>
-        requires { 0 < vec_len buf }
+    /// The next piece of a source, of at most `limit` bytes, read into this buffer; it has no bytes where the source is at
+    /// its end.
+    fn read<S: ByteSource>(source: &mut S, buf: Vec<u8>, limit: usize) -> Result<Piece, ReadFailed>
+        requires some { 0 < limit }
+        requires room { limit ≤ vec_len buf }
         ensures piece { IfOk result IsPiece }
-        ensures room { IfOk result (λ piece. vec_len piece.buf ≡ vec_len buf) }
+        ensures few { IfOk result (λ piece. piece.len ≤ limit) }
         ensures bytes { IfOk result (λ piece.
             Consumes (S.remaining source.old) (S.remaining source.new) (text_in piece)) }
         ensures end { IfOk result (λ piece. piece.len ≡ 0 → IsAtEnd (S.remaining source.new)) }
         ensures counts { CountsFailure (S.failed source.old) (S.failed source.new) result }
     {
         let mut buf = buf;
-        let len = source.read(buf.as_mut_slice())?;
+        let len = read_front(source, buf.as_mut_slice(), limit)?;
         Ok(Piece {
             buf,
             len,
@@ -154,7 +173,7 @@ impl Piece {
         ensures core { (P.feeding reader.new).core ≡ (P.feeding reader.old).core }
         ensures cores { (P.feeding reader.new).cores ≡ (P.feeding reader.old).cores }
         ensures piece { IfOk result IsPiece }
-        ensures room { IfOk result (λ held. vec_len held.buf ≡ vec_len self.buf) }
+        ensures few { IfOk result (λ held. held.len ≤ self.len) }
         ensures fed { IfOk result (λ held. (bytes : List ℕ) → (P.feeding reader.old).fed ≡ Ok bytes →
             (more : List ℕ) × ((P.feeding reader.new).fed ≡ Ok more) × (more ++ text_in held ≡ bytes ++ text_in self)) }
         ensures bounded { OnOk result (fed_len (P.feeding reader.old).fed < 2 ^ 27 → fed_len (P.feeding reader.new).fed < 2 ^ 27) }
@@ -174,28 +193,52 @@ impl Piece {
         })
     }
 
-    /// The buffer for the piece after this one: this, or a greater one where the piece filled its own. A thread that
-    /// reads alone has small ones, which stay near the processor.
-    fn room_after(&self, alloc: Global, buf: Vec<u8>, workers: usize) -> Result<Vec<u8>, AllocError>
-        requires some { 0 < vec_len self.now.buf }
-        requires few { vec_len self.now.buf ≤ 2097152 }
-        requires little { vec_len buf ≤ 2097152 }
-        ensures some { IfOk result (λ next. 0 < vec_len next) }
-        ensures few { IfOk result (λ next. vec_len next ≤ 2097152) }
+    /// The most bytes of the piece after this one: more where this piece, of at most `limit` bytes, has as many. A thread
+    /// that reads alone has small ones, which stay near the processor.
+    fn limit_after(&self, limit: usize, workers: usize) -> usize
+        requires some { 0 < limit }
+        requires few { limit ≤ 2097152 }
+        ensures some { 0 < result }
+        ensures few { result ≤ 2097152 }
     {
-        let mut room = self.buf.len();
-        if self.len == room {
-            room = if workers <= 1 || room < LEAST {
-                LEAST
-            } else {
-                MOST
-            };
+        if self.len < limit {
+            return limit;
         }
-        if buf.len() >= room {
-            return Ok(buf);
+        if workers <= 1 || limit < LEAST {
+            LEAST
+        } else {
+            MOST
         }
-        vec![in alloc; 0u8; room]
     }
+}
+
+/// Buffers for the pieces of a log, kept from one log to the next.
+#[derive(Drop)]
+pub(crate) struct Buffers {
+    /// For the piece that is read.
+    next: Vec<u8>,
+    /// For the piece before.
+    held: Vec<u8>,
+}
+
+impl Buffers {
+    /// Buffers without room.
+    pub(crate) fn new(alloc: Global) -> Buffers {
+        Buffers {
+            next: Vec::new(alloc),
+            held: Vec::new(alloc),
+        }
+    }
+}
+
+/// A buffer of at least this many bytes: this one, or one made anew.
+fn room_for(alloc: Global, buf: Vec<u8>, limit: usize) -> Result<Vec<u8>, AllocError>
+    ensures { IfOk result (λ room. limit ≤ vec_len room) }
+{
+    if buf.len() >= limit {
+        return Ok(buf);
+    }
+    vec![in alloc; 0u8; limit]
 }
 
 /// Has a reader that was fed nothing take all that the source has, piece by piece. The calling thread reads the source.
@@ -207,6 +250,7 @@ pub(crate) fn read_ahead<R: Threads + Sync, S: ByteSource, P: PieceReader + Send
     source: &mut S,
     reader: &mut P,
     workers: usize,
+    buffers: &mut Buffers,
 ) -> Result<(), LogFault>
     requires { (P.feeding reader.old).fed ≡ Ok [] }
     ensures base { P.base reader.new ≡ P.base reader.old }
@@ -216,15 +260,20 @@ pub(crate) fn read_ahead<R: Threads + Sync, S: ByteSource, P: PieceReader + Send
         Failed (S.failed source.old) (S.failed source.new) }
     ensures quiet { ¬ IsErrOf result LogFault.Read → S.failed source.new ≡ S.failed source.old }
 {
-    let mut room = vec![in alloc; 0u8; FIRST]?;
-    let mut held = Piece::empty(alloc);
+    let mut limit = FIRST;
+    let mut room = room_for(alloc, replace(&mut buffers.next, Vec::new(alloc)), limit)?;
+    let mut held = Piece::empty(replace(&mut buffers.held, Vec::new(alloc)));
     loop {
-        let mut next = Piece::read(source, room)?;
+        let mut next = Piece::read(source, room, limit)?;
         if next.len == 0 {
-            return held.feed_to(reader);
+            let end = held.feed_to(reader);
+            buffers.next = next.buf;
+            buffers.held = held.buf;
+            return end;
         }
         held.feed_beside(rt, alloc, reader, &mut next, workers)?;
-        room = next.room_after(alloc, held.buf, workers)?;
+        limit = next.limit_after(limit, workers);
+        room = room_for(alloc, held.buf, limit)?;
         held = next.hold_or_feed(reader)?;
     }
 }

@@ -11,6 +11,9 @@ use memchr::memchr;
 use std::alloc::{AllocError, Global};
 use std::thread::{Threads, join_mut};
 
+/// How many bytes the lines of most records have, or more.
+const LINE: usize = 24;
+
 /// The records whose lines stand at the front of a chunk.
 #[derive(Drop)]
 pub(crate) struct Front {
@@ -72,7 +75,9 @@ pub(crate) fn front_of(alloc: Global, format: Format, chunk: &[u8]) -> Front
     ensures { HasFront format chunk.now result }
 {
     let mut lines = LineReader::behind_a_header(format);
-    let mut records = Vec::new(alloc);
+    let Ok(mut records) = Vec::with_capacity(alloc, chunk.len() / LINE) else {
+        return Front::empty(alloc, chunk.len());
+    };
     let Ok(()) = take_piece(&mut lines, &mut records, chunk) else {
         return Front::empty(alloc, chunk.len());
     };

@@ -6,6 +6,7 @@ ghost use Rattle.log_record.specs.Entries.{core_entries, entries};
 ghost use Rattle.log_file.specs.SetKeeping.{start_in};
 ghost use Rattle.log_file.specs.Sets.{IsLogSetAnswer, ReaderFailed, TellEach};
 
+use super::ahead::Buffers;
 use super::byte_source::ByteSource;
 use super::fault::{LogFault, SetFault};
 use super::one_log::read_entries;
@@ -63,9 +64,19 @@ impl LogSet {
         let cores = readers.len() as u64;
         let mut entries = Vec::new(alloc);
         let mut ends = Vec::new(alloc);
+        let mut buffers = Buffers::new(alloc);
         for (file, reader) in readers.iter_mut().enumerate() {
             let core = CoreId::at(file);
-            entries = match read_entries(rt, alloc, reader, core, cores, workers, entries) {
+            entries = match read_entries(
+                rt,
+                alloc,
+                reader,
+                core,
+                cores,
+                workers,
+                &mut buffers,
+                entries,
+            ) {
                 Ok(entries) => entries,
                 Err(fault) => return Err(SetFault { file, fault }),
             };

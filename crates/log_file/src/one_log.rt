@@ -5,7 +5,7 @@ ghost use Rattle.log_file.specs.Devices.{Failed, Tells};
 ghost use Rattle.log_file.specs.Answers.{IsReadAnswer};
 ghost use Rattle.log_file.specs.inner.EntryFeeding.{IsEntryAnswer};
 
-use super::ahead::read_ahead;
+use super::ahead::{Buffers, read_ahead};
 use super::byte_source::ByteSource;
 use super::entry_reader::EntryReader;
 use super::fault::LogFault;
@@ -39,7 +39,14 @@ pub fn read_log<R: Threads + Sync, S: ByteSource>(
     ensures quiet { ¬ IsErrOf result LogFault.Read → S.failed source.new ≡ S.failed source.old }
 {
     let mut reader = LogReader::new(alloc, core, cores);
-    read_ahead(rt, alloc, source, &mut reader, workers)?;
+    read_ahead(
+        rt,
+        alloc,
+        source,
+        &mut reader,
+        workers,
+        &mut Buffers::new(alloc),
+    )?;
     reader.finish()
 }
 
@@ -51,6 +58,7 @@ pub(crate) fn read_entries<R: Threads + Sync, S: ByteSource>(
     core: CoreId,
     cores: u64,
     workers: usize,
+    buffers: &mut Buffers,
     entries: Vec<Entry>,
 ) -> Result<Vec<Entry>, LogFault>
     requires core { core < cores }
@@ -62,6 +70,6 @@ pub(crate) fn read_entries<R: Threads + Sync, S: ByteSource>(
     ensures quiet { ¬ IsErrOf result LogFault.Read → S.failed source.new ≡ S.failed source.old }
 {
     let mut reader = EntryReader::new(core, cores, entries);
-    read_ahead(rt, alloc, source, &mut reader, workers)?;
+    read_ahead(rt, alloc, source, &mut reader, workers, buffers)?;
     reader.finish()
 }

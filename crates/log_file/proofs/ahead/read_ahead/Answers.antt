@@ -22,9 +22,9 @@ pub returns-then-next-eq0-clause-answer : goal.returns-then-next-eq0-clause-answ
 returns-then-next-eq0-clause-answer g c =
     let next = c.in_ok-next.next in
     let held = c.loop-held.invariant.0 in
-    let taken = c.feed_to.ensures in
+    let taken = c.feed_to-end.ensures in
     let none : text_in next ≡ [] = rw c.if-next-eq0.true refl in
-    source_finished (g.P.PieceReader.feeding c.feed_to.new.reader) (g.S.ByteSource.remaining c.read.new.source) (text_in next) c.feed_to.result held
+    source_finished (g.P.PieceReader.feeding c.feed_to-end.new.reader) (g.S.ByteSource.remaining c.read.new.source) (text_in next) c.feed_to-end.result held
     c.in_ok-next.ensures.bytes none (c.in_ok-next.ensures.end c.if-next-eq0.true) taken.core taken.cores taken.fed
 
 pub returns-in_err-feed_beside-clause-answer : goal.returns-in_err-feed_beside-clause-answer
@@ -54,7 +54,7 @@ returns-in_err-held-clause-answer g c =
 pub loop-held-init : goal.loop-held-init
 loop-held-init g c =
     let none = c.empty-held.ensures in
-    let room = c.in_ok-room.ensures.len in (
+    let room = c.in_ok-room.ensures in (
       record {
         core = refl;
         cores = refl;
@@ -65,9 +65,10 @@ loop-held-init g c =
       omega (arith, ap fed_len c.requires),
       refl,
       none.piece,
-      omega (arith, none.room),
-      omega (arith, room),
-      omega (arith, room),
+      omega (arith, none.len),
+      omega arith,
+      omega arith,
+      room,
       refl,
     )
 
@@ -97,8 +98,9 @@ loop-held-preserved g c =
       c.in_ok-next.ensures.counts ∙ inv.2,
       held.piece,
       search rules,
-      c.in_ok-room-2.ensures.some,
-      c.in_ok-room-2.ensures.few,
+      c.limit_after-limit.ensures.some,
+      c.limit_after-limit.ensures.few,
+      c.in_ok-room-2.ensures,
       search rules,
     )
 

@@ -11,8 +11,8 @@ invariant-loop-held g l =
     IsFedBut (g.P.PieceReader.feeding l.fn.reader) (g.P.PieceReader.feeding l.reader) (g.S.ByteSource.remaining l.fn.source) (g.S.ByteSource.remaining l.source) (text_in l.held)
     × (fed_len (g.P.PieceReader.feeding l.reader).fed < 2 ^ 27)
     × (g.S.ByteSource.failed l.source ≡ g.S.ByteSource.failed l.fn.source)
-    × IsPiece l.held × (vec_len l.held.buf ≤ 2097152)
-    × (0 < vec_len l.room) × (vec_len l.room ≤ 2097152)
+    × IsPiece l.held × (l.held.len ≤ 2097152)
+    × (0 < l.limit) × (l.limit ≤ 2097152) × (l.limit ≤ vec_len l.room)
     × (g.P.PieceReader.base l.reader ≡ g.P.PieceReader.base l.fn.reader)
 
 abbrev pub decreases-loop-held : goal.decreases-loop-held

@@ -10,7 +10,7 @@ overflow_sub-result c =
     let records = c.take_piece.new.records.items in
     let begun = c.take_piece.new.lines.begun.items in
     let read = read_front c.args.format c.behind_a_header-lines.result c.take_piece.new.lines c.args.chunk.now records c.behind_a_header-lines.ensures.progress
-    c.behind_a_header-lines.ensures.none_begun c.in-Ok.ensures.same c.in-Some.ensures.some.1 (rw c.new-records.ensures.items at c.in-Ok.ensures.taken) in
+    c.behind_a_header-lines.ensures.none_begun c.in-Ok-take_piece.ensures.same c.in-Some.ensures.some.1 (rw c.in-Ok.ensures.items at c.in-Ok-take_piece.ensures.taken) in
     omega (arith, ap length read.0 ∙ length-append (records_text records) begun, ap length c.in-Some.ensures.some.0)
 
 pub returns : goal.returns
@@ -18,5 +18,5 @@ returns c =
     let records = c.take_piece.new.records.items in
     let begun = c.take_piece.new.lines.begun.items in
     let read = read_front c.args.format c.behind_a_header-lines.result c.take_piece.new.lines c.args.chunk.now records c.behind_a_header-lines.ensures.progress
-    c.behind_a_header-lines.ensures.none_begun c.in-Ok.ensures.same c.in-Some.ensures.some.1 (rw c.new-records.ensures.items at c.in-Ok.ensures.taken) in
+    c.behind_a_header-lines.ensures.none_begun c.in-Ok-take_piece.ensures.same c.in-Some.ensures.some.1 (rw c.in-Ok.ensures.items at c.in-Ok-take_piece.ensures.taken) in
     has_front c.args.format c.args.chunk.now begun records _ read.0 read.1 refl refl (search rules)
