@@ -4,7 +4,8 @@ ghost use Rattle.std.specs.Prelude.{◌≡◌, ◌<◌, ◌≤◌, ◌+◌, ◌+
 ghost use Rattle.mem_op.specs.Limits.{operation_limit};
 ghost use Rattle.log_file.specs.inner.Listing.{Base};
 
-use log_record::Record;
+use log_record::{Entry, Record};
+use mem_op::{CoreId, OpId, OpIndex};
 use std::alloc::AllocError;
 
 /// Keeps the records of a log, one after another.
@@ -30,13 +31,27 @@ pub(crate) trait RecordList {
         ensures kept { OnOk result (records self.new ≡ records self.old ++ more.now) };
 }
 
+/// The record, put together from its parts: these stay in registers, where a whole record goes through memory from each result to
+/// the next one.
+#[inline(always)]
+fn by_parts(logged: &Record) -> Record
+    ensures { result ≡ logged.now }
+{
+    let first = OpId {
+        core: CoreId::at(0),
+        index: OpIndex::at(0),
+    };
+    Entry::new(first, logged).logged()
+}
+
 impl RecordList for Vec<Record> {
     ghost records = { λ list. list.items };
 
     ghost base = { λ _. record { core = 0; before = [] } };
 
+    #[inline(always)]
     fn keep(&mut self, logged: Record) -> Result<(), AllocError> {
-        self.push(logged)?;
+        self.push(by_parts(&logged))?;
         Ok(())
     }
 
