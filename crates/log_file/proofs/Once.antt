@@ -1,10 +1,10 @@
 -- No spelling begins another.
-use Rattle.std.proofs.Common.{◌≡◌, ℕ, List, [], ◌∷◌, ◌++◌, length, map, refl, sym, ap, ◌∙◌, append_assoc}
+use Rattle.std.proofs.Common.{◌≡◌, ℕ, List, [], ◌∷◌, ◌++◌, length, map, refl, sym, ap, ◌∙◌}
 use Rattle.log_record.specs.declared.format.Format.{Format}
 use Rattle.log_record.specs.declared.record.Record.{Record}
 use Rattle.log_record.specs.Line.{format_number, record_text, header_text, end_text}
-use Rattle.log_record.proofs.Lines.{NoLf-all, header_no_lf, end_no_lf, record_once, header_once, record_no_end}
-use Rattle.log_file.specs.Log.{Spells, begun, spelling, lines_of, with_lf}
+use Rattle.log_record.proofs.Lines.{NoLf-all, end_no_lf, record_once, header_once, record_no_end}
+use Rattle.log_file.specs.Log.{Spells, begun, spelling, lines_of}
 use Rattle.log_file.proofs.Lines.{lines_of_line, lines_of_text, begun_no_lf, spelling_text}
 
 spelled_lines : (format : Format) (core cores : ℕ) (records : List Record) (x : List ℕ)
@@ -44,19 +44,6 @@ spelled_once f g a b c d rs qs x y e =
     (end_text (length qs) ∷ lines_of y) = tails lines in
     let h = header_once f g a b c d first in
     (h.0, h.1, h.2, same_records (length rs) (length qs) rs qs (lines_of x) (lines_of y) rest)
-
--- bytes that begin with the headers of two formats
-pub one_format : (f g : Format) (a b c d : ℕ) (x y : List ℕ)
-    → with_lf (header_text (format_number f) a b) ++ x ≡ with_lf (header_text (format_number g) c d) ++ y → f ≡ g
-one_format f g a b c d x y e =
-    let lines = sym (header_lines f a b x) ∙ ap lines_of e ∙ header_lines g c d y in
-    let first : header_text (format_number f) a b ≡ header_text (format_number g) c d = heads lines in
-    (header_once f g a b c d first).0
-  where
-    header_lines : (f : Format) (a b : ℕ) (x : List ℕ) → lines_of (with_lf (header_text (format_number f) a b) ++ x) ≡ header_text (format_number f) a b ∷ lines_of x
-    header_lines f a b x =
-        ap lines_of (append_assoc (header_text (format_number f) a b) (10 ∷ []) x)
-        ∙ lines_of_line (header_text (format_number f) a b) x (NoLf-all (header_text (format_number f) a b) (header_no_lf (format_number f) a b))
 
 -- bytes spell one log at most
 pub one_log : (core cores : ℕ) (bytes : List ℕ) (rs qs : List Record) → Spells core cores bytes rs

@@ -1,15 +1,13 @@
 -- Bytes that are taken one part after another.
-use Rattle.std.proofs.Common.{◌≡◌, ℕ, ◌+◌, ◌-◌, List, [], ◌∷◌, ◌++◌, length, map, take, refl, sym, ap, subst, ◌∙◌, append_assoc, append-nil, length-append, arith}
+use Rattle.std.proofs.Common.{◌≡◌, ℕ, List, [], ◌∷◌, ◌++◌, length, map, take, refl, sym, ap, subst, ◌∙◌, append_assoc, append-nil, length-append, arith}
 use Rattle.std.specs.Prelude.{Result, Ok, Err, MatchResult}
 use Rattle.std.specs.List.{AllByRecursion}
-use Rattle.std.proofs.lemmas.List.{append_cancel_left, map-append}
-use Rattle.std.proofs.Math.Seq.{take-append_seam}
+use Rattle.std.proofs.lemmas.List.{map-append}
 use Rattle.std.proofs.lemmas.Grind.{flat_map-append}
 use Rattle.log_record.specs.declared.format.Format.{Format}
 use Rattle.log_record.specs.declared.record.Record.{Record}
 use Rattle.log_record.specs.Line.{format_number, record_text, header_text, FitsIn}
 use Rattle.log_file.specs.declared.fault.LogFault.{LogFault}
-use Rattle.log_file.specs.declared.progress.Stage.{Stage}
 use Rattle.log_file.specs.declared.progress.Stage.TheVariants as stage
 use Rattle.log_file.specs.declared.progress.Progress.{Progress}
 use Rattle.log_file.specs.declared.line_reader.LineReader.{LineReader}
@@ -17,8 +15,7 @@ use Rattle.log_file.specs.declared.chunks.Front.{Front}
 use Rattle.log_file.specs.inner.Chunks.{HasFront, records_text}
 use Rattle.log_file.specs.Feeding.{IsSettled}
 use Rattle.log_file.specs.Log.{IsLog, begun, text_of, with_lf}
-use Rattle.log_file.specs.Standing.{IsInRecords, IsPassed, IsSettledWith, IsSound, SameLog, Stands, Takes, read_text, IsInRange}
-use Rattle.log_file.proofs.Once.{one_format}
+use Rattle.log_file.specs.Standing.{IsPassed, IsSettledWith, IsSound, SameLog, Stands, Takes, read_text, IsInRange}
 use Rattle.log_file.proofs.Settled.{settled_front}
 
 -- ---- one part after another
@@ -83,12 +80,6 @@ begun_more format core cores rs found =
     ∙ ap (λ (xs : List ℕ). with_lf (header_text (format_number format) core cores) ++ xs) (flat_map-append with_lf (map record_text rs) (map record_text found))
     ∙ sym (append_assoc (with_lf (header_text (format_number format) core cores)) (text_of (map record_text rs)) (records_text found))
 
--- the format of a log whose header was read
-pub records_of : (q : Stage) → IsInRecords q → (format : Format) × (q ≡ stage.Records format)
-records_of stage.Header h = absurd h
-records_of (stage.Records format) h = (format, refl)
-records_of (stage.Ended format) h = absurd h
-
 -- passing over the lines of records takes them
 pub passed_takes : (format : Format) (old new : LineReader) (rs found : List Record) → Stands old rs
     → IsPassed format old (length found) new → AllByRecursion (FitsIn format) found → Takes old rs (records_text found) new (rs ++ found)
@@ -125,43 +116,7 @@ front_takes format old new rs chunk front stands has passed =
     subst (λ (xs : List ℕ). Takes old rs xs new (rs ++ front.records.items)) (sym has.lines)
     (passed_takes format old new rs front.records.items stands passed has.fit)
 
--- ---- what a worker reads of a chunk
-
--- the records that were read after a header, and the line that was begun
-pub read_front : (format : Format) (old new : LineReader) (chunk : List ℕ) (records : List Record)
-    → old.progress ≡ record { core = 0; cores = 1; stage = stage.Records format; count = 0 }
-    → old.begun.items ≡ [] → SameLog old.progress new.progress → IsInRecords new.progress.stage → Takes old [] chunk new records
-    → (chunk ≡ records_text records ++ new.begun.items) × AllByRecursion (FitsIn format) records
-read_front format old new chunk records progress none same in_records takes =
-    let at = records_of new.progress.stage in_records in
-    let stage_is : new.progress.stage ≡ stage.Records at.0 = at.1 in
-    let core_is : new.progress.core ≡ 0 = same.core ∙ ap (λ (n : Progress). n.core) progress in
-    let cores_is : new.progress.cores ≡ 1 = same.cores ∙ ap (λ (n : Progress). n.cores) progress in
-    let log : IsLog at.0 new.progress.core new.progress.cores records = subst (λ q. IsSound q new.progress.core new.progress.cores records new.begun.items) stage_is takes.stands.sound in
-    let header = with_lf (header_text (format_number at.0) 0 1) in
-    let wanted = with_lf (header_text (format_number format) 0 1) in
-    let text : ((header ++ records_text records) ++ new.begun.items) ≡ (((wanted ++ []) ++ []) ++ chunk) = rw (stage_is, core_is, cores_is, progress, none) at takes.text in
-    let behind : header ++ (records_text records ++ new.begun.items) ≡ wanted ++ chunk =
-    sym (append_assoc header (records_text records) new.begun.items) ∙ text
-    ∙ ap (λ (xs : List ℕ). xs ++ chunk) (append-nil (wanted ++ []) ∙ append-nil wanted) in
-    let same_format : at.0 ≡ format = one_format at.0 format 0 1 0 1 (records_text records ++ new.begun.items) chunk behind in
-    let same_header : header ≡ wanted = ap (λ (f : Format). with_lf (header_text (format_number f) 0 1)) same_format in
-    let joined : wanted ++ (records_text records ++ new.begun.items) ≡ wanted ++ chunk =
-    ap (λ (xs : List ℕ). xs ++ (records_text records ++ new.begun.items)) (sym same_header) ∙ behind in
-    (sym (append_cancel_left wanted (records_text records ++ new.begun.items) chunk joined), subst (λ (f : Format). AllByRecursion (FitsIn f) records) same_format log.each_fits)
-
-pub has_front : (format : Format) (chunk begun : List ℕ) (records : List Record) (front : Front) → chunk ≡ records_text records ++ begun
-    → AllByRecursion (FitsIn format) records → front.len ≡ length chunk → front.records.items ≡ records → front.taken ≡ length chunk - length begun → HasFront format chunk front
-has_front format chunk begun records front is fit whole same taken =
-    let long : length chunk ≡ length (records_text records) + length begun = ap length is ∙ length-append (records_text records) begun in
-    let many : front.taken ≡ length (records_text records) = omega (arith, taken, long) in
-    record {
-      whole = whole;
-      within = omega (arith, many, long);
-      lines = rw (many, is, same) (take-append_seam (records_text records) begun);
-      fit = rw same fit;
-    }
-
+-- a chunk of which nothing was read
 pub no_front : (format : Format) (chunk : List ℕ) (front : Front) → front.len ≡ length chunk → front.records.items ≡ [] → front.taken ≡ 0 → HasFront format chunk front
 no_front format chunk front whole none zero = record {
   whole = whole;

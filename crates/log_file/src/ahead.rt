@@ -27,6 +27,10 @@ const LEAST: usize = 65_536;
 /// The most bytes of a piece.
 const MOST: usize = 2_097_152;
 
+/// How many times as long as the piece before it a piece is at most: the first ones of a log are short, since while
+/// their lines are read there is little to take.
+const GROWTH: usize = 4;
+
 /// A piece that was read.
 #[derive(Drop)]
 struct Piece {
@@ -207,7 +211,7 @@ impl Piece {
         if workers <= 1 || limit < LEAST {
             LEAST
         } else {
-            MOST
+            limit.saturating_mul(GROWTH).min(MOST)
         }
     }
 }

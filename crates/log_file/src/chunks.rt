@@ -4,9 +4,8 @@ ghost use Rattle.std.specs.Prelude.{◌≡◌, ◌≤◌, ◌++◌, [], IfOk, If
 ghost use Rattle.std.specs.Thread.{IsSync};
 ghost use Rattle.log_file.specs.inner.Chunks.{HasFront, HasFronts};
 
-use super::line_reader::LineReader;
-use super::taking::take_piece;
-use log_record::{Format, Record};
+use super::record_list::by_parts;
+use log_record::{Format, Record, read_line};
 use memchr::memchr;
 use std::alloc::{AllocError, Global};
 use std::thread::{Threads, join_mut};
@@ -23,6 +22,8 @@ pub(crate) struct Front {
     pub(crate) records: Vec<Record>,
     /// How many bytes their lines are, each with its line feed.
     pub(crate) taken: usize,
+    /// Whether they are the records of all its whole lines.
+    is_whole: bool,
 }
 
 impl Front {
@@ -36,6 +37,7 @@ impl Front {
             len,
             records: Vec::new(alloc),
             taken: 0,
+            is_whole: false,
         }
     }
 }
@@ -50,9 +52,12 @@ pub(crate) struct Fronts {
 }
 
 impl Fronts {
-    /// Whether workers have found records in each chunk after the first line. Where not, a line of it isn't a record's.
+    /// Whether workers have found records in each chunk after the first line, and nothing else in any.
     pub(crate) fn are_read(&self) -> bool {
-        self.list.iter().skip(1).all(|front| front.taken > 0)
+        self.list
+            .iter()
+            .skip(1)
+            .all(|front| front.is_whole && front.taken > 0)
     }
 }
 
@@ -69,25 +74,31 @@ pub(crate) fn cut(text: &[u8], from: usize) -> (&[u8], &[u8])
     text.split_at(end)
 }
 
-/// The records at the front of a chunk of a log of this format: of all its whole lines, or none where one
-/// isn't a record's there.
+/// The records at the front of a chunk of a log of this format: of its whole lines, up to the first one that isn't a
+/// record's there.
 pub(crate) fn front_of(alloc: Global, format: Format, chunk: &[u8]) -> Front
     ensures { HasFront format chunk.now result }
 {
-    let mut lines = LineReader::behind_a_header(format);
     let Ok(mut records) = Vec::with_capacity(alloc, chunk.len() / LINE) else {
         return Front::empty(alloc, chunk.len());
     };
-    let Ok(()) = take_piece(&mut lines, &mut records, chunk) else {
-        return Front::empty(alloc, chunk.len());
-    };
-    let Some(begun) = lines.begun_line() else {
-        return Front::empty(alloc, chunk.len());
-    };
+    let mut rest = chunk;
+    let mut is_whole = true;
+    while let Some(at) = memchr(b'\n', rest) {
+        let Ok(logged) = read_line(format, &rest[..at]) else {
+            is_whole = false;
+            break;
+        };
+        if records.push(by_parts(&logged)).is_err() {
+            return Front::empty(alloc, chunk.len());
+        }
+        rest = &rest[at + 1..];
+    }
     Front {
         len: chunk.len(),
         records,
-        taken: chunk.len() - begun.len(),
+        taken: chunk.len() - rest.len(),
+        is_whole,
     }
 }
 

@@ -63,23 +63,6 @@ impl LineReader {
         }
     }
 
-    /// A reader of some log of this format, after its header. What else a header says has no part in
-    /// records.
-    pub(crate) fn behind_a_header(format: Format) -> LineReader
-        ensures progress { result.progress ≡ record { core = 0; cores = 1; stage = stage.Records format; count = 0 } }
-        ensures none_begun { result.begun.items ≡ [] }
-    {
-        LineReader {
-            progress: Progress {
-                core: 0,
-                cores: 1,
-                stage: Stage::Records(format),
-                count: 0,
-            },
-            begun: ArrayVec::new(),
-        }
-    }
-
     /// The format of the log, where the header or a record was read last.
     pub(crate) fn format(&self) -> Option<Format>
         ensures some { IfSome result (λ format. self.now.progress.stage ≡ stage.Records format) }
@@ -88,19 +71,6 @@ impl LineReader {
         match self.progress.stage {
             Stage::Records(format) => Some(format),
             _ => None,
-        }
-    }
-
-    /// The bytes of the line that isn't whole yet, where the header or a record was read last.
-    pub(crate) fn begun_line(&self) -> Option<&[u8]>
-        ensures some { IfSome result (λ begun. (begun.now ≡ self.now.begun.items)
-            × IsInRecords self.now.progress.stage) }
-        ensures none { IsNone result → ¬ IsInRecords self.now.progress.stage }
-    {
-        if self.progress.stage.is_in_records() {
-            Some(self.begun.as_slice())
-        } else {
-            None
         }
     }
 

@@ -1,7 +1,7 @@
 //! How far a log was read, in whole lines.
 
 ghost use Rattle.std.specs.Prelude.{◌≡◌, ◌≤◌, ◌↔◌, IsTrue, MatchResult};
-ghost use Rattle.log_file.specs.Standing.{IsEnded, IsInRange, IsInRecords, IsBehind, IsRefused, SameLog, fault_of_more, limit_at};
+ghost use Rattle.log_file.specs.Standing.{IsEnded, IsInRange, IsBehind, IsRefused, SameLog, fault_of_more, limit_at};
 
 use super::fault::{FormatFault, LogFault};
 use super::one_line::{HEADER_LIMIT, check_body, check_header};
@@ -28,16 +28,6 @@ impl Stage {
             Stage::Header => HEADER_LIMIT,
             Stage::Records(format) => format.line_limit(),
             Stage::Ended(format) => format.line_limit(),
-        }
-    }
-
-    /// Whether the header or a record was read last.
-    pub(crate) fn is_in_records(self) -> bool
-        ensures { IsTrue result ↔ IsInRecords self }
-    {
-        match self {
-            Stage::Records(_) => true,
-            _ => false,
         }
     }
 

@@ -34,7 +34,7 @@ pub(crate) trait RecordList {
 /// The record, put together from its parts: these stay in registers, where a whole record goes through memory from each result to
 /// the next one.
 #[inline(always)]
-fn by_parts(logged: &Record) -> Record
+pub(crate) fn by_parts(logged: &Record) -> Record
     ensures { result ≡ logged.now }
 {
     let first = OpId {
