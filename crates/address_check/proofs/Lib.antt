@@ -1,11 +1,9 @@
 pub mod ByAddress
 pub mod Collecting
-pub mod GroupPass
 pub mod Meeting
 pub mod Pairs
-pub mod Parts
 pub mod Pieces
-pub mod Runs
 pub mod Sorting
+pub mod StorePass
 pub mod Totals
 pub mod Window

@@ -5,4 +5,5 @@ pub mod FaultOrder
 pub mod FaultParts
 pub mod Groups
 pub mod Ids
+pub mod LastStores
 pub mod inner

@@ -5,8 +5,7 @@ ghost use Rattle.line_stamps.specs.Ordered.{In};
 ghost use Rattle.log_record.specs.declared.record.Entry.{Entry};
 ghost use Rattle.address_check.specs.AddressFaults.{least_address_fault};
 ghost use Rattle.address_check.specs.AddressLaw.{least_fault_in-joined};
-ghost use Rattle.address_check.specs.BySpan.{in_span, least_fault_in, HaveAddress};
-ghost use Rattle.address_check.specs.Groups.{AscendsByPlace};
+ghost use Rattle.address_check.specs.BySpan.{least_fault_in, HaveAddress};
 
 use super::fault::AddressFault;
 use super::gate::{Gate, Phase};
@@ -43,18 +42,6 @@ impl AddressIndex {
         let end = last.addr().get() + 1;
         spans.push(AddrSpan { start, end })?;
         Ok(spans)
-    }
-
-    /// The records at the addresses of a span, in their order.
-    fn part(&self, span: &AddrSpan) -> &[Entry]
-        ensures value { result.now ≡ in_span span.now self.now }
-        ensures ascends { AscendsByPlace result.now }
-    {
-        let entries = self.all();
-        let start = entries.partition_point(|e| e.addr().get() < span.start);
-        let below = entries.partition_point(|e| e.addr().get() < span.end);
-        let end = below.max(start);
-        &entries[start..end]
     }
 
     /// The address fault of least key, found by `workers` workers at once, 1 to 64, each with whole

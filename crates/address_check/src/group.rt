@@ -1,9 +1,10 @@
-//! The pass over records, group after group.
+//! The pass over records by address and then by key.
 
-ghost use Rattle.std.specs.Prelude.{◌≡◌, ◌≢◌, ◌<◌, ◌≤◌, ◌-◌, get_or, length, option_copied, take};
+ghost use Rattle.std.specs.Prelude.{◌≡◌, option_copied};
 ghost use Rattle.log_record.specs.declared.record.Entry.{Entry};
 ghost use Rattle.address_check.specs.AddressFaults.{is_store, least_address_fault, fault_by, broken_rule, act_fault};
 ghost use Rattle.address_check.specs.Groups.{AscendsByPlace, IsGroup};
+ghost use Rattle.address_check.specs.LastStores.{at_its_address};
 
 use super::fault::{AddressFault, AddressRule};
 use super::local_check::lesser_fault;
@@ -59,75 +60,36 @@ fn act_rule(entry: &Entry, act: &Act, right: Option<&Entry>) -> Option<AddressRu
     }
 }
 
-/// The place after the last record of the address of the one at `start`: a step doubles while it stays
-/// at the address, and is halved where it leaves it.
-fn end_of(entries: &[Entry], start: usize) -> usize
-    requires { start < length entries.now }
-    ensures after { start < result }
-    ensures within { result ≤ length entries.now }
-    ensures same { (d : Entry) → (get_or entries.now (result - 1) d).logged.addr
-        ≡ (get_or entries.now start d).logged.addr }
-    ensures left { result < length entries.now → (d : Entry) →
-        (get_or entries.now result d).logged.addr ≢ (get_or entries.now start d).logged.addr }
+/// The rule that an operation of this act breaks, where this is the last store before it by address and then by key: its
+/// right store, if it is at the same address.
+fn entry_rule(entry: &Entry, act: &Act, last: Option<&Entry>) -> Option<AddressRule>
+    requires { act.now ≡ entry.now.logged.act }
+    ensures { fault_by entry.now result
+        ≡ act_fault entry.now.logged.act entry.now (at_its_address entry.now (option_copied last.entry)) }
 {
-    let addr = entries[start].addr();
-    let mut end = start + 1;
-    let mut step: usize = 1;
-    while step > 0 {
-        let reach = step.saturating_add(end);
-        if reach <= entries.len() && entries[reach - 1].addr() == addr {
-            end = reach;
-            step = step.saturating_mul(2);
-        } else {
-            step /= 2;
-        }
+    match last {
+        Some(store) if store.addr() == entry.addr() => act_rule(entry, act, last),
+        _ => act_rule(entry, act, None),
     }
-    end
 }
 
-/// The fault of least key at the address of the first record, and the place after the last one of that
-/// address. Each record is looked at once, and none after one that breaks a rule.
-fn first_group_fault(entries: &[Entry]) -> (Option<AddressFault>, usize)
-    requires some { 0 < length entries.now }
-    requires ascends { AscendsByPlace entries.now }
-    ensures fault { result.0 ≡ least_address_fault (take result.1 entries.now) }
-    ensures after { 0 < result.1 }
-    ensures within { result.1 ≤ length entries.now }
-    ensures same { (d : Entry) → (get_or entries.now (result.1 - 1) d).logged.addr
-        ≡ (get_or entries.now 0 d).logged.addr }
-    ensures left { result.1 < length entries.now → (d : Entry) →
-        (get_or entries.now result.1 d).logged.addr ≢ (get_or entries.now 0 d).logged.addr }
-{
-    let addr = entries[0].addr();
-    let mut last = None;
-    let mut end = 0;
-    while end < entries.len() && entries[end].addr() == addr {
-        let entry = &entries[end];
-        // What was done takes some work to tell, so it is asked once.
-        let act = entry.act();
-        if let Some(rule) = act_rule(entry, &act, last) {
-            let key = entry.key();
-            return (Some(AddressFault { key, rule }), end_of(entries, end));
-        }
-        if writes(&act) {
-            last = Some(entry);
-        }
-        end += 1;
-    }
-    (None, end)
-}
-
-/// The fault of least key among records by address and then by key, group after group.
+/// The fault of least key among records by address and then by key. Each is looked at once.
 pub(crate) fn part_fault(part: &[Entry]) -> Option<AddressFault>
     requires { AscendsByPlace part.now }
     ensures { result ≡ least_address_fault part.now }
 {
     let mut least = None;
-    let mut start = 0;
-    while start < part.len() {
-        let (fault, len) = first_group_fault(&part[start..]);
-        least = lesser_fault(least, fault);
-        start += len;
+    let mut last = None;
+    for entry in part {
+        // What was done takes some work to tell, so it is asked once.
+        let act = entry.act();
+        if let Some(rule) = entry_rule(entry, &act, last) {
+            let key = entry.key();
+            least = lesser_fault(least, Some(AddressFault { key, rule }));
+        }
+        if writes(&act) {
+            last = Some(entry);
+        }
     }
     least
 }

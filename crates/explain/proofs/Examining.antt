@@ -19,7 +19,7 @@ use Rattle.address_check.specs.declared.fault.AddressFault.{AddressFault}
 use Rattle.address_check.specs.AddressFaults.{address_fault, address_faults, least_address_fault, right_store}
 use Rattle.address_check.specs.AddressLaw.{fault_total}
 use Rattle.address_check.specs.FaultOrder.{fault_cmp}
-use Rattle.address_check.proofs.GroupPass.{key_of_fault}
+use Rattle.address_check.proofs.StorePass.{key_of_fault}
 use Rattle.address_check.proofs.Sorting.{fault_in_any_order}
 use Rattle.verdict.specs.CoreFaultsOf.{core_faults}
 use Rattle.verdict.specs.FaultParts.{FaultParts}

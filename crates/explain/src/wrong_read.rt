@@ -2,7 +2,7 @@
 
 ghost use Rattle.std.specs.Prelude.{◌≡◌, ◌<◌, None, IfOk, IfSome, IsNone, length, option_and_then, slice_get};
 ghost use Rattle.mem_op.specs.Consistency.{is_same_id};
-ghost use Rattle.address_check.proofs.GroupPass.{last_store};
+ghost use Rattle.address_check.specs.LastStores.{last_store};
 ghost use Rattle.explain.specs.WrongReads.{IsWrongRead, named_id, of_id};
 
 use super::acts::named_id;

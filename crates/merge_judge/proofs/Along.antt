@@ -16,7 +16,7 @@ use Rattle.address_check.specs.declared.fault.AddressFault.{AddressFault}
 use Rattle.address_check.specs.FaultOrder.{fault_cmp}
 use Rattle.address_check.specs.AddressLaw.{fault_total}
 use Rattle.address_check.specs.AddressFaults.{is_earlier_store, right_store, act_fault, address_fault, address_faults, least_address_fault}
-use Rattle.address_check.proofs.GroupPass.{key_of_fault}
+use Rattle.address_check.proofs.StorePass.{key_of_fault}
 use Rattle.address_check.proofs.Totals.{entry_total, tied_faults, less_by_key}
 use Rattle.verdict.specs.ByKey.{by_key}
 use Rattle.verdict.proofs.SerialOrder.{by_key-ascends, in_set_by_key, tied_id}

@@ -1,6 +1,6 @@
 -- The last store so far.
 use Rattle.std.proofs.Common.{◌≡◌, take}
-use Rattle.address_check.proofs.GroupPass.{last_store}
+use Rattle.address_check.specs.LastStores.{last_store}
 use Rattle.explain.proofs.wrong_read.last_store.Given as goal
 
 abbrev pub invariant-loop-entry : goal.invariant-loop-entry

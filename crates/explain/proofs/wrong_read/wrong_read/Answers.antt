@@ -3,7 +3,7 @@ use Rattle.std.specs.Prelude.{◌==◌, slice_get}
 use Rattle.std.proofs.lemmas.Bool.{eq-eqb}
 use Rattle.mem_op.specs.Consistency.{is_same_id}
 use Rattle.address_check.specs.Groups.{IsGroup, at_address}
-use Rattle.address_check.proofs.GroupPass.{last_store}
+use Rattle.address_check.specs.LastStores.{last_store}
 use Rattle.explain.specs.WrongReads.{of_id}
 use Rattle.explain.specs.Windows.{window}
 use Rattle.explain.proofs.Finding.{find_filtered}
