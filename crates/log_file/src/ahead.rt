@@ -10,10 +10,11 @@ ghost use Rattle.log_file.specs.inner.FedAll.{IsFedAll};
 ghost use Rattle.log_file.specs.inner.Chunks.{HasFronts, IsPiece, text_in};
 
 use super::byte_source::ByteSource;
-use super::chunks::{Fronts, fronts_of};
+use super::chunks::{Fronts, fronts_of, keep_rooms};
 use super::device_fault::ReadFailed;
 use super::fault::LogFault;
 use super::piece_reader::PieceReader;
+use log_record::Record;
 use std::alloc::{AllocError, Global};
 use std::mem::replace;
 use std::thread::{Threads, join_mut};
@@ -112,7 +113,7 @@ impl Piece {
     }
 
     /// Has the reader take the piece, and the lines of the next one read meanwhile, where that is worth the threads: one
-    /// of `workers` workers takes, and the others read.
+    /// of `workers` workers takes, and the others read, into the room of these lists.
     fn feed_beside<R: Threads + Sync, P: PieceReader + Send>(
         &self,
         rt: &R,
@@ -120,6 +121,7 @@ impl Piece {
         reader: &mut P,
         next: &mut Piece,
         workers: usize,
+        rooms: &mut Vec<Vec<Record>>,
     ) -> Result<(), LogFault>
         requires held { IsPiece self.now }
         requires next { IsPiece next.old }
@@ -155,7 +157,7 @@ impl Piece {
             &mut || -> Option<Fronts>
                 requires { IsSync R.row }
                 ensures { IfSome result (λ fronts. HasFronts fronts.format text.entry.now fronts.list.items) }
-            { fronts_of(rt, alloc, format?, text, others) },
+            { fronts_of(rt, alloc, format?, text, others, rooms) },
         );
         next.fronts = fronts;
         fed
@@ -216,13 +218,15 @@ impl Piece {
     }
 }
 
-/// Buffers for the pieces of a log, kept from one log to the next.
+/// Buffers for the pieces of a log, and lists for their records, kept from one log to the next.
 #[derive(Drop)]
 pub(crate) struct Buffers {
     /// For the piece that is read.
     next: Vec<u8>,
     /// For the piece before.
     held: Vec<u8>,
+    /// For what workers read of a piece.
+    rooms: Vec<Vec<Record>>,
 }
 
 impl Buffers {
@@ -231,6 +235,7 @@ impl Buffers {
         Buffers {
             next: Vec::new(alloc),
             held: Vec::new(alloc),
+            rooms: Vec::new(alloc),
         }
     }
 }
@@ -275,7 +280,8 @@ pub(crate) fn read_ahead<R: Threads + Sync, S: ByteSource, P: PieceReader + Send
             buffers.held = held.buf;
             return end;
         }
-        held.feed_beside(rt, alloc, reader, &mut next, workers)?;
+        held.feed_beside(rt, alloc, reader, &mut next, workers, &mut buffers.rooms)?;
+        keep_rooms(&mut buffers.rooms, held.fronts);
         limit = next.limit_after(limit, workers);
         room = room_for(alloc, held.buf, limit)?;
         held = next.hold_or_feed(reader)?;

@@ -8,6 +8,7 @@ use super::record_list::by_parts;
 use log_record::{Format, Record, read_line};
 use memchr::memchr;
 use std::alloc::{AllocError, Global};
+use std::mem::replace;
 use std::thread::{Threads, join_mut};
 
 /// How many bytes the lines of most records have, or more.
@@ -61,6 +62,18 @@ impl Fronts {
     }
 }
 
+/// Keeps the lists of some fronts for their room, as many as there is memory for. The first front has none of its own.
+pub(crate) fn keep_rooms(rooms: &mut Vec<Vec<Record>>, fronts: Option<Fronts>) {
+    let Some(fronts) = fronts else {
+        return;
+    };
+    for front in fronts.list.into_iter().skip(1) {
+        if rooms.push(front.records).is_err() {
+            return;
+        }
+    }
+}
+
 /// Cuts a text after the first line feed at or after this place; where there is none, the
 /// second part is empty.
 pub(crate) fn cut(text: &[u8], from: usize) -> (&[u8], &[u8])
@@ -75,13 +88,15 @@ pub(crate) fn cut(text: &[u8], from: usize) -> (&[u8], &[u8])
 }
 
 /// The records at the front of a chunk of a log of this format: of its whole lines, up to the first one that isn't a
-/// record's there.
-pub(crate) fn front_of(alloc: Global, format: Format, chunk: &[u8]) -> Front
+/// record's there. They are kept in the room of this list, which is left with none.
+fn front_of(alloc: Global, format: Format, chunk: &[u8], room: &mut Vec<Record>) -> Front
     ensures { HasFront format chunk.now result }
 {
-    let Ok(mut records) = Vec::with_capacity(alloc, chunk.len() / LINE) else {
+    let mut records = replace(room, Vec::new(alloc));
+    records.clear();
+    if records.reserve(chunk.len() / LINE).is_err() {
         return Front::empty(alloc, chunk.len());
-    };
+    }
     let mut rest = chunk;
     let mut is_whole = true;
     while let Some(at) = memchr(b'\n', rest) {
@@ -103,13 +118,15 @@ pub(crate) fn front_of(alloc: Global, format: Format, chunk: &[u8]) -> Front
 }
 
 /// The fronts of a text that is cut into its first line, of which no record is read since its beginning may lie before
-/// the text, and a chunk for each of `workers` workers, which read them at once. The calling thread only waits for them.
+/// the text, and a chunk for each of `workers` workers, which read them at once, each into the room of one of these
+/// lists, if there is one left. The calling thread only waits for them.
 fn list_fronts<R: Threads + Sync>(
     rt: &R,
     alloc: Global,
     format: Format,
     text: &[u8],
     workers: usize,
+    rooms: &mut Vec<Vec<Record>>,
 ) -> Result<Vec<Front>, AllocError>
     ensures { IfOk result (λ list. HasFronts format text.now list.items) }
 {
@@ -119,33 +136,38 @@ fn list_fronts<R: Threads + Sync>(
     let others = workers - 1;
     let place = (text.len() / workers).saturating_mul(others);
     let (front, back) = cut(text, place.min(text.len()));
+    let mut room = match rooms.pop() {
+        Some(room) => room,
+        None => Vec::new(alloc),
+    };
     let (last, list) = join_mut(
         rt,
         &mut || -> Front
             ensures { HasFront format back.entry.now result }
-        { front_of(alloc, format, back) },
+        { front_of(alloc, format, back, &mut room) },
         &mut || -> Result<Vec<Front>, AllocError>
             requires { IsSync R.row }
             ensures { IfOk result (λ list. HasFronts format front.entry.now list.items) }
-        { list_fronts(rt, alloc, format, front, others) },
+        { list_fronts(rt, alloc, format, front, others, rooms) },
     );
     let mut list = list?;
     list.push(last)?;
     Ok(list)
 }
 
-/// What `workers` workers read at once of the lines of a piece, as those of a log of this format; nothing where memory
-/// for it was refused. The piece may begin within a line.
+/// What `workers` workers read at once of the lines of a piece, as those of a log of this format, into the room of these
+/// lists; nothing where memory for it was refused. The piece may begin within a line.
 pub(crate) fn fronts_of<R: Threads + Sync>(
     rt: &R,
     alloc: Global,
     format: Format,
     piece: &[u8],
     workers: usize,
+    rooms: &mut Vec<Vec<Record>>,
 ) -> Option<Fronts>
     ensures { IfSome result (λ fronts. HasFronts fronts.format piece.now fronts.list.items) }
 {
-    match list_fronts(rt, alloc, format, piece, workers) {
+    match list_fronts(rt, alloc, format, piece, workers, rooms) {
         Ok(list) => Some(Fronts { format, list }),
         Err(_) => None,
     }

@@ -131,5 +131,5 @@ fn read_by<R: Threads + Sync>(
     if workers <= 1 {
         return None;
     }
-    fronts_of(rt, alloc, format?, piece, workers)
+    fronts_of(rt, alloc, format?, piece, workers, &mut Vec::new(alloc))
 }
