@@ -1,5 +1,5 @@
-//! Numbers and texts at the front of bytes, as functions of the bytes. They are inlined into the loop that reads the
-//! lines of a log, where a call for each number would take as long as its digits.
+//! Numbers and texts at the front of bytes, as functions of the bytes. They are inlined into what reads a line of a log,
+//! where a call for each number would take as long as its digits.
 
 ghost use Rattle.std.specs.Prelude.{◌≡◌, ℕ, ◌+◌, ◌-◌, ◌*◌, ◌<◌, [], ◌∷◌, option_map, IsTrue};
 ghost use Rattle.decimal_text.specs.Numbers.{as_u64};

@@ -1,5 +1,5 @@
-//! Reads a record's line from left to right. All of it is inlined into the loop that reads the lines of a log, so that
-//! what is read of a line stays in registers.
+//! Reads a record's line from left to right. All of it is inlined into one function, so that what is read of a line
+//! stays in registers.
 
 ghost use Rattle.std.specs.Prelude.{◌≡◌, option_map};
 ghost use Rattle.decimal_text.specs.Reading.{front_now, front_map};
