@@ -33,9 +33,6 @@ drop_next [] (suc k) y r e = cc
 drop_next (x ∷ xs) zero y r e = cc
 drop_next (x ∷ xs) (suc k) y r e = drop_next xs k y r e
 
-pub same_start : {A : Type 0} (xs ys : List A) → SameSoFar xs ys 0 xs ys
-same_start xs ys = record { one = refl; other = refl; same = refl }
-
 pub same_more : {A : Type 0} (xs ys : List A) (k : ℕ) (z : A) (xr yr : List A) → SameSoFar xs ys k (z ∷ xr) (z ∷ yr) → SameSoFar xs ys (k + 1) xr yr
 same_more xs ys k z xr yr h = rw add-one (record {
   one = drop_next xs k z xr h.one;
@@ -79,9 +76,6 @@ got_has n s (Got m r) x h = by_test (slice_of n (addr_of m) == s) h
     by_test true k = k
     by_test false k = absurd cc
 
-pub got_some : (n s : ℕ) (e : CoreEntry) → is_some (got_at n s e) ≡ true → is_some (got_in e) ≡ true
-got_some n s e h = let x = some_of (got_at n s e) h in ap is_some (got_has n s e x.0 x.1)
-
 pub served_has : (c : ℕ) (e : HistoryEntry) (x : Message × Reply) → served_at c e ≡ Some x → served_in e ≡ Some x
 served_has c (Evicted a) x h = absurd cc
 served_has c (Served d m r) x h = by_test (d == c) h
@@ -104,10 +98,6 @@ next_got n s T i e is lt h =
 pub none_of : {A : Type 0} (o : Option A) → is_some o ≡ false → o ≡ None
 none_of None e = refl
 none_of (Some x) e = absurd cc
-
--- an entry that isn't one of slice s's
-pub no_got : (n s : ℕ) (T : List CoreEntry) (i : ℕ) (e : CoreEntry) → e ≡ get_or T i e → i < length T → is_some (got_at n s e) ≡ false → gots n s (drop i T) ≡ gots n s (drop (i + 1) T)
-no_got n s T i e is lt h = gots_at n s T i e is lt ∙ ap (λ o. put o (gots n s (drop (i + 1) T))) (none_of (got_at n s e) h)
 
 -- the message of core c that is served next stands here
 pub served_here : (c : ℕ) (H : List HistoryEntry) (from at : ℕ) (e : HistoryEntry) → e ≡ get_or H at e → at < length H → from ≤ at → serveds c (drop at H) ≡ serveds c (drop from H)

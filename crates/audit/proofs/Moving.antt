@@ -33,9 +33,6 @@ own_there T k h = by_entry (slice_get T k) refl h
 pub sum_on : (p : List ℕ) (c : ℕ) → c < length p → sum (slice_set p c (slice_index p c + 1)) ≡ sum p + 1
 sum_on p c lt = let s = sum_by-set (λ n. n) p c (slice_index p c + 1) 0 lt in omega arith
 
-pub sum_down : (due : List ℕ) (s : ℕ) → s < length due → slice_index due s ≢ 0 → sum (slice_set due s 0) < sum due
-sum_down due s lt some = let k = sum_by-set (λ n. n) due s 0 0 lt in omega arith
-
 pub sum_up : (due : List ℕ) (s : ℕ) → s < length due → sum (slice_set due s 1) ≤ sum due + 1
 sum_up due s lt = let k = sum_by-set (λ n. n) due s 1 0 lt in omega arith
 
@@ -154,7 +151,3 @@ mark due w waits lt is t none = elim (eqb_tells w t) [
       absurd (omega (arith, here, none)))
   | inr n ↦ (sym (get_or-set_other due w t 1 0 (λ e. n.1 (sym e))) ∙ none, λ k. n.1 (let both : Some w ≡ Some t = sym is ∙ k in cc))
 ]
-
--- no slice is waited for
-pub no_mark : (due : List ℕ) (waits : Option ℕ) → waits ≡ None → (t : ℕ) → slice_index due t ≡ 0 → (slice_index due t ≡ 0) × (waits ≢ Some t)
-no_mark due waits is t none = (none, λ k. let both : None ≡ Some t = sym is ∙ k in absurd cc)

@@ -79,10 +79,6 @@ runs_at p s t (y ∷ xs) (suc n) x h e = go (is_issued (next_op p s) y) refl h (
         }
     go false is k step = cc
 
--- a core that performs a conforming log issues each of its operations in turn
-pub conforms_at : (p : List Instruction) (xs : List Operation) (n : ℕ) (x : Operation) → Conforms p xs → slice_get xs n ≡ Some x → RunsAt p (start_of p) xs n x
-conforms_at p xs n x h e = let t = conforms-state p xs h in runs_at p (start_of p) t.0 xs n x t.1 e
-
 -- ---- faults
 
 -- the fault where the log ends: what is next is one
@@ -228,7 +224,3 @@ differs-few p xs i program h = omega (arith, reached-length p (take i xs) h.issu
 
 pub no-fault : (p : List Instruction) (xs : List Operation) (s : State) → state_after p xs ≡ Some s → next_op p s ≡ None → program_fault p xs ≡ None
 no-fault p xs s run ended = run-none p (start_of p) s xs run ended
-
--- a log without a fault leads to a state in which the program has ended
-pub no-fault-state : (p : List Instruction) (xs : List Operation) → program_fault p xs ≡ None → (t : State) × (state_after p xs ≡ Some t) × (next_op p t ≡ None)
-no-fault-state p xs h = none-run p (start_of p) xs h

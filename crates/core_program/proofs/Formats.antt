@@ -1,4 +1,4 @@
--- Programs of format 1 issue no swap, and perform none.
+-- Programs of format 1 perform no swap.
 use Rattle.std.specs.Prelude.{◌≡◌, ℕ, zero, suc, ◌⊎◌, true, IsTrue, List, [], ◌∷◌, ◌++◌, Some, slice_get}
 use Rattle.std.proofs.Common.{subst, inl, inr}
 use Rattle.std.proofs.lemmas.Option.{get_or_from_slice_get, slice_get_within}
@@ -7,33 +7,16 @@ use Rattle.mem_op.specs.declared.id.Op.TheVariants as op
 use Rattle.mem_op.specs.Consistency.{Operation, Loaded, Stored, Swapped}
 use Rattle.core_program.specs.declared.format.Format.TheVariants.{One}
 use Rattle.core_program.specs.declared.instruction.Instruction.{Instruction}
-use Rattle.core_program.specs.declared.instruction.Instruction.TheVariants.{Load, Store, StoreRegister, Add, SkipIfZero, Swap}
+use Rattle.core_program.specs.declared.instruction.Instruction.TheVariants.{Swap}
 use Rattle.core_program.specs.State.{State, reg}
 use Rattle.core_program.specs.Shape.{IsOfFormat, has_instruction}
 use Rattle.core_program.specs.Meaning.{Path, stays, loads, stores, stores_register, swaps, adds, skips, goes_on}
-use Rattle.core_program.specs.Running.{issued, next_op}
-use Rattle.core_program.proofs.Paths.{waits}
-
--- an instruction of format 1 issues no swap
-no_swap_issued : (i : Instruction) (s : State) (addr value : ℕ) → has_instruction One i ≡ true → issued i s ≡ Some (op.Swap addr value) → ⊥
-no_swap_issued (Load to a) s addr value has h = cc
-no_swap_issued (Store a v) s addr value has h = cc
-no_swap_issued (StoreRegister a from) s addr value has h = cc
-no_swap_issued (Add to from v) s addr value has h = cc
-no_swap_issued (SkipIfZero tested skip) s addr value has h = cc
-no_swap_issued (Swap to a v) s addr value has h = cc
 
 -- the format has what stands at a place of its program
 has_at : (p : List Instruction) (n : ℕ) (i : Instruction) → IsOfFormat One p → slice_get p n ≡ Some i → has_instruction One i ≡ true
 has_at p n i has at =
     subst (λ (j : Instruction). has_instruction One j ≡ true) (get_or_from_slice_get p n i i at)
     (All-get_or (λ j. IsTrue (has_instruction One j)) p n i (slice_get_within p n i at) has)
-
--- so none is the next operation of a program of format 1
-pub next_is_no_swap : (p : List Instruction) (s : State) (addr value : ℕ) → IsOfFormat One p → next_op p s ≡ Some (op.Swap addr value) → ⊥
-next_is_no_swap p s addr value has h =
-    let w = waits p s (op.Swap addr value) h in
-    no_swap_issued w.instruction s addr value (has_at p s.position w.instruction has w.next) w.issues
 
 -- ---- paths
 

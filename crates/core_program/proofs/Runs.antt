@@ -110,13 +110,6 @@ state_after-rests p xs t program h = run-rests p (start_of p) t xs program (star
 pub state_after-snoc : (p : List Instruction) (xs : List Operation) (x : Operation) (t : State) → state_after p xs ≡ Some t → next_op p t ≡ Some (op_of x) → state_after p (xs ++ x ∷ []) ≡ Some (answered p (word_answered x) t)
 state_after-snoc p xs x t h next = run_from-snoc p (start_of p) t xs x h next
 
--- operations lead to one state at rest
-pub one_state : (p : List Instruction) (s t u : State) (xs : List Operation) → Path p s xs t → IsAtRest p t → Path p s xs u → IsAtRest p u → t ≡ u
-one_state p s t u xs h h_rests k k_rests =
-    let first : run_from p (at_rest p s) xs ≡ Some t = path-run p s t xs h ∙ ap (λ v. Some v) (at_rest-stays p t h_rests) in
-    let second : run_from p (at_rest p s) xs ≡ Some u = path-run p s u xs k ∙ ap (λ v. Some v) (at_rest-stays p u k_rests) in
-    cc
-
 -- ---- how many operations
 
 snoc_length : (xs : List Operation) (x : Operation) → length (xs ++ x ∷ []) ≡ length xs + 1

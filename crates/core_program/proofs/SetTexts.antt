@@ -10,7 +10,7 @@ use Rattle.core_program.specs.declared.format.Format.TheVariants.{One}
 use Rattle.core_program.specs.declared.instruction.Instruction.{Instruction}
 use Rattle.core_program.specs.declared.fault.ProgramFault.{ProgramFault}
 use Rattle.core_program.specs.declared.fault.ProgramFault.TheVariants.{BadLine, TooLong, SkipPastEnd, OutOfMemory}
-use Rattle.core_program.specs.Answers.{SetLines, IsBadLine, SpellsSet}
+use Rattle.core_program.specs.Answers.{SetLines, IsBadLine}
 use Rattle.core_program.specs.Grammar.{format_number, header_text, core_text, end_text, sections, set_lines, EachFits, IsSection, IsSetOf}
 use Rattle.core_program.specs.SetParts.{SetParts}
 use Rattle.core_program.specs.Lines.{text_of, IsFirstWrong}
@@ -165,18 +165,6 @@ lines_of_set format cores programs count = ap (λ (n : ℕ). header_text (format
 set_of : (Section : List Instruction → Type 0) (cores : ℕ) (programs : List (List Instruction)) → 1 ≤ cores → cores ≤ 64
     → AllByRecursion Section programs → length programs ≡ cores → IsSetOf Section programs
 set_of Section cores programs some few each count = record { some = omega (arith, some, count); few = omega (arith, few, count); each = each }
-
-pub set_spelled : (format : Format) (text rest behind : List ℕ) (cores line : ℕ) (programs : List (List Instruction)) → 1 ≤ cores → cores ≤ 64
-    → AfterSections format (header_text (format_number format) cores) cores text programs rest line
-    → length programs ≡ cores → rest ≡ end_text ++ 10 ∷ behind → behind ≡ [] → SpellsSet text (record { format = format; programs = programs })
-set_spelled format text rest behind cores line programs some few stands count is none =
-    let front = begun (header_text (format_number format) cores) programs in (
-      set_of (IsSection format) cores programs some few stands.each count,
-      whole format text rest behind cores line programs stands is
-          ∙ ap (λ (xs : List ℕ). text_of (front ++ end_text ∷ []) ++ xs) none
-          ∙ append-nil (text_of (front ++ end_text ∷ []))
-          ∙ ap text_of (lines_of_set format cores programs count),
-    )
 
 more_wrong : (format : Format) (Section : Format → List Instruction → Type 0) → ((p : List Instruction) → Section format p → EachFits format p) → (text rest behind : List ℕ) (cores line k : ℕ)
     (programs : List (List Instruction)) → 1 ≤ cores → cores ≤ 64 → AllByRecursion (Section format) programs → AfterSections format (header_text (format_number format) cores) cores text programs rest line

@@ -1,7 +1,7 @@
 -- What a core unit keeps through its steps.
 use Rattle.std.proofs.Common.{◌≡◌, ℕ, ◌+◌, ◌<◌, ◌≤◌, Bool, true, false, List, [], ◌∷◌, ◌++◌, length, length-append, refl, sym, ap, subst, ◌∙◌, arith}
 use Rattle.manager_slice.specs.Limits.{entry_limit}
-use Rattle.std.specs.Prelude.{Option, Some, None, ◌||◌, nat_lt, is_some}
+use Rattle.std.specs.Prelude.{Option, Some, None}
 use Rattle.std.specs.FinMap as map
 use Rattle.mem_op.specs.declared.id.Op.{Op}
 use Rattle.mem_op.specs.declared.id.Op.TheVariants as op
@@ -18,7 +18,7 @@ use Rattle.core_program.specs.Running.{IsAtRest}
 use Rattle.core_program.specs.State.{State}
 use Rattle.private_cache.specs.Answers.{give_back}
 use Rattle.private_cache.specs.CacheParts.{CacheParts}
-use Rattle.private_cache.specs.Steps.{line_at, used, kept, without, after_recall, has_room, fill_line}
+use Rattle.private_cache.specs.Steps.{line_at, used, kept, without, after_recall, fill_line}
 use Rattle.private_cache.specs.Table.{Hit, filled, given}
 use Rattle.private_cache.specs.declared.held.Held.{Held}
 use Rattle.private_cache.specs.declared.held.Held.TheVariants.{Shared, Exclusive}
@@ -29,7 +29,7 @@ use Rattle.core_unit.specs.Core.{Core, next_of, op_addr, tries, next_request, ha
 use Rattle.core_unit.specs.Kept.{IsAsked, HandFits, IsKept}
 use Rattle.core_unit.specs.Outcomes.{performed, without_hand}
 use Rattle.core_unit.specs.Parts.{UnitParts, core_of, give_back_in, replayed}
-use Rattle.core_unit.specs.Replay.{CoreReplays, CoreStep, performs, drops, gives, gets, is_taken, bumps}
+use Rattle.core_unit.specs.Replay.{CoreStep, performs, drops, gives, gets, is_taken, bumps}
 use Rattle.core_unit.specs.declared.entry.CoreEntry.{CoreEntry}
 use Rattle.core_unit.specs.declared.entry.CoreEntry.TheVariants as entry
 
@@ -63,12 +63,6 @@ asked_in p (ShReq a copy pts) u h e = h
 asked_in p (ExReq a copy) u h e = h
 asked_in p (WbRep a l) u h e = absurd (cc)
 asked_in p (FlushRep a l) u h e = absurd (cc)
-
-pub hand_asked : (p : UnitParts) (m : Message) (u : Core) → is_request m ≡ true → IsAsked p.config p.core u m → HandFits p.config p.core u (Some m)
-hand_asked p (ShReq a copy pts) u e h = h
-hand_asked p (ExReq a copy) u e h = h
-hand_asked p (WbRep a l) u e h = tt
-hand_asked p (FlushRep a l) u e h = tt
 
 -- a reply that fills a line fits it
 pub fill_filled : (cache : CacheParts) (a : ℕ) (reply : Reply) (held : Held) → fill_line cache a reply ≡ Some held → filled (line_at cache a) reply ≡ Some held
@@ -187,40 +181,3 @@ module _ (p : UnitParts) (k : IsKept p) (room : length p.transcript < entry_limi
         by_message : (x : Op) (y : Message) → y ≡ next_request u x → next_of u ≡ Some x → tries p.core u x ≡ None → has_place p.config u (op_addr x) ≡ true
             → (replayed p).hand ≡ None → Filled y
         by_message x y e next misses place empty = subst Filled (sym e) (by_op x next misses place empty)
-
--- the replay doesn't tell of a request in hand
-same_replay : (p : UnitParts) (hand : Option Message) → IsKept p → give_back_in p.hand ≡ give_back_in hand
-    → CoreReplays p.config p.core p.program p.transcript (record (core_of p None) { hand = give_back_in hand })
-same_replay p hand k e =
-    subst (λ (x : Option Message). CoreReplays p.config p.core p.program p.transcript (record (core_of p None) { hand = x })) e k.replays.replay
-
--- a request is taken in hand, and no entry is made
-pub kept_asked : (p : UnitParts) (k : IsKept p) (x : Op) → p.hand ≡ None → next_of (core_of p None) ≡ Some x
-    → tries p.core (core_of p None) x ≡ None → has_room p.cache (op_addr x) ≡ true
-    → IsKept (record p { hand = Some (next_request (core_of p None) x) })
-kept_asked p k x free next misses room =
-    let u = core_of p None in
-    let m = next_request u x in
-    let place : has_place p.config u (op_addr x) ≡ true =
-    subst (λ (n : ℕ). (nat_lt (map.len p.cache.lines) n || is_some (line_at p.cache (op_addr x))) ≡ true) k.capacity room in
-    record {
-      replays = record {
-        replay = same_replay p (Some m) k (ap give_back_in free ∙ sym (no_give_back m (asked_request u x)));
-        hand = hand_asked p m _ (asked_request u x) (record { op = x; next = next; misses = misses; place = place; is_request = refl });
-      };
-      rests = k.rests;
-      capacity = k.capacity;
-      short = k.short;
-      logged = k.logged;
-    }
-
--- a request was answered by Busy
-pub kept_let_go : (p : UnitParts) (k : IsKept p) (m : Message) → p.hand ≡ Some m → is_request m ≡ true → IsKept (without_hand p)
-kept_let_go p k m h request =
-    record {
-      replays = record { replay = same_replay p None k (ap give_back_in h ∙ no_give_back m request); hand = tt };
-      rests = k.rests;
-      capacity = k.capacity;
-      short = k.short;
-      logged = k.logged;
-    }

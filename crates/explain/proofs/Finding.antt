@@ -12,11 +12,6 @@ pub found_here : {X : Type 0} (p : X → Bool) (xs : List X) (k : ℕ) (x : X) �
 found_here p xs k x so_far l at passes =
     slice_get_read xs (length xs) k x refl l at ∙ sym (sym so_far ∙ find_step p xs k x l at ∙ ap (λ b. cond b (Some x) (find p (drop (k + 1) xs))) passes)
 
--- or further on
-pub not_here : {X : Type 0} (p : X → Bool) (xs : List X) (k : ℕ) (x : X) → find p (drop k xs) ≡ find p xs → k < length xs → x ≡ get_or xs k x → p x ≡ false → find p (drop (k + 1) xs) ≡ find p xs
-not_here p xs k x so_far l at fails =
-    sym (find_step p xs k x l at ∙ ap (λ b. cond b (Some x) (find p (drop (k + 1) xs))) fails) ∙ so_far
-
 -- or nowhere
 pub nowhere : {X : Type 0} (p : X → Bool) (xs : List X) (k : ℕ) → find p (drop k xs) ≡ find p xs → length xs ≤ k → find p xs ≡ None
 nowhere p xs k so_far past = sym so_far ∙ ap (find p) (drop_all k xs past)

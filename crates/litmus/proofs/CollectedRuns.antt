@@ -1,15 +1,14 @@
 -- Runs collected one by one.
-use Rattle.std.proofs.Common.{◌≡◌, ℕ, zero, suc, ◌+◌, ◌<◌, List, [], ◌∷◌, ◌++◌, length, map, refl, sym, ap, subst, ◌∙◌, arith, length-append}
+use Rattle.std.proofs.Common.{◌≡◌, ℕ, zero, suc, ◌+◌, List, [], ◌∷◌, ◌++◌, length, map, refl, sym, ap, subst, ◌∙◌, arith, length-append}
 use Rattle.std.specs.Prelude.{Some, slice_get}
 use Rattle.std.specs.Global.{Vec}
 use Rattle.std.proofs.lemmas.List.{map_push}
 use Rattle.lease_rule.specs.ConfigParts.{ConfigParts}
 use Rattle.core_machine.specs.Machine.{World}
 use Rattle.core_machine.specs.Parts.{CoreParts, world}
-use Rattle.litmus.specs.Collecting.{AreEndsOf, AreRowsOf, IsFirstWithout, IsRunCount, IsTableOf}
+use Rattle.litmus.specs.Collecting.{AreEndsOf}
 use Rattle.litmus.specs.Parts.{LitmusParts}
 use Rattle.litmus.specs.Runs.{ThreadEnd, IsEndOf, IsSeededRun, IsThreadRun, left, outcome_of, seed_of}
-use Rattle.litmus.specs.TableParts.{RowParts, TableParts}
 use Rattle.litmus.specs.inner.Tallies.{IsTally}
 use Rattle.litmus.proofs.Tallied.{none_counted}
 
@@ -52,19 +51,3 @@ one_more_run E Ran at t k old new outcome far end more =
           (ap (λ (o : List ℕ). outcomes_of E at t far.ends ++ o ∷ []) run-is.outcome_is ∙ sym (map_push (λ q. outcome_of t (at q)) far.ends run-is.end))
           (more (outcomes_of E at t far.ends) far.tally);
     }
-
-pub first_without : (E : Type 0) (Ran : ℕ → E → Type 0) (at : E → World) (t : LitmusParts) (runs k : ℕ) (entries : List (Vec ℕ × ℕ)) (Why : Type 0)
-    → CollectedSoFar E Ran at t entries k → k < runs → Why → IsFirstWithout E Ran at t runs k Why
-first_without E Ran at t runs k entries Why far below why = record { below = below; ends = far.ends; count = far.count; before = far.each; cause = why }
-
-pub whole_table : (E : Type 0) (Ran : ℕ → E → Type 0) (at : E → World) (t : LitmusParts) (runs k : ℕ) (entries : List (Vec ℕ × ℕ)) (table : TableParts)
-    → CollectedSoFar E Ran at t entries k → k ≡ runs → IsRunCount runs → table.shown ≡ t.shown
-    → ((outcomes : List (List ℕ)) → IsTally outcomes entries → AreRowsOf t outcomes table.rows) → IsTableOf E Ran at t runs table
-whole_table E Ran at t runs k entries table far same in_range shown rows = record {
-  in_range = in_range;
-  ends = far.ends;
-  count = far.count ∙ same;
-  each = far.each;
-  shown = shown;
-  rows = rows (outcomes_of E at t far.ends) far.tally;
-}

@@ -1,5 +1,5 @@
 -- The texts of logs, and what the judge says of them.
-use Rattle.std.proofs.Common.{◌≡◌, ℕ, zero, suc, ◌+◌, List, [], ◌∷◌, ◌++◌, length, map, Some, refl, sym, ap, subst, ◌∙◌, arith, append-nil, length-append}
+use Rattle.std.proofs.Common.{◌≡◌, ℕ, suc, ◌+◌, List, [], ◌∷◌, ◌++◌, length, map, Some, refl, sym, ap, subst, ◌∙◌, arith, length-append}
 use Rattle.std.specs.Global.{Vec}
 use Rattle.std.specs.List.{AllZip}
 use Rattle.std.specs.Prelude.{Result, Ok, Err, MatchResult}
@@ -7,7 +7,7 @@ use Rattle.std.proofs.lemmas.List.{map_push}
 use Rattle.log_record.specs.declared.record.Record.{Record}
 use Rattle.log_file.specs.Devices.{Tells}
 use Rattle.log_file.specs.Log.{Spells}
-use Rattle.log_file.specs.Sets.{SpellFrom, SpellSet, TellEach}
+use Rattle.log_file.specs.Sets.{SpellFrom, SpellSet}
 use Rattle.log_file.proofs.Once.{one_log}
 use Rattle.core_program.specs.declared.instruction.Instruction.{Instruction}
 use Rattle.core_machine.specs.Machine.{World}
@@ -37,9 +37,6 @@ spell_push core cores m (t ∷ texts) (l ∷ logs) text log all count spells =
 pub record TextsSoFar (w : World) (cores : ℕ) (texts : List (Vec ℕ)) (number : ℕ) : Type 0 where
   pub spell : SpellFrom 0 cores (word_lists texts) (logs_below w number)
   pub count : length (word_lists texts) ≡ number
-
-pub no_texts : (w : World) (cores : ℕ) → TextsSoFar w cores [] 0
-no_texts w cores = record { spell = tt; count = refl }
 
 pub one_more_text : (w : World) (cores number core : ℕ) (old new : List (Vec ℕ)) (text : Vec ℕ) (log : List Record) → TextsSoFar w cores old number → new ≡ old ++ text ∷ []
     → core ≡ number → log ≡ log_at w core → Spells core cores text.items log → TextsSoFar w cores new (number + 1)

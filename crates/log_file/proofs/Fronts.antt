@@ -1,6 +1,6 @@
 -- The fronts of chunks that follow one another.
-use Rattle.std.proofs.Common.{◌≡◌, ℕ, zero, suc, ◌+◌, ◌<◌, ◌≤◌, List, [], ◌∷◌, ◌++◌, length, take, drop, get_or, sym, subst, arith}
-use Rattle.std.proofs.lemmas.List.{drop_more, take_all, drop_all, take-append-le, drop-append-le}
+use Rattle.std.proofs.Common.{◌≡◌, ℕ, zero, suc, ◌+◌, ◌≤◌, List, [], ◌∷◌, ◌++◌, length, take, drop, sym, subst, arith}
+use Rattle.std.proofs.lemmas.List.{take_all, drop_all, take-append-le, drop-append-le}
 use Rattle.log_record.specs.declared.format.Format.{Format}
 use Rattle.log_file.specs.declared.chunks.Front.{Front}
 use Rattle.log_file.specs.inner.Chunks.{HasFront, HasFronts}
@@ -14,11 +14,6 @@ take_within (suc n) (x ∷ xs) e = let l = take_within n xs (omega (arith, e)) i
 -- the first chunk lies within the text
 pub first_within : (format : Format) (text : List ℕ) (front : Front) → HasFront format (take front.len text) front → front.len ≤ length text
 first_within format text front has = take_within front.len text has.whole
-
--- the front at a place, and those after it
-pub front_at : (format : Format) (text : List ℕ) (fronts : List Front) (i : ℕ) (d : Front) → i < length fronts → HasFronts format text (drop i fronts)
-    → HasFront format (take (get_or fronts i d).len text) (get_or fronts i d) × HasFronts format (drop (get_or fronts i d).len text) (drop (i + 1) fronts)
-front_at format text fronts i d lt has = subst (λ (fs : List Front). HasFronts format text fs) (drop_more fronts i d lt) has
 
 -- after the last front there is nothing left
 pub none_after : (format : Format) (text : List ℕ) (fronts : List Front) (i : ℕ) → length fronts ≤ i → HasFronts format text (drop i fronts) → text ≡ []

@@ -1,5 +1,5 @@
 -- The lines of a piece up to the next record's.
-use Rattle.std.proofs.Common.{◌≡◌, ℕ, ◌+◌, ◌<◌, ◌≤◌, List, [], ◌++◌, length, take, drop, sym, ap, subst, ◌∙◌, arith, append-nil, length-drop, Option, None, Some}
+use Rattle.std.proofs.Common.{◌≡◌, ℕ, ◌+◌, ◌<◌, ◌≤◌, List, [], ◌++◌, length, take, drop, sym, ap, subst, ◌∙◌, arith, length-drop, Option, None, Some}
 use Rattle.std.specs.Prelude.{IfSome, is_some, true, false}
 use Rattle.std.proofs.Math.Seq.{take-add}
 use Rattle.std.proofs.lemmas.List.{take-append-drop}
@@ -7,11 +7,8 @@ use Rattle.log_record.specs.declared.record.Record.{Record}
 use Rattle.log_file.specs.declared.fault.LogFault.{LogFault}
 use Rattle.log_file.specs.declared.line_reader.LineReader.{LineReader}
 use Rattle.log_file.specs.declared.line_reader.TakenLine.{TakenLine}
-use Rattle.log_file.specs.Standing.{IsSettledWith, SameLog, Stands, Takes, TakesNext, TakesRecord, read_text, with_read}
+use Rattle.log_file.specs.Standing.{IsSettledWith, SameLog, Stands, Takes, TakesNext, TakesRecord, with_read}
 use Rattle.log_file.proofs.TakenParts.{takes_more, settled_more}
-
-pub takes_none : (s : LineReader) (records : List Record) → Stands s records → Takes s records [] s records
-takes_none s records stands = record { stands = stands; text = sym (append-nil (read_text s records)) }
 
 -- one more line, after those that were taken
 line_more : (old mid new : LineReader) (records : List Record) (piece rest : List ℕ) (taken : ℕ) (line : TakenLine) → rest ≡ drop taken piece
@@ -75,14 +72,3 @@ refused_after old mid piece rest taken fault is same so_far settled records stan
     subst (λ (xs : List ℕ). IsSettledWith old records xs fault)
     (ap (λ (xs : List ℕ). take taken piece ++ xs) is ∙ take-append-drop taken piece)
     (settled_more old mid records records (take taken piece) rest fault first same (settled records first.stands))
-
--- the rest of the piece, in which no record's line ends
-pub ends_in : (old mid new : LineReader) (piece rest : List ℕ) (taken : ℕ) → rest ≡ drop taken piece
-    → ((records : List Record) → Stands old records → Takes old records (take taken piece) mid records)
-    → ((records : List Record) → Stands mid records → Takes mid records rest new records)
-    → (records : List Record) → Stands old records → Takes old records piece new records
-ends_in old mid new piece rest taken is so_far takes records stands =
-    let first = so_far records stands in
-    subst (λ (xs : List ℕ). Takes old records xs new records)
-    (ap (λ (xs : List ℕ). take taken piece ++ xs) is ∙ take-append-drop taken piece)
-    (takes_more old mid new records records records (take taken piece) rest first (takes records first.stands))

@@ -45,11 +45,6 @@ home_common x a l e = rw e refl
 pub home_owned : (x : Settled) → AgreeOnOwners x → (c a : ℕ) (m : Bool) (l : Line) → x.entry c a ≡ Some (Exclusive m l) → home x a ≡ l
 home_owned x o c a m l e = rw (o.owner c a m l e, e) refl
 
-pub shared_is : (h : Option Held) (k : Line) → copy_in h ≡ Some k → h ≡ Some (Shared k)
-shared_is None k e = absurd cc
-shared_is (Some (Shared l)) k e = cc
-shared_is (Some (Exclusive m l)) k e = absurd cc
-
 pub dirty_is : (h : Option Held) → is_dirty h ≡ true → (l : Line) × (h ≡ Some (Exclusive true l))
 dirty_is None e = absurd cc
 dirty_is (Some (Shared l)) e = absurd cc

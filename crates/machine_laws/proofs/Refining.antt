@@ -37,10 +37,6 @@ use Rattle.machine_laws.proofs.Stamps.{which}
 use Rattle.machine_laws.proofs.Moves.{home_common, IsElsewhere, IsServed, whole, renewed, Move, stays, drops, raises, gives, shares, owns}
 use Rattle.machine_laws.proofs.Maps.{get-insert_same, get-insert_other, get-remove_same, get-remove_other, get-put_other}
 
--- a free core's lines are those of its cache
-free_entry : (u : Core) (b : ℕ) → u.hand ≡ None → entry_of u b ≡ map.get u.lines b
-free_entry u b e = rw e refl
-
 -- another address than the message's
 other_entry : (m : Message) (k : Option Reply) (b : ℕ) (e : Option Held) → b ≢ addr_of m → with_hand (Some m) k b e ≡ e
 other_entry m k b e n = elim (eqb_tells (addr_of m) b) [

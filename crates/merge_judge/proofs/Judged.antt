@@ -10,12 +10,8 @@ use Rattle.std.specs.Io.KnownBytes.{Appends}
 use Rattle.merge_judge.specs.declared.merge_fault.MergeFault.TheVariants.{Judge, Write}
 use Rattle.merge_judge.specs.OrderText.{LacksEnd}
 use Rattle.merge_judge.specs.WriteFaults.{from_write}
-use Rattle.std.specs.Prelude.{IfErr}
 use Rattle.verdict.specs.Counts.{IsBadCount}
-use Rattle.verdict.specs.declared.judge_fault.Count.TheVariants.{Files}
-use Rattle.verdict.specs.declared.judge_fault.JudgeFault.TheVariants.{BadConfig}
-use Rattle.merge_judge.specs.declared.merge_fault.MergeFault.{MergeFault}
-use Rattle.merge_judge.specs.inner.Judging.{IsMergedBy, IsNoCount}
+use Rattle.merge_judge.specs.inner.Judging.{IsMergedBy}
 use Rattle.std.specs.Prelude.{Bool, true, false, length}
 use Rattle.std.proofs.Common.{append-nil, inl, inr, subst}
 use Rattle.std.proofs.lemmas.List.{length-map}
@@ -147,11 +143,3 @@ module _ {S : Type 0} (remaining : S → Option (List ℕ)) (failed : S → ℕ)
 -- a bad count is no failed read
 pub bad_no_read : (f : JudgeFault) (file : ℕ) → IsBadCount f → Judge f ≡ Judge (Read file) → ⊥
 bad_no_read f file bad h = let e : f ≡ Read file = cc in subst IsBadCount e bad
-
-pub tail_range : (fault : JudgeFault) → (IsBadCount fault → ⊥) → fault ≡ BadConfig Files → ⊥
-tail_range fault none e = none (subst IsBadCount (sym e) tt)
-
-pub no_bad_count : {T : Type 0} (r : Result T MergeFault) → IfErr r IsNoCount → r ≡ Err (Judge (BadConfig Files)) → ⊥
-no_bad_count (Ok x) h e = absurd cc
-no_bad_count (Err (Judge f)) h e = tail_range f h (let q : f ≡ BadConfig Files = cc in q)
-no_bad_count (Err Write) h e = absurd cc

@@ -1,5 +1,5 @@
 -- The entries of a cache by their addresses: what a put leaves, and that no address is there twice.
-use Rattle.std.proofs.Common.{◌≡◌, ℕ, ◌-◌, ◌≤◌, true, false, ◌||◌, cond, List, [], ◌∷◌, length, refl, sym, ap, nat_eq, nat_lt, Some, None, is_some, Result, Ok, Err, IsOk, OnOk, arith}
+use Rattle.std.proofs.Common.{◌≡◌, ℕ, ◌-◌, ◌≤◌, true, false, ◌||◌, cond, List, [], ◌∷◌, length, refl, sym, ap, nat_eq, nat_lt, Some, None, is_some, arith}
 use Rattle.std.proofs.lemmas.Grind.{common_steps}
 use Rattle.std.proofs.lemmas.Bool.{eqb-true, eq-eqb}
 use Rattle.std.proofs.lemmas.List.{take_all}
@@ -85,7 +85,3 @@ differs a (k ∷ ks) d = (elim (nat_eq a k) as (λ y. nat_eq a k ≡ y → AllBy
 pub distinct-front : (a : ℕ) (ks : List ℕ) → IsDistinct nat_eq ks → IsDistinct nat_eq (a ∷ remove_key (nat_eq a) ks)
 unfolding IsDistinct
 distinct-front a ks d = (differs a ks d, distinct-remove_key a ks d)
-
-pub ok_holds : {T E P : Type 0} (r : Result T E) → IsOk r → OnOk r P → P
-ok_holds (Ok x) h p = p
-ok_holds (Err e) h p = absurd cc

@@ -1,6 +1,6 @@
 -- The check of files, by what the judge answers to their sources.
 use Rattle.std.proofs.Common.{◌≡◌, sym, subst, ◌+◌, ◌<◌, refl, add-one, length, slice_index_or, take, ℕ, List, [], ◌∷◌, ◌++◌, Option, None, Some, Result, Ok, Err, vec_len}
-use Rattle.std.specs.Prelude.{IfSome, IsSome, IsErrOf}
+use Rattle.std.specs.Prelude.{IfSome, IsErrOf}
 use Rattle.std.proofs.Math.Seq.{take-suc}
 use Rattle.std.specs.Borrow.{Bor}
 use Rattle.command_line.specs.declared.request.Check.{Check}
@@ -19,8 +19,7 @@ use Rattle.verdict.specs.declared.judge_fault.JudgeFault.{JudgeFault}
 use Rattle.verdict.specs.declared.judge_fault.JudgeFault.TheVariants.{BadConfig, Log, Read, OutOfMemory}
 use Rattle.tardis_command.specs.Faults.{from_judge}
 use Rattle.tardis_command.specs.declared.fault.CommandFault.{CommandFault}
-use Rattle.tardis_command.specs.declared.fault.CommandFault.TheVariants.{Judge, Config, Programs, ProgramsUnread, Schedule, ScheduleUnread, Simulation, Run, Test, TestUnread, Collect, LogUnwritten, PictureUnwritten, Output, OutOfMemory as NoMemory}
-use Rattle.tardis_command.specs.Checking.{Against, AreInRange, AreNotAsMany, AreSourcesOf, AreTextsOf, IsAnswerAgainst, IsChecked, IsCheckedAgainst, IsFaultOfPrograms, IsUnprogrammed}
+use Rattle.tardis_command.specs.Checking.{Against, AreInRange, AreNotAsMany, AreSourcesOf, AreTextsOf, IsAnswerAgainst, IsChecked, IsCheckedAgainst}
 
 -- the next file's source, after those of the files before it
 one_source_more : {S : Type 0} (told : List ℕ → Option (List ℕ)) (remaining : S → Option (List ℕ)) (sources : List S) (names : List (Bor (List ℕ)))
@@ -90,10 +89,6 @@ against told asked (Err (BadConfig Workers)) h = whatever told asked.program (Is
 against told asked (Err (BadConfig ProgramCount)) h = h
 against told asked (Err OutOfMemory) h = tt
 
--- where none were asked for
-pub against_none : (told : List ℕ → Option (List ℕ)) (asked : Check) (Holds : Option (List (List Instruction)) → Type 0) → asked.program ≡ None → Holds None → Against told asked.program Holds
-against_none told asked Holds none h = subst (λ name. Against told name Holds) (sym none) (None, tt, h)
-
 -- a set of programs that was read has some format
 pub of_format : (told : List ℕ → Option (List ℕ)) (name : List ℕ) (set : SetParts) → (text : List ℕ) × Tells (told name) text × SpellsSet text set
     → (text : List ℕ) × Tells (told name) text × (format : Format) × SpellsSet text (record { format = format; programs = set.programs })
@@ -104,27 +99,6 @@ pub against_some : (told : List ℕ → Option (List ℕ)) (asked : Check) (name
     → (text : List ℕ) × Tells (told name.now) text × (format : Format) × SpellsSet text (record { format = format; programs = programs }) → Holds (Some programs) → Against told asked.program Holds
 against_some told asked name programs Holds some read h = subst (λ n. Against told n Holds) (sym some) (Some programs, read, h)
 
-pub checked_none : (told : List ℕ → Option (List ℕ)) (asked : Check) (answer : Result Verdict JudgeFault) → asked.program ≡ None → IsCheckedAgainst told None asked answer → IsChecked told asked (lifted answer)
-checked_none told asked answer none h = against told asked answer (against_none told asked _ none h)
-
 pub checked_some : (told : List ℕ → Option (List ℕ)) (asked : Check) (name : Bor (List ℕ)) (programs : List (List Instruction)) (answer : Result Verdict JudgeFault) → asked.program ≡ Some name
     → (text : List ℕ) × Tells (told name.now) text × (format : Format) × SpellsSet text (record { format = format; programs = programs }) → IsCheckedAgainst told (Some programs) asked answer → IsChecked told asked (lifted answer)
 checked_some told asked name programs answer some read h = against told asked answer (against_some told asked name programs _ some read h)
-
--- where there are none
-pub unprogrammed : (told : List ℕ → Option (List ℕ)) (asked : Check) (name : Bor (List ℕ)) (fault : CommandFault) → AreInRange asked → asked.program ≡ Some name → IsUnprogrammed told name.now fault → IsChecked told asked (Err fault)
-unprogrammed told asked name (Programs fault) range some h = (range, subst (λ n. IsFaultOfPrograms told n fault) (sym some) h)
-unprogrammed told asked name ProgramsUnread range some h = (range, subst (λ (n : Option (Bor (List ℕ))). IsSome n) (sym some) refl)
-unprogrammed told asked name NoMemory range some h = tt
-unprogrammed told asked name (Judge reason) range some h = absurd h
-unprogrammed told asked name (Config reason) range some h = absurd h
-unprogrammed told asked name (Schedule reason) range some h = absurd h
-unprogrammed told asked name ScheduleUnread range some h = absurd h
-unprogrammed told asked name (Simulation reason) range some h = absurd h
-unprogrammed told asked name (Run reason) range some h = absurd h
-unprogrammed told asked name (Test reason) range some h = absurd h
-unprogrammed told asked name TestUnread range some h = absurd h
-unprogrammed told asked name (Collect reason) range some h = absurd h
-unprogrammed told asked name (LogUnwritten file) range some h = absurd h
-unprogrammed told asked name PictureUnwritten range some h = absurd h
-unprogrammed told asked name Output range some h = absurd h

@@ -1,9 +1,8 @@
 -- What explaining comes to, from what its parts answer.
-use Rattle.std.proofs.Common.{◌≡◌, ap, subst, sym, refl, ℕ, List, length, Option, None, Some, Result, Ok, Err, inl, vec_len, option_copied}
+use Rattle.std.proofs.Common.{◌≡◌, ap, subst, refl, ℕ, List, length, Option, None, Some, Result, Ok, Err, vec_len, option_copied}
 use Rattle.std.specs.Prelude.{IfOk, IsErrOf, option_map}
 use Rattle.std.specs.Borrow.{Bor}
 use Rattle.command_line.specs.declared.request.Check.{Check}
-use Rattle.command_line.specs.declared.request.Explain.{Explain}
 use Rattle.log_record.specs.declared.record.Record.{Record}
 use Rattle.core_program.specs.SetParts.{SetParts}
 use Rattle.core_program.specs.declared.instruction.Instruction.{Instruction}
@@ -17,40 +16,8 @@ use Rattle.verdict.specs.declared.basis.Examined.{Examined}
 use Rattle.verdict.specs.declared.judge_fault.Count.TheVariants.{Files as FileCount, Workers, Programs as ProgramCount}
 use Rattle.verdict.specs.declared.judge_fault.JudgeFault.{JudgeFault}
 use Rattle.verdict.specs.declared.judge_fault.JudgeFault.TheVariants.{BadConfig}
-use Rattle.tardis_command.specs.Checking.{AreInRange, AreNotAsMany, AreTextsOf, FilesRunFlatBy, IsAnswerAgainst, IsChecked, IsCheckedAgainst}
-use Rattle.tardis_command.specs.Explaining.{IsExplained, IsUnprogrammedBy}
-use Rattle.tardis_command.specs.Files.{Files}
-use Rattle.tardis_command.specs.Sinks.{Sink}
-use Rattle.tardis_command.specs.declared.fault.CommandFault.{CommandFault}
-use Rattle.tardis_command.specs.declared.fault.CommandFault.TheVariants.{Judge, Config, Programs, ProgramsUnread, Schedule, ScheduleUnread, Simulation, Run, Test, TestUnread, Collect, LogUnwritten, PictureUnwritten, Output, OutOfMemory}
-use Rattle.tardis_command.proofs.Checks.{checked, unprogrammed}
-use Rattle.tardis_command.proofs.Ends.{kept}
-
--- nothing was explained, and nothing written
-pub not_explained : (old : Files) (asked : Explain) (out : Sink) (fault : CommandFault) → IsChecked old.told asked.check (Err fault) → IsExplained old old asked out out (Err fault)
-not_explained old asked out (Judge fault) why = (why, kept out.contents)
-not_explained old asked out (Programs fault) why = (why, kept out.contents)
-not_explained old asked out ProgramsUnread why = (why, kept out.contents)
-not_explained old asked out OutOfMemory why = inl (kept out.contents)
-not_explained old asked out (Config fault) why = absurd why
-not_explained old asked out (Schedule fault) why = absurd why
-not_explained old asked out ScheduleUnread why = absurd why
-not_explained old asked out (Simulation fault) why = absurd why
-not_explained old asked out (Run fault) why = absurd why
-not_explained old asked out (Test fault) why = absurd why
-not_explained old asked out TestUnread why = absurd why
-not_explained old asked out (Collect fault) why = absurd why
-not_explained old asked out (LogUnwritten file) why = absurd why
-not_explained old asked out PictureUnwritten why = absurd why
-not_explained old asked out Output why = absurd why
-
--- there are no programs
-pub unprogrammed_by : (told : List ℕ → Option (List ℕ)) (asked : Check) (fault : CommandFault) → AreInRange asked → IsUnprogrammedBy told asked.program fault → IsChecked told asked (Err fault)
-unprogrammed_by told asked fault range why = go asked.program refl why
-  where
-    go : (name : Option (Bor (List ℕ))) → asked.program ≡ name → IsUnprogrammedBy told name fault → IsChecked told asked (Err fault)
-    go None is none = absurd none
-    go (Some name) is h = unprogrammed told asked name fault range is h
+use Rattle.tardis_command.specs.Checking.{AreInRange, AreNotAsMany, AreTextsOf, FilesRunFlatBy, IsAnswerAgainst, IsCheckedAgainst}
+use Rattle.tardis_command.proofs.Checks.{checked}
 
 -- the programs that a reference leads to are those that were read
 pub given_is : (lent : Option (Bor SetParts)) (set : Option SetParts) → option_copied lent ≡ set → given lent ≡ option_map (λ s. s.programs) set
