@@ -22,7 +22,7 @@ use Rattle.address_check.specs.declared.fault.AddressRule.TheVariants.{Source as
 use Rattle.address_check.specs.AddressFaults.{is_store, is_earlier_store, right_store, is_source, value_from, broken_rule, fault_by, act_fault, address_fault}
 use Rattle.address_check.proofs.Totals.{entry_total}
 use Rattle.verdict.specs.ByKey.{by_key, ids_by_key}
-use Rattle.verdict.proofs.FlatSoFar.{IsAnsweredBehind, flat_each}
+use Rattle.verdict.proofs.Flat.{IsAnsweredBehind, flat_each}
 use Rattle.verdict.proofs.SerialOrder.{tied_id, by_key-ascends, in_set_by_key}
 
 -- no load or swap of the set has a fault of source or value
@@ -56,22 +56,19 @@ map-reverse f [] = refl
 map-reverse f (x ∷ xs) =
     reverse-cons (f x) (map f xs) ∙ ap (λ l. l ++ f x ∷ []) (map-reverse f xs) ∙ sym (map-append f (reverse xs) (x ∷ [])) ∙ ap (map f) (sym (reverse-cons x xs))
 
-find-map : {X Y : Type 0} (p : Y → Bool) (f : X → Y) (xs : List X) → find p (map f xs) ≡ option_map f (find (λ x. p (f x)) xs)
-find-map p f [] = refl
-find-map {X} {Y} p f (x ∷ xs) = go (p (f x)) (find-map p f xs)
+found_value : (addr : ℕ) (es : List Entry) → value_or_zero (find (is_store_to addr) (map operation es)) ≡ value_from (find (λ e. is_store_to addr (operation e)) es)
+found_value addr [] = refl
+found_value addr (e ∷ es) = go (is_store_to addr (operation e)) (found_value addr es)
   where
-    go : (b : Bool) → find p (map f xs) ≡ option_map f (find (λ x. p (f x)) xs) → cond b (Some (f x)) (find p (map f xs)) ≡ option_map f (cond b (Some x) (find (λ x. p (f x)) xs))
-    go true h = refl
+    left : (act : Act) (a v : ℕ) → word_left (operation_by act a v) ≡ v
+    left (Load source) a v = refl
+    left Store a v = refl
+    left (Swap source read) a v = refl
+
+    go : (b : Bool) → value_or_zero (find (is_store_to addr) (map operation es)) ≡ value_from (find (λ e. is_store_to addr (operation e)) es)
+        → value_or_zero (cond b (Some (operation e)) (find (is_store_to addr) (map operation es))) ≡ value_from (cond b (Some e) (find (λ e. is_store_to addr (operation e)) es))
+    go true h = left e.logged.act e.logged.addr e.logged.value
     go false h = h
-
-value_of_operation : (act : Act) (addr value : ℕ) → word_left (operation_by act addr value) ≡ value
-value_of_operation (Load source) addr value = refl
-value_of_operation Store addr value = refl
-value_of_operation (Swap source read) addr value = refl
-
-value_of_option : (o : Option Entry) → value_or_zero (option_map operation o) ≡ value_from o
-value_of_option None = refl
-value_of_option (Some e) = value_of_operation e.logged.act e.logged.addr e.logged.value
 
 -- the last store to an address among the first entries
 abbrev last_store : ℕ → ℕ → List Entry → Option Entry
@@ -81,37 +78,29 @@ last_value-map : (addr k : ℕ) (es : List Entry) → last_value addr (take k (m
 last_value-map addr k es =
     ap (last_value addr) (take-map operation k es)
     ∙ ap (λ l. value_or_zero (find (is_store_to addr) l)) (map-reverse operation (take k es))
-    ∙ ap value_or_zero (find-map (is_store_to addr) operation (reverse (take k es)))
-    ∙ value_of_option (last_store addr k es)
+    ∙ found_value addr (reverse (take k es))
 
 pub store_to : (addr : ℕ) (act : Act) (a v : ℕ) → is_store_to addr (operation_by act a v) ≡ (is_store act && (a == addr))
 store_to addr (Load source) a v = refl
 store_to addr Store a v = refl
 store_to addr (Swap source read) a v = refl
 
+earlier_store : (logs : List (List Record)) (e : Entry) (k : ℕ) → slice_get (by_key logs) k ≡ Some e → (x : Entry) → In x (entries logs) → is_earlier_store e x ≡ true → In x (take k (by_key logs)) × (is_store_to e.logged.addr (operation x) ≡ true)
+earlier_store logs e k here x p t =
+    let parts = and_parts (is_store x.logged.act && (x.logged.addr == e.logged.addr)) (is_earlier x e) t in (
+      take_from_before entry_cmp entry_total (by_key logs) k e x (by_key-ascends logs) here (In-from_sorted entry_cmp x (entries logs) p) parts.1,
+      store_to e.logged.addr x.logged.act x.logged.addr x.logged.value ∙ parts.0,
+    )
+
 -- the last store before an operation in the order of keys is the greatest earlier store of the set
 pub last_is_right : (logs : List (List Record)) (e : Entry) (k : ℕ) → slice_get (by_key logs) k ≡ Some e → (r : Option Entry) → IsGreatest entry_cmp (λ x. is_store_to e.logged.addr (operation x)) (take k (by_key logs)) r → IsGreatest entry_cmp (is_earlier_store e) (entries logs) r
-last_is_right logs e k here None h = none
-  where
-    none : (x : Entry) → In x (entries logs) → is_earlier_store e x ≡ false
-    none x p = false_from_ne_true (is_earlier_store e x) (λ t.
-        let parts = and_parts (is_store x.logged.act && (x.logged.addr == e.logged.addr)) (is_earlier x e) t in
-        let taken = take_from_before entry_cmp entry_total (by_key logs) k e x (by_key-ascends logs) here (In-from_sorted entry_cmp x (entries logs) p) parts.1 in
-        let isnt : is_store_to e.logged.addr (operation x) ≡ false = h x taken in
-        let same : is_store_to e.logged.addr (operation x) ≡ (is_store x.logged.act && (x.logged.addr == e.logged.addr)) = store_to e.logged.addr x.logged.act x.logged.addr x.logged.value in
-        let is : (is_store x.logged.act && (x.logged.addr == e.logged.addr)) ≡ true = parts.0 in
-        cc)
-last_is_right logs e k here (Some s) h = (in_set_by_key logs s (In-take s k (by_key logs) h.0), passes, above)
-  where
-    passes : is_earlier_store e s ≡ true
-    passes = and_from (is_store s.logged.act && (s.logged.addr == e.logged.addr)) (is_earlier s e) (sym (store_to e.logged.addr s.logged.act s.logged.addr s.logged.value) ∙ h.1)
-        (before_from_take entry_cmp entry_total (by_key logs) k e s (by_key-ascends logs) here h.0)
-
-    above : (x : Entry) → In x (entries logs) → is_earlier_store e x ≡ true → is_earlier s x ≡ false
-    above x p t =
-        let parts = and_parts (is_store x.logged.act && (x.logged.addr == e.logged.addr)) (is_earlier x e) t in
-        h.2 x (take_from_before entry_cmp entry_total (by_key logs) k e x (by_key-ascends logs) here (In-from_sorted entry_cmp x (entries logs) p) parts.1)
-        (store_to e.logged.addr x.logged.act x.logged.addr x.logged.value ∙ parts.0)
+last_is_right logs e k here None h = λ x p. false_from_ne_true (is_earlier_store e x) (λ t. (let early = earlier_store logs e k here x p t in let isnt = h x early.0 in cc))
+last_is_right logs e k here (Some s) h = (
+  in_set_by_key logs s (In-take s k (by_key logs) h.0),
+  and_from (is_store s.logged.act && (s.logged.addr == e.logged.addr)) (is_earlier s e) (sym (store_to e.logged.addr s.logged.act s.logged.addr s.logged.value) ∙ h.1)
+      (before_from_take entry_cmp entry_total (by_key logs) k e s (by_key-ascends logs) here h.0),
+  λ x p t. (let early = earlier_store logs e k here x p t in h.2 x early.0 early.1),
+)
 
 right_value : (e : Entry) (source : Source) (value : ℕ) (r : Option Entry) → fault_by e (broken_rule source value r) ≡ None → value ≡ value_from r
 right_value e source value r h = go (is_source source r) (value == value_from r) refl h

@@ -11,20 +11,19 @@ use Rattle.log_file.proofs.Once.{one_log}
 use Rattle.log_file.proofs.Spelled.{spelled_quiet}
 use Rattle.verdict.specs.declared.answer.Verdict.{Verdict}
 use Rattle.verdict.specs.declared.judge_fault.JudgeFault.{JudgeFault}
-use Rattle.verdict.specs.declared.judge_fault.JudgeFault.TheVariants.{BadConfig, Log, OutOfMemory as NoMemory, Read}
+use Rattle.verdict.specs.declared.judge_fault.JudgeFault.TheVariants.{Log}
 use Rattle.verdict.specs.Judgement.{IsAnswerBy, IsVerdictBy, IsOfTexts}
 
 -- texts spell one set
 one_set : (core cores : ℕ) (texts : List (List ℕ)) (logs others : List (List Record)) → SpellFrom core cores texts logs → SpellFrom core cores texts others → logs ≡ others
 one_set core cores [] [] [] h k = refl
 one_set core cores [] [] (other ∷ others) h k = absurd k
-one_set core cores [] (log ∷ logs) others h k = absurd h
-one_set core cores (text ∷ texts) [] others h k = absurd h
 one_set core cores (text ∷ texts) (log ∷ logs) [] h k = absurd k
 one_set core cores (text ∷ texts) (log ∷ logs) (other ∷ others) h k =
     let first : log ≡ other = one_log core cores text log other h.0 k.0 in
     let later : logs ≡ others = one_set (core + 1) cores texts logs others h.1 k.1 in
     cc
+one_set core cores texts logs others h k = absurd h
 
 -- the text of each file of a set that is spelled spells a log
 spelled_at : (core cores : ℕ) (texts : List (List ℕ)) (logs : List (List Record)) (file : ℕ) → SpellFrom core cores texts logs → file < length texts → (log : List Record) × Spells (core + file) cores (text_at texts file) log
@@ -97,14 +96,8 @@ same_verdict judged texts a b h k = h.2 ∙ ap judged (one_set 0 (length texts) 
 pub one_answer : (judged : List (List Record) → Verdict) (texts : List (List ℕ)) (a b : Result Verdict JudgeFault) → IsOfTexts a → IsOfTexts b → IsAnswerBy judged texts a → IsAnswerBy judged texts b → a ≡ b
 one_answer judged texts (Ok a) (Ok b) p q h k = ap (λ v. Ok v) (same_verdict judged texts a b h k)
 one_answer judged texts (Ok a) (Err (Log file line fault)) p q h k = absurd (spelled_or_faulty texts h.0 file line fault h.1 k)
-one_answer judged texts (Ok a) (Err (Read file)) p q h k = absurd q
-one_answer judged texts (Ok a) (Err (BadConfig count)) p q h k = absurd q
-one_answer judged texts (Ok a) (Err NoMemory) p q h k = absurd q
 one_answer judged texts (Err (Log file line fault)) (Ok b) p q h k = absurd (spelled_or_faulty texts k.0 file line fault k.1 h)
 one_answer judged texts (Err (Log file line fault)) (Err (Log other_file other_line other)) p q h k = ap (λ e. Err e) (same_fault texts file line other_file other_line fault other h k)
-one_answer judged texts (Err (Log file line fault)) (Err (Read other)) p q h k = absurd q
-one_answer judged texts (Err (Log file line fault)) (Err (BadConfig count)) p q h k = absurd q
-one_answer judged texts (Err (Log file line fault)) (Err NoMemory) p q h k = absurd q
-one_answer judged texts (Err (Read file)) b p q h k = absurd p
-one_answer judged texts (Err (BadConfig count)) b p q h k = absurd p
-one_answer judged texts (Err NoMemory) b p q h k = absurd p
+one_answer judged texts (Ok a) (Err fault) p q h k = absurd q
+one_answer judged texts (Err (Log file line fault)) (Err other) p q h k = absurd q
+one_answer judged texts (Err fault) b p q h k = absurd p

@@ -11,4 +11,3 @@ pub mod Laws
 pub mod SetFaults
 pub mod Texts
 pub mod VerdictOf
-pub mod inner

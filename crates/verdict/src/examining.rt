@@ -1,9 +1,9 @@
 //! The judge of a set of log files that keeps what its verdict stands on.
 
-ghost use Rattle.std.specs.Prelude.{◌≡◌, ◌↔◌, ℕ, List, length, IfErr, IfOk, IsErrOf};
+ghost use Rattle.std.specs.Prelude.{◌≡◌, ◌↔◌, ℕ, List, length, IfErr, IfOk, IsErrOf, OnOk};
 ghost use Rattle.log_file.specs.Sets.{ReaderFailed, TellEach};
 ghost use Rattle.verdict.specs.CoreFaultsOf.{given};
-ghost use Rattle.verdict.specs.Counts.{AreNotAsMany, IsBadCount, IsInRange, IsOutOfRange};
+ghost use Rattle.verdict.specs.Counts.{AreAsMany, AreNotAsMany, IsBadCount, IsInRange, IsOutOfRange};
 ghost use Rattle.verdict.specs.Bases.{IsExaminedBy, verdict_in};
 ghost use Rattle.verdict.specs.Judgement.{AreLaterUnread, IsAnswerAgainst, IsYes, SpellConsistentSet, SpellFlatRunBy};
 ghost use Rattle.verdict.specs.declared.judge_fault.Count.TheVariants.{Files, Workers, Programs};
@@ -20,8 +20,8 @@ use std::alloc::Global;
 use std::thread::Threads;
 
 /// The verdict on the set of logs that the readers give, against the programs of its cores where they
-/// are given, with what it stands on; or why there is none. Programs aren't counted.
-pub(crate) fn examination<R: Threads + Sync, S: ByteSource, G: Gate + Sync>(
+/// are given, with what it stands on; or why there is none.
+fn examination<R: Threads + Sync, S: ByteSource, G: Gate + Sync>(
     rt: &R,
     alloc: Global,
     programs: Option<&ProgramSet>,
@@ -32,16 +32,20 @@ pub(crate) fn examination<R: Threads + Sync, S: ByteSource, G: Gate + Sync>(
     ensures files { IsErrOf result (BadConfig Files) ↔ IsOutOfRange (length readers.old) }
     ensures workers { IsErrOf result (BadConfig Workers)
         ↔ (IsInRange (length readers.old) × IsOutOfRange workers) }
-    ensures programs { ¬ (IsErrOf result (BadConfig Programs)) }
+    ensures programs { IsErrOf result (BadConfig Programs)
+        ↔ (IsInRange (length readers.old) × IsInRange workers
+        × AreNotAsMany (length readers.old) (given programs.entry)) }
     ensures unread { IfErr result (λ fault. IsBadCount fault → readers.new ≡ readers.old) }
     ensures later { IfErr result (λ fault. AreLaterUnread fault readers.old readers.new) }
     ensures exact { (texts : List (List ℕ)) × TellEach S.remaining readers.old texts
         × IsExaminedBy (given programs.entry) texts result }
     ensures read { IfErr result (λ fault. (file : ℕ) → fault ≡ Read file
         → ReaderFailed S.failed readers.old readers.new file) }
+    ensures each { OnOk result (AreAsMany (length readers.old) (given programs.entry)) }
 {
     let files = readers.len();
     check_counts(files, workers)?;
+    check_programs(programs, files)?;
     let set = LogSet::read(rt, alloc, readers, workers)?;
     let examined = examine_set(rt, alloc, programs, set, workers, gate)?;
     Ok(examined)
@@ -87,7 +91,5 @@ pub fn examine<R: Threads + Sync, S: ByteSource, G: Gate + Sync>(
         × IfOk result (λ examined. IsYes examined.verdict
         → SpellFlatRunBy (given programs.entry) texts) }
 {
-    check_counts(readers.len(), workers)?;
-    check_programs(programs, readers.len())?;
     examination(rt, alloc, programs, readers, workers, gate)
 }

@@ -2,48 +2,18 @@
 
 ghost use Rattle.std.specs.Prelude.{◌≡◌, ◌↔◌, ℕ, List, length, IfErr, IfOk, IsErrOf};
 ghost use Rattle.log_file.specs.Sets.{ReaderFailed, TellEach};
-ghost use Rattle.verdict.specs.CoreFaultsOf.{given};
 ghost use Rattle.verdict.specs.Counts.{IsBadCount, IsInRange, IsOutOfRange};
-ghost use Rattle.verdict.specs.Judgement.{AreLaterUnread, IsAnswerBy, IsAnswerTo, IsYes, SpellConsistentSet};
-ghost use Rattle.verdict.specs.VerdictOf.{verdict_by};
+ghost use Rattle.verdict.specs.Judgement.{AreLaterUnread, IsAnswerTo, IsYes, SpellConsistentSet};
 ghost use Rattle.verdict.specs.declared.judge_fault.Count.TheVariants.{Files, Workers, Programs};
 ghost use Rattle.verdict.specs.declared.judge_fault.JudgeFault.TheVariants.{BadConfig, Read};
 
 use super::answer::Verdict;
-use super::examining::examination;
+use super::examining::examine;
 use super::judge_fault::JudgeFault;
 use address_check::Gate;
-use core_program::ProgramSet;
 use log_file::ByteSource;
 use std::alloc::Global;
 use std::thread::Threads;
-
-/// The verdict on the set of logs that the readers give, against the programs of its cores where they
-/// are given, or why there is none.
-pub(crate) fn answer_to<R: Threads + Sync, S: ByteSource, G: Gate + Sync>(
-    rt: &R,
-    alloc: Global,
-    programs: Option<&ProgramSet>,
-    readers: &mut [S],
-    workers: usize,
-    gate: &G,
-) -> Result<Verdict, JudgeFault>
-    ensures files { IsErrOf result (BadConfig Files) ↔ IsOutOfRange (length readers.old) }
-    ensures workers { IsErrOf result (BadConfig Workers)
-        ↔ (IsInRange (length readers.old) × IsOutOfRange workers) }
-    ensures programs { ¬ (IsErrOf result (BadConfig Programs)) }
-    ensures unread { IfErr result (λ fault. IsBadCount fault → readers.new ≡ readers.old) }
-    ensures later { IfErr result (λ fault. AreLaterUnread fault readers.old readers.new) }
-    ensures exact { (texts : List (List ℕ)) × TellEach S.remaining readers.old texts
-        × IsAnswerBy (verdict_by (given programs.entry)) texts result }
-    ensures read { IfErr result (λ fault. (file : ℕ) → fault ≡ Read file
-        → ReaderFailed S.failed readers.old readers.new file) }
-{
-    match examination(rt, alloc, programs, readers, workers, gate) {
-        Ok(examined) => Ok(examined.verdict),
-        Err(fault) => Err(fault),
-    }
-}
 
 /// The verdict on the set of logs that the readers give, file `k` the log of core `k` of as many cores
 /// as there are files. A set that gets Yes is sequentially consistent, whoever made its logs.
@@ -86,5 +56,8 @@ pub fn judge<R: Threads + Sync, S: ByteSource, G: Gate + Sync>(
     ensures sound { (texts : List (List ℕ)) × TellEach S.remaining readers.old texts
         × IfOk result (λ verdict. IsYes verdict → SpellConsistentSet texts) }
 {
-    answer_to(rt, alloc, None, readers, workers, gate)
+    match examine(rt, alloc, None, readers, workers, gate) {
+        Ok(examined) => Ok(examined.verdict),
+        Err(fault) => Err(fault),
+    }
 }

@@ -1,7 +1,6 @@
 //! The judge of a set of log files against the programs of its cores.
 
-ghost use Rattle.std.specs.Prelude.{◌≡◌, ◌≢◌, ◌↔◌, ℕ, List, All, length, IfErr, IfOk, IsErrOf, OnOk};
-ghost use Rattle.core_program.specs.Shape.{IsProgram};
+ghost use Rattle.std.specs.Prelude.{◌≡◌, ◌≢◌, ◌↔◌, ℕ, List, length, IfErr, IfOk, IsErrOf};
 ghost use Rattle.log_file.specs.Sets.{ReaderFailed, TellEach};
 ghost use Rattle.verdict.specs.Counts.{IsBadCount, IsInRange, IsOutOfRange};
 ghost use Rattle.verdict.specs.Judgement.{AreLaterUnread, IsRunAnswerTo, IsYes, SpellConsistentSet, SpellFlatRun};
@@ -9,45 +8,13 @@ ghost use Rattle.verdict.specs.declared.judge_fault.Count.TheVariants.{Files, Wo
 ghost use Rattle.verdict.specs.declared.judge_fault.JudgeFault.TheVariants.{BadConfig, Read};
 
 use super::answer::Verdict;
-use super::counts::check_counts;
-use super::judge_fault::{Count, JudgeFault};
-use super::judging::answer_to;
+use super::examining::examine;
+use super::judge_fault::JudgeFault;
 use address_check::Gate;
 use core_program::ProgramSet;
 use log_file::ByteSource;
 use std::alloc::Global;
 use std::thread::Threads;
-
-/// The verdict against the programs that the cores ran, or why there is none.
-fn run_answer_to<R: Threads + Sync, S: ByteSource, G: Gate + Sync>(
-    rt: &R,
-    alloc: Global,
-    programs: &ProgramSet,
-    readers: &mut [S],
-    workers: usize,
-    gate: &G,
-) -> Result<Verdict, JudgeFault>
-    ensures files { IsErrOf result (BadConfig Files) ↔ IsOutOfRange (length readers.old) }
-    ensures workers { IsErrOf result (BadConfig Workers)
-        ↔ (IsInRange (length readers.old) × IsOutOfRange workers) }
-    ensures programs { IsErrOf result (BadConfig Programs)
-        ↔ (IsInRange (length readers.old) × IsInRange workers
-        × (length programs.now.programs ≢ length readers.old)) }
-    ensures unread { IfErr result (λ fault. IsBadCount fault → readers.new ≡ readers.old) }
-    ensures later { IfErr result (λ fault. AreLaterUnread fault readers.old readers.new) }
-    ensures exact { (texts : List (List ℕ)) × TellEach S.remaining readers.old texts
-        × IsRunAnswerTo programs.now.programs texts result }
-    ensures read { IfErr result (λ fault. (file : ℕ) → fault ≡ Read file
-        → ReaderFailed S.failed readers.old readers.new file) }
-    ensures each { OnOk result (All IsProgram programs.now.programs
-        × (length programs.now.programs ≡ length readers.old)) }
-{
-    check_counts(readers.len(), workers)?;
-    if programs.len() != readers.len() {
-        return Err(JudgeFault::BadConfig(Count::Programs));
-    }
-    answer_to(rt, alloc, Some(programs), readers, workers, gate)
-}
 
 /// The verdict on the set of logs that the readers give, against the programs that its cores ran:
 /// file `k` is the log of core `k`, which ran program `k`. A set that gets Yes is sequentially
@@ -92,5 +59,8 @@ pub fn judge_run<R: Threads + Sync, S: ByteSource, G: Gate + Sync>(
     ensures flat { (texts : List (List ℕ)) × TellEach S.remaining readers.old texts
         × IfOk result (λ verdict. IsYes verdict → SpellFlatRun programs.now.programs texts) }
 {
-    run_answer_to(rt, alloc, programs, readers, workers, gate)
+    match examine(rt, alloc, Some(programs), readers, workers, gate) {
+        Ok(examined) => Ok(examined.verdict),
+        Err(fault) => Err(fault),
+    }
 }

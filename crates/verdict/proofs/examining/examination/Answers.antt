@@ -1,14 +1,15 @@
 -- Where a count is out of range any texts that the readers tell are answered.
-use Rattle.std.specs.Prelude.{map}
+use Rattle.std.proofs.Common.{sym, subst}
 use Rattle.verdict.specs.CoreFaultsOf.{given}
-use Rattle.verdict.proofs.Told.{told, each_tells}
-use Rattle.verdict.proofs.Examinations.{refused}
+use Rattle.verdict.specs.Counts.{IsBadCount}
+use Rattle.verdict.proofs.Soundness.{refused}
 use Rattle.verdict.proofs.examining.examination.Goals as goal
 
 pub returns-in_err-check_counts-clause-exact : goal.returns-in_err-check_counts-clause-exact
 returns-in_err-check_counts-clause-exact g c =
-    let texts = map (λ reader. told (g.S.ByteSource.remaining reader)) c.args.readers.now in (
-      texts,
-      each_tells g.S.ByteSource.remaining c.args.readers.now,
-      refused (given c.args.programs) texts c.from_residual.result c.in_err-check_counts.field-0.0 c.from_residual.ensures.1 c.in_err-check_counts.ensures.err,
-    )
+    refused g.S.ByteSource.remaining c.args.readers.now (given c.args.programs) c.from_residual.result c.in_err-check_counts.field-0.0 c.from_residual.ensures.1 c.in_err-check_counts.ensures.err
+
+pub returns-in_err-check_programs-clause-exact : goal.returns-in_err-check_programs-clause-exact
+returns-in_err-check_programs-clause-exact g c =
+    refused g.S.ByteSource.remaining c.args.readers.now (given c.args.programs) c.from_residual-in_err-check_programs.result c.in_err-check_programs.field-0.0 c.from_residual-in_err-check_programs.ensures.1
+    (subst IsBadCount (sym c.in_err-check_programs.ensures.err.0) tt)

@@ -1,8 +1,7 @@
 -- The least fault of all cores is that of the set.
 use Rattle.std.proofs.Common.{◌∙◌, ap}
 use Rattle.verdict.specs.CoreFaultsOf.{core_faults, given, least_of_cores}
-use Rattle.verdict.proofs.CoreFacts.{least_by_cores}
-use Rattle.verdict.proofs.ProgramFacts.{has_log}
+use Rattle.verdict.proofs.CoreFacts.{has_log, least_by_cores}
 use Rattle.verdict.proofs.cores.CoreCheck.least_fault.Goals as goal
 
 pub returns : goal.returns
