@@ -133,8 +133,7 @@ least_by_cores faults cores whole =
 -- the least fault of the first cores, with that of one more core
 pub least_with_core : (faults : List RuleFault) (cores : List ℕ) (k core : ℕ) (least found next : Option RuleFault) → k < length cores → core ≡ get_or cores k core → least ≡ least_of_cores faults (take k cores) → found ≡ least_of_core faults core → next ≡ lesser ghosts.cmp least found → next ≡ least_of_cores faults (take (k + 1) cores)
 least_with_core faults cores k core least found next within here so_far of_core chosen =
-    chosen
-    ∙ ap (λ a. lesser ghosts.cmp a found) so_far
-    ∙ ap (lesser ghosts.cmp (least_of_cores faults (take k cores))) (of_core ∙ ap (least_of core_fault_cmp) (sym (append-nil (faults_of_core faults core))))
-    ∙ sym (least_of_cores-joined faults (take k cores) (core ∷ []))
-    ∙ ap (least_of_cores faults) (ap (λ c. take k cores ++ c ∷ []) here ∙ sym (take_more cores k core within))
+    let joined = least_of_cores-joined faults (take k cores) (core ∷ []) in
+    let alone : least_of_cores faults (core ∷ []) ≡ least_of_core faults core = ap (least_of core_fault_cmp) (append-nil (faults_of_core faults core)) in
+    let more = take_more cores k core within in
+    cc

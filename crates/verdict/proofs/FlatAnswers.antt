@@ -1,10 +1,11 @@
 -- By key each load and each swap of a set has its flat answer, where no address has a fault.
 use Rattle.std.specs.Prelude.{◌≡◌, ℕ, Bool, true, false, cond, ◌&&◌, ◌==◌, List, [], ◌∷◌, ◌++◌, refl, Option, Some, None, slice_get, map, find, reverse, take, if◌then◌else◌}
 use Rattle.std.specs.List.{filter_map, cons_option}
-use Rattle.std.proofs.Common.{sym, ◌∙◌, ap, subst, inl, inr}
+use Rattle.std.proofs.Common.{sym, ◌∙◌, ap, subst, inl, inr, arith}
 use Rattle.std.specs.Option.{option_map}
 use Rattle.std.specs.Ordering.{is_lt}
 use Rattle.std.proofs.lemmas.Bool.{and_parts, and_from, eqb-true, false_from_ne_true}
+use Rattle.std.proofs.lemmas.Bool.Decides.{nat_tests}
 use Rattle.std.proofs.lemmas.List.{take-map, map-append}
 use Rattle.std.proofs.lemmas.Option.{slice_get-map}
 use Rattle.mem_op.specs.declared.id.Source.{Source}
@@ -103,12 +104,7 @@ last_is_right logs e k here (Some s) h = (
 )
 
 right_value : (e : Entry) (source : Source) (value : ℕ) (r : Option Entry) → fault_by e (broken_rule source value r) ≡ None → value ≡ value_from r
-right_value e source value r h = go (is_source source r) (value == value_from r) refl h
-  where
-    go : (b c : Bool) → (value == value_from r) ≡ c → fault_by e (if b then (if c then None else Some WrongValue) else Some WrongSource) ≡ None → value ≡ value_from r
-    go true true q h = eqb-true value (value_from r) q
-    go true false q h = cc
-    go false c q h = cc
+right_value e source value r h = grind (arith, nat_tests)
 
 -- what an entry reads without a fault is its flat answer
 read_at : (logs : List (List Record)) (k : ℕ) (e : Entry) (source : Source) (read : ℕ) → slice_get (by_key logs) k ≡ Some e → fault_by e (broken_rule source read (right_store (entries logs) e)) ≡ None → read ≡ last_value e.logged.addr (take k (map operation (by_key logs)))

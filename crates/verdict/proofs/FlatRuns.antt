@@ -5,7 +5,8 @@ use Rattle.std.proofs.Common.{sym, ◌∙◌, ap, subst, inl, inr, arith, get_or
 use Rattle.std.proofs.lemmas.Bool.{cases_eq, eqb-true, eq-eqb, ne_eqb}
 use Rattle.std.proofs.lemmas.List.{append-nil, append_assoc, map-append}
 use Rattle.std.proofs.lemmas.List.FromFn.{fill_by_all}
-use Rattle.std.proofs.lemmas.Option.{slice_get-get_or, slice_get-map}
+use Rattle.std.proofs.lemmas.Option.{get_or_from_slice_get, slice_get-get_or, slice_get-map, slice_get_within}
+use Rattle.std.proofs.lemmas.Slice.Zip.{AllZip-long}
 use Rattle.mem_op.specs.declared.id.OpId.{OpId}
 use Rattle.mem_op.specs.Consistency.{Operation, Stored, operation_at, IsConsistent, GivesFlatAnswers, last_value}
 use Rattle.line_stamps.specs.Ordered.{In}
@@ -14,9 +15,9 @@ use Rattle.core_program.specs.declared.instruction.Instruction.{Instruction}
 use Rattle.core_program.specs.State.{State, start}
 use Rattle.core_program.specs.Meaning.{Path}
 use Rattle.core_program.specs.Conforming.{Conforms}
-use Rattle.verdict.specs.FlatMachine.{Flat, flat_start, FlatRun, starts, performs, IsAnsweredBy, after, performed_by, IsWhole, RunsFlat}
+use Rattle.verdict.specs.FlatMachine.{Flat, flat_start, FlatRun, starts, performs, IsAnsweredBy, after, performed_by, HasEnded, IsWhole, RunsFlat}
 use Rattle.verdict.proofs.Flat.{after_is, flat_at_middle}
-use Rattle.verdict.proofs.Lists.{within, set_here, set_elsewhere}
+use Rattle.verdict.proofs.Lists.{set_here, set_elsewhere}
 use Rattle.verdict.proofs.Paths.{Halves, halves}
 use Rattle.verdict.proofs.Turns.{indices, InTurn, of_core, number_of, at_core, index_below, in_turn}
 
@@ -57,33 +58,34 @@ of_each cores order turn core =
 
 -- ---- the programs
 
-each_conforms : (programs : List (List Instruction)) (cores : List (List Operation)) (core : ℕ) (program : List Instruction) → AllZip Conforms programs cores → slice_get programs core ≡ Some program → Conforms program (of_core cores core)
-each_conforms [] cores core program h e = absurd cc
-each_conforms (p ∷ ps) [] core program h e = absurd h
-each_conforms (p ∷ ps) (ops ∷ cores) zero program h e = let same : p ≡ program = cc in subst (λ q. Conforms q ops) same h.0
-each_conforms (p ∷ ps) (ops ∷ cores) (suc core) program h e = each_conforms ps cores core program h.1 e
+each_conforms : (programs : List (List Instruction)) (cores : List (List Operation)) (core : ℕ) → AllZip Conforms programs cores → core < length programs → Conforms (get_or programs core []) (of_core cores core)
+each_conforms [] cores core h l = absurd (omega arith)
+each_conforms (p ∷ ps) [] core h l = absurd h
+each_conforms (p ∷ ps) (ops ∷ cores) zero h l = h.0
+each_conforms (p ∷ ps) (ops ∷ cores) (suc core) h l = each_conforms ps cores core h.1 (omega arith)
 
--- a core with an operation has a program
-has_program : (programs : List (List Instruction)) (cores : List (List Operation)) (core index : ℕ) → AllZip Conforms programs cores → index < number_of cores core → (program : List Instruction) × (slice_get programs core ≡ Some program)
-has_program programs [] core index h l = absurd (omega arith)
-has_program [] (ops ∷ cores) core index h l = absurd h
-has_program (p ∷ ps) (ops ∷ cores) zero index h l = (p, refl)
-has_program (p ∷ ps) (ops ∷ cores) (suc core) index h l = has_program ps cores core index h.1 l
+-- a core with an operation is there
+core_there : (cores : List (List Operation)) (core index : ℕ) → index < number_of cores core → core < length cores
+core_there [] core index l = absurd (omega arith)
+core_there (ops ∷ cores) zero index l = omega arith
+core_there (ops ∷ cores) (suc core) index l = let there : core < length cores = core_there cores core index l in omega arith
 
 -- ---- the run
 
-module _ (programs : List (List Instruction)) (all : List (ℕ × Operation)) (flat_answers : GivesFlatAnswers (operations all))
-    (its_program : (p : ℕ × Operation) → In p all → (program : List Instruction) × (slice_get programs p.0 ≡ Some program)) where
+module _ (programs : List (List Instruction)) (all : List (ℕ × Operation)) (flat_answers : GivesFlatAnswers (operations all)) (has_program : (p : ℕ × Operation) → In p all → p.0 < length programs) where
+  abbrev program_of : ℕ → List Instruction
+  program_of core = get_or programs core []
+
   -- a core whose path to the end of its program performs these operations
-  record Waits (states : List State) (core : ℕ) (program : List Instruction) (ops : List Operation) : Type 0 where
+  record Waits (states : List State) (core : ℕ) (ops : List Operation) : Type 0 where
     state : State
     at : slice_get states core ≡ Some state
     last : State
-    path : Path program state ops last
-    ended : last.position ≡ length program
+    path : Path (program_of core) state ops last
+    ended : last.position ≡ length (program_of core)
 
   abbrev AllWait : List State → List (ℕ × Operation) → Type 0
-  AllWait states rest = (core : ℕ) (program : List Instruction) → slice_get programs core ≡ Some program → Waits states core program (performed_by core rest)
+  AllWait states rest = (core : ℕ) → core < length programs → Waits states core (performed_by core rest)
 
   -- the run goes on by one operation after another
   walk : (rest : List (ℕ × Operation)) (run : List ℕ) (done : List (ℕ × Operation)) (flat : Flat) → done ++ rest ≡ all → FlatRun programs run done flat → ((addr : ℕ) → flat.memory addr ≡ last_value addr (operations done)) → AllWait flat.states rest
@@ -92,21 +94,22 @@ module _ (programs : List (List Instruction)) (all : List (ℕ × Operation)) (f
     run,
     flat,
     subst (λ ps. FlatRun programs run ps flat) (sym (append-nil done) ∙ split) leads,
-    λ core program given. (let w = wait core program given in (w.state, w.at, (w.last, w.path, w.ended))),
+    λ core program given. (let w = wait core (slice_get_within programs core program given) in
+        (w.state, w.at, subst (λ q. HasEnded q w.state) (get_or_from_slice_get programs core program [] given) (w.last, w.path, w.ended))),
   )
   walk (p ∷ rest) run done flat split leads memory wait =
       walk rest (run ++ p.0 ∷ []) (done ++ p ∷ []) (record { memory = after p.1 flat.memory; states = slice_set flat.states p.0 halved.middle }) (append_assoc done (p ∷ []) rest ∙ split)
-      (performs run done flat p.0 its.0 waiting.state halved.middle p.1 leads its.1 waiting.at halved.before answered)
+      (performs run done flat p.0 (program_of p.0) waiting.state halved.middle p.1 leads (slice_get-get_or programs p.0 [] there) waiting.at halved.before answered)
       (λ addr. after_is p.1 flat.memory (operations done) addr (memory addr) ∙ ap (last_value addr) (sym (map-append (λ (q : ℕ × Operation). q.1) done (p ∷ [])))) wait_on
     where
-      its : (program : List Instruction) × (slice_get programs p.0 ≡ Some program)
-      its = its_program p (subst (In p) split (In-append_right p done (p ∷ rest) (inl refl)))
+      there : p.0 < length programs
+      there = has_program p (subst (In p) split (In-append_right p done (p ∷ rest) (inl refl)))
 
-      waiting : Waits flat.states p.0 its.0 (performed_by p.0 (p ∷ rest))
-      waiting = wait p.0 its.0 its.1
+      waiting : Waits flat.states p.0 (performed_by p.0 (p ∷ rest))
+      waiting = wait p.0 there
 
-      halved : Halves its.0 waiting.state p.1 (performed_by p.0 rest) waiting.last
-      halved = halves its.0 waiting.state (performed_by p.0 (p ∷ rest)) waiting.last waiting.path p.1 (performed_by p.0 rest)
+      halved : Halves (program_of p.0) waiting.state p.1 (performed_by p.0 rest) waiting.last
+      halved = halves (program_of p.0) waiting.state (performed_by p.0 (p ∷ rest)) waiting.last waiting.path p.1 (performed_by p.0 rest)
           (ap (λ b. cons_option (if b then Some p.1 else None) (performed_by p.0 rest)) (eq-eqb p.0 p.0 refl))
 
       answered : IsAnsweredBy flat.memory p.1
@@ -114,29 +117,23 @@ module _ (programs : List (List Instruction)) (all : List (ℕ × Operation)) (f
           (flat_at_middle (operations done) p.1 (operations rest) (subst GivesFlatAnswers (ap operations (sym split) ∙ map-append (λ (q : ℕ × Operation). q.1) done (p ∷ rest)) flat_answers))
 
       wait_on : AllWait (slice_set flat.states p.0 halved.middle) rest
-      wait_on core program given = elim (cases_eq core p.0) [
-        | inl same ↦ here same
-        | inr other ↦ (let w = wait core program given in
+      wait_on core l = elim (cases_eq core p.0) [
+        | inl same ↦ subst (λ c. Waits (slice_set flat.states p.0 halved.middle) c (performed_by c rest)) (sym same) (record {
+            state = halved.middle;
+            at = set_here flat.states p.0 halved.middle (slice_get_within flat.states p.0 waiting.state waiting.at);
+            last = waiting.last;
+            path = halved.behind;
+            ended = waiting.ended;
+          })
+        | inr other ↦ (let w = wait core l in
             record {
               state = w.state;
               at = set_elsewhere flat.states p.0 core halved.middle other ∙ w.at;
               last = w.last;
-              path = subst (λ ops. Path program w.state ops w.last) (ap (λ b. cons_option (if b then Some p.1 else None) (performed_by core rest)) (ne_eqb p.0 core (λ e. other (sym e)))) w.path;
+              path = subst (λ ops. Path (program_of core) w.state ops w.last) (ap (λ b. cons_option (if b then Some p.1 else None) (performed_by core rest)) (ne_eqb p.0 core (λ e. other (sym e)))) w.path;
               ended = w.ended;
             })
       ]
-        where
-          here : core ≡ p.0 → Waits (slice_set flat.states p.0 halved.middle) core program (performed_by core rest)
-          here same =
-              let one : its.0 ≡ program = (let a : slice_get programs p.0 ≡ Some program = subst (λ c. slice_get programs c ≡ Some program) same given in let b = its.1 in cc) in
-              subst (λ c. Waits (slice_set flat.states p.0 halved.middle) c program (performed_by c rest)) (sym same)
-              (subst (λ q. Waits (slice_set flat.states p.0 halved.middle) p.0 q (performed_by p.0 rest)) one (record {
-                state = halved.middle;
-                at = set_here flat.states p.0 halved.middle (within flat.states p.0 waiting.state waiting.at);
-                last = waiting.last;
-                path = halved.behind;
-                ended = waiting.ended;
-              }))
 
 pub runs_flat : (programs : List (List Instruction)) (cores : List (List Operation)) → AllZip Conforms programs cores → IsConsistent cores → RunsFlat programs cores
 runs_flat programs cores conform (order, sequential) = (
@@ -153,20 +150,22 @@ runs_flat programs cores conform (order, sequential) = (
     each : (core : ℕ) → performed_by core (pairs cores order) ≡ of_core cores core
     each = of_each cores order turn
 
-    its_program : (p : ℕ × Operation) → In p (pairs cores order) → (program : List Instruction) × (slice_get programs p.0 ≡ Some program)
-    its_program p h =
+    has_program : (p : ℕ × Operation) → In p (pairs cores order) → p.0 < length programs
+    has_program p h =
         let from = In-map (λ (id : OpId). (id.core, op_of cores id)) p order h in
-        let found = has_program programs cores from.0.core from.0.index conform (there from.0 from.1) in
-        subst (λ core. (program : List Instruction) × (slice_get programs core ≡ Some program)) (ap (λ (q : ℕ × Operation). q.0) from.2) found
+        let l = core_there cores from.0.core from.0.index (there from.0 from.1) in
+        let many = AllZip-long Conforms programs cores conform in
+        let core_is : from.0.core ≡ p.0 = ap (λ (q : ℕ × Operation). q.0) from.2 in
+        omega arith
 
     ran : (run : List ℕ) × (flat : Flat) × FlatRun programs run (pairs cores order) flat × IsWhole programs flat
-    ran = walk programs (pairs cores order) (subst GivesFlatAnswers (sym (operations_are cores order there)) sequential.flat) its_program
-        (pairs cores order) [] [] (flat_start programs) refl starts (λ addr. refl) (λ core program given.
-        let conforms = subst (Conforms program) (sym (each core)) (each_conforms programs cores core program conform given) in
-        record {
-          state = start;
-          at = slice_get-map (λ (p : List Instruction). start) programs core ∙ ap (option_map (λ (p : List Instruction). start)) given;
-          last = conforms.0;
-          path = conforms.1;
-          ended = conforms.2;
-        })
+    ran = walk programs (pairs cores order) (subst GivesFlatAnswers (sym (operations_are cores order there)) sequential.flat) has_program
+        (pairs cores order) [] [] (flat_start programs) refl starts (λ addr. refl) (λ core l.
+            let conforms = subst (Conforms (get_or programs core [])) (sym (each core)) (each_conforms programs cores core conform l) in
+            record {
+              state = start;
+              at = slice_get-map (λ (p : List Instruction). start) programs core ∙ ap (option_map (λ (p : List Instruction). start)) (slice_get-get_or programs core [] l);
+              last = conforms.0;
+              path = conforms.1;
+              ended = conforms.2;
+            })

@@ -1,5 +1,5 @@
 -- The pass over an order that counts on for each core and keeps one memory.
-use Rattle.std.specs.Prelude.{◌≡◌, ◌↔◌, ℕ, zero, suc, ◌+◌, ◌<◌, false, cond, ◌==◌, List, [], ◌∷◌, ◌++◌, refl, Option, Some, option_map, slice_get, slice_index, slice_set, length, map, take, drop, Vec, vec_len}
+use Rattle.std.specs.Prelude.{◌≡◌, ◌↔◌, ℕ, zero, suc, ◌+◌, ◌<◌, false, cond, ◌==◌, List, [], ◌∷◌, ◌++◌, refl, Option, None, Some, option_map, slice_get, slice_index, slice_set, length, map, take, drop, Vec, vec_len}
 use Rattle.std.specs.Global.{Global}
 use Rattle.std.specs.List.{filter_map, cons_option, range_with_len}
 use Rattle.std.proofs.Common.{sym, ◌∙◌, ap, subst, inl, inr, arith, get_or}
@@ -8,7 +8,7 @@ use Rattle.std.proofs.lemmas.Grind.{same_number_lists}
 use Rattle.std.proofs.lemmas.List.{get_or-set_same, get_or-set_other, length-set, length-map, take-append-drop, drop_more}
 use Rattle.std.proofs.lemmas.List.Elements.{filter_map-append}
 use Rattle.std.proofs.lemmas.List.FromFn.{length-range_with_len}
-use Rattle.std.proofs.lemmas.Option.{option_and_then_some, slice_get_within, slice_get-get_or}
+use Rattle.std.proofs.lemmas.Option.{none-some, slice_get-get_or}
 use Rattle.mem_op.specs.declared.id.OpId.{OpId}
 use Rattle.mem_op.specs.Consistency.{Operation, Stored, operation_at, last_value, GivesFlatAnswers, IsSequentialOrder}
 use Rattle.line_stamps.proofs.Ordered.{In-append_right}
@@ -21,16 +21,23 @@ use Rattle.verdict.specs.FlatMachine.{IsAnsweredBy, after}
 use Rattle.verdict.proofs.Flat.{after_is, flat_at_middle, flat_push}
 use Rattle.verdict.proofs.Turns.{InTurn, of_core, number_of, at_core, index_below, in_turn, from_turn, is_next, in_turn-more}
 
-abbrev pub done : List (List Operation) → List OpId → List Operation
-done cores ids = filter_map (operation_at cores) ids
+abbrev pub done : List (List Record) → List OpId → List Operation
+done logs ids = filter_map (operation_at (operations_of logs)) ids
 
 -- after these ids: for each core which index comes next, and the memory
-pub record Replayed (cores : List (List Operation)) (ids : List OpId) (next memory : List ℕ) : Type 0 where
+pub record Replayed (logs : List (List Record)) (ids : List OpId) (next memory : List ℕ) : Type 0 where
   pub turn : InTurn (slice_index next) ids
-  pub flat : GivesFlatAnswers (done cores ids)
-  pub words : (addr : ℕ) → addr < 65536 → slice_index memory addr ≡ last_value addr (done cores ids)
-  pub many : length next ≡ length cores
+  pub flat : GivesFlatAnswers (done logs ids)
+  pub words : (addr : ℕ) → addr < 65536 → slice_index memory addr ≡ last_value addr (done logs ids)
   pub size : length memory ≡ 65536
+
+-- the operation of a record that stands there
+of_record : (logs : List (List Record)) (id : OpId) (o : Option Record) → o ≡ record_at logs id → operation_at (operations_of logs) id ≡ option_map operation_of o
+of_record logs id o stands = operation_at-operations_of logs id ∙ ap (option_map operation_of) (sym stands)
+
+done-append : (logs : List (List Record)) (before : List OpId) (id : OpId) (rest : List OpId) (r : Record) → Some r ≡ record_at logs id → done logs (before ++ id ∷ rest) ≡ done logs before ++ operation_of r ∷ done logs rest
+done-append logs before id rest r stands =
+    filter_map-append (operation_at (operations_of logs)) before (id ∷ rest) ∙ ap (λ o. done logs before ++ cons_option o (done logs rest)) (of_record logs id (Some r) stands)
 
 -- an operation finds the word of its address in a memory, or that one alone
 answered : (act : Act) (a v word : ℕ) (memory : ℕ → ℕ) → word ≡ memory a → IsAnsweredBy (λ addr. word) (operation_by act a v) ↔ IsAnsweredBy memory (operation_by act a v)
@@ -55,73 +62,56 @@ put act a v addr memory l h = elim (cases_eq addr a) [
     elsewhere Store e = ap (λ b. cond b v (slice_index memory addr)) (sym e)
     elsewhere (Swap source read) e = ap (λ b. cond b v (slice_index memory addr)) (sym e)
 
--- the operation of a record that stands there
-pub of_record : (logs : List (List Record)) (id : OpId) (o : Option Record) → o ≡ record_at logs id → operation_at (operations_of logs) id ≡ option_map operation_of o
-of_record logs id o stands = operation_at-operations_of logs id ∙ ap (option_map operation_of) (sym stands)
-
--- it is an operation of one of the cores
-pub core_within : (cores : List (List Operation)) (ids : List OpId) (next memory : List ℕ) (id : OpId) (operation : Operation) → Replayed cores ids next memory → operation_at cores id ≡ Some operation → id.core < length next
-core_within cores ids next memory id operation h there =
-    let n = h.many in
-    let l : id.core < length cores = option_and_then_some _ (slice_get cores id.core) operation there (λ ops at found. slice_get_within cores id.core ops at) in
-    omega arith
-
 -- an id that is its core's next, and whose operation finds what it may
-pub replayed-more : (cores : List (List Operation)) (ids : List OpId) (next memory : List ℕ) (id : OpId) (r : Record) → Replayed cores ids next memory → operation_at cores id ≡ Some (operation_of r) → r.addr < 65536
-    → id.index ≡ slice_index next id.core → IsAnsweredBy (λ addr. slice_index memory r.addr) (operation_of r) → Replayed cores (ids ++ id ∷ []) (slice_set next id.core (id.index + 1)) (slice_set memory r.addr r.value)
-replayed-more cores ids next memory id r h there fits is_next answers = record {
-  turn = in_turn-more next ids id h.turn (core_within cores ids next memory id (operation_of r) h there) is_next;
-  flat = subst GivesFlatAnswers (sym pushed) (flat_push (done cores ids) (operation_of r) h.flat ((answered r.act r.addr r.value _ (λ addr. last_value addr (done cores ids)) (h.words r.addr fits)).0 answers));
+pub replayed-more : (logs : List (List Record)) (ids : List OpId) (next memory : List ℕ) (id : OpId) (r : Record) → Replayed logs ids next memory → Some r ≡ record_at logs id → r.addr < 65536 → id.core < length next
+    → id.index ≡ slice_index next id.core → IsAnsweredBy (λ addr. slice_index memory r.addr) (operation_of r) → Replayed logs (ids ++ id ∷ []) (slice_set next id.core (id.index + 1)) (slice_set memory r.addr r.value)
+replayed-more logs ids next memory id r h stands fits within is_next answers = record {
+  turn = in_turn-more next ids id h.turn within is_next;
+  flat = subst GivesFlatAnswers (sym pushed) (flat_push (done logs ids) (operation_of r) h.flat ((answered r.act r.addr r.value _ (λ addr. last_value addr (done logs ids)) (h.words r.addr fits)).0 answers));
   words = λ addr l. put r.act r.addr r.value addr memory (let n = h.size in omega arith) ((answered r.act r.addr r.value _ (slice_index memory) refl).0 answers)
-      ∙ after_is (operation_of r) (slice_index memory) (done cores ids) addr (h.words addr l) ∙ ap (last_value addr) (sym pushed);
-  many = length-set next id.core (id.index + 1) ∙ h.many;
+      ∙ after_is (operation_of r) (slice_index memory) (done logs ids) addr (h.words addr l) ∙ ap (last_value addr) (sym pushed);
   size = length-set memory r.addr r.value ∙ h.size;
 }
   where
-    pushed : done cores (ids ++ id ∷ []) ≡ done cores ids ++ operation_of r ∷ []
-    pushed = filter_map-append (operation_at cores) ids (id ∷ []) ∙ ap (λ o. done cores ids ++ cons_option o []) there
+    pushed : done logs (ids ++ id ∷ []) ≡ done logs ids ++ operation_of r ∷ []
+    pushed = done-append logs ids id [] r stands
 
 -- what the next id of a sequential order is
-pub record IsNext (cores : List (List Operation)) (next memory : List ℕ) (id : OpId) : Type 0 where
-  pub operation : Operation
-  pub there : operation_at cores id ≡ Some operation
+pub record IsNext (logs : List (List Record)) (next memory : List ℕ) (id : OpId) : Type 0 where
+  pub there : None ≡ record_at logs id → ⊥
   pub in_turn : id.index ≡ slice_index next id.core
-  pub answers : (r : Record) → operation_at cores id ≡ Some (operation_of r) → r.addr < 65536 → IsAnsweredBy (λ addr. slice_index memory r.addr) (operation_of r)
+  pub answers : (r : Record) → Some r ≡ record_at logs id → r.addr < 65536 → IsAnsweredBy (λ addr. slice_index memory r.addr) (operation_of r)
 
-pub replayed-next : (cores : List (List Operation)) (order : List OpId) (k : ℕ) (next memory : List ℕ) (id : OpId) → Replayed cores (take k order) next memory → k < length order → id ≡ get_or order k id → IsSequentialOrder cores order → IsNext cores next memory id
-replayed-next cores order k next memory id h l at sequential =
+pub replayed-next : (logs : List (List Record)) (order : List OpId) (k : ℕ) (next memory : List ℕ) (id : OpId) → Replayed logs (take k order) next memory → k < length order → id ≡ get_or order k id → IsSequentialOrder (operations_of logs) order → IsNext logs next memory id
+replayed-next logs order k next memory id h l at sequential =
     by_split (take k order) (drop (k + 1) order) h
-    (subst (IsSequentialOrder cores) (sym (take-append-drop k order) ∙ ap (λ ids. take k order ++ ids) (drop_more order k id l ∙ ap (λ x. x ∷ drop (k + 1) order) (sym at))) sequential)
+    (subst (IsSequentialOrder (operations_of logs)) (sym (take-append-drop k order) ∙ ap (λ ids. take k order ++ ids) (drop_more order k id l ∙ ap (λ x. x ∷ drop (k + 1) order) (sym at))) sequential)
   where
-    by_split : (before rest : List OpId) → Replayed cores before next memory → IsSequentialOrder cores (before ++ id ∷ rest) → IsNext cores next memory id
+    by_split : (before rest : List OpId) → Replayed logs before next memory → IsSequentialOrder (operations_of logs) (before ++ id ∷ rest) → IsNext logs next memory id
     by_split before rest h s =
+        let cores : List (List Operation) = operations_of logs in
         let turn = in_turn cores (before ++ id ∷ rest) s.serial s.program in
+        let below = index_below (number_of cores) (before ++ id ∷ rest) id turn (In-append_right id before (id ∷ rest) (inl refl)) in
         record {
-          operation = get_or (of_core cores id.core) id.index (Stored 0 0);
-          there = at_core cores id ∙ slice_get-get_or (of_core cores id.core) id.index (Stored 0 0)
-              (index_below (number_of cores) (before ++ id ∷ rest) id turn (In-append_right id before (id ∷ rest) (inl refl)));
+          there = λ none. none-some (get_or (of_core cores id.core) id.index (Stored 0 0)) (sym (of_record logs id None none) ∙ at_core cores id ∙ slice_get-get_or (of_core cores id.core) id.index (Stored 0 0) below);
           in_turn = is_next (number_of cores) (slice_index next) before rest id turn h.turn;
-          answers = λ r there fits. (answered r.act r.addr r.value _ (λ addr. last_value addr (done cores before)) (h.words r.addr fits)).1
-              (flat_at_middle (done cores before) (operation_of r) (done cores rest)
-              (subst GivesFlatAnswers (filter_map-append (operation_at cores) before (id ∷ rest) ∙ ap (λ o. done cores before ++ cons_option o (done cores rest)) there) s.flat));
+          answers = λ r stands fits. (answered r.act r.addr r.value _ (λ addr. last_value addr (done logs before)) (h.words r.addr fits)).1
+              (flat_at_middle (done logs before) (operation_of r) (done logs rest) (subst GivesFlatAnswers (done-append logs before id rest r stands) s.flat));
         }
 
 -- an order is sequential where at its end all operations of each core are done
-pub replayed-all : (logs : List (Vec Record Global)) (order : List OpId) (next memory lengths : List ℕ) → Replayed (operations_of (record_lists logs)) order next memory → lengths ≡ map vec_len logs
+pub replayed-all : (logs : List (Vec Record Global)) (order : List OpId) (next memory lengths : List ℕ) → Replayed (record_lists logs) order next memory → length next ≡ length logs → lengths ≡ map vec_len logs
     → (next ≡ lengths) ↔ IsSequentialOrder (operations_of (record_lists logs)) order
-replayed-all logs order next memory lengths h lengths_are = (
+replayed-all logs order next memory lengths h many lengths_are = (
   λ all. (let s = from_turn cores order (λ core. h.turn core ∙ ap (λ (ns : List ℕ). range_with_len 0 (slice_index ns core)) (all ∙ lengths_are) ∙ ap (range_with_len 0) (number_is logs core)) in
       record { serial = s.0; program = s.1; flat = h.flat }),
-  λ s. same_number_lists next (map vec_len logs) (h.many ∙ same_many) (λ core l.
+  λ s. same_number_lists next (map vec_len logs) (many ∙ sym (length-map logs vec_len)) (λ core l.
       sym (length-range_with_len 0 (slice_index next core)) ∙ ap length (sym (h.turn core) ∙ in_turn cores order s.serial s.program core)
       ∙ length-range_with_len 0 (number_of cores core) ∙ sym (number_is logs core)) ∙ sym lengths_are,
 )
   where
     cores : List (List Operation)
     cores = operations_of (record_lists logs)
-
-    same_many : length cores ≡ length (map vec_len logs)
-    same_many = simp length-map
 
     number_is : (logs : List (Vec Record Global)) (core : ℕ) → slice_index (map vec_len logs) core ≡ number_of (operations_of (record_lists logs)) core
     number_is [] core = refl

@@ -169,23 +169,20 @@ from_turn cores order turn = (λ id. serial id ∙ ap one_if (sym (is_there core
 -- the id that stands after others in turn is the next of its core
 pub is_next : (number next : ℕ → ℕ) (before rest : List OpId) (id : OpId) → InTurn number (before ++ id ∷ rest) → InTurn next before → id.index ≡ next id.core
 is_next number next before rest id all turn =
-    let n : ℕ = next id.core in
-    let e : range_with_len 0 n ++ id.index ∷ indices id.core rest ≡ range_with_len 0 (number id.core) =
+    let e : range_with_len 0 (next id.core) ++ id.index ∷ indices id.core rest ≡ range_with_len 0 (number id.core) =
     ap (λ js. js ++ id.index ∷ indices id.core rest) (sym (turn id.core))
     ∙ ap (λ b. indices id.core before ++ cons_option (if b then Some id.index else None) (indices id.core rest)) (sym (eq-eqb id.core id.core refl))
     ∙ sym (filter_map-append (λ (x : OpId). if x.core == id.core then Some x.index else None) before (id ∷ rest)) ∙ all id.core in
-    let l : n < number id.core = index_after n (number id.core) id.index (indices id.core rest) e in
-    let at : get_or (range_with_len 0 n ++ id.index ∷ indices id.core rest) n 0 ≡ id.index = get_or_at (range_with_len 0 n) id.index (indices id.core rest) 0 n (length-range_with_len 0 n) in
-    let there = get_or-range_with_len 0 (number id.core) n 0 l in
-    let same = ap (λ js. get_or js n 0) e in
+    let is = next_in_range 0 (next id.core) (number id.core) id.index (indices id.core rest) e in
     omega arith
   where
-    index_after : (n m j : ℕ) (js : List ℕ) → range_with_len 0 n ++ j ∷ js ≡ range_with_len 0 m → n < m
-    index_after n m j js e =
-        let all = ap length e in
-        let a = length-append (range_with_len 0 n) (j ∷ js) in
-        let b = length-range_with_len 0 n in
-        let c = length-range_with_len 0 m in
+    next_in_range : (from n m j : ℕ) (js : List ℕ) → range_with_len from n ++ j ∷ js ≡ range_with_len from m → j ≡ from + n
+    next_in_range from zero zero j js e = absurd cc
+    next_in_range from zero (suc m) j js e = let first : j ≡ from = cc in omega arith
+    next_in_range from (suc n) zero j js e = absurd cc
+    next_in_range from (suc n) (suc m) j js e =
+        let later : range_with_len (from + 1) n ++ j ∷ js ≡ range_with_len (from + 1) m = cc in
+        let is = next_in_range (from + 1) n m j js later in
         omega arith
 
 -- and is in turn there

@@ -1,6 +1,6 @@
 //! Whether a list of ids is an order in which the logs answer as one memory.
 
-ghost use Rattle.std.specs.Prelude.{◌≡◌, ℕ, ◌↔◌, IsTrue, IfOk, vec_len, slice_index, map};
+ghost use Rattle.std.specs.Prelude.{◌≡◌, ◌<◌, ℕ, ◌↔◌, IsTrue, IfOk, IfSome, length, vec_len, slice_index, map};
 ghost use Rattle.mem_op.specs.Consistency.{IsSequentialOrder};
 ghost use Rattle.log_record.specs.Entries.{record_lists, record_at, operation_of, operations_of};
 ghost use Rattle.verdict.specs.FlatMachine.{IsAnsweredBy};
@@ -56,7 +56,8 @@ fn zeros(alloc: Global, length: usize) -> Result<Vec<Word>, AllocError>
 
 /// The record of an id.
 fn record_of(logs: &[Vec<Record>], id: &OpId) -> Option<Record>
-    ensures { result ≡ record_at (record_lists logs.now) id.now }
+    ensures found { result ≡ record_at (record_lists logs.now) id.now }
+    ensures within { IfSome result (λ _. id.now.core < length logs.now) }
 {
     match logs.get(id.core.get() as usize) {
         Some(log) => log.get(id.index.get() as usize).copied(),
