@@ -139,3 +139,8 @@ of_core_from core c (suc k) (q ∷ programs) (l ∷ logs) p log at e f =
     filter-append (is_of core) (program_faults_of c q l) (program_faults_from (suc c) programs logs)
     ∙ ap (λ fs. fs ++ filter (is_of core) (program_faults_from (suc c) programs logs)) (others_dropped core c (program_fault q (map operation_of l)) (λ same. omega arith))
     ∙ of_core_from core (suc c) k programs logs p log (omega arith) e f
+
+-- a core's faults among those of a set are its own
+pub program_faults-of_core : (programs : List (List Instruction)) (logs : List (List Record)) (core : ℕ) (p : List Instruction) (log : List Record) →
+    slice_get programs core ≡ Some p → slice_get logs core ≡ Some log → filter (λ f. f.id.core == core) (program_faults programs logs) ≡ program_faults_of core p log
+program_faults-of_core programs logs core p log e f = of_core_from core 0 core programs logs p log (omega arith) e f
