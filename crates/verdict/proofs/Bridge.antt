@@ -34,16 +34,12 @@ use Rattle.verdict.proofs.FlatAnswers.{NoAddressFault, by_key-flat}
 
 -- where the verdict is Yes there is no fault
 no_faults : (core : Option RuleFault) (address : Option AddressFault) (n count : ℕ) → option_map_or No (option_or (option_map from_core core) (option_map from_address address)) (Yes n) ≡ Yes count → (core ≡ None) × (address ≡ None)
-no_faults None None n count h = (refl, refl)
-no_faults None (Some f) n count h = absurd cc
-no_faults (Some f) address n count h = absurd cc
+no_faults core address n count h = grind arith
 
 none_of_addresses : (logs : List (List Record)) → least_address_fault (entries logs) ≡ None → NoAddressFault logs
-none_of_addresses logs none e p = go (address_fault (entries logs) e) refl
-  where
-    go : (found : Option AddressFault) → address_fault (entries logs) e ≡ found → address_fault (entries logs) e ≡ None
-    go None h = h
-    go (Some f) h = absurd (none_from_least fault_cmp (address_faults (entries logs)) f none (In-filter_map (address_fault (entries logs)) (entries logs) e f p h))
+none_of_addresses logs none e p =
+    let no = λ (f : AddressFault) (h : address_fault (entries logs) e ≡ Some f). none_from_least fault_cmp (address_faults (entries logs)) f none (In-filter_map (address_fault (entries logs)) (entries logs) e f p h) in
+    grind (arith, no)
 
 -- the ids of a set that gets Yes, by key, are a sequential order of its operations, whatever faults were sought besides those of core order
 sequential_by : (faults : List RuleFault) (logs : List (List Record)) (count : ℕ) → ((f : RuleFault) → In f (order_faults logs) → In f faults) → verdict_with (least_of core_fault_cmp faults) logs ≡ Yes count

@@ -1,13 +1,11 @@
 -- The core faults of a set, core by core.
 use Rattle.std.specs.Prelude.{◌≡◌, ◌<◌, ◌≤◌, ◌+◌, ℕ, Bool, false, ◌==◌, List, [], ◌∷◌, ◌++◌, refl, Option, Some, None, option_map, slice_get, map, length, take}
 use Rattle.std.specs.List.{flat_map}
-use Rattle.std.specs.Option.{option_map_or}
 use Rattle.std.specs.declared.cmp.Ordering.{Ordering}
-use Rattle.std.specs.Ordering.{is_lt, nat_cmp, ordering_then}
+use Rattle.std.specs.Ordering.{is_lt}
 use Rattle.std.proofs.Common.{sym, ◌∙◌, ap, subst, inl, inr, arith, get_or}
 use Rattle.std.proofs.lemmas.Bool.{eqb-true, eq-eqb, cases_lt}
 use Rattle.std.proofs.lemmas.Bool.Decides.{nat_tests}
-use Rattle.std.proofs.lemmas.Cmp.{nat_cmp_total, tied_itself}
 use Rattle.std.proofs.lemmas.List.{append-nil, take_more}
 use Rattle.std.proofs.lemmas.List.Elements.{filter-append}
 use Rattle.std.proofs.lemmas.Option.{slice_get_within}
@@ -61,18 +59,14 @@ falls_first logs core index log place h = is_the_least (faults_of_core (order_fa
     here : In fault (faults_of_core (order_faults logs) core)
     here = In-filtered (is_of core) (order_faults logs) fault (fault_of_log logs fault.id log (sym place) h.0) (eq-eqb core core refl)
 
-    not_less : (i : ℕ) → index ≤ i → is_lt (nat_cmp i index) ≡ false
-    not_less i l = grind (arith, nat_tests)
-
     above : (f : RuleFault) → In f (faults_of_core (order_faults logs) core) → is_lt (core_fault_cmp f fault) ≡ false
     above f p =
         let parts = In-filter (is_of core) (order_faults logs) f p in
         let found = fault_in_log logs f parts.0 in
         let one_core : f.id.core ≡ core = eqb-true f.id.core core parts.1 in
-        let of_order : order_fault (record { core = core; index = f.id.index }) ≡ f = (λ i. order_fault (record { core = sym one_core i; index = f.id.index })) ∙ found.of_order in
+        let of_order : order_fault f.id ≡ f = found.of_order in
         let lowest : index ≤ f.id.index = elim (cases_lt f.id.index index) [ inl l ↦ absurd (let isnt = h.1 f.id.index l in cc) | inr l ↦ l ] in
-        subst (λ (g : RuleFault). is_lt (core_fault_cmp g fault) ≡ false) of_order
-        (ap (λ o. is_lt (ordering_then o (nat_cmp f.id.index index))) (tied_itself nat_cmp_total core) ∙ not_less f.id.index lowest)
+        grind (arith, nat_tests)
 
 -- ---- where it leaves its program
 
@@ -88,11 +82,8 @@ fault_of_program core index = program_fault_at (record { core = core; index = in
 pub leaves_program : (programs : List (List Instruction)) (logs : List (List Record)) (core : ℕ) (program : List Instruction) (log : List Record) → Some program ≡ slice_get programs core → Some log ≡ slice_get logs core
     → option_map (fault_of_program core) (program_fault program (map operation_of log)) ≡ least_of_core (program_faults programs logs) core
 leaves_program programs logs core program log there logged =
-    alone (program_fault program (map operation_of log)) ∙ ap (least_of core_fault_cmp) (sym (program_faults-of_core programs logs core program log (sym there) (sym logged)))
-  where
-    alone : (o : Option ℕ) → option_map (fault_of_program core) o ≡ least_of core_fault_cmp (option_map_or (λ i. fault_of_program core i ∷ []) o [])
-    alone None = refl
-    alone (Some i) = refl
+    let found = program_faults-of_core programs logs core program log (sym there) (sym logged) in
+    grind arith
 
 -- ---- both
 

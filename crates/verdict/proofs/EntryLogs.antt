@@ -1,6 +1,6 @@
 -- The log of a core, read from its entries.
 use Rattle.std.specs.Prelude.{◌≡◌, ℕ, suc, List, [], ◌∷◌, refl, Option, None, Some, map, option_map, slice_get}
-use Rattle.std.proofs.Common.{◌∙◌, ap}
+use Rattle.std.proofs.Common.{ap, arith}
 use Rattle.log_record.specs.declared.record.Record.{Record}
 use Rattle.log_record.specs.declared.record.Entry.{Entry}
 use Rattle.log_record.specs.Entries.{core_entries}
@@ -20,18 +20,8 @@ entries_of logs core = option_map (λ (log : List Record). core_entries core 0 l
 
 -- the records of the entries that were found are the core's log
 pub log_found : (logs : List (List Record)) (core : ℕ) (es : List Entry) → Some es ≡ entries_of logs core → Some (records_of es) ≡ slice_get logs core
-log_found logs core es h = go (slice_get logs core) h
-  where
-    go : (o : Option (List Record)) → Some es ≡ option_map (λ (log : List Record). core_entries core 0 log) o → Some (records_of es) ≡ o
-    go None e = cc
-    go (Some log) e =
-        let same : es ≡ core_entries core 0 log = cc in
-        ap (λ xs. Some (records_of xs)) same ∙ ap (λ (l : List Record). Some l) (records_of_core core 0 log)
+log_found logs core es h = grind (arith, records_of_core)
 
 -- where there are no entries the core has no log
 pub no_log_found : (logs : List (List Record)) (core : ℕ) → None ≡ entries_of logs core → None ≡ slice_get logs core
-no_log_found logs core h = go (slice_get logs core) h
-  where
-    go : (o : Option (List Record)) → None ≡ option_map (λ (log : List Record). core_entries core 0 log) o → None ≡ o
-    go None e = refl
-    go (Some log) e = cc
+no_log_found logs core h = grind arith

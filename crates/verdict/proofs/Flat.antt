@@ -1,25 +1,20 @@
 -- Operations that have their flat answers, one after another.
-use Rattle.std.specs.Prelude.{◌≡◌, ℕ, zero, suc, Bool, true, false, cond, List, [], ◌∷◌, ◌++◌, ◌⊎◌, refl, length, take, reverse, find, Some, slice_get}
-use Rattle.std.proofs.Common.{sym, ◌∙◌, ap, subst, inl, inr}
+use Rattle.std.specs.Prelude.{◌==◌, ◌≡◌, ℕ, cond, List, [], ◌∷◌, ◌++◌, ◌⊎◌, refl, length, take, find, Some, slice_get}
+use Rattle.std.proofs.Common.{sym, ◌∙◌, ap, subst, inl, inr, arith}
+use Rattle.std.proofs.lemmas.Grind.{common_steps}
 use Rattle.std.proofs.lemmas.List.{take_at, reverse-append}
+use Rattle.std.proofs.lemmas.Option.{gets}
 use Rattle.mem_op.specs.Consistency.{Operation, Loaded, Stored, Swapped, is_store_to, word_left, value_or_zero, last_value, GivesFlatAnswers}
 use Rattle.verdict.specs.FlatMachine.{IsAnsweredBy, after}
 
 last_value-push : (addr : ℕ) (xs : List Operation) (y : Operation) → last_value addr (xs ++ y ∷ []) ≡ cond (is_store_to addr y) (word_left y) (last_value addr xs)
-last_value-push addr xs y = ap (λ l. value_or_zero (find (is_store_to addr) l)) (reverse-append xs (y ∷ [])) ∙ go (is_store_to addr y)
-  where
-    go : (b : Bool) → value_or_zero (cond b (Some y) (find (is_store_to addr) (reverse xs))) ≡ cond b (word_left y) (last_value addr xs)
-    go true = refl
-    go false = refl
+last_value-push addr xs y = ap (λ l. value_or_zero (find (is_store_to addr) l)) (reverse-append xs (y ∷ [])) ∙ grind arith
 
 -- an operation leaves at an address its last value
 pub after_is : (y : Operation) (memory : ℕ → ℕ) (before : List Operation) (addr : ℕ) → memory addr ≡ last_value addr before → after y memory addr ≡ last_value addr (before ++ y ∷ [])
-after_is y memory before addr h = go y ∙ ap (cond (is_store_to addr y) (word_left y)) h ∙ sym (last_value-push addr before y)
-  where
-    go : (y : Operation) → after y memory addr ≡ cond (is_store_to addr y) (word_left y) (memory addr)
-    go (Loaded a value) = refl
-    go (Stored a value) = refl
-    go (Swapped a read stored) = refl
+after_is (Loaded a value) memory before addr h = h ∙ sym (last_value-push addr before (Loaded a value))
+after_is (Stored a value) memory before addr h = ap (cond (a == addr) value) h ∙ sym (last_value-push addr before (Stored a value))
+after_is (Swapped a read stored) memory before addr h = ap (cond (a == addr) stored) h ∙ sym (last_value-push addr before (Swapped a read stored))
 
 -- an operation behind these has its flat answer
 abbrev pub IsAnsweredBehind : List Operation → Operation → Type 0
@@ -38,21 +33,14 @@ flat_at xs h k (Stored addr value) e = tt
 flat_at xs h k (Swapped addr read stored) e = h.swaps k addr read stored e
 
 pub flat_at_middle : (xs : List Operation) (y : Operation) (ys : List Operation) → GivesFlatAnswers (xs ++ y ∷ ys) → IsAnsweredBehind xs y
-flat_at_middle xs y ys h = subst (λ before. IsAnsweredBehind before y) (take_at xs (y ∷ ys) (length xs) refl) (flat_at (xs ++ y ∷ ys) h (length xs) y (here xs))
-  where
-    here : (xs : List Operation) → slice_get (xs ++ y ∷ ys) (length xs) ≡ Some y
-    here [] = refl
-    here (x ∷ xs) = here xs
+flat_at_middle xs y ys h = subst (λ before. IsAnsweredBehind before y) (take_at xs (y ∷ ys) (length xs) refl) (flat_at (xs ++ y ∷ ys) h (length xs) y (grind (arith, common_steps, gets)))
 
 pub flat_push : (xs : List Operation) (y : Operation) → GivesFlatAnswers xs → IsAnsweredBehind xs y → GivesFlatAnswers (xs ++ y ∷ [])
-flat_push xs y h g = flat_each (xs ++ y ∷ []) (λ k z e. elim (places xs k z e) [
+flat_push xs y h g = flat_each (xs ++ y ∷ []) (λ k z e. elim (places k z e) [
   | inl r ↦ subst (λ before. IsAnsweredBehind before z) (sym r.1) (flat_at xs h k z r.0)
   | inr r ↦ subst (λ before. IsAnsweredBehind before z) (sym r.1) (subst (IsAnsweredBehind xs) r.0 g)
 ])
   where
     -- what stands at a place stood there before, or is the one added
-    places : (xs : List Operation) (k : ℕ) (z : Operation) → slice_get (xs ++ y ∷ []) k ≡ Some z → ((slice_get xs k ≡ Some z) × (take k (xs ++ y ∷ []) ≡ take k xs)) ⊎ ((y ≡ z) × (take k (xs ++ y ∷ []) ≡ xs))
-    places [] zero z e = inr (cc, refl)
-    places [] (suc k) z e = absurd cc
-    places (x ∷ xs) zero z e = inl (e, refl)
-    places (x ∷ xs) (suc k) z e = elim (places xs k z e) [ inl r ↦ inl (r.0, ap (λ l. x ∷ l) r.1) | inr r ↦ inr (r.0, ap (λ l. x ∷ l) r.1) ]
+    places : (k : ℕ) (z : Operation) → slice_get (xs ++ y ∷ []) k ≡ Some z → ((slice_get xs k ≡ Some z) × (take k (xs ++ y ∷ []) ≡ take k xs)) ⊎ ((y ≡ z) × (take k (xs ++ y ∷ []) ≡ xs))
+    places k z e = grind (arith, common_steps, gets)

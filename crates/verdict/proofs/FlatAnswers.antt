@@ -1,10 +1,10 @@
 -- By key each load and each swap of a set has its flat answer, where no address has a fault.
-use Rattle.std.specs.Prelude.{◌≡◌, ℕ, Bool, true, false, cond, ◌&&◌, ◌==◌, List, [], ◌∷◌, ◌++◌, refl, Option, Some, None, slice_get, map, find, reverse, take, if◌then◌else◌}
+use Rattle.std.specs.Prelude.{◌≡◌, ℕ, Bool, true, false, ◌&&◌, ◌==◌, List, [], ◌∷◌, ◌++◌, refl, Option, Some, None, slice_get, map, find, reverse, take}
 use Rattle.std.specs.List.{filter_map, cons_option}
 use Rattle.std.proofs.Common.{sym, ◌∙◌, ap, subst, inl, inr, arith}
 use Rattle.std.specs.Option.{option_map}
 use Rattle.std.specs.Ordering.{is_lt}
-use Rattle.std.proofs.lemmas.Bool.{and_parts, and_from, eqb-true, false_from_ne_true}
+use Rattle.std.proofs.lemmas.Bool.{and_parts, and_from, false_from_ne_true}
 use Rattle.std.proofs.lemmas.Bool.Decides.{nat_tests}
 use Rattle.std.proofs.lemmas.List.{take-map, map-append}
 use Rattle.std.proofs.lemmas.Option.{slice_get-map}
@@ -19,8 +19,7 @@ use Rattle.log_record.specs.declared.act.Act.{Act}
 use Rattle.log_record.specs.declared.act.Act.TheVariants.{Load, Store, Swap}
 use Rattle.log_record.specs.Entries.{entry_cmp, operation_by, operation_of, operations_of, entries}
 use Rattle.log_record.proofs.EntryFacts.{record_of_entry, same_record, operation_at-operations_of}
-use Rattle.address_check.specs.declared.fault.AddressRule.TheVariants.{Source as WrongSource, Value as WrongValue}
-use Rattle.address_check.specs.AddressFaults.{is_store, is_earlier_store, right_store, is_source, value_from, broken_rule, fault_by, act_fault, address_fault}
+use Rattle.address_check.specs.AddressFaults.{is_store, is_earlier_store, right_store, value_from, broken_rule, fault_by, act_fault, address_fault}
 use Rattle.address_check.proofs.Totals.{entry_total}
 use Rattle.verdict.specs.ByKey.{by_key, ids_by_key}
 use Rattle.verdict.proofs.Flat.{IsAnsweredBehind, flat_each}
@@ -57,19 +56,17 @@ map-reverse f [] = refl
 map-reverse f (x ∷ xs) =
     reverse-cons (f x) (map f xs) ∙ ap (λ l. l ++ f x ∷ []) (map-reverse f xs) ∙ sym (map-append f (reverse xs) (x ∷ [])) ∙ ap (map f) (sym (reverse-cons x xs))
 
+value_left : (act : Act) (addr value : ℕ) → word_left (operation_by act addr value) ≡ value
+value_left (Load source) addr value = refl
+value_left Store addr value = refl
+value_left (Swap source read) addr value = refl
+
 found_value : (addr : ℕ) (es : List Entry) → value_or_zero (find (is_store_to addr) (map operation es)) ≡ value_from (find (λ e. is_store_to addr (operation e)) es)
 found_value addr [] = refl
-found_value addr (e ∷ es) = go (is_store_to addr (operation e)) (found_value addr es)
-  where
-    left : (act : Act) (a v : ℕ) → word_left (operation_by act a v) ≡ v
-    left (Load source) a v = refl
-    left Store a v = refl
-    left (Swap source read) a v = refl
-
-    go : (b : Bool) → value_or_zero (find (is_store_to addr) (map operation es)) ≡ value_from (find (λ e. is_store_to addr (operation e)) es)
-        → value_or_zero (cond b (Some (operation e)) (find (is_store_to addr) (map operation es))) ≡ value_from (cond b (Some e) (find (λ e. is_store_to addr (operation e)) es))
-    go true h = left e.logged.act e.logged.addr e.logged.value
-    go false h = h
+found_value addr (e ∷ es) =
+    let later = found_value addr es in
+    let left = value_left e.logged.act e.logged.addr e.logged.value in
+    grind arith
 
 -- the last store to an address among the first entries
 abbrev last_store : ℕ → ℕ → List Entry → Option Entry

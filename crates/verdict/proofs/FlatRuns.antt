@@ -1,11 +1,12 @@
 -- Along a sequential order of operations that conform, the flat machine performs them.
-use Rattle.std.specs.Prelude.{◌≡◌, ℕ, zero, suc, ◌<◌, Bool, true, false, ◌==◌, if◌then◌else◌, List, [], ◌∷◌, ◌++◌, refl, None, Some, option_map, slice_get, slice_set, map, length}
+use Rattle.std.specs.Prelude.{◌≡◌, ℕ, zero, suc, ◌<◌, if◌then◌else◌, List, [], ◌∷◌, ◌++◌, refl, None, Some, option_map, slice_get, slice_set, map, length}
 use Rattle.std.specs.List.{filter_map, cons_option, AllZip}
 use Rattle.std.proofs.Common.{sym, ◌∙◌, ap, subst, inl, inr, arith, get_or}
-use Rattle.std.proofs.lemmas.Bool.{cases_eq, eqb-true, eq-eqb, ne_eqb}
+use Rattle.std.proofs.lemmas.Bool.{cases_eq, eq-eqb, ne_eqb}
+use Rattle.std.proofs.lemmas.Bool.Decides.{nat_tests}
 use Rattle.std.proofs.lemmas.List.{append-nil, append_assoc, map-append}
 use Rattle.std.proofs.lemmas.List.FromFn.{fill_by_all}
-use Rattle.std.proofs.lemmas.Option.{get_or_from_slice_get, slice_get-get_or, slice_get-map, slice_get_within}
+use Rattle.std.proofs.lemmas.Option.{get_or_from_slice_get, slice_get-get_or, slice_get-map, slice_get_past, slice_get_within}
 use Rattle.std.proofs.lemmas.Slice.Zip.{AllZip-long}
 use Rattle.mem_op.specs.declared.id.OpId.{OpId}
 use Rattle.mem_op.specs.Consistency.{Operation, Stored, operation_at, IsConsistent, GivesFlatAnswers, last_value}
@@ -41,14 +42,7 @@ operations_are cores (id ∷ ids) there =
 
 by_indices : (cores : List (List Operation)) (core : ℕ) (ids : List OpId) → performed_by core (pairs cores ids) ≡ map (λ i. get_or (of_core cores core) i (Stored 0 0)) (indices core ids)
 by_indices cores core [] = refl
-by_indices cores core (id ∷ ids) = go (id.core == core) refl (by_indices cores core ids)
-  where
-    go : (b : Bool) → (id.core == core) ≡ b → performed_by core (pairs cores ids) ≡ map (λ i. get_or (of_core cores core) i (Stored 0 0)) (indices core ids)
-        → cons_option (if b then Some (op_of cores id) else None) (performed_by core (pairs cores ids)) ≡ map (λ i. get_or (of_core cores core) i (Stored 0 0)) (cons_option (if b then Some id.index else None) (indices core ids))
-    go true here later =
-        let same : op_of cores id ≡ get_or (of_core cores core) id.index (Stored 0 0) = ap (λ c. get_or (of_core cores c) id.index (Stored 0 0)) (eqb-true id.core core here) in
-        cc
-    go false here later = later
+by_indices cores core (id ∷ ids) = let later = by_indices cores core ids in grind (arith, nat_tests)
 
 -- ids in turn have just the operations of each core
 of_each : (cores : List (List Operation)) (order : List OpId) → InTurn (number_of cores) order → (core : ℕ) → performed_by core (pairs cores order) ≡ of_core cores core
@@ -66,9 +60,7 @@ each_conforms (p ∷ ps) (ops ∷ cores) (suc core) h l = each_conforms ps cores
 
 -- a core with an operation is there
 core_there : (cores : List (List Operation)) (core index : ℕ) → index < number_of cores core → core < length cores
-core_there [] core index l = absurd (omega arith)
-core_there (ops ∷ cores) zero index l = omega arith
-core_there (ops ∷ cores) (suc core) index l = let there : core < length cores = core_there cores core index l in omega arith
+core_there cores core index l = grind (arith, slice_get_past)
 
 -- ---- the run
 
@@ -119,12 +111,12 @@ module _ (programs : List (List Instruction)) (all : List (ℕ × Operation)) (f
       wait_on : AllWait (slice_set flat.states p.0 halved.middle) rest
       wait_on core l = elim (cases_eq core p.0) [
         | inl same ↦ subst (λ c. Waits (slice_set flat.states p.0 halved.middle) c (performed_by c rest)) (sym same) (record {
-            state = halved.middle;
-            at = set_here flat.states p.0 halved.middle (slice_get_within flat.states p.0 waiting.state waiting.at);
-            last = waiting.last;
-            path = halved.behind;
-            ended = waiting.ended;
-          })
+          state = halved.middle;
+          at = set_here flat.states p.0 halved.middle (slice_get_within flat.states p.0 waiting.state waiting.at);
+          last = waiting.last;
+          path = halved.behind;
+          ended = waiting.ended;
+        })
         | inr other ↦ (let w = wait core l in
             record {
               state = w.state;
@@ -161,11 +153,11 @@ runs_flat programs cores conform (order, sequential) = (
     ran : (run : List ℕ) × (flat : Flat) × FlatRun programs run (pairs cores order) flat × IsWhole programs flat
     ran = walk programs (pairs cores order) (subst GivesFlatAnswers (sym (operations_are cores order there)) sequential.flat) has_program
         (pairs cores order) [] [] (flat_start programs) refl starts (λ addr. refl) (λ core l.
-            let conforms = subst (Conforms (get_or programs core [])) (sym (each core)) (each_conforms programs cores core conform l) in
-            record {
-              state = start;
-              at = slice_get-map (λ (p : List Instruction). start) programs core ∙ ap (option_map (λ (p : List Instruction). start)) (slice_get-get_or programs core [] l);
-              last = conforms.0;
-              path = conforms.1;
-              ended = conforms.2;
-            })
+        let conforms = subst (Conforms (get_or programs core [])) (sym (each core)) (each_conforms programs cores core conform l) in
+        record {
+          state = start;
+          at = slice_get-map (λ (p : List Instruction). start) programs core ∙ ap (option_map (λ (p : List Instruction). start)) (slice_get-get_or programs core [] l);
+          last = conforms.0;
+          path = conforms.1;
+          ended = conforms.2;
+        })

@@ -1,10 +1,9 @@
 -- The texts of a set have one verdict, or one first fault.
-use Rattle.std.specs.Prelude.{◌≡◌, ◌<◌, ◌≤◌, ℕ, zero, suc, ◌+◌, ◌==◌, ◌⊎◌, if◌then◌else◌, List, [], ◌∷◌, length, refl, Result, Ok, Err}
+use Rattle.std.specs.Prelude.{◌≡◌, ◌<◌, ℕ, zero, suc, ◌+◌, List, [], ◌∷◌, length, refl, Result, Ok, Err}
 use Rattle.std.proofs.Common.{sym, ◌∙◌, ap, subst, inl, inr, arith}
-use Rattle.std.proofs.lemmas.Bool.{cases_lt}
+use Rattle.std.proofs.lemmas.Bool.{cases_order}
 use Rattle.log_record.specs.declared.record.Record.{Record}
 use Rattle.log_file.specs.declared.fault.FormatFault.{FormatFault}
-use Rattle.log_file.specs.declared.fault.FormatFault.TheVariants.{BadHeader, BadLine, OutOfRange, TooMany, CountDiffers, TrailingBytes, Truncated, WrongCore}
 use Rattle.log_file.specs.Log.{Spells, IsFirstFault, number}
 use Rattle.log_file.specs.Sets.{SpellFrom, SpellSet, text_at, IsFirstOfSet}
 use Rattle.log_file.proofs.Once.{one_log}
@@ -41,31 +40,15 @@ spelled_or_faulty texts logs file line fault h k =
     let spelled : Spells file (length texts) (text_at texts file) found.0 = subst (λ c. Spells c (length texts) (text_at texts file) found.0) (let z : 0 + file ≡ file = omega arith in z) found.1 in
     spelled_quiet file (length texts) (text_at texts file) found.0 spelled line fault k.first.holds
 
-fault_of : ℕ → FormatFault
-fault_of n =
-    if n == 20 then BadHeader else (if n == 21 then BadLine else (if n == 22 then OutOfRange else (if n == 23 then TooMany
-    else (if n == 24 then CountDiffers else (if n == 25 then TrailingBytes else (if n == 26 then Truncated else WrongCore))))))
-
-numbered : (fault : FormatFault) → fault_of (number fault) ≡ fault
-unfolding fault_of
-numbered BadHeader = refl
-numbered BadLine = refl
-numbered OutOfRange = refl
-numbered TooMany = refl
-numbered CountDiffers = refl
-numbered TrailingBytes = refl
-numbered Truncated = refl
-numbered WrongCore = refl
+one_number : (f g : FormatFault) → number f ≡ number g → f ≡ g
+one_number f g same = grind arith
 
 -- a text has one first fault
 one_first : (core cores : ℕ) (text : List ℕ) (k j : ℕ) (f g : FormatFault) → IsFirstFault core cores text k f → IsFirstFault core cores text j g → (k ≡ j) × (f ≡ g)
-one_first core cores text k j f g h i = go (h.least j g i.holds) (i.least k f h.holds)
-  where
-    go : (k < j) ⊎ ((k ≡ j) × (number f ≤ number g)) → (j < k) ⊎ ((j ≡ k) × (number g ≤ number f)) → (k ≡ j) × (f ≡ g)
-    go (inl a) (inl b) = absurd (omega arith)
-    go (inl a) (inr b) = absurd (omega (arith, b.0))
-    go (inr a) (inl b) = absurd (omega (arith, a.0))
-    go (inr a) (inr b) = (a.0, (let same : number f ≡ number g = omega (arith, a.1, b.1) in sym (numbered f) ∙ ap fault_of same ∙ numbered g))
+one_first core cores text k j f g h i =
+    let least = h.least j g i.holds in
+    let other_least = i.least k f h.holds in
+    (grind arith, one_number f g (grind arith))
 
 -- of two first faults of a set neither is at a file before the other's
 not_before : (texts : List (List ℕ)) (file line other_file other_line : ℕ) (fault other : FormatFault) → IsFirstOfSet texts file line fault → IsFirstOfSet texts other_file other_line other → file < other_file → ⊥
@@ -74,12 +57,12 @@ not_before texts file line other_file other_line fault other h k l =
     spelled_quiet file (length texts) (text_at texts file) spelled.0 spelled.1 line fault h.first.holds
 
 same_fault : (texts : List (List ℕ)) (file line other_file other_line : ℕ) (fault other : FormatFault) → IsFirstOfSet texts file line fault → IsFirstOfSet texts other_file other_line other → ◌≡◌ {A = JudgeFault} (Log file line fault) (Log other_file other_line other)
-same_fault texts file line other_file other_line fault other h k = elim (cases_lt file other_file) [
-  | inl l ↦ absurd (not_before texts file line other_file other_line fault other h k l)
-  | inr l ↦ elim (cases_lt other_file file) [
-    | inl m ↦ absurd (not_before texts other_file other_line file line other fault k h m)
-    | inr m ↦ at_one_file (let e : file ≡ other_file = omega arith in e)
-  ]
+same_fault texts file line other_file other_line fault other h k = elim (cases_order file other_file) [
+  | inl same ↦ at_one_file same
+  | inr apart ↦ absurd (elim apart [
+    | inl l ↦ not_before texts file line other_file other_line fault other h k l
+    | inr l ↦ not_before texts other_file other_line file line other fault k h l
+  ])
 ]
   where
     at_one_file : file ≡ other_file → ◌≡◌ {A = JudgeFault} (Log file line fault) (Log other_file other_line other)

@@ -1,25 +1,19 @@
 -- The ids of a set by key keep program order, where no core's (ts, rank) falls.
-use Rattle.std.specs.Prelude.{◌≡◌, ℕ, zero, suc, ◌+◌, ◌<◌, ◌≤◌, Bool, true, false, List, refl, Option, Some, None, slice_get, option_and_then, length}
-use Rattle.std.proofs.Common.{◌-◌, sym, ◌∙◌, ap, subst, inl, inr, arith, get_or}
-use Rattle.std.specs.Option.{option_map_or}
-use Rattle.std.specs.declared.cmp.Ordering.{Ordering}
-use Rattle.std.specs.declared.cmp.Ordering.TheVariants.{Less, Equal, Greater}
-use Rattle.std.specs.Ordering.{nat_cmp, ordering_then, is_lt}
-use Rattle.std.specs.Cmp.{IsTotalOrder}
-use Rattle.std.proofs.lemmas.Cmp.{nat_cmp_total, on_total, then_total, tied_itself}
+use Rattle.std.specs.Prelude.{◌≡◌, ℕ, zero, suc, ◌+◌, ◌<◌, ◌≤◌, Bool, true, false, List, refl, Option, Some, None, slice_get, option_and_then}
+use Rattle.std.proofs.Common.{◌-◌, inl, inr, arith, get_or}
+use Rattle.std.specs.Ordering.{nat_cmp, is_lt}
 use Rattle.std.proofs.lemmas.Bool.{cases_lt}
 use Rattle.std.proofs.lemmas.Bool.Decides.{nat_tests}
 use Rattle.std.proofs.lemmas.Option.{slice_get_within, slice_get-get_or}
 use Rattle.mem_op.specs.declared.id.OpId.{OpId}
 use Rattle.mem_op.specs.Consistency.{KeepsProgramOrder}
 use Rattle.line_stamps.specs.Ordered.{In}
-use Rattle.line_stamps.proofs.Order.{lt_irrefl, not_lt_trans}
 use Rattle.line_stamps.proofs.Ordered.{AllPairs-from_each, EachPair-map}
 use Rattle.log_record.specs.declared.record.Record.{Record}
 use Rattle.log_record.specs.declared.record.Entry.{Entry}
 use Rattle.log_record.specs.Entries.{entry_cmp, entries, record_at}
 use Rattle.log_record.proofs.EntryFacts.{at, record_of_entry, entry_of_record}
-use Rattle.core_check.specs.CoreOrder.{stamp_cmp, falls, is_core_fault}
+use Rattle.core_check.specs.CoreOrder.{stamp_cmp}
 use Rattle.core_check.specs.CoreFaults.{breaks_core_order}
 use Rattle.verdict.specs.ByKey.{by_key, ids_by_key}
 use Rattle.verdict.proofs.SerialOrder.{by_key-ascends, in_set_by_key}
@@ -28,46 +22,26 @@ use Rattle.verdict.proofs.SerialOrder.{by_key-ascends, in_set_by_key}
 abbrev pub NoCoreFault : List (List Record) → Type 0
 NoCoreFault logs = (e : Entry) → In e (entries logs) → breaks_core_order logs e ≡ false
 
-stamp_total : IsTotalOrder stamp_cmp
-stamp_total = then_total (on_total (λ r. r.ts) nat_cmp_total) (on_total (λ r. r.rank) nat_cmp_total)
-
 abbrev is_before : Record → Record → Bool
 is_before a b = is_lt (stamp_cmp a b)
 
 step_up : (logs : List (List Record)) → NoCoreFault logs → (c i : ℕ) (log : List Record) (r s : Record) → slice_get logs c ≡ Some log → slice_get log i ≡ Some r → slice_get log (suc i) ≡ Some s → is_before s r ≡ false
 step_up logs none c i log r s place at_i at_next =
     let id : OpId = record { core = c; index = suc i } in
-    let stands : record_at logs id ≡ Some s = ap (option_and_then (λ l. slice_get l (suc i))) place ∙ at_next in
-    let in_set : option_map_or (λ l. is_core_fault l (suc i)) (slice_get logs c) false ≡ false = none (at id s) (entry_of_record logs id s stands) in
-    let in_log : is_core_fault log (suc i) ≡ false = sym (ap (λ o. option_map_or (λ l. is_core_fault l (suc i)) o false) place) ∙ in_set in
-    let read : falls (slice_get log i) (slice_get log (suc i)) ≡ falls (Some r) (Some s) = ap (λ o. falls o (slice_get log (suc i))) at_i ∙ ap (falls (Some r)) at_next in
-    sym read ∙ in_log
+    let level = none (at id s) (entry_of_record logs id s (grind arith)) in
+    grind arith
 
 never_falls : (logs : List (List Record)) → NoCoreFault logs → (c i k : ℕ) (log : List Record) (r s : Record) → slice_get logs c ≡ Some log → slice_get log i ≡ Some r → slice_get log (i + k) ≡ Some s → is_before s r ≡ false
-never_falls logs none c i zero log r s place at_i at_k =
-    let same : Some s ≡ Some r = sym at_k ∙ ap (slice_get log) (let z : i + 0 ≡ i = omega arith in z) ∙ at_i in
-    let one : s ≡ r = cc in
-    subst (λ x. is_lt (stamp_cmp s x) ≡ false) one (lt_irrefl stamp_cmp stamp_total s)
+never_falls logs none c i zero log r s place at_i at_k = grind (arith, nat_tests)
 never_falls logs none c i (suc k) log r s place at_i at_k =
-    let at_next : slice_get log (suc (i + k)) ≡ Some s = ap (slice_get log) (let z : suc (i + k) ≡ i + suc k = omega arith in z) ∙ at_k in
-    let within : suc (i + k) < length log = slice_get_within log (suc (i + k)) s at_next in
+    let within = slice_get_within log (i + suc k) s at_k in
     let between : slice_get log (i + k) ≡ Some (get_or log (i + k) r) = slice_get-get_or log (i + k) r (omega arith) in
-    not_lt_trans stamp_cmp stamp_total r (get_or log (i + k) r) s
-    (never_falls logs none c i k log r (get_or log (i + k) r) place at_i between)
-    (step_up logs none c (i + k) log (get_or log (i + k) r) s place between at_next)
-
-index_decides : (ts rank core index : Ordering) → is_lt (ordering_then ts (ordering_then rank (ordering_then core index))) ≡ true → is_lt (ordering_then ts rank) ≡ false → core ≡ Equal → is_lt index ≡ true
-index_decides Less rank core index h n e = cc
-index_decides Greater rank core index h n e = cc
-index_decides Equal Less core index h n e = cc
-index_decides Equal Greater core index h n e = cc
-index_decides Equal Equal core index h n e = subst (λ o. is_lt (ordering_then o index) ≡ true) e h
+    let so_far = never_falls logs none c i k log r (get_or log (i + k) r) place at_i between in
+    let step = step_up logs none c (i + k) log (get_or log (i + k) r) s place between (grind arith) in
+    grind (arith, nat_tests)
 
 pub less_index : (i j : ℕ) → is_lt (nat_cmp i j) ≡ true → i < j
 less_index i j h = grind (arith, nat_tests)
-
-pub tied_core : (c d : ℕ) → c ≡ d → nat_cmp c d ≡ Equal
-tied_core c d h = subst (λ x. nat_cmp c x ≡ Equal) h (tied_itself nat_cmp_total c)
 
 pub log_of : (logs : List (List Record)) (id : OpId) (r : Record) → record_at logs id ≡ Some r → (log : List Record) × (slice_get logs id.core ≡ Some log) × (slice_get log id.index ≡ Some r)
 log_of logs id r h = go (slice_get logs id.core) refl h
@@ -84,12 +58,8 @@ keeps_order logs none a b p q before one_core = elim (cases_lt a.id.index b.id.i
     above l =
         let of_b = log_of logs b.id b.logged (record_of_entry logs b q) in
         let of_a = log_of logs a.id a.logged (record_of_entry logs a p) in
-        let same : Some of_b.0 ≡ Some of_a.0 = sym of_b.1 ∙ ap (slice_get logs) (sym one_core) ∙ of_a.1 in
-        let log : of_b.0 ≡ of_a.0 = cc in
-        let at_a : slice_get of_b.0 (b.id.index + (a.id.index - b.id.index)) ≡ Some a.logged =
-        ap (slice_get of_b.0) (let z : b.id.index + (a.id.index - b.id.index) ≡ a.id.index = omega arith in z) ∙ ap (λ (l : List Record). slice_get l a.id.index) log ∙ of_a.2 in
-        let not_less : is_before a.logged b.logged ≡ false = never_falls logs none b.id.core b.id.index (a.id.index - b.id.index) of_b.0 b.logged a.logged of_b.1 of_b.2 at_a in
-        less_index a.id.index b.id.index (index_decides (nat_cmp a.logged.ts b.logged.ts) (nat_cmp a.logged.rank b.logged.rank) (nat_cmp a.id.core b.id.core) (nat_cmp a.id.index b.id.index) before not_less (tied_core a.id.core b.id.core one_core))
+        let not_less : is_before a.logged b.logged ≡ false = never_falls logs none b.id.core b.id.index (a.id.index - b.id.index) of_b.0 b.logged a.logged of_b.1 of_b.2 (grind arith) in
+        grind (arith, nat_tests)
 
 pub by_key-program : (logs : List (List Record)) → NoCoreFault logs → KeepsProgramOrder (ids_by_key logs)
 by_key-program logs none =

@@ -1,11 +1,10 @@
 -- The pass over an order that counts on for each core and keeps one memory.
-use Rattle.std.specs.Prelude.{◌≡◌, ◌↔◌, ℕ, zero, suc, ◌+◌, ◌<◌, false, cond, ◌==◌, List, [], ◌∷◌, ◌++◌, refl, Option, None, Some, option_map, slice_get, slice_index, slice_set, length, map, take, drop, Vec, vec_len}
+use Rattle.std.specs.Prelude.{◌≡◌, ◌↔◌, ℕ, zero, suc, ◌+◌, ◌<◌, List, [], ◌∷◌, ◌++◌, refl, Option, None, Some, option_map, slice_index, slice_set, length, map, take, drop, Vec, vec_len}
 use Rattle.std.specs.Global.{Global}
 use Rattle.std.specs.List.{filter_map, cons_option, range_with_len}
-use Rattle.std.proofs.Common.{sym, ◌∙◌, ap, subst, inl, inr, arith, get_or}
-use Rattle.std.proofs.lemmas.Bool.{cases_eq, eq-eqb, ne_eqb}
-use Rattle.std.proofs.lemmas.Grind.{same_number_lists}
-use Rattle.std.proofs.lemmas.List.{get_or-set_same, get_or-set_other, length-set, length-map, take-append-drop, drop_more}
+use Rattle.std.proofs.Common.{sym, ◌∙◌, ap, subst, inl, arith, get_or}
+use Rattle.std.proofs.lemmas.Grind.{common_steps, same_number_lists}
+use Rattle.std.proofs.lemmas.List.{length-set, length-map, take-append-drop, drop_more}
 use Rattle.std.proofs.lemmas.List.Elements.{filter_map-append}
 use Rattle.std.proofs.lemmas.List.FromFn.{length-range_with_len}
 use Rattle.std.proofs.lemmas.Option.{none-some, slice_get-get_or}
@@ -47,20 +46,9 @@ answered (Swap source read) a v word memory e = (λ h. h ∙ e, λ h. h ∙ sym 
 
 -- its value put at its address is what it leaves
 put : (act : Act) (a v addr : ℕ) (memory : List ℕ) → a < length memory → IsAnsweredBy (slice_index memory) (operation_by act a v) → slice_index (slice_set memory a v) addr ≡ after (operation_by act a v) (slice_index memory) addr
-put act a v addr memory l h = elim (cases_eq addr a) [
-  | inl same ↦ ap (slice_index (slice_set memory a v)) same ∙ get_or-set_same memory a v 0 l ∙ here act h same
-  | inr other ↦ get_or-set_other memory a addr v 0 other ∙ elsewhere act (ne_eqb a addr (λ e. other (sym e)))
-]
-  where
-    here : (act : Act) → IsAnsweredBy (slice_index memory) (operation_by act a v) → addr ≡ a → v ≡ after (operation_by act a v) (slice_index memory) addr
-    here (Load source) h same = h ∙ ap (slice_index memory) (sym same)
-    here Store h same = ap (λ b. cond b v (slice_index memory addr)) (sym (eq-eqb a addr (sym same)))
-    here (Swap source read) h same = ap (λ b. cond b v (slice_index memory addr)) (sym (eq-eqb a addr (sym same)))
-
-    elsewhere : (act : Act) → (a == addr) ≡ false → slice_index memory addr ≡ after (operation_by act a v) (slice_index memory) addr
-    elsewhere (Load source) e = refl
-    elsewhere Store e = ap (λ b. cond b v (slice_index memory addr)) (sym e)
-    elsewhere (Swap source read) e = ap (λ b. cond b v (slice_index memory addr)) (sym e)
+put (Load source) a v addr memory l h = grind (arith, common_steps)
+put Store a v addr memory l h = grind (arith, common_steps)
+put (Swap source read) a v addr memory l h = grind (arith, common_steps)
 
 -- an id that is its core's next, and whose operation finds what it may
 pub replayed-more : (logs : List (List Record)) (ids : List OpId) (next memory : List ℕ) (id : OpId) (r : Record) → Replayed logs ids next memory → Some r ≡ record_at logs id → r.addr < 65536 → id.core < length next

@@ -1,20 +1,18 @@
 -- The ids of a set by key: each operation's id once, and nothing else.
-use Rattle.std.specs.Prelude.{◌≡◌, true, false, List, refl, Option, Some, None, is_some, count_by, if◌then◌else◌}
-use Rattle.std.proofs.Common.{sym, ◌∙◌, ap, subst}
+use Rattle.std.specs.Prelude.{◌≡◌, true, List, refl, Option, Some, None, is_some, count_by, if◌then◌else◌}
+use Rattle.std.proofs.Common.{sym, ◌∙◌, ap, arith}
 use Rattle.std.specs.Option.{option_map}
 use Rattle.std.specs.declared.cmp.Ordering.TheVariants.{Equal}
 use Rattle.std.specs.Ordering.{is_lt}
 use Rattle.std.proofs.lemmas.Bool.{false_from_ne_true}
+use Rattle.std.proofs.lemmas.Bool.Decides.{nat_tests}
 use Rattle.mem_op.specs.declared.id.OpId.{OpId}
 use Rattle.mem_op.specs.Consistency.{is_same_id, IsSerialOrder}
-use Rattle.line_stamps.specs.KeyParts.{KeyParts}
 use Rattle.line_stamps.specs.Ordered.{In, Ascends}
-use Rattle.line_stamps.proofs.Keys.{tied_keys}
-use Rattle.line_stamps.proofs.Order.{lt_irrefl}
 use Rattle.line_stamps.proofs.Ordered.{In-map, In-mapped, In-sorted, In-from_sorted, EachPair-map, Ascends-sorted}
 use Rattle.log_record.specs.declared.record.Record.{Record}
 use Rattle.log_record.specs.declared.record.Entry.{Entry}
-use Rattle.log_record.specs.Entries.{key_of, entry_cmp, operation_of, operations_of, entries, record_at}
+use Rattle.log_record.specs.Entries.{entry_cmp, operation_of, operations_of, entries, record_at}
 use Rattle.log_record.proofs.EntryFacts.{at, same_id, same_id-true, same_id-refl, record_of_entry, entry_of_record, same_record, Apart, apart, count_none, count_one, operation_at-operations_of}
 use Rattle.address_check.proofs.Pairs.{EachPair-weaken}
 use Rattle.address_check.proofs.Totals.{entry_total}
@@ -22,9 +20,7 @@ use Rattle.verdict.specs.ByKey.{by_key, ids_by_key}
 
 -- entries that tie have one id
 pub tied_id : (a b : Entry) → entry_cmp a b ≡ Equal → a.id ≡ b.id
-tied_id a b h =
-    let one : key_of a ≡ key_of b = tied_keys (key_of a) (key_of b) h in
-    same_id a.id b.id (ap (λ (k : KeyParts). k.core) one) (ap (λ (k : KeyParts). k.index) one)
+tied_id a b h = same_id a.id b.id (grind (arith, nat_tests)) (grind (arith, nat_tests))
 
 pub by_key-ascends : (logs : List (List Record)) → Ascends entry_cmp (by_key logs)
 by_key-ascends logs =
@@ -38,10 +34,7 @@ in_set_by_key logs e h = In-sorted entry_cmp e (entries logs) h
 pub differ : (logs : List (List Record)) (a b : Entry) → In a (entries logs) → In b (entries logs) → is_lt (entry_cmp a b) ≡ true → a.id ≡ b.id → ⊥
 differ logs a b p q before same =
     let logged : a.logged ≡ b.logged = same_record logs a b p q same in
-    let one : a ≡ b = λ i. record { id = same i; logged = logged i } in
-    let before_itself : is_lt (entry_cmp b b) ≡ true = subst (λ x. is_lt (entry_cmp x b) ≡ true) one before in
-    let not_before_itself : is_lt (entry_cmp b b) ≡ false = lt_irrefl entry_cmp entry_total b in
-    cc
+    grind (arith, nat_tests)
 
 by_key-serial_at : (logs : List (List Record)) (id : OpId) (o : Option Record) → record_at logs id ≡ o → count_by (is_same_id id) (ids_by_key logs) ≡ (if is_some (option_map operation_of o) then 1 else 0)
 by_key-serial_at logs id None h = count_none (is_same_id id) (ids_by_key logs) (λ x q. false_from_ne_true (is_same_id id x) (none x q))

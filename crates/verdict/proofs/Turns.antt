@@ -1,9 +1,10 @@
 -- Orders in which the ids of each core stand in turn, from index 0 on.
-use Rattle.std.specs.Prelude.{◌≡◌, ◌≢◌, ℕ, zero, suc, ◌+◌, ◌<◌, ◌≤◌, Bool, true, false, ◌==◌, if◌then◌else◌, List, [], ◌∷◌, ◌++◌, ◌⊎◌, refl, Option, Some, None, is_some, option_and_then, slice_get, slice_index, slice_set, unwrap_or, length, count_by, nat_lt}
+use Rattle.std.specs.Prelude.{◌≡◌, ◌≢◌, ℕ, zero, suc, ◌+◌, ◌<◌, ◌≤◌, Bool, true, false, ◌==◌, if◌then◌else◌, List, [], ◌∷◌, ◌++◌, refl, Option, Some, None, is_some, option_and_then, slice_get, slice_index, slice_set, unwrap_or, length, count_by, nat_lt}
 use Rattle.std.specs.List.{filter_map, cons_option, range_with_len}
 use Rattle.std.proofs.Common.{sym, ◌∙◌, ap, subst, inl, inr, arith, get_or}
-use Rattle.std.proofs.lemmas.Bool.{cases_lt, cases_eq, eqb-true, eq-eqb, ne_eqb, lt-ltb, le-ltb, false_from_ne_true}
-use Rattle.std.proofs.lemmas.List.{append-nil, get_or-set_same, get_or-set_other, get_or_at, length-append, map-id, nil_from_length}
+use Rattle.std.proofs.lemmas.Bool.{cases_lt, cases_eq, eqb-true, eq-eqb, lt-ltb, le-ltb, false_from_ne_true}
+use Rattle.std.proofs.lemmas.Bool.Decides.{nat_tests}
+use Rattle.std.proofs.lemmas.List.{append-nil, get_or-set_same, get_or-set_other, map-id, nil_from_length}
 use Rattle.std.proofs.lemmas.List.Elements.{filter_map-append}
 use Rattle.std.proofs.lemmas.List.FromFn.{length-range_with_len, get_or-range_with_len, map-range_with_len_more}
 use Rattle.std.proofs.lemmas.List.Sums.{length-filter}
@@ -114,10 +115,7 @@ at_core cores id = go (slice_get cores id.core)
     go (Some ops) = refl
 
 is_there : (cores : List (List Operation)) (id : OpId) → is_some (operation_at cores id) ≡ nat_lt id.index (number_of cores id.core)
-is_there cores id = ap is_some (at_core cores id) ∙ elim (slice_get_cases (of_core cores id.core) id.index).1 [
-  | inl r ↦ ap is_some r.2 ∙ sym (lt-ltb id.index (number_of cores id.core) r.1)
-  | inr r ↦ ap is_some r.1 ∙ sym (le-ltb id.index (number_of cores id.core) r.0)
-]
+is_there cores id = grind (arith, nat_tests, at_core, slice_get_cases)
 
 -- a list with an element that passes doesn't count none
 counted : (p : OpId → Bool) (ids : List OpId) (id : OpId) → In id ids → p id ≡ true → count_by p ids ≡ 0 → ⊥
@@ -169,33 +167,23 @@ from_turn cores order turn = (λ id. serial id ∙ ap one_if (sym (is_there core
 -- the id that stands after others in turn is the next of its core
 pub is_next : (number next : ℕ → ℕ) (before rest : List OpId) (id : OpId) → InTurn number (before ++ id ∷ rest) → InTurn next before → id.index ≡ next id.core
 is_next number next before rest id all turn =
-    let e : range_with_len 0 (next id.core) ++ id.index ∷ indices id.core rest ≡ range_with_len 0 (number id.core) =
-    ap (λ js. js ++ id.index ∷ indices id.core rest) (sym (turn id.core))
-    ∙ ap (λ b. indices id.core before ++ cons_option (if b then Some id.index else None) (indices id.core rest)) (sym (eq-eqb id.core id.core refl))
-    ∙ sym (filter_map-append (λ (x : OpId). if x.core == id.core then Some x.index else None) before (id ∷ rest)) ∙ all id.core in
+    let whole = all id.core in
+    let so_far = turn id.core in
+    let e : range_with_len 0 (next id.core) ++ id.index ∷ indices id.core rest ≡ range_with_len 0 (number id.core) = grind (arith, nat_tests, filter_map-append) in
     let is = next_in_range 0 (next id.core) (number id.core) id.index (indices id.core rest) e in
     omega arith
   where
     next_in_range : (from n m j : ℕ) (js : List ℕ) → range_with_len from n ++ j ∷ js ≡ range_with_len from m → j ≡ from + n
-    next_in_range from zero zero j js e = absurd cc
     next_in_range from zero (suc m) j js e = let first : j ≡ from = cc in omega arith
-    next_in_range from (suc n) zero j js e = absurd cc
     next_in_range from (suc n) (suc m) j js e =
         let later : range_with_len (from + 1) n ++ j ∷ js ≡ range_with_len (from + 1) m = cc in
         let is = next_in_range (from + 1) n m j js later in
         omega arith
+    next_in_range from n m j js e = absurd cc
 
 -- and is in turn there
 pub in_turn-more : (next : List ℕ) (before : List OpId) (id : OpId) → InTurn (slice_index next) before → id.core < length next → id.index ≡ slice_index next id.core → InTurn (slice_index (slice_set next id.core (id.index + 1))) (before ++ id ∷ [])
-in_turn-more next before id turn within is core = filter_map-append (λ (x : OpId). if x.core == core then Some x.index else None) before (id ∷ []) ∙ go (cases_eq id.core core)
-  where
-    go : (id.core ≡ core) ⊎ (id.core ≢ core) → indices core before ++ indices core (id ∷ []) ≡ range_with_len 0 (slice_index (slice_set next id.core (id.index + 1)) core)
-    go (inl same) =
-        ap (λ b. indices core before ++ cons_option (if b then Some id.index else None) []) (eq-eqb id.core core same)
-        ∙ ap (λ js. js ++ id.index ∷ []) (turn core ∙ ap (range_with_len 0) (ap (slice_index next) (sym same) ∙ sym is))
-        ∙ sym (simp map-id at (map-range_with_len_more (λ i. i) 0 id.index id.index (omega arith)))
-        ∙ ap (range_with_len 0) (sym (get_or-set_same next id.core (id.index + 1) 0 within) ∙ ap (slice_index (slice_set next id.core (id.index + 1))) same)
-    go (inr other) =
-        ap (λ b. indices core before ++ cons_option (if b then Some id.index else None) []) (ne_eqb id.core core other)
-        ∙ append-nil (indices core before) ∙ turn core
-        ∙ ap (range_with_len 0) (sym (get_or-set_other next id.core core (id.index + 1) 0 (λ e. other (sym e))))
+in_turn-more next before id turn within is core =
+    let so_far = turn core in
+    let more = map-range_with_len_more (λ i. i) 0 id.index id.index (omega arith) in
+    grind (arith, nat_tests, filter_map-append, append-nil, map-id, get_or-set_same, get_or-set_other)

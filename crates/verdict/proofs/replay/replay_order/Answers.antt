@@ -6,7 +6,7 @@ use Rattle.std.proofs.lemmas.List.{get_or_read, length-set, take_all, take_more}
 use Rattle.std.proofs.lemmas.Slice.Eq.{slice_eq-Decides}
 use Rattle.mem_op.specs.declared.id.OpId.{OpId}
 use Rattle.log_record.specs.declared.record.Record.{Record}
-use Rattle.log_record.specs.Entries.{operation_of, operations_of, record_lists}
+use Rattle.log_record.specs.Entries.{operation_of, record_lists}
 use Rattle.verdict.specs.FlatMachine.{IsAnsweredBy}
 use Rattle.verdict.proofs.Replaying.{Replayed, replayed-more, replayed-next, replayed-all}
 use Rattle.verdict.proofs.replay.replay_order.Goals as goal
@@ -27,7 +27,7 @@ returns-then-index c = (
   λ s. absurd (
       let is = replayed-next _ c.args.order.now c.loop-id.id-index c.loop-id.next.items c.loop-id.memory.items c.id-item.result c.loop-id.invariant.replayed (omega arith) c.id-item.is s in
       let within : c.id-item.result.core < length c.args.logs.now = c.in-Some.ensures.within in
-    let core_is = c.get-core.ensures.value ∙ ap (λ (id : OpId). id.core) c.id.view_is in
+      let core_is = c.get-core.ensures.value ∙ ap (λ (id : OpId). id.core) c.id.view_is in
       let index_is = c.get-index.ensures.value ∙ ap (λ (id : OpId). id.index) c.id.view_is in
       let addr_is = c.get-addr.ensures.value ∙ ap (λ (r : Record). r.addr) c.found.view_is in
       elim c.then-index.branch [
