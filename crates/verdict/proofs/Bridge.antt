@@ -75,16 +75,13 @@ conform core (program ∷ programs) [] are many none = absurd cc
 conform core (program ∷ programs) (log ∷ logs) are many none = (
   fault-conforms program (map operation_of log) (are 0 program (omega arith))
       (no_one (program_fault program (map operation_of log)) (λ f p. none f (In-append_left f (program_faults_of core program log) (program_faults_from (suc core) programs logs) p))),
-  conform (suc core) programs logs (λ k d l. are (suc k) d (omega arith)) (one_less many)
+  conform (suc core) programs logs (λ k d l. are (suc k) d (omega arith)) (omega arith)
       (λ f p. none f (In-append_right f (program_faults_of core program log) (program_faults_from (suc core) programs logs) p)),
 )
   where
     no_one : (o : Option ℕ) → ((f : RuleFault) → In f (option_map_or (λ i. program_fault_at (record { core = core; index = i }) ∷ []) o []) → ⊥) → o ≡ None
     no_one None h = refl
     no_one (Some i) h = absurd (h (program_fault_at (record { core = core; index = i })) (inl refl))
-
-    one_less : suc (length programs) ≡ suc (length logs) → length programs ≡ length logs
-    one_less h = omega (arith, h)
 
 pub run_yes_runs_flat : (programs : List (List Instruction)) (logs : List (List Record)) (count : ℕ) → All IsProgram programs → length programs ≡ length logs → run_verdict_of programs logs ≡ Yes count → RunsFlat programs (operations_of logs)
 run_yes_runs_flat programs logs count are many h =

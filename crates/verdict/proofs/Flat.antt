@@ -1,5 +1,5 @@
 -- Operations that have their flat answers, one after another.
-use Rattle.std.specs.Prelude.{◌==◌, ◌≡◌, ℕ, cond, List, [], ◌∷◌, ◌++◌, ◌⊎◌, refl, length, take, find, Some, slice_get}
+use Rattle.std.specs.Prelude.{◌≡◌, ℕ, cond, List, [], ◌∷◌, ◌++◌, ◌⊎◌, refl, length, take, find, Some, slice_get}
 use Rattle.std.proofs.Common.{sym, ◌∙◌, ap, subst, inl, inr, arith}
 use Rattle.std.proofs.lemmas.Grind.{common_steps}
 use Rattle.std.proofs.lemmas.List.{take_at, reverse-append}
@@ -12,9 +12,7 @@ last_value-push addr xs y = ap (λ l. value_or_zero (find (is_store_to addr) l))
 
 -- an operation leaves at an address its last value
 pub after_is : (y : Operation) (memory : ℕ → ℕ) (before : List Operation) (addr : ℕ) → memory addr ≡ last_value addr before → after y memory addr ≡ last_value addr (before ++ y ∷ [])
-after_is (Loaded a value) memory before addr h = h ∙ sym (last_value-push addr before (Loaded a value))
-after_is (Stored a value) memory before addr h = ap (cond (a == addr) value) h ∙ sym (last_value-push addr before (Stored a value))
-after_is (Swapped a read stored) memory before addr h = ap (cond (a == addr) stored) h ∙ sym (last_value-push addr before (Swapped a read stored))
+after_is y memory before addr h = let pushed = last_value-push addr before y in grind arith
 
 -- an operation behind these has its flat answer
 abbrev pub IsAnsweredBehind : List Operation → Operation → Type 0

@@ -1,15 +1,16 @@
 -- By key each load and each swap of a set has its flat answer, where no address has a fault.
-use Rattle.std.specs.Prelude.{◌≡◌, ℕ, Bool, true, false, ◌&&◌, ◌==◌, List, [], ◌∷◌, ◌++◌, refl, Option, Some, None, slice_get, map, find, reverse, take}
+use Rattle.std.specs.Prelude.{◌≡◌, ℕ, Bool, true, ◌&&◌, ◌==◌, List, [], ◌∷◌, ◌++◌, refl, Option, Some, None, slice_get, map, find, reverse, take}
 use Rattle.std.specs.List.{filter_map, cons_option}
 use Rattle.std.proofs.Common.{sym, ◌∙◌, ap, subst, inl, inr, arith}
 use Rattle.std.specs.Option.{option_map}
+use Rattle.std.specs.declared.cmp.Ordering.TheVariants.{Equal}
 use Rattle.std.specs.Ordering.{is_lt}
 use Rattle.std.proofs.lemmas.Bool.{and_parts, and_from, false_from_ne_true}
 use Rattle.std.proofs.lemmas.Bool.Decides.{nat_tests}
 use Rattle.std.proofs.lemmas.List.{take-map, map-append}
 use Rattle.std.proofs.lemmas.Option.{slice_get-map}
 use Rattle.mem_op.specs.declared.id.Source.{Source}
-use Rattle.mem_op.specs.Consistency.{Operation, operation_at, is_store_to, word_left, value_or_zero, last_value, GivesFlatAnswers}
+use Rattle.mem_op.specs.Consistency.{Operation, operation_at, is_store_to, value_or_zero, last_value, GivesFlatAnswers}
 use Rattle.line_stamps.specs.Ordered.{In, IsGreatest}
 use Rattle.line_stamps.proofs.Order.{lt_cases}
 use Rattle.line_stamps.proofs.Ordered.{reverse-cons, In-slice_get, In-take, In-from_sorted, Ascends-take, before_from_take, take_from_before, last_is_greatest, greatest_from_least}
@@ -41,32 +42,20 @@ one_greatest logs p None None g h = refl
 one_greatest logs p None (Some b) g h = let f = g b h.0 in let k = h.1 in cc
 one_greatest logs p (Some a) None g h = let f = h a g.0 in let k = g.1 in cc
 one_greatest logs p (Some a) (Some b) g h =
-    let not_before : is_earlier a b ≡ false = g.2 b h.0 h.1 in
-    let not_after : is_earlier b a ≡ false = h.2 a g.0 g.1 in
-    elim (lt_cases entry_cmp entry_total a b) [
-      | inl l ↦ cc
-      | inr t ↦ elim t [
-        | inl tied ↦ ap (λ (r : Record). r.value) (same_record logs a b g.0 h.0 (tied_id a b tied))
-        | inr l ↦ cc
-      ]
-    ]
+    let not_before = g.2 b h.0 h.1 in
+    let not_after = h.2 a g.0 g.1 in
+    let order = lt_cases entry_cmp entry_total a b in
+    let tied = λ (t : entry_cmp a b ≡ Equal). same_record logs a b g.0 h.0 (tied_id a b t) in
+    grind (arith, tied)
 
 map-reverse : {X Y : Type 0} (f : X → Y) (xs : List X) → reverse (map f xs) ≡ map f (reverse xs)
 map-reverse f [] = refl
 map-reverse f (x ∷ xs) =
     reverse-cons (f x) (map f xs) ∙ ap (λ l. l ++ f x ∷ []) (map-reverse f xs) ∙ sym (map-append f (reverse xs) (x ∷ [])) ∙ ap (map f) (sym (reverse-cons x xs))
 
-value_left : (act : Act) (addr value : ℕ) → word_left (operation_by act addr value) ≡ value
-value_left (Load source) addr value = refl
-value_left Store addr value = refl
-value_left (Swap source read) addr value = refl
-
 found_value : (addr : ℕ) (es : List Entry) → value_or_zero (find (is_store_to addr) (map operation es)) ≡ value_from (find (λ e. is_store_to addr (operation e)) es)
 found_value addr [] = refl
-found_value addr (e ∷ es) =
-    let later = found_value addr es in
-    let left = value_left e.logged.act e.logged.addr e.logged.value in
-    grind arith
+found_value addr (e ∷ es) = let later = found_value addr es in grind arith
 
 -- the last store to an address among the first entries
 abbrev last_store : ℕ → ℕ → List Entry → Option Entry
@@ -79,9 +68,7 @@ last_value-map addr k es =
     ∙ found_value addr (reverse (take k es))
 
 pub store_to : (addr : ℕ) (act : Act) (a v : ℕ) → is_store_to addr (operation_by act a v) ≡ (is_store act && (a == addr))
-store_to addr (Load source) a v = refl
-store_to addr Store a v = refl
-store_to addr (Swap source read) a v = refl
+store_to addr act a v = grind arith
 
 earlier_store : (logs : List (List Record)) (e : Entry) (k : ℕ) → slice_get (by_key logs) k ≡ Some e → (x : Entry) → In x (entries logs) → is_earlier_store e x ≡ true → In x (take k (by_key logs)) × (is_store_to e.logged.addr (operation x) ≡ true)
 earlier_store logs e k here x p t =

@@ -130,7 +130,7 @@ module _ (programs : List (List Instruction)) (all : List (ℕ × Operation)) (f
 pub runs_flat : (programs : List (List Instruction)) (cores : List (List Operation)) → AllZip Conforms programs cores → IsConsistent cores → RunsFlat programs cores
 runs_flat programs cores conform (order, sequential) = (
   ran.0,
-  record { done = pairs cores order; flat = ran.1; leads = ran.2; whole = ran.3; each = each },
+  record { done = pairs cores order; flat = ran.1; leads = ran.2; whole = ran.3; each = of_each cores order turn },
 )
   where
     turn : InTurn (number_of cores) order
@@ -138,9 +138,6 @@ runs_flat programs cores conform (order, sequential) = (
 
     there : (id : OpId) → In id order → id.index < number_of cores id.core
     there id p = index_below (number_of cores) order id turn p
-
-    each : (core : ℕ) → performed_by core (pairs cores order) ≡ of_core cores core
-    each = of_each cores order turn
 
     has_program : (p : ℕ × Operation) → In p (pairs cores order) → p.0 < length programs
     has_program p h =
@@ -153,7 +150,7 @@ runs_flat programs cores conform (order, sequential) = (
     ran : (run : List ℕ) × (flat : Flat) × FlatRun programs run (pairs cores order) flat × IsWhole programs flat
     ran = walk programs (pairs cores order) (subst GivesFlatAnswers (sym (operations_are cores order there)) sequential.flat) has_program
         (pairs cores order) [] [] (flat_start programs) refl starts (λ addr. refl) (λ core l.
-        let conforms = subst (Conforms (get_or programs core [])) (sym (each core)) (each_conforms programs cores core conform l) in
+        let conforms = subst (Conforms (get_or programs core [])) (sym (of_each cores order turn core)) (each_conforms programs cores core conform l) in
         record {
           state = start;
           at = slice_get-map (λ (p : List Instruction). start) programs core ∙ ap (option_map (λ (p : List Instruction). start)) (slice_get-get_or programs core [] l);

@@ -25,20 +25,17 @@ one_set core cores (text ∷ texts) (log ∷ logs) (other ∷ others) h k =
 one_set core cores texts logs others h k = absurd h
 
 -- the text of each file of a set that is spelled spells a log
-spelled_at : (core cores : ℕ) (texts : List (List ℕ)) (logs : List (List Record)) (file : ℕ) → SpellFrom core cores texts logs → file < length texts → (log : List Record) × Spells (core + file) cores (text_at texts file) log
-spelled_at core cores [] logs file h l = absurd (omega arith)
-spelled_at core cores (text ∷ texts) [] file h l = absurd h
-spelled_at core cores (text ∷ texts) (log ∷ logs) zero h l = (log, subst (λ c. Spells c cores text log) (let z : core ≡ core + 0 = omega arith in z) h.0)
-spelled_at core cores (text ∷ texts) (log ∷ logs) (suc file) h l =
-    let found = spelled_at (core + 1) cores texts logs file h.1 (omega arith) in
-    (found.0, subst (λ c. Spells c cores (text_at texts file) found.0) (let z : core + 1 + file ≡ core + suc file = omega arith in z) found.1)
+spelled_at : (core cores number : ℕ) (texts : List (List ℕ)) (logs : List (List Record)) (file : ℕ) → number ≡ core + file → SpellFrom core cores texts logs → file < length texts → (log : List Record) × Spells number cores (text_at texts file) log
+spelled_at core cores number [] logs file e h l = absurd (omega arith)
+spelled_at core cores number (text ∷ texts) [] file e h l = absurd h
+spelled_at core cores number (text ∷ texts) (log ∷ logs) zero e h l = (log, subst (λ c. Spells c cores text log) (let z : core ≡ number = omega arith in z) h.0)
+spelled_at core cores number (text ∷ texts) (log ∷ logs) (suc file) e h l = spelled_at (core + 1) cores number texts logs file (omega arith) h.1 (omega arith)
 
 -- a set that is spelled has no fault
 spelled_or_faulty : (texts : List (List ℕ)) (logs : List (List Record)) (file line : ℕ) (fault : FormatFault) → SpellSet texts logs → IsFirstOfSet texts file line fault → ⊥
 spelled_or_faulty texts logs file line fault h k =
-    let found = spelled_at 0 (length texts) texts logs file h k.there in
-    let spelled : Spells file (length texts) (text_at texts file) found.0 = subst (λ c. Spells c (length texts) (text_at texts file) found.0) (let z : 0 + file ≡ file = omega arith in z) found.1 in
-    spelled_quiet file (length texts) (text_at texts file) found.0 spelled line fault k.first.holds
+    let found = spelled_at 0 (length texts) file texts logs file (omega arith) h k.there in
+    spelled_quiet file (length texts) (text_at texts file) found.0 found.1 line fault k.first.holds
 
 one_number : (f g : FormatFault) → number f ≡ number g → f ≡ g
 one_number f g same = grind arith

@@ -1,5 +1,5 @@
 -- The ids of a set by key keep program order, where no core's (ts, rank) falls.
-use Rattle.std.specs.Prelude.{◌≡◌, ℕ, zero, suc, ◌+◌, ◌<◌, ◌≤◌, Bool, true, false, List, refl, Option, Some, None, slice_get, option_and_then}
+use Rattle.std.specs.Prelude.{◌≡◌, ℕ, zero, suc, ◌+◌, ◌<◌, ◌≤◌, Bool, true, false, List, [], unwrap_or, Some, slice_get}
 use Rattle.std.proofs.Common.{◌-◌, inl, inr, arith, get_or}
 use Rattle.std.specs.Ordering.{nat_cmp, is_lt}
 use Rattle.std.proofs.lemmas.Bool.{cases_lt}
@@ -11,7 +11,7 @@ use Rattle.line_stamps.specs.Ordered.{In}
 use Rattle.line_stamps.proofs.Ordered.{AllPairs-from_each, EachPair-map}
 use Rattle.log_record.specs.declared.record.Record.{Record}
 use Rattle.log_record.specs.declared.record.Entry.{Entry}
-use Rattle.log_record.specs.Entries.{entry_cmp, entries, record_at}
+use Rattle.log_record.specs.Entries.{entry_cmp, entries}
 use Rattle.log_record.proofs.EntryFacts.{at, record_of_entry, entry_of_record}
 use Rattle.core_check.specs.CoreOrder.{stamp_cmp}
 use Rattle.core_check.specs.CoreFaults.{breaks_core_order}
@@ -25,30 +25,18 @@ NoCoreFault logs = (e : Entry) → In e (entries logs) → breaks_core_order log
 abbrev is_before : Record → Record → Bool
 is_before a b = is_lt (stamp_cmp a b)
 
-step_up : (logs : List (List Record)) → NoCoreFault logs → (c i : ℕ) (log : List Record) (r s : Record) → slice_get logs c ≡ Some log → slice_get log i ≡ Some r → slice_get log (suc i) ≡ Some s → is_before s r ≡ false
-step_up logs none c i log r s place at_i at_next =
-    let id : OpId = record { core = c; index = suc i } in
-    let level = none (at id s) (entry_of_record logs id s (grind arith)) in
-    grind arith
-
 never_falls : (logs : List (List Record)) → NoCoreFault logs → (c i k : ℕ) (log : List Record) (r s : Record) → slice_get logs c ≡ Some log → slice_get log i ≡ Some r → slice_get log (i + k) ≡ Some s → is_before s r ≡ false
 never_falls logs none c i zero log r s place at_i at_k = grind (arith, nat_tests)
 never_falls logs none c i (suc k) log r s place at_i at_k =
     let within = slice_get_within log (i + suc k) s at_k in
     let between : slice_get log (i + k) ≡ Some (get_or log (i + k) r) = slice_get-get_or log (i + k) r (omega arith) in
     let so_far = never_falls logs none c i k log r (get_or log (i + k) r) place at_i between in
-    let step = step_up logs none c (i + k) log (get_or log (i + k) r) s place between (grind arith) in
+    let id : OpId = record { core = c; index = suc (i + k) } in
+    let level = none (at id s) (entry_of_record logs id s (grind arith)) in
     grind (arith, nat_tests)
 
 pub less_index : (i j : ℕ) → is_lt (nat_cmp i j) ≡ true → i < j
 less_index i j h = grind (arith, nat_tests)
-
-pub log_of : (logs : List (List Record)) (id : OpId) (r : Record) → record_at logs id ≡ Some r → (log : List Record) × (slice_get logs id.core ≡ Some log) × (slice_get log id.index ≡ Some r)
-log_of logs id r h = go (slice_get logs id.core) refl h
-  where
-    go : (o : Option (List Record)) → slice_get logs id.core ≡ o → option_and_then (λ l. slice_get l id.index) o ≡ Some r → (log : List Record) × (slice_get logs id.core ≡ Some log) × (slice_get log id.index ≡ Some r)
-    go None e t = cc
-    go (Some log) e t = (log, e, t)
 
 -- of two entries of a core the one of lesser key has the lesser index
 pub keeps_order : (logs : List (List Record)) → NoCoreFault logs → (a b : Entry) → In a (entries logs) → In b (entries logs) → is_lt (entry_cmp a b) ≡ true → a.id.core ≡ b.id.core → a.id.index < b.id.index
@@ -56,9 +44,10 @@ keeps_order logs none a b p q before one_core = elim (cases_lt a.id.index b.id.i
   where
     above : b.id.index ≤ a.id.index → a.id.index < b.id.index
     above l =
-        let of_b = log_of logs b.id b.logged (record_of_entry logs b q) in
-        let of_a = log_of logs a.id a.logged (record_of_entry logs a p) in
-        let not_less : is_before a.logged b.logged ≡ false = never_falls logs none b.id.core b.id.index (a.id.index - b.id.index) of_b.0 b.logged a.logged of_b.1 of_b.2 (grind arith) in
+        let at_a = record_of_entry logs a p in
+        let at_b = record_of_entry logs b q in
+        let log : List Record = unwrap_or (slice_get logs b.id.core) [] in
+        let not_less = never_falls logs none b.id.core b.id.index (a.id.index - b.id.index) log b.logged a.logged (grind arith) (grind arith) (grind arith) in
         grind (arith, nat_tests)
 
 pub by_key-program : (logs : List (List Record)) → NoCoreFault logs → KeepsProgramOrder (ids_by_key logs)

@@ -46,9 +46,7 @@ answered (Swap source read) a v word memory e = (λ h. h ∙ e, λ h. h ∙ sym 
 
 -- its value put at its address is what it leaves
 put : (act : Act) (a v addr : ℕ) (memory : List ℕ) → a < length memory → IsAnsweredBy (slice_index memory) (operation_by act a v) → slice_index (slice_set memory a v) addr ≡ after (operation_by act a v) (slice_index memory) addr
-put (Load source) a v addr memory l h = grind (arith, common_steps)
-put Store a v addr memory l h = grind (arith, common_steps)
-put (Swap source read) a v addr memory l h = grind (arith, common_steps)
+put act a v addr memory l h = grind (arith, common_steps)
 
 -- an id that is its core's next, and whose operation finds what it may
 pub replayed-more : (logs : List (List Record)) (ids : List OpId) (next memory : List ℕ) (id : OpId) (r : Record) → Replayed logs ids next memory → Some r ≡ record_at logs id → r.addr < 65536 → id.core < length next

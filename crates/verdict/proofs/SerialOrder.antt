@@ -37,15 +37,11 @@ differ logs a b p q before same =
     grind (arith, nat_tests)
 
 by_key-serial_at : (logs : List (List Record)) (id : OpId) (o : Option Record) → record_at logs id ≡ o → count_by (is_same_id id) (ids_by_key logs) ≡ (if is_some (option_map operation_of o) then 1 else 0)
-by_key-serial_at logs id None h = count_none (is_same_id id) (ids_by_key logs) (λ x q. false_from_ne_true (is_same_id id x) (none x q))
-  where
-    none : (x : OpId) → In x (ids_by_key logs) → is_same_id id x ≡ true → ⊥
-    none x q t =
-        let m = In-map (λ (e : Entry). e.id) x (by_key logs) q in
-        let same : id ≡ x = same_id-true id x t in
-        let found : record_at logs m.0.id ≡ Some m.0.logged = record_of_entry logs m.0 (in_set_by_key logs m.0 m.1) in
-        let there : record_at logs m.0.id ≡ record_at logs id = ap (record_at logs) (m.2 ∙ sym same) in
-        cc
+by_key-serial_at logs id None h = count_none (is_same_id id) (ids_by_key logs) (λ x q. false_from_ne_true (is_same_id id x) (λ t.
+    let m = In-map (λ (e : Entry). e.id) x (by_key logs) q in
+    let same = same_id-true id x t in
+    let found = record_of_entry logs m.0 (in_set_by_key logs m.0 m.1) in
+    cc))
 by_key-serial_at logs id (Some r) h =
     count_one (is_same_id id) (ids_by_key logs) id
     (EachPair-map (λ (e : Entry). e.id) (λ a b. is_same_id id a ≡ true → is_same_id id b ≡ true → ⊥) (λ x y. is_lt (entry_cmp x y) ≡ true) (by_key logs)

@@ -1,20 +1,20 @@
 -- Orders in which the ids of each core stand in turn, from index 0 on.
-use Rattle.std.specs.Prelude.{◌≡◌, ◌≢◌, ℕ, zero, suc, ◌+◌, ◌<◌, ◌≤◌, Bool, true, false, ◌==◌, if◌then◌else◌, List, [], ◌∷◌, ◌++◌, refl, Option, Some, None, is_some, option_and_then, slice_get, slice_index, slice_set, unwrap_or, length, count_by, nat_lt}
+use Rattle.std.specs.Prelude.{◌≡◌, ℕ, zero, suc, ◌+◌, ◌<◌, ◌≤◌, Bool, true, false, ◌==◌, ◌&&◌, if◌then◌else◌, List, [], ◌∷◌, ◌++◌, refl, Option, Some, None, is_some, option_and_then, slice_get, slice_index, slice_set, unwrap_or, length, count_by, nat_le, nat_lt}
 use Rattle.std.specs.List.{filter_map, cons_option, range_with_len}
-use Rattle.std.proofs.Common.{sym, ◌∙◌, ap, subst, inl, inr, arith, get_or}
-use Rattle.std.proofs.lemmas.Bool.{cases_lt, cases_eq, eqb-true, eq-eqb, lt-ltb, le-ltb, false_from_ne_true}
+use Rattle.std.proofs.Common.{sym, ◌∙◌, ap, subst, inl, inr, arith}
+use Rattle.std.proofs.lemmas.Bool.{cases_order, eqb-true, eq-eqb, ne_eqb}
 use Rattle.std.proofs.lemmas.Bool.Decides.{nat_tests}
-use Rattle.std.proofs.lemmas.List.{append-nil, get_or-set_same, get_or-set_other, map-id, nil_from_length}
+use Rattle.std.proofs.lemmas.List.{append-nil, get_or-set_same, get_or-set_other, map-id}
 use Rattle.std.proofs.lemmas.List.Elements.{filter_map-append}
-use Rattle.std.proofs.lemmas.List.FromFn.{length-range_with_len, get_or-range_with_len, map-range_with_len_more}
-use Rattle.std.proofs.lemmas.List.Sums.{length-filter}
+use Rattle.std.proofs.lemmas.List.FromFn.{map-range_with_len_more}
+use Rattle.std.proofs.lemmas.List.Sums.{sum_by-cons}
 use Rattle.std.proofs.lemmas.Option.{cond_some, slice_get_cases}
 use Rattle.mem_op.specs.declared.id.OpId.{OpId}
 use Rattle.mem_op.specs.Consistency.{Operation, is_same_id, operation_at, IsSerialOrder, KeepsProgramOrder}
 use Rattle.line_stamps.specs.Ordered.{In, EachPair}
-use Rattle.line_stamps.proofs.Ordered.{AllPairs-from_each, In-filter_map, In-filtered, In-get_or, filter_map-In}
-use Rattle.log_record.proofs.EntryFacts.{one_if, same_id, same_id-true, same_id-refl, count_none, count_one}
-use Rattle.address_check.proofs.Pairs.{EachPair-from_all, EachPair-weaken}
+use Rattle.line_stamps.proofs.Ordered.{AllPairs-from_each, In-filter_map, filter_map-In}
+use Rattle.log_record.proofs.EntryFacts.{one_if, same_id, count_none}
+use Rattle.address_check.proofs.Pairs.{EachPair-from_all}
 
 -- the indices of a core's ids
 abbrev pub indices : ℕ → List OpId → List ℕ
@@ -46,22 +46,37 @@ range-ascends : (from n : ℕ) → EachPair ◌<◌ (range_with_len from n)
 range-ascends from zero = tt
 range-ascends from (suc n) = (λ j p. (let l = in_range (from + 1) n j p in omega arith), range-ascends (from + 1) n)
 
--- a list that ascends, with each number of a range and no other, is the range
-is_range : (from n : ℕ) (js : List ℕ) → EachPair ◌<◌ js → ((j : ℕ) → In j js → (from ≤ j) × (j < from + n))
-    → ((i : ℕ) → from ≤ i → i < from + n → ((j : ℕ) → In j js → j ≢ i) → ⊥) → js ≡ range_with_len from n
-is_range from zero [] up within missing = refl
-is_range from (suc n) [] up within missing = absurd (missing from (omega arith) (omega arith) (λ j p. absurd p))
-is_range from zero (j ∷ js) up within missing = absurd (let l = within j (inl refl) in omega arith)
-is_range from (suc n) (j ∷ js) up within missing = elim (cases_eq j from) [
-  | inl first ↦ (let rest : js ≡ range_with_len (from + 1) n = is_range (from + 1) n js up.1
-      (λ i p. (let l = within i (inr p) in let above : j < i = up.0 i p in (omega arith, omega arith)))
-      (λ i low high none. missing i (omega arith) (omega arith) (λ k p. elim p [ inl e ↦ (λ same. omega arith) | inr q ↦ none k q ])) in
-      cc)
-  | inr other ↦ absurd (missing from (omega arith) (omega arith) (λ k p. elim p [
-    | inl e ↦ (λ same. other (e ∙ same))
-    | inr q ↦ (λ same. (let above : j < k = up.0 k q in let l = within j (inl refl) in omega arith))
-  ]))
+-- ---- counts
+
+abbrev count_of : ℕ → List ℕ → ℕ
+count_of i js = count_by (λ j. i == j) js
+
+count-cons : (i j : ℕ) (js : List ℕ) → count_of i (j ∷ js) ≡ one_if (i == j) + count_of i js
+count-cons i j js = sum_by-cons (λ k. one_if (i == k)) j js
+
+-- a range has each of its numbers once
+count-range : (i from n : ℕ) → count_of i (range_with_len from n) ≡ one_if (nat_le from i && nat_lt i (from + n))
+count-range i from zero = grind (arith, nat_tests)
+count-range i from (suc n) =
+    let later = count-range i (from + 1) n in
+    let first = count-cons i from (range_with_len (from + 1) n) in
+    grind (arith, nat_tests)
+
+-- lists that ascend are one where they have each number as often
+same_ascending : (js ks : List ℕ) → EachPair ◌<◌ js → EachPair ◌<◌ ks → ((i : ℕ) → count_of i js ≡ count_of i ks) → js ≡ ks
+same_ascending [] [] up also same = refl
+same_ascending [] (k ∷ ks) up also same = absurd (let s = same k in let one = count-cons k k ks in grind (arith, nat_tests))
+same_ascending (j ∷ js) [] up also same = absurd (let s = same j in let one = count-cons j j js in grind (arith, nat_tests))
+same_ascending (j ∷ js) (k ∷ ks) up also same = elim (cases_order j k) [
+  | inl e ↦ (let rest : js ≡ ks = same_ascending js ks up.1 also.1 (λ i. (let s = same i in let a = count-cons i j js in let b = count-cons i k ks in grind arith)) in cc)
+  | inr apart ↦ absurd (elim apart [ inl l ↦ lower j k js ks l also (same j) | inr l ↦ lower k j ks js l up (sym (same k)) ])
 ]
+  where
+    lower : (j k : ℕ) (js ks : List ℕ) → j < k → EachPair ◌<◌ (k ∷ ks) → count_of j (j ∷ js) ≡ count_of j (k ∷ ks) → ⊥
+    lower j k js ks l up same =
+        let one = count-cons j j js in
+        let none = count_none (λ x. j == x) (k ∷ ks) (λ x p. ne_eqb j x (λ e. elim p [ inl q ↦ omega arith | inr q ↦ (let m = up.0 x q in omega arith) ])) in
+        grind (arith, nat_tests)
 
 -- ---- an id and its index
 
@@ -117,50 +132,32 @@ at_core cores id = go (slice_get cores id.core)
 is_there : (cores : List (List Operation)) (id : OpId) → is_some (operation_at cores id) ≡ nat_lt id.index (number_of cores id.core)
 is_there cores id = grind (arith, nat_tests, at_core, slice_get_cases)
 
--- a list with an element that passes doesn't count none
-counted : (p : OpId → Bool) (ids : List OpId) (id : OpId) → In id ids → p id ≡ true → count_by p ids ≡ 0 → ⊥
-counted p ids id h passes none = subst (In id) (nil_from_length _ (length-filter p ids ∙ none)) (In-filtered p ids id h passes)
+count-there : (cores : List (List Operation)) (id : OpId) → count_of id.index (range_with_len 0 (number_of cores id.core)) ≡ one_if (is_some (operation_at cores id))
+count-there cores id =
+    let there = is_there cores id in
+    let all = count-range id.index 0 (number_of cores id.core) in
+    grind (arith, nat_tests)
+
+-- an id stands among ids as often as its index does among its core's
+count-indices : (id : OpId) (ids : List OpId) → count_by (is_same_id id) ids ≡ count_of id.index (indices id.core ids)
+count-indices id [] = refl
+count-indices id (x ∷ ids) =
+    let later = count-indices id ids in
+    let all : count_by (is_same_id id) (x ∷ ids) ≡ one_if (is_same_id id x) + count_by (is_same_id id) ids = sum_by-cons (λ y. one_if (is_same_id id y)) x ids in
+    let here : count_of id.index (x.index ∷ indices id.core ids) ≡ one_if (id.index == x.index) + count_of id.index (indices id.core ids) = count-cons id.index x.index (indices id.core ids) in
+    grind (arith, nat_tests)
 
 pub in_turn : (cores : List (List Operation)) (order : List OpId) → IsSerialOrder cores order → KeepsProgramOrder order → InTurn (number_of cores) order
 in_turn cores order serial program core =
-    is_range 0 (number_of cores core) (indices core order) (indices-ascend core order (EachPair-from_all InOrder order program)) within missing
-  where
-    within : (j : ℕ) → In j (indices core order) → (0 ≤ j) × (j < 0 + number_of cores core)
-    within j p = elim (cases_lt j (number_of cores core)) [
-      | inl l ↦ (omega arith, omega arith)
-      | inr l ↦ (let id : OpId = record { core = core; index = j } in
-          absurd (counted (is_same_id id) order id (id_in core order j p) (same_id-refl id) (serial id ∙ ap one_if (is_there cores id ∙ le-ltb j _ l))))
-    ]
-
-    missing : (i : ℕ) → 0 ≤ i → i < 0 + number_of cores core → ((j : ℕ) → In j (indices core order) → j ≢ i) → ⊥
-    missing i low high none =
-        let id : OpId = record { core = core; index = i } in
-        let one : count_by (is_same_id id) order ≡ 1 = serial id ∙ ap one_if (is_there cores id ∙ lt-ltb i _ (omega arith)) in
-        let zero : count_by (is_same_id id) order ≡ 0 = count_none (is_same_id id) order (λ x p. false_from_ne_true _ (λ t.
-        none i (subst (λ (x : OpId). In x.index (indices x.core order)) (sym (same_id-true id x t)) (index_in x order p)) refl)) in
-        omega arith
+    same_ascending (indices core order) (range_with_len 0 (number_of cores core)) (indices-ascend core order (EachPair-from_all InOrder order program)) (range-ascends 0 (number_of cores core)) (λ i.
+    let id : OpId = record { core = core; index = i } in
+    sym (count-indices id order) ∙ serial id ∙ sym (count-there cores id))
 
 pub from_turn : (cores : List (List Operation)) (order : List OpId) → InTurn (number_of cores) order → IsSerialOrder cores order × KeepsProgramOrder order
-from_turn cores order turn = (λ id. serial id ∙ ap one_if (sym (is_there cores id)), AllPairs-from_each InOrder order pairs)
-  where
-    pairs : EachPair InOrder order
-    pairs = in_order order (λ core. subst (EachPair ◌<◌) (sym (turn core)) (range-ascends 0 (number_of cores core)))
-
-    serial : (id : OpId) → count_by (is_same_id id) order ≡ one_if (nat_lt id.index (number_of cores id.core))
-    serial id = elim (cases_lt id.index (number_of cores id.core)) [
-      | inl l ↦ count_one (is_same_id id) order id
-          (EachPair-weaken InOrder (λ a b. is_same_id id a ≡ true → is_same_id id b ≡ true → ⊥) order
-          (λ a b before p q. (let one : a ≡ b = sym (same_id-true id a p) ∙ same_id-true id b q in let l = before (ap (λ (x : OpId). x.core) one) in let e = ap (λ (x : OpId). x.index) one in omega arith)) pairs)
-          (id_in id.core order id.index (subst (In id.index) (sym (turn id.core)) (below (number_of cores id.core) id.index l))) (same_id-refl id)
-          ∙ ap one_if (sym (lt-ltb id.index _ l))
-      | inr l ↦ count_none (is_same_id id) order (λ x p. false_from_ne_true _ (λ t. (let k = index_below (number_of cores) order id turn (subst (λ (y : OpId). In y order) (sym (same_id-true id x t)) p) in omega arith)))
-          ∙ ap one_if (sym (le-ltb id.index _ l))
-    ]
-      where
-        below : (n j : ℕ) → j < n → In j (range_with_len 0 n)
-        below n j l =
-            let is : get_or (range_with_len 0 n) j 0 ≡ j = (let e = get_or-range_with_len 0 n j 0 l in omega arith) in
-            subst (λ i. In i (range_with_len 0 n)) is (In-get_or (range_with_len 0 n) j 0 (let e = length-range_with_len 0 n in omega arith))
+from_turn cores order turn = (
+  λ id. count-indices id order ∙ ap (count_of id.index) (turn id.core) ∙ count-there cores id,
+  AllPairs-from_each InOrder order (in_order order (λ core. subst (EachPair ◌<◌) (sym (turn core)) (range-ascends 0 (number_of cores core)))),
+)
 
 -- ---- one id after another
 
