@@ -134,10 +134,6 @@ module _ (n s c : ℕ) (T : List CoreEntry) (H : List HistoryEntry) (i place see
       let pair : h.pair ≡ g.pair = let both : Some h.pair ≡ Some g.pair = sym here ∙ (same ∙ g.has) in cc in
       same_more _ _ _ _ _ _ (same_as _ _ _ _ _ _ _ far (h.rest ∙ ap (λ x. x ∷ serveds c (drop (at + 1) H)) pair) g.rest)
 
-  pub skipped : gots n s (drop i T) ≡ gots n s (drop (i + 1) T)
-      → SameSoFar (serveds c H) (gots n s T) place (serveds c (drop seen H)) (gots n s (drop (i + 1) T))
-  skipped e = same_as _ _ _ _ _ _ _ far refl e
-
   pub served_left : gots n s (drop i T) ≡ [] → (at : ℕ) → IsNextServed c H seen at → DiffersAt (serveds c H) (gots n s T) place
   served_left none at h = same_differs _ _ _ _ _ (same_as _ _ _ _ _ _ _ far h.rest none) (λ e. absurd cc)
 
