@@ -1,9 +1,7 @@
 -- Bytes that devices give and take, one piece after another.
-use Rattle.std.proofs.Common.{◌≡◌, ℕ, zero, suc, ◌+◌, List, [], ◌∷◌, ◌++◌, take, drop, Option, None, Some, refl, sym, ap, ◌∙◌, arith, append_assoc, append-nil, inl, inr}
-use Rattle.std.proofs.lemmas.Bool.{cases_lt}
-use Rattle.std.specs.Prelude.{◌-◌, ◌^◌, min}
+use Rattle.std.proofs.Common.{◌≡◌, ℕ, zero, suc, ◌+◌, List, [], ◌∷◌, ◌++◌, take, drop, Option, None, Some, refl, sym, ap, ◌∙◌, arith, append_assoc, append-nil}
 use Rattle.std.specs.Io.KnownBytes.{Consumes, IsAtEnd, Appends}
-use Rattle.log_file.specs.Devices.{Failed, Tells}
+use Rattle.log_file.specs.Devices.{Tells}
 
 -- ---- sources
 
@@ -16,21 +14,23 @@ pub tells_told : (o : Option (List ℕ)) → Tells o (told o)
 tells_told None = tt
 tells_told (Some bytes) = refl
 
--- nothing was read yet
-pub consumes_none : (o : Option (List ℕ)) (xs : List ℕ) → xs ≡ [] → Consumes o o ([] ++ xs)
-consumes_none None xs none = tt
-consumes_none (Some told) xs none = ap (λ (ys : List ℕ). ys ++ told) (sym none)
-
--- an Err that is counted is a failure
-pub counted_failed : (old new : ℕ) → new ≡ min (old + 1) (2 ^ 64 - 1) → Failed old new
-counted_failed old new is = elim (cases_lt old (2 ^ 64 - 1)) [ inl less ↦ inl (omega (arith, is, less)) | inr most ↦ inr (omega (arith, is, most)) ]
-
 pub consumes_more : (old mid new : Option (List ℕ)) (a b : List ℕ) → Consumes old mid a → Consumes mid new b
     → Consumes old new (a ++ b)
 consumes_more None mid new a b p q = tt
 consumes_more (Some xs) None new a b p q = absurd p
 consumes_more (Some xs) (Some ys) None a b p q = absurd q
 consumes_more (Some xs) (Some ys) (Some zs) a b p q = p ∙ ap (λ (x : List ℕ). a ++ x) q ∙ sym (append_assoc a b zs)
+
+-- what a source tells where the last bytes that were read of it are to come yet
+abbrev pub untold : List ℕ → Option (List ℕ) → Option (List ℕ)
+untold last None = None
+untold last (Some told) = Some (last ++ told)
+
+-- the front of what was read
+pub consumes_front : (old new : Option (List ℕ)) (a b : List ℕ) → Consumes old new (a ++ b) → Consumes old (untold b new) a
+consumes_front None new a b p = tt
+consumes_front (Some xs) None a b p = absurd p
+consumes_front (Some xs) (Some ys) a b p = p ∙ append_assoc a b ys
 
 pub consumes_told : (old new : Option (List ℕ)) (a : List ℕ) → Consumes old new a → Tells old (a ++ told new)
 consumes_told None new a p = tt

@@ -1,5 +1,5 @@
 -- Answers to bytes that were fed in pieces.
-use Rattle.std.proofs.Common.{◌≡◌, ℕ, ◌+◌, ◌<◌, List, [], ◌∷◌, ◌++◌, length, get_or, take, drop, Option, Result, Ok, Err, IsErrAnd, refl, sym, ap, subst, ◌∙◌, append_assoc, append-nil}
+use Rattle.std.proofs.Common.{◌≡◌, ℕ, ◌+◌, ◌<◌, List, ◌∷◌, ◌++◌, length, get_or, take, drop, Option, Result, Ok, Err, IsErrAnd, refl, sym, ap, subst, ◌∙◌, append_assoc}
 use Rattle.std.specs.Global.{Vec}
 use Rattle.std.specs.List.{flat_map}
 use Rattle.std.specs.Io.KnownBytes.{Consumes, IsAtEnd}
@@ -13,7 +13,7 @@ use Rattle.log_file.specs.Answers.{IsAnswer, IsFaultOrMemory, IsFaultOrDevice}
 use Rattle.log_file.specs.Devices.{Tells}
 use Rattle.log_file.specs.Feeding.{Feeding, Feeds, IsSettled}
 use Rattle.log_file.specs.inner.FedAll.{IsFedAll}
-use Rattle.log_file.proofs.Devices.{told, tells_told, consumes_told, consumes_end, consumes_more}
+use Rattle.log_file.proofs.Devices.{told, untold, tells_told, consumes_told, consumes_end, consumes_more, consumes_front}
 
 -- the answer of a reader that was fed `front` without a fault and then refused a piece
 refused_as : (core cores old_core old_cores : ℕ) (front piece : List ℕ) (f : LogFault)
@@ -41,17 +41,50 @@ pub record IsFedBut (first now : Feeding) (before after : Option (List ℕ)) (la
   pub fed : now.fed ≡ Ok given
   pub read : Consumes before after (given ++ last)
 
--- the last bytes were fed too, and others were read
-pub fed_last : {first old : Feeding} {before mid : Option (List ℕ)} {last : List ℕ} (new : Feeding)
-    (after : Option (List ℕ)) (next : List ℕ) (h : IsFedBut first old before mid last) → new.core ≡ old.core
-    → new.cores ≡ old.cores → new.fed ≡ Ok (h.given ++ last) → Consumes mid after next
-    → IsFedBut first new before after next
-fed_last {first} {old} {before} {mid} {last} new after next h core cores fed read = record {
+-- before the last bytes were read, but for the front of them
+pub front_left : {first now : Feeding} {before after : Option (List ℕ)} (front back : List ℕ)
+    (h : IsFedBut first now before after (front ++ back)) → IsFedBut first now before (untold back after) front
+front_left {first} {now} {before} {after} front back h = record {
+  core = h.core;
+  cores = h.cores;
+  given = h.given;
+  fed = h.fed;
+  read = consumes_front before after (h.given ++ front) back (rw (sym (append_assoc h.given front back)) at h.read);
+}
+
+-- the front of the last bytes was fed too
+pub front_fed : {first old : Feeding} {before after : Option (List ℕ)} (front back : List ℕ) (new : Feeding)
+    (h : IsFedBut first old before after (front ++ back)) → new.core ≡ old.core → new.cores ≡ old.cores
+    → new.fed ≡ Ok (h.given ++ front) → IsFedBut first new before after back
+front_fed {first} {old} {before} {after} front back new h core cores fed = record {
   core = core ∙ h.core;
   cores = cores ∙ h.cores;
-  given = h.given ++ last;
+  given = h.given ++ front;
   fed = fed;
-  read = consumes_more before mid after (h.given ++ last) next h.read read;
+  read = rw (sym (append_assoc h.given front back)) at h.read;
+}
+
+-- the last bytes were fed too, but for what is kept of them
+pub kept_back : {first old : Feeding} {before after : Option (List ℕ)} {last : List ℕ} (new : Feeding) (more kept : List ℕ)
+    (h : IsFedBut first old before after last) → new.core ≡ old.core → new.cores ≡ old.cores
+    → new.fed ≡ Ok more → more ++ kept ≡ h.given ++ last → IsFedBut first new before after kept
+kept_back {first} {old} {before} {after} {last} new more kept h core cores fed same = record {
+  core = core ∙ h.core;
+  cores = cores ∙ h.cores;
+  given = more;
+  fed = fed;
+  read = rw (sym same) at h.read;
+}
+
+-- more was read
+pub more_read : {first now : Feeding} {before mid : Option (List ℕ)} {last : List ℕ} (after : Option (List ℕ)) (more : List ℕ)
+    (h : IsFedBut first now before mid last) → Consumes mid after more → IsFedBut first now before after (last ++ more)
+more_read {first} {now} {before} {mid} {last} after more h read = record {
+  core = h.core;
+  cores = h.cores;
+  given = h.given;
+  fed = h.fed;
+  read = rw (append_assoc h.given last more) at (consumes_more before mid after (h.given ++ last) more h.read read);
 }
 
 -- a fault that may be answered to all that a source tells is an answer to it
@@ -85,17 +118,14 @@ source_refused {first} {old} {before} {after} {last} f now new r is h fed =
     (read_fault first.core first.cores (bytes ++ told after) f (settled_fault first.core first.cores bytes (told after) f settled))
 
 -- the answer to a source that is at its end, where the last bytes are fed
-pub source_finished : {first old : Feeding} {before mid : Option (List ℕ)} {last : List ℕ} (new : Feeding)
-    (after : Option (List ℕ)) (next : List ℕ) (r : Result (Unit {0}) LogFault) → IsFedBut first old before mid last
-    → Consumes mid after next → next ≡ [] → IsAtEnd after → new.core ≡ old.core → new.cores ≡ old.cores
+pub source_finished : {first old : Feeding} {before after : Option (List ℕ)} {last : List ℕ} (new : Feeding)
+    (r : Result (Unit {0}) LogFault) → IsFedBut first old before after last → IsAtEnd after → new.core ≡ old.core → new.cores ≡ old.cores
     → Feeds old.core old.cores old.fed last r new.fed
     → (bytes : List ℕ) × Tells before bytes × IsFedAll first bytes r new
-source_finished {first} {old} {before} {mid} {last} new after next (Ok x) h read none end core cores feeds =
-    let all = fed_last new after next h core cores (rw h.fed at feeds) read in
-    let whole : Consumes before after all.given =
-    subst (λ (xs : List ℕ). Consumes before after xs) (ap (λ (xs : List ℕ). all.given ++ xs) none ∙ append-nil all.given) all.read in
-    (all.given, consumes_end before after all.given whole end, λ i. record { core = all.core i; cores = all.cores i; fed = all.fed i })
-source_finished {first} {old} {before} {mid} {last} new after next (Err f) h read none end core cores feeds =
+source_finished {first} {old} {before} {after} {last} new (Ok x) h end core cores feeds =
+    let fed : new.fed ≡ Ok (h.given ++ last) = rw h.fed at feeds in
+    (h.given ++ last, consumes_end before after (h.given ++ last) h.read end, λ i. record { core = (core ∙ h.core) i; cores = (cores ∙ h.cores) i; fed = fed i })
+source_finished {first} {old} {before} {after} {last} new (Err f) h end core cores feeds =
     source_refused f new new.fed (Err f) refl h feeds
 
 -- pieces, cut at one of them

@@ -1,5 +1,6 @@
 -- The fronts of chunks that follow one another.
-use Rattle.std.proofs.Common.{◌≡◌, ℕ, zero, suc, ◌+◌, ◌≤◌, List, [], ◌∷◌, ◌++◌, length, take, drop, sym, subst, arith}
+use Rattle.std.proofs.Common.{◌≡◌, ℕ, zero, suc, ◌+◌, ◌≤◌, List, [], ◌∷◌, ◌++◌, Result, Ok, Err, IfOk, length, take, drop, sym, subst, arith}
+use Rattle.std.specs.Global.{Vec}
 use Rattle.std.proofs.lemmas.List.{take_all, drop_all, take-append-le, drop-append-le}
 use Rattle.log_record.specs.declared.format.Format.{Format}
 use Rattle.log_file.specs.declared.chunks.Front.{Front}
@@ -35,3 +36,14 @@ both format xs ys (f ∷ fs) gs p q =
 pub alone : (format : Format) (text : List ℕ) (front : Front) → HasFront format text front → HasFronts format text (front ∷ [])
 alone format text front has =
     (subst (λ (xs : List ℕ). HasFront format xs front) (sym (take_all front.len text (omega (arith, has.whole)))) has, drop_all front.len text (omega (arith, has.whole)))
+
+-- the fronts of a text and one more
+pub one_more : {E : Type 0} (format : Format) (front back text : List ℕ) (last : Front) (list longer : Result (Vec Front) E) → front ++ back ≡ text
+    → IfOk list (λ fewer. HasFronts format front fewer.items) → HasFront format back last
+    → IfOk longer (λ more. (fewer : Vec Front) × (list ≡ Ok fewer) × (more.items ≡ fewer.items ++ last ∷ []))
+    → IfOk longer (λ more. HasFronts format text more.items)
+one_more format front back text last list (Err e) whole first has grown = tt
+one_more format front back text last list (Ok more) whole first has grown =
+    let fewer = grown.0 in
+    let before : HasFronts format front fewer.items = rw grown.1 at first in
+    rw (grown.2, sym whole) (both format front back fewer.items (last ∷ []) before (alone format back last has))

@@ -1,5 +1,5 @@
 -- Bytes that are taken one part after another.
-use Rattle.std.proofs.Common.{◌≡◌, ℕ, List, [], ◌∷◌, ◌++◌, length, map, take, refl, sym, ap, subst, ◌∙◌, append_assoc, append-nil, length-append, arith}
+use Rattle.std.proofs.Common.{◌≡◌, ℕ, List, [], ◌∷◌, ◌++◌, length, map, take, sym, ap, subst, ◌∙◌, append_assoc, append-nil, length-append, arith}
 use Rattle.std.specs.Prelude.{Result, Ok, Err, MatchResult}
 use Rattle.std.specs.List.{AllByRecursion}
 use Rattle.std.proofs.lemmas.List.{map-append}
@@ -115,12 +115,3 @@ pub front_takes : (format : Format) (old new : LineReader) (rs : List Record) (c
 front_takes format old new rs chunk front stands has passed =
     subst (λ (xs : List ℕ). Takes old rs xs new (rs ++ front.records.items)) (sym has.lines)
     (passed_takes format old new rs front.records.items stands passed has.fit)
-
--- a chunk of which nothing was read
-pub no_front : (format : Format) (chunk : List ℕ) (front : Front) → front.len ≡ length chunk → front.records.items ≡ [] → front.taken ≡ 0 → HasFront format chunk front
-no_front format chunk front whole none zero = record {
-  whole = whole;
-  within = omega (arith, zero);
-  lines = rw (none, zero) refl;
-  fit = rw none tt;
-}

@@ -4,3 +4,4 @@ pub mod EntryFeeding
 pub mod EntryKeeping
 pub mod FedAll
 pub mod Listing
+pub mod Reading

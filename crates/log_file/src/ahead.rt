@@ -1,13 +1,14 @@
-//! A log read from a device, by one thread or by several workers, who take a piece while they read the lines of the
-//! next one.
+//! A log read from a device, by one thread or with several workers, who take a piece and read the lines of the next one
+//! while the calling thread reads the piece after it.
 
-ghost use Rattle.std.specs.Prelude.{◌≡◌, ◌<◌, ◌≤◌, ◌^◌, ◌+◌, ◌++◌, ℕ, List, [], Ok, Err, IfOk, IfErr, IfSome, IsErrOf, OnOk, length, take, vec_len};
+ghost use Rattle.std.specs.Prelude.{◌≡◌, ◌<◌, ◌≤◌, ◌^◌, ◌+◌, ◌++◌, ℕ, List, [], Ok, Err, IfOk, IfErr, IfSome, IfNone, IsErrOf, OnOk, take, vec_len};
 ghost use Rattle.std.specs.Io.KnownBytes.{Consumes, IsAtEnd};
 ghost use Rattle.std.specs.Thread.{IsSync};
 ghost use Rattle.log_file.specs.Devices.{CountsFailure, Failed, Tells};
 ghost use Rattle.log_file.specs.Feeding.{Feeds, fed_len};
 ghost use Rattle.log_file.specs.inner.FedAll.{IsFedAll};
 ghost use Rattle.log_file.specs.inner.Chunks.{HasFronts, IsPiece, text_in};
+ghost use Rattle.log_file.specs.inner.Reading.{ReadsFront};
 
 use super::byte_source::ByteSource;
 use super::chunks::{Fronts, fronts_of, keep_rooms};
@@ -46,17 +47,15 @@ struct Piece {
 /// Reads at most `limit` bytes into the front of a buffer, and answers how many.
 fn read_front<S: ByteSource>(
     source: &mut S,
-    buf: &mut [u8],
+    buf: &mut Vec<u8>,
     limit: usize,
 ) -> Result<usize, ReadFailed>
-    requires { limit ≤ length buf.old }
-    ensures bound { IfOk result (λ len. len ≤ limit) }
-    ensures bytes { IfOk result (λ len.
-        Consumes (S.remaining source.old) (S.remaining source.new) (take len buf.new)) }
-    ensures end { IfOk result (λ len. len ≡ 0 → 0 < limit → IsAtEnd (S.remaining source.new)) }
-    ensures counts { CountsFailure (S.failed source.old) (S.failed source.new) result }
+    requires { limit ≤ vec_len buf.old }
+    ensures reads { ReadsFront limit (S.remaining source.old) (S.remaining source.new)
+        (S.failed source.old) (S.failed source.new) buf.new.items result }
+    ensures room { vec_len buf.new ≡ vec_len buf.old }
 {
-    let (front, _) = buf.split_at_mut(limit);
+    let (front, _) = buf.as_mut_slice().split_at_mut(limit);
     source.read(front)
 }
 
@@ -67,9 +66,19 @@ impl Piece {
         ensures none { text_in result ≡ [] }
         ensures len { result.len ≡ 0 }
     {
+        Piece::of(buf, 0)
+    }
+
+    /// The piece of the first bytes of this buffer, `len` of them.
+    fn of(buf: Vec<u8>, len: usize) -> Piece
+        requires { len ≤ vec_len buf }
+        ensures piece { IsPiece result }
+        ensures bytes { text_in result ≡ take len buf.items }
+        ensures len { result.len ≡ len }
+    {
         Piece {
             buf,
-            len: 0,
+            len,
             fronts: None,
         }
     }
@@ -87,12 +96,8 @@ impl Piece {
         ensures counts { CountsFailure (S.failed source.old) (S.failed source.new) result }
     {
         let mut buf = buf;
-        let len = read_front(source, buf.as_mut_slice(), limit)?;
-        Ok(Piece {
-            buf,
-            len,
-            fronts: None,
-        })
+        let len = read_front(source, &mut buf, limit)?;
+        Ok(Piece::of(buf, len))
     }
 
     /// Has the reader take the piece.
@@ -112,9 +117,10 @@ impl Piece {
         }
     }
 
-    /// Has the reader take the piece, and the lines of the next one read meanwhile, where that is worth the threads: one
-    /// of `workers` workers takes, and the others read, into the room of these lists.
-    fn feed_beside<R: Threads + Sync, P: PieceReader + Send>(
+    /// Has the reader take the piece. Where the next one is worth the threads, one of `workers` workers does so, the
+    /// others read the lines of the next one, and the calling thread reads at most `limit` bytes of the one after it into
+    /// the spare buffer: what that came to is told with what the reader answers.
+    fn feed_beside<R: Threads + Sync, S: ByteSource, P: PieceReader + Send>(
         &self,
         rt: &R,
         alloc: Global,
@@ -122,28 +128,36 @@ impl Piece {
         next: &mut Piece,
         workers: usize,
         rooms: &mut Vec<Vec<Record>>,
-    ) -> Result<(), LogFault>
+        source: &mut S,
+        spare: &mut Vec<u8>,
+        limit: usize,
+    ) -> (Result<(), LogFault>, Option<Result<usize, ReadFailed>>)
         requires held { IsPiece self.now }
         requires next { IsPiece next.old }
+        requires room { limit ≤ vec_len spare.old }
         ensures base { P.base reader.new ≡ P.base reader.old }
         ensures core { (P.feeding reader.new).core ≡ (P.feeding reader.old).core }
         ensures cores { (P.feeding reader.new).cores ≡ (P.feeding reader.old).cores }
         ensures fed { Feeds (P.feeding reader.old).core (P.feeding reader.old).cores
-            (P.feeding reader.old).fed (text_in self.now) result (P.feeding reader.new).fed }
-        ensures bounded { OnOk result (fed_len (P.feeding reader.new).fed < 2 ^ 27) }
-        ensures long { OnOk result ((bytes : List ℕ) → (P.feeding reader.old).fed ≡ Ok bytes →
+            (P.feeding reader.old).fed (text_in self.now) result.0 (P.feeding reader.new).fed }
+        ensures bounded { OnOk result.0 (fed_len (P.feeding reader.new).fed < 2 ^ 27) }
+        ensures long { OnOk result.0 ((bytes : List ℕ) → (P.feeding reader.old).fed ≡ Ok bytes →
             fed_len (P.feeding reader.new).fed ≡ fed_len (P.feeding reader.old).fed + self.now.len) }
         ensures piece { IsPiece next.new }
         ensures buf { next.new.buf ≡ next.old.buf }
         ensures len { next.new.len ≡ next.old.len }
+        ensures room { vec_len spare.new ≡ vec_len spare.old }
+        ensures ahead { IfSome result.1 (λ read. ReadsFront limit (S.remaining source.old) (S.remaining source.new)
+            (S.failed source.old) (S.failed source.new) spare.new.items read) }
+        ensures unread { IfNone result.1 (source.new ≡ source.old) }
     {
         let text = &next.buf[..next.len];
-        if workers <= 1 || text.len() < LEAST {
-            return self.feed_to(reader);
-        }
-        let format = reader.format();
+        let is_worth = workers > 1 && text.len() >= LEAST;
+        let Some(format) = reader.format().filter(|_| is_worth) else {
+            return (self.feed_to(reader), None);
+        };
         let others = workers - 1;
-        let (fed, fronts) = join_mut(
+        let (fed, (fronts, ahead)) = join_mut(
             rt,
             &mut || -> Result<(), LogFault>
                 requires { IsPiece self.now }
@@ -154,13 +168,28 @@ impl Piece {
                     (P.feeding reader.entry.now).fed (text_in self.entry.now) result (P.feeding reader.exit.now).fed }
                 ensures bounded { OnOk result (fed_len (P.feeding reader.exit.now).fed < 2 ^ 27) }
             { self.feed_to(reader) },
-            &mut || -> Option<Fronts>
-                requires { IsSync R.row }
-                ensures { IfSome result (λ fronts. HasFronts fronts.format text.entry.now fronts.list.items) }
-            { fronts_of(rt, alloc, format?, text, others, rooms) },
+            &mut || -> (Option<Fronts>, Result<usize, ReadFailed>)
+                requires { IsSync R.row × (limit ≤ vec_len spare.now) }
+                ensures fronts { IfSome result.0 (λ fronts. HasFronts fronts.format text.entry.now fronts.list.items) }
+                ensures reads { ReadsFront limit (S.remaining source.entry.now) (S.remaining source.exit.now)
+                    (S.failed source.entry.now) (S.failed source.exit.now) spare.exit.now.items result.1 }
+                ensures room { vec_len spare.exit.now ≡ vec_len spare.entry.now }
+            {
+                fronts_of(
+                    rt,
+                    alloc,
+                    format,
+                    text,
+                    others,
+                    rooms,
+                    &mut || -> Result<usize, ReadFailed>
+                        requires { limit ≤ vec_len spare.now }
+                    { read_front(source, spare, limit) },
+                )
+            },
         );
         next.fronts = fronts;
-        fed
+        (fed, Some(ahead))
     }
 
     /// Whether workers have read its lines, and found nothing but records.
@@ -171,8 +200,8 @@ impl Piece {
         }
     }
 
-    /// Holds the piece back where workers have read it; else the reader takes it at once, so that no more is read of a
-    /// log before a fault that shows is told, and its room is left.
+    /// Holds the piece back where workers have read it; else the reader takes it at once, so that a fault that shows is
+    /// told before yet more of the log is read, and its room is left.
     fn hold_or_feed<P: PieceReader>(self, reader: &mut P) -> Result<Piece, LogFault>
         requires { IsPiece self }
         ensures base { P.base reader.new ≡ P.base reader.old }
@@ -192,11 +221,7 @@ impl Piece {
             return Ok(self);
         }
         self.feed_to(reader)?;
-        Ok(Piece {
-            buf: self.buf,
-            len: 0,
-            fronts: None,
-        })
+        Ok(Piece::empty(self.buf))
     }
 
     /// The most bytes of the piece after this one: more where this piece, of at most `limit` bytes, has as many. A thread
@@ -221,10 +246,12 @@ impl Piece {
 /// Buffers for the pieces of a log, and lists for their records, kept from one log to the next.
 #[derive(Drop)]
 pub(crate) struct Buffers {
-    /// For the piece that is read.
-    next: Vec<u8>,
-    /// For the piece before.
+    /// For the piece that is taken.
     held: Vec<u8>,
+    /// For the piece after it, whose lines are read.
+    next: Vec<u8>,
+    /// For the piece that is read.
+    spare: Vec<u8>,
     /// For what workers read of a piece.
     rooms: Vec<Vec<Record>>,
 }
@@ -233,8 +260,9 @@ impl Buffers {
     /// Buffers without room.
     pub(crate) fn new(alloc: Global) -> Buffers {
         Buffers {
-            next: Vec::new(alloc),
             held: Vec::new(alloc),
+            next: Vec::new(alloc),
+            spare: Vec::new(alloc),
             rooms: Vec::new(alloc),
         }
     }
@@ -251,8 +279,7 @@ fn room_for(alloc: Global, buf: Vec<u8>, limit: usize) -> Result<Vec<u8>, AllocE
 }
 
 /// Has a reader that was fed nothing take all that the source has, piece by piece. The calling thread reads the source.
-/// Where there are two workers or more it then waits for them: one of them takes the piece before, and the others read
-/// the lines of this one.
+/// Where there are two workers or more, one of them takes a piece meanwhile, and the others read the lines of the next one.
 pub(crate) fn read_ahead<R: Threads + Sync, S: ByteSource, P: PieceReader + Send>(
     rt: &R,
     alloc: Global,
@@ -270,20 +297,31 @@ pub(crate) fn read_ahead<R: Threads + Sync, S: ByteSource, P: PieceReader + Send
     ensures quiet { ¬ IsErrOf result LogFault.Read → S.failed source.new ≡ S.failed source.old }
 {
     let mut limit = FIRST;
-    let mut room = room_for(alloc, replace(&mut buffers.next, Vec::new(alloc)), limit)?;
+    let room = room_for(alloc, replace(&mut buffers.next, Vec::new(alloc)), limit)?;
+    let mut next = Piece::read(source, room, limit)?;
     let mut held = Piece::empty(replace(&mut buffers.held, Vec::new(alloc)));
-    loop {
-        let mut next = Piece::read(source, room, limit)?;
-        if next.len == 0 {
-            let end = held.feed_to(reader);
-            buffers.next = next.buf;
-            buffers.held = held.buf;
-            return end;
-        }
-        held.feed_beside(rt, alloc, reader, &mut next, workers, &mut buffers.rooms)?;
-        keep_rooms(&mut buffers.rooms, held.fronts);
+    let mut spare = replace(&mut buffers.spare, Vec::new(alloc));
+    'pieces: while next.len > 0 {
         limit = next.limit_after(limit, workers);
-        room = room_for(alloc, held.buf, limit)?;
+        spare = room_for(alloc, spare, limit)?;
+        let rooms = &mut buffers.rooms;
+        let (fed, ahead) = held.feed_beside(
+            rt, alloc, reader, &mut next, workers, rooms, source, &mut spare, limit,
+        );
+        let ahead = ahead.transpose()?;
+        fed?;
+        keep_rooms(&mut buffers.rooms, held.fronts);
+        let free = held.buf;
         held = next.hold_or_feed(reader)?;
+        next = match ahead {
+            Some(len) => Piece::of(spare, len),
+            None => Piece::read(source, spare, limit)?,
+        };
+        spare = free;
     }
+    let end = held.feed_to(reader);
+    buffers.held = held.buf;
+    buffers.next = next.buf;
+    buffers.spare = spare;
+    end
 }

@@ -1,7 +1,10 @@
 //! Pieces cut into chunks, whose lines several workers read at once.
 
-ghost use Rattle.std.specs.Prelude.{◌≡◌, ◌≤◌, ◌++◌, [], IfOk, IfSome, length};
+ghost use Rattle.std.specs.Prelude.{◌≡◌, ◌≤◌, ◌∷◌, ◌++◌, [], Ok, IfOk, IfSome, length};
+ghost use Rattle.std.specs.Global.{Vec};
 ghost use Rattle.std.specs.Thread.{IsSync};
+ghost use Rattle.log_record.specs.declared.format.Format.{Format};
+ghost use Rattle.log_file.specs.declared.chunks.Front.{Front};
 ghost use Rattle.log_file.specs.inner.Chunks.{HasFront, HasFronts};
 
 use super::record_list::by_parts;
@@ -117,21 +120,40 @@ fn front_of(alloc: Global, format: Format, chunk: &[u8], room: &mut Vec<Record>)
     }
 }
 
+/// The front of a text that is one chunk, of which no record is read.
+fn unread(alloc: Global, text: &[u8]) -> Result<Vec<Front>, AllocError>
+    ensures { (format : Format) → IfOk result (λ list. HasFronts format text.now list.items) }
+{
+    Ok(vec![in alloc; Front::empty(alloc, text.len())]?)
+}
+
+/// The fronts of some chunks and one more, where there is memory for it.
+fn with_front(list: Result<Vec<Front>, AllocError>, last: Front) -> Result<Vec<Front>, AllocError>
+    ensures { IfOk result (λ longer. (shorter : Vec Front) × (list ≡ Ok shorter) × (longer.items ≡ shorter.items ++ last ∷ [])) }
+{
+    let mut list = list?;
+    list.push(last)?;
+    Ok(list)
+}
+
 /// The fronts of a text that is cut into its first line, of which no record is read since its beginning may lie before
 /// the text, and a chunk for each of `workers` workers, which read them at once, each into the room of one of these
-/// lists, if there is one left. The calling thread only waits for them.
-fn list_fronts<R: Threads + Sync>(
+/// lists, if there is one left. The calling thread starts them, does something else meanwhile, and waits for them.
+fn list_fronts<R: Threads + Sync, M: FnMut() -> T, T>(
     rt: &R,
     alloc: Global,
     format: Format,
     text: &[u8],
     workers: usize,
     rooms: &mut Vec<Vec<Record>>,
-) -> Result<Vec<Front>, AllocError>
-    ensures { IfOk result (λ list. HasFronts format text.now list.items) }
+    meanwhile: &mut M,
+) -> (Result<Vec<Front>, AllocError>, T)
+    requires { M.pre meanwhile.old }
+    ensures fronts { IfOk result.0 (λ list. HasFronts format text.now list.items) }
+    ensures meanwhile { M.step meanwhile.old result.1 meanwhile.new }
 {
     if workers == 0 {
-        return Ok(vec![in alloc; Front::empty(alloc, text.len())]?);
+        return (unread(alloc, text), meanwhile());
     }
     let others = workers - 1;
     let place = (text.len() / workers).saturating_mul(others);
@@ -140,35 +162,39 @@ fn list_fronts<R: Threads + Sync>(
         Some(room) => room,
         None => Vec::new(alloc),
     };
-    let (last, list) = join_mut(
+    let (last, (list, done)) = join_mut(
         rt,
         &mut || -> Front
             ensures { HasFront format back.entry.now result }
         { front_of(alloc, format, back, &mut room) },
-        &mut || -> Result<Vec<Front>, AllocError>
-            requires { IsSync R.row }
-            ensures { IfOk result (λ list. HasFronts format front.entry.now list.items) }
-        { list_fronts(rt, alloc, format, front, others, rooms) },
+        &mut || -> (Result<Vec<Front>, AllocError>, T)
+            requires { IsSync R.row × M.pre meanwhile.now }
+            ensures fronts { IfOk result.0 (λ list. HasFronts format front.entry.now list.items) }
+            ensures meanwhile { M.step meanwhile.entry.now result.1 meanwhile.exit.now }
+        { list_fronts(rt, alloc, format, front, others, rooms, meanwhile) },
     );
-    let mut list = list?;
-    list.push(last)?;
-    Ok(list)
+    (with_front(list, last), done)
 }
 
 /// What `workers` workers read at once of the lines of a piece, as those of a log of this format, into the room of these
-/// lists; nothing where memory for it was refused. The piece may begin within a line.
-pub(crate) fn fronts_of<R: Threads + Sync>(
+/// lists, nothing where memory for it was refused; and what the calling thread did meanwhile. The piece may begin within a
+/// line.
+pub(crate) fn fronts_of<R: Threads + Sync, M: FnMut() -> T, T>(
     rt: &R,
     alloc: Global,
     format: Format,
     piece: &[u8],
     workers: usize,
     rooms: &mut Vec<Vec<Record>>,
-) -> Option<Fronts>
-    ensures { IfSome result (λ fronts. HasFronts fronts.format piece.now fronts.list.items) }
+    meanwhile: &mut M,
+) -> (Option<Fronts>, T)
+    requires { M.pre meanwhile.old }
+    ensures fronts { IfSome result.0 (λ fronts. HasFronts fronts.format piece.now fronts.list.items) }
+    ensures meanwhile { M.step meanwhile.old result.1 meanwhile.new }
 {
-    match list_fronts(rt, alloc, format, piece, workers, rooms) {
-        Ok(list) => Some(Fronts { format, list }),
-        Err(_) => None,
+    let (list, done) = list_fronts(rt, alloc, format, piece, workers, rooms, meanwhile);
+    match list {
+        Ok(list) => (Some(Fronts { format, list }), done),
+        Err(_) => (None, done),
     }
 }

@@ -1,6 +1,6 @@
 //! How the pieces of a log are taken: by the calling thread alone, or with other workers.
 
-ghost use Rattle.std.specs.Prelude.{◌≡◌, ◌<◌, ◌≤◌, IfSome, length, MatchResult};
+ghost use Rattle.std.specs.Prelude.{◌≡◌, IfSome, MatchResult};
 ghost use Rattle.log_file.specs.inner.Chunks.{HasFront, HasFronts};
 ghost use Rattle.log_file.specs.Standing.{IsInRange, IsSettledWith, SameLog, Stands, Takes};
 
@@ -131,5 +131,7 @@ fn read_by<R: Threads + Sync>(
     if workers <= 1 {
         return None;
     }
-    fronts_of(rt, alloc, format?, piece, workers, &mut Vec::new(alloc))
+    let rooms = &mut Vec::new(alloc);
+    let (fronts, ()) = fronts_of(rt, alloc, format?, piece, workers, rooms, &mut || ());
+    fronts
 }
