@@ -3,21 +3,17 @@ use Rattle.std.proofs.Common.{◌≡◌, ℕ, ◌<◌, ◌^◌, ◌++◌, List, 
 use Rattle.std.specs.Prelude.{OnOk, IfSome}
 use Rattle.std.specs.Global.{Vec}
 use Rattle.log_record.specs.declared.record.Record.{Record}
-use Rattle.log_record.specs.declared.record.Entry.{Entry}
-use Rattle.log_record.specs.Entries.{core_entries}
 use Rattle.log_file.specs.declared.fault.LogFault.{LogFault}
 use Rattle.log_file.specs.Log.{Spells}
 use Rattle.log_file.specs.Answering.{Answering, HasAnswered, fed_text}
 use Rattle.log_file.specs.Feeding.{Finishes, IsOpen, fed_len}
-use Rattle.log_file.specs.inner.EntryFeeding.{FinishesEntries}
 use Rattle.log_file.specs.inner.FedAll.{AnswersPiece}
-use Rattle.log_file.specs.inner.Listing.{Base}
 use Rattle.log_file.specs.Keeping.{KeepsRecords, fed_of}
 use Rattle.log_file.proofs.Bounded.{read_long}
 use Rattle.log_file.proofs.OnlyCut.{only_cut}
 
 module _ {old new : Answering} {before records : List Record} {piece : List ℕ} where
-  answered : (x : Unit {0}) → AnswersPiece old before piece (Ok x) new records → HasAnswered new (fed_text old before ++ piece) records
+  pub answered : (x : Unit {0}) → AnswersPiece old before piece (Ok x) new records → HasAnswered new (fed_text old before ++ piece) records
   answered x h = go old.fault refl h.again
     where
       go : (o : Option LogFault) → old.fault ≡ o → IfSome o (λ fault. ⊥ × (new.fault ≡ Some fault)) → HasAnswered new (fed_text old before ++ piece) records
@@ -47,14 +43,3 @@ finishes s log keeps ends again = go s.fault refl again
     go : (o : Option LogFault) → s.fault ≡ o → IfSome o (λ fault. ⊥) → Finishes s.core s.cores (fed_of o (fed_text s log.items)) (Ok log)
     go None is h = ends (fed_text s log.items) log.items (keeps is)
     go (Some f) is h = absurd h
-
--- the same with the entries of the log, after those that stood before
-pub finishes_entries : (s : Answering) (records : List Record) (base : Base) (list : Vec Entry) → KeepsRecords s records
-    → ((bytes : List ℕ) (records : List Record) → HasAnswered s bytes records → Spells s.core s.cores bytes records)
-    → IfSome s.fault (λ fault. ⊥) → list.items ≡ base.before ++ core_entries base.core 0 records
-    → FinishesEntries s.core s.cores (fed_of s.fault (fed_text s records)) base (Ok list)
-finishes_entries s records base list keeps ends again is = go s.fault refl again
-  where
-    go : (o : Option LogFault) → s.fault ≡ o → IfSome o (λ fault. ⊥) → FinishesEntries s.core s.cores (fed_of o (fed_text s records)) base (Ok list)
-    go None none h = (records, ends (fed_text s records) records (keeps none), is)
-    go (Some f) none h = absurd h

@@ -1,49 +1,44 @@
--- The fronts of chunks that follow one another.
-use Rattle.std.proofs.Common.{◌≡◌, ℕ, zero, suc, ◌+◌, ◌≤◌, List, [], ◌∷◌, ◌++◌, Result, Ok, Err, IfOk, length, take, drop, sym, subst, arith}
+-- The fronts of chunks.
+use Rattle.std.proofs.Common.{◌≡◌, ℕ, suc, ◌+◌, ◌<◌, List, [], ◌∷◌, ◌++◌, length, drop, slice_index_or, sym, ap, ◌∙◌, subst, arith, Bor, refl}
+use Rattle.std.proofs.lemmas.List.{drop_more}
+use Rattle.std.specs.Prelude.{Result, Ok, Err, IfOk, vec_len}
+use Rattle.std.specs.List.{flat_map}
 use Rattle.std.specs.Global.{Vec}
-use Rattle.std.proofs.lemmas.List.{take_all, drop_all, take-append-le, drop-append-le}
+use Rattle.std.proofs.lemmas.List.Elements.{All-nil, All-cons}
 use Rattle.log_record.specs.declared.format.Format.{Format}
 use Rattle.log_file.specs.declared.chunks.Front.{Front}
-use Rattle.log_file.specs.inner.Chunks.{HasFront, HasFronts}
+use Rattle.log_file.specs.inner.Chunks.{AreFronts, IsFrontOf, chunks_text}
 
--- a list is at least as long as what is taken of it
-take_within : (n : ℕ) (xs : List ℕ) → n ≡ length (take n xs) → n ≤ length xs
-take_within zero xs e = omega arith
-take_within (suc n) [] e = absurd (omega (arith, e))
-take_within (suc n) (x ∷ xs) e = let l = take_within n xs (omega (arith, e)) in omega (arith, l)
+module _ (format : Format) where
+  -- the front at each place is that of the chunk there
+  abbrev FrontOfEach : List (Bor (List ℕ)) → List Front → Type 0
+  FrontOfEach chunks fronts = (i : ℕ) (chunk : Bor (List ℕ)) (front : Front) → i < length chunks → IsFrontOf format (slice_index_or chunks i chunk).now (slice_index_or fronts i front)
 
--- the first chunk lies within the text
-pub first_within : (format : Format) (text : List ℕ) (front : Front) → HasFront format (take front.len text) front → front.len ≤ length text
-first_within format text front has = take_within front.len text has.whole
+  all_fronts : (chunks : List (Bor (List ℕ))) (fronts : List Front) → length fronts ≡ length chunks → FrontOfEach chunks fronts
+      → AreFronts format fronts × (chunks_text fronts ≡ flat_map (λ (chunk : Bor (List ℕ)). chunk.now) chunks)
+  all_fronts [] [] len each = (All-nil (λ (front : Front). IsFrontOf format front.chunk.now front), refl)
+  all_fronts [] (f ∷ fs) len each = absurd (omega (arith, len))
+  all_fronts (c ∷ cs) [] len each = absurd (omega (arith, len))
+  all_fronts (c ∷ cs) (f ∷ fs) len each =
+      let here = each 0 c f (omega arith) in
+      let rest = all_fronts cs fs (omega (arith, len)) (λ i d e lt. each (suc i) d e (omega (arith, lt))) in (
+        All-cons (λ (front : Front). IsFrontOf format front.chunk.now front) f fs (subst (λ (text : List ℕ). IsFrontOf format text f) (sym here.is) here) rest.0,
+        rw (here.is, rest.1) refl,
+      )
 
--- after the last front there is nothing left
-pub none_after : (format : Format) (text : List ℕ) (fronts : List Front) (i : ℕ) → length fronts ≤ i → HasFronts format text (drop i fronts) → text ≡ []
-none_after format text [] zero le has = has
-none_after format text [] (suc i) le has = has
-none_after format text (front ∷ fronts) zero le has = absurd (omega (arith, le))
-none_after format text (front ∷ fronts) (suc i) le has = none_after format text fronts i (omega (arith, le)) has
+  -- the fronts of the chunks of a text
+  pub fronts_in : {E : Type 0} (r : Result (Vec Front) E) (chunks : Vec (Bor (List ℕ))) (text : List ℕ)
+      → IfOk r (λ fronts. vec_len fronts ≡ vec_len chunks)
+      → IfOk r (λ fronts. (i : ℕ) (chunk : Bor (List ℕ)) (front : Front) → i < vec_len chunks → IsFrontOf format (slice_index_or chunks.items i chunk).now (slice_index_or fronts.items i front))
+      → flat_map (λ (chunk : Bor (List ℕ)). chunk.now) chunks.items ≡ text
+      → IfOk r (λ fronts. AreFronts format fronts.items × (chunks_text fronts.items ≡ text))
+  fronts_in (Err e) chunks text len each whole = tt
+  fronts_in (Ok fronts) chunks text len each whole =
+      let all = all_fronts chunks.items fronts.items (omega (arith, len, fronts.ok.0, chunks.ok.0)) (λ i d e lt. each i d e (omega (arith, lt, chunks.ok.0))) in
+      (all.0, all.1 ∙ whole)
 
--- the fronts of two texts are those of both, one after the other
-pub both : (format : Format) (xs ys : List ℕ) (fs gs : List Front) → HasFronts format xs fs → HasFronts format ys gs → HasFronts format (xs ++ ys) (fs ++ gs)
-both format xs ys [] gs p q = subst (λ (text : List ℕ). HasFronts format (text ++ ys) gs) (sym p) q
-both format xs ys (f ∷ fs) gs p q =
-    let le = first_within format xs f p.0 in (
-      subst (λ (text : List ℕ). HasFront format text f) (sym (take-append-le f.len xs ys le)) p.0,
-      subst (λ (text : List ℕ). HasFronts format text (fs ++ gs)) (sym (drop-append-le f.len xs ys le)) (both format (drop f.len xs) ys fs gs p.1 q),
-    )
-
--- the front of a text that is one chunk
-pub alone : (format : Format) (text : List ℕ) (front : Front) → HasFront format text front → HasFronts format text (front ∷ [])
-alone format text front has =
-    (subst (λ (xs : List ℕ). HasFront format xs front) (sym (take_all front.len text (omega (arith, has.whole)))) has, drop_all front.len text (omega (arith, has.whole)))
-
--- the fronts of a text and one more
-pub one_more : {E : Type 0} (format : Format) (front back text : List ℕ) (last : Front) (list longer : Result (Vec Front) E) → front ++ back ≡ text
-    → IfOk list (λ fewer. HasFronts format front fewer.items) → HasFront format back last
-    → IfOk longer (λ more. (fewer : Vec Front) × (list ≡ Ok fewer) × (more.items ≡ fewer.items ++ last ∷ []))
-    → IfOk longer (λ more. HasFronts format text more.items)
-one_more format front back text last list (Err e) whole first has grown = tt
-one_more format front back text last list (Ok more) whole first has grown =
-    let fewer = grown.0 in
-    let before : HasFronts format front fewer.items = rw grown.1 at first in
-    rw (grown.2, sym whole) (both format front back fewer.items (last ∷ []) before (alone format back last has))
+-- the chunk at a place stands before those after it
+pub chunk_first : (fronts : List Front) (i : ℕ) (front : Front) → i < length fronts → front ≡ slice_index_or fronts i front
+    → front.chunk.now ++ chunks_text (drop (i + 1) fronts) ≡ chunks_text (drop i fronts)
+chunk_first fronts i front lt is =
+    ap (λ (f : Front). f.chunk.now ++ chunks_text (drop (i + 1) fronts)) is ∙ ap chunks_text (sym (drop_more fronts i front lt))

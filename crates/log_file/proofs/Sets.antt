@@ -1,9 +1,7 @@
 -- Readers one after another.
 use Rattle.std.proofs.Common.{◌≡◌, ℕ, zero, suc, ◌+◌, ◌<◌, ◌≤◌, List, [], ◌∷◌, ◌++◌, length, get_or, take, drop, set, map, Option, Some, refl, sym, ap, subst, ◌∙◌, arith}
-use Rattle.std.specs.Prelude.{vec_len}
 use Rattle.std.specs.List.{All}
 use Rattle.std.proofs.lemmas.List.Elements.{All-nil, All-cons}
-use Rattle.std.specs.Global.{Vec}
 use Rattle.std.proofs.lemmas.List.{take-append-drop, drop_more, get_or-drop, drop-drop, length-take, drop-set-lt, take_all, take_more}
 use Rattle.std.proofs.lemmas.List.{get_or_append_left, get_or-append-add, get_or-set_same, length-set}
 use Rattle.std.proofs.lemmas.Option.{slice_get-get_or}
@@ -11,7 +9,6 @@ use Rattle.mem_op.specs.Limits.{operation_limit}
 use Rattle.log_record.specs.declared.record.Record.{Record}
 use Rattle.log_file.specs.declared.fault.LogFault.{LogFault}
 use Rattle.log_file.specs.declared.fault.LogFault.TheVariants.{At, OutOfMemory, Read}
-use Rattle.log_record.specs.Entries.{record_lists}
 use Rattle.log_file.specs.Log.{Spells}
 use Rattle.log_file.specs.Devices.{Tells, Failed}
 use Rattle.log_file.specs.Answers.{IsFaultOrDevice}
@@ -184,16 +181,6 @@ spelled_short k n [] (log ∷ logs) p = absurd p
 spelled_short k n (t ∷ ts) [] p = absurd p
 spelled_short k n (t ∷ ts) (log ∷ logs) p =
     All-cons (λ (l : List Record). length l ≤ operation_limit) log logs p.0.1.0.few (spelled_short (k + 1) n ts logs p.1)
-
--- the same of vectors
-pub vectors_short : (k n : ℕ) (ts : List (List ℕ)) (vs : List (Vec Record)) → SpellFrom k n ts (record_lists vs)
-    → All (λ (v : Vec Record). vec_len v ≤ operation_limit) vs
-vectors_short k n [] [] p = All-nil (λ (v : Vec Record). vec_len v ≤ operation_limit)
-vectors_short k n [] (v ∷ vs) p = absurd p
-vectors_short k n (t ∷ ts) [] p = absurd p
-vectors_short k n (t ∷ ts) (v ∷ vs) p =
-    All-cons (λ (w : Vec Record). vec_len w ≤ operation_limit) v vs (omega (arith, v.ok.0, p.0.1.0.few))
-    (vectors_short (k + 1) n ts vs p.1)
 
 -- the reader at i failed
 pub set_failed : {A : Type 0} (count : A → ℕ) (old new : List A) (i : ℕ) (x y : A) → i < length old

@@ -1,5 +1,5 @@
 -- Bytes that are taken one part after another.
-use Rattle.std.proofs.Common.{◌≡◌, ℕ, List, [], ◌∷◌, ◌++◌, length, map, take, sym, ap, subst, ◌∙◌, append_assoc, append-nil, length-append, arith}
+use Rattle.std.proofs.Common.{◌≡◌, ℕ, List, [], ◌∷◌, ◌++◌, length, map, sym, ap, subst, ◌∙◌, append_assoc, append-nil, length-append, arith}
 use Rattle.std.specs.Prelude.{Result, Ok, Err, MatchResult}
 use Rattle.std.specs.List.{AllByRecursion}
 use Rattle.std.proofs.lemmas.List.{map-append}
@@ -11,8 +11,7 @@ use Rattle.log_file.specs.declared.fault.LogFault.{LogFault}
 use Rattle.log_file.specs.declared.progress.Stage.TheVariants as stage
 use Rattle.log_file.specs.declared.progress.Progress.{Progress}
 use Rattle.log_file.specs.declared.line_reader.LineReader.{LineReader}
-use Rattle.log_file.specs.declared.chunks.Front.{Front}
-use Rattle.log_file.specs.inner.Chunks.{HasFront, records_text}
+use Rattle.log_file.specs.inner.Chunks.{records_text}
 use Rattle.log_file.specs.Feeding.{IsSettled}
 use Rattle.log_file.specs.Log.{IsLog, begun, text_of, with_lf}
 use Rattle.log_file.specs.Standing.{IsPassed, IsSettledWith, IsSound, SameLog, Stands, Takes, read_text, IsInRange}
@@ -109,9 +108,3 @@ passed_takes format old new rs found stands passed fit =
           (append-nil (text_of (begun format p.core p.cores (rs ++ found))) ∙ begun_more format p.core p.cores rs found
           ∙ ap (λ (xs : List ℕ). xs ++ records_text found) (sym (append-nil (text_of (begun format p.core p.cores rs)))));
     }
-
-pub front_takes : (format : Format) (old new : LineReader) (rs : List Record) (chunk : List ℕ) (front : Front) → Stands old rs → HasFront format chunk front
-    → IsPassed format old (length front.records.items) new → Takes old rs (take front.taken chunk) new (rs ++ front.records.items)
-front_takes format old new rs chunk front stands has passed =
-    subst (λ (xs : List ℕ). Takes old rs xs new (rs ++ front.records.items)) (sym has.lines)
-    (passed_takes format old new rs front.records.items stands passed has.fit)

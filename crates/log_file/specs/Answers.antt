@@ -6,6 +6,12 @@ use Rattle.log_file.specs.declared.fault.LogFault.{LogFault}
 use Rattle.log_file.specs.declared.fault.LogFault.TheVariants.{At, OutOfMemory, Read}
 use Rattle.log_file.specs.Log.{Spells, IsFirstFault}
 
+-- a fault that bytes have, and no lack of memory or failed read
+abbrev pub IsOfText : LogFault → Type 0
+IsOfText (At k f) = Unit {0}
+IsOfText OutOfMemory = ⊥
+IsOfText Read = ⊥
+
 -- the first fault of the bytes
 abbrev pub IsFaultOf : ℕ → ℕ → List ℕ → LogFault → Type 0
 IsFaultOf core cores bytes (At k f) = IsFirstFault core cores bytes k f
@@ -29,7 +35,11 @@ abbrev pub IsAnswer : ℕ → ℕ → List ℕ → Result (Vec Record) LogFault 
 IsAnswer core cores bytes (Ok log) = Spells core cores bytes log.items
 IsAnswer core cores bytes (Err fault) = IsFaultOrMemory core cores bytes fault
 
--- the same of the bytes of a source, where a failed read may come too
+-- the same of the bytes of a source, where a failed read may come too; the records are kept in a list
+abbrev pub IsListAnswer : {L : Type 0} → (L → List Record) → ℕ → ℕ → List ℕ → Result L LogFault → Type 0
+IsListAnswer records core cores bytes (Ok list) = Spells core cores bytes (records list)
+IsListAnswer records core cores bytes (Err fault) = IsFaultOrDevice core cores bytes fault
+
+-- the list is that of the records alone
 abbrev pub IsReadAnswer : ℕ → ℕ → List ℕ → Result (Vec Record) LogFault → Type 0
-IsReadAnswer core cores bytes (Ok log) = Spells core cores bytes log.items
-IsReadAnswer core cores bytes (Err fault) = IsFaultOrDevice core cores bytes fault
+IsReadAnswer = IsListAnswer (λ (log : Vec Record). log.items)

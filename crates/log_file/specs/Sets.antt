@@ -1,9 +1,7 @@
 -- A set of logs, one text a core: its logs, or its first fault.
-use Rattle.std.specs.Prelude.{◌≡◌, ℕ, ◌+◌, ◌<◌, List, [], ◌∷◌, length, Option, Some, Result, Ok, Err, slice_get, slice_index_or}
+use Rattle.std.specs.Prelude.{◌≡◌, ℕ, ◌+◌, ◌<◌, List, [], ◌∷◌, length, map, Option, Some, Result, Ok, Err, slice_get, slice_index_or}
 use Rattle.std.specs.List.{AllZip}
-use Rattle.std.specs.Global.{Vec}
 use Rattle.log_record.specs.declared.record.Record.{Record}
-use Rattle.log_record.specs.Entries.{record_lists}
 use Rattle.log_file.specs.declared.fault.FormatFault.{FormatFault}
 use Rattle.log_file.specs.declared.fault.LogFault.{LogFault}
 use Rattle.log_file.specs.declared.fault.LogFault.TheVariants.{At, OutOfMemory, Read}
@@ -42,14 +40,9 @@ IsSetFault texts file OutOfMemory = (file < length texts) × SpellBefore texts f
 IsSetFault texts file Read = (file < length texts) × SpellBefore texts file
 
 -- the logs that the texts spell, or the first fault of the set
-abbrev pub IsSetAnswer : List (List ℕ) → Result (Vec (Vec Record)) SetFault → Type 0
-IsSetAnswer texts (Ok logs) = SpellSet texts (record_lists logs.items)
+abbrev pub IsSetAnswer : List (List ℕ) → Result (List (List Record)) SetFault → Type 0
+IsSetAnswer texts (Ok logs) = SpellSet texts logs
 IsSetAnswer texts (Err e) = IsSetFault texts e.file e.fault
-
--- the same of a set whose logs are in one list
-abbrev pub IsLogSetAnswer : List (List ℕ) → Result (List (List Record)) SetFault → Type 0
-IsLogSetAnswer texts (Ok logs) = SpellSet texts logs
-IsLogSetAnswer texts (Err e) = IsSetFault texts e.file e.fault
 
 -- ---- the readers
 
@@ -62,3 +55,12 @@ abbrev pub ReaderFailed : {S : Type 0} → (S → ℕ) → List S → List S →
 ReaderFailed {S} failed old new file =
     (before : S) × ((after : S)
     × (slice_get old file ≡ Some before) × (slice_get new file ≡ Some after) × Failed (failed before) (failed after))
+
+-- no reader failed: each counts as many failures as before
+abbrev pub NoneFailed : {S : Type 0} → (S → ℕ) → List S → List S → Type 0
+NoneFailed failed old new = map failed new ≡ map failed old
+
+-- a failed read is what is answered
+abbrev pub IsReadFault : {T : Type 0} → Result T SetFault → Type 0
+IsReadFault (Ok set) = ⊥
+IsReadFault (Err e) = e.fault ≡ Read

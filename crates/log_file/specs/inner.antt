@@ -1,7 +1,5 @@
 -- Definitions that serve private contracts alone.
 pub mod Chunks
-pub mod EntryFeeding
 pub mod EntryKeeping
 pub mod FedAll
 pub mod Listing
-pub mod Reading

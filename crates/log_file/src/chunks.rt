@@ -1,80 +1,24 @@
-//! Pieces cut into chunks, whose lines several workers read at once.
+//! Pieces cut into chunks, whose lines workers parse in parallel.
 
-ghost use Rattle.std.specs.Prelude.{◌≡◌, ◌≤◌, ◌∷◌, ◌++◌, [], Ok, IfOk, IfSome, length};
-ghost use Rattle.std.specs.Global.{Vec};
-ghost use Rattle.std.specs.Thread.{IsSync};
-ghost use Rattle.log_record.specs.declared.format.Format.{Format};
-ghost use Rattle.log_file.specs.declared.chunks.Front.{Front};
-ghost use Rattle.log_file.specs.inner.Chunks.{HasFront, HasFronts};
+ghost use Rattle.std.specs.Prelude.{◌≡◌, ◌<◌, ◌≤◌, ◌++◌, ℕ, IfOk, length, slice_index_or, vec_len};
+ghost use Rattle.std.specs.List.{flat_map};
+ghost use Rattle.log_file.specs.inner.Chunks.{AreFronts, IsFrontOf, chunks_text};
 
-use super::record_list::by_parts;
 use log_record::{Format, Record, read_line};
 use memchr::memchr;
 use std::alloc::{AllocError, Global};
-use std::mem::replace;
-use std::thread::{Threads, join_mut};
-
-/// How many bytes the lines of most records have, or more.
-const LINE: usize = 24;
+use std::thread;
+use std::thread::Threads;
 
 /// The records whose lines stand at the front of a chunk.
 #[derive(Drop)]
-pub(crate) struct Front {
-    /// How many bytes the chunk has.
-    pub(crate) len: usize,
+pub(crate) struct Front<'a> {
+    /// The chunk.
+    pub(crate) chunk: &'a [u8],
     /// The records.
     pub(crate) records: Vec<Record>,
-    /// How many bytes their lines are, each with its line feed.
-    pub(crate) taken: usize,
-    /// Whether they are the records of all its whole lines.
-    is_whole: bool,
-}
-
-impl Front {
-    /// No records of a chunk of this length.
-    fn empty(alloc: Global, len: usize) -> Front
-        ensures len { result.len ≡ len }
-        ensures records { result.records.items ≡ [] }
-        ensures taken { result.taken ≡ 0 }
-    {
-        Front {
-            len,
-            records: Vec::new(alloc),
-            taken: 0,
-            is_whole: false,
-        }
-    }
-}
-
-/// The fronts of the chunks of a text, one after another, as those of a log of this format.
-#[derive(Drop)]
-pub(crate) struct Fronts {
-    /// The format.
-    pub(crate) format: Format,
-    /// The fronts.
-    pub(crate) list: Vec<Front>,
-}
-
-impl Fronts {
-    /// Whether workers have found records in each chunk after the first line, and nothing else in any.
-    pub(crate) fn are_read(&self) -> bool {
-        self.list
-            .iter()
-            .skip(1)
-            .all(|front| front.is_whole && front.taken > 0)
-    }
-}
-
-/// Keeps the lists of some fronts for their room, as many as there is memory for. The first front has none of its own.
-pub(crate) fn keep_rooms(rooms: &mut Vec<Vec<Record>>, fronts: Option<Fronts>) {
-    let Some(fronts) = fronts else {
-        return;
-    };
-    for front in fronts.list.into_iter().skip(1) {
-        if rooms.push(front.records).is_err() {
-            return;
-        }
-    }
+    /// What stands behind their lines.
+    pub(crate) rest: &'a [u8],
 }
 
 /// Cuts a text after the first line feed at or after this place; where there is none, the
@@ -90,111 +34,69 @@ pub(crate) fn cut(text: &[u8], from: usize) -> (&[u8], &[u8])
     text.split_at(end)
 }
 
-/// The records at the front of a chunk of a log of this format: of its whole lines, up to the first one that isn't a
-/// record's there. They are kept in the room of this list, which is left with none.
-fn front_of(alloc: Global, format: Format, chunk: &[u8], room: &mut Vec<Record>) -> Front
-    ensures { HasFront format chunk.now result }
+/// A text cut into so many chunks, of about one length and each of whole lines but for the last.
+fn chunks_of(alloc: Global, text: &[u8], count: usize) -> Result<Vec<&[u8]>, AllocError>
+    ensures { IfOk result (λ chunks. flat_map (λ chunk. chunk.now) chunks.items ≡ text.now) }
 {
-    let mut records = replace(room, Vec::new(alloc));
-    records.clear();
-    if records.reserve(chunk.len() / LINE).is_err() {
-        return Front::empty(alloc, chunk.len());
+    let share = text.len() / count.max(1);
+    let mut chunks = Vec::new(alloc);
+    let mut rest = text;
+    for _ in 1..count {
+        let (chunk, later) = cut(rest, share.min(rest.len()));
+        chunks.push(chunk)?;
+        rest = later;
     }
+    chunks.push(rest)?;
+    Ok(chunks)
+}
+
+/// The records at the front of a chunk of a log of this format: of its whole lines, up to the first one that isn't a
+/// record's there, or for which memory was refused.
+fn front_of(alloc: Global, format: Format, chunk: &[u8]) -> Front<'_>
+    ensures { IsFrontOf format chunk.now result }
+{
+    let mut records = Vec::new(alloc);
     let mut rest = chunk;
-    let mut is_whole = true;
     while let Some(at) = memchr(b'\n', rest) {
         let Ok(logged) = read_line(format, &rest[..at]) else {
-            is_whole = false;
             break;
         };
-        if records.push(by_parts(&logged)).is_err() {
-            return Front::empty(alloc, chunk.len());
+        if records.push(logged).is_err() {
+            break;
         }
         rest = &rest[at + 1..];
     }
     Front {
-        len: chunk.len(),
+        chunk,
         records,
-        taken: chunk.len() - rest.len(),
-        is_whole,
+        rest,
     }
 }
 
-/// The front of a text that is one chunk, of which no record is read.
-fn unread(alloc: Global, text: &[u8]) -> Result<Vec<Front>, AllocError>
-    ensures { (format : Format) → IfOk result (λ list. HasFronts format text.now list.items) }
-{
-    Ok(vec![in alloc; Front::empty(alloc, text.len())]?)
-}
-
-/// The fronts of some chunks and one more, where there is memory for it.
-fn with_front(list: Result<Vec<Front>, AllocError>, last: Front) -> Result<Vec<Front>, AllocError>
-    ensures { IfOk result (λ longer. (shorter : Vec Front) × (list ≡ Ok shorter) × (longer.items ≡ shorter.items ++ last ∷ [])) }
-{
-    let mut list = list?;
-    list.push(last)?;
-    Ok(list)
-}
-
-/// The fronts of a text that is cut into its first line, of which no record is read since its beginning may lie before
-/// the text, and a chunk for each of `workers` workers, which read them at once, each into the room of one of these
-/// lists, if there is one left. The calling thread starts them, does something else meanwhile, and waits for them.
-fn list_fronts<R: Threads + Sync, M: FnMut() -> T, T>(
+/// The front of each chunk, as that of a log of this format. Threads parse the chunks in parallel.
+fn front_of_each<'a, R: Threads + Sync>(
     rt: &R,
     alloc: Global,
     format: Format,
-    text: &[u8],
-    workers: usize,
-    rooms: &mut Vec<Vec<Record>>,
-    meanwhile: &mut M,
-) -> (Result<Vec<Front>, AllocError>, T)
-    requires { M.pre meanwhile.old }
-    ensures fronts { IfOk result.0 (λ list. HasFronts format text.now list.items) }
-    ensures meanwhile { M.step meanwhile.old result.1 meanwhile.new }
+    chunks: Vec<&'a [u8]>,
+) -> Result<Vec<Front<'a>>, AllocError>
+    ensures len { IfOk result (λ fronts. vec_len fronts ≡ vec_len chunks.entry) }
+    ensures each { IfOk result (λ fronts. (i : ℕ) (chunk : _) (front : _) → i < vec_len chunks.entry →
+        IsFrontOf format (slice_index_or chunks.entry.items i chunk).now (slice_index_or fronts.items i front)) }
 {
-    if workers == 0 {
-        return (unread(alloc, text), meanwhile());
-    }
-    let others = workers - 1;
-    let place = (text.len() / workers).saturating_mul(others);
-    let (front, back) = cut(text, place.min(text.len()));
-    let mut room = match rooms.pop() {
-        Some(room) => room,
-        None => Vec::new(alloc),
-    };
-    let (last, (list, done)) = join_mut(
-        rt,
-        &mut || -> Front
-            ensures { HasFront format back.entry.now result }
-        { front_of(alloc, format, back, &mut room) },
-        &mut || -> (Result<Vec<Front>, AllocError>, T)
-            requires { IsSync R.row × M.pre meanwhile.now }
-            ensures fronts { IfOk result.0 (λ list. HasFronts format front.entry.now list.items) }
-            ensures meanwhile { M.step meanwhile.entry.now result.1 meanwhile.exit.now }
-        { list_fronts(rt, alloc, format, front, others, rooms, meanwhile) },
-    );
-    (with_front(list, last), done)
+    thread::map_vec(rt, chunks, &|chunk| front_of(alloc, format, chunk))
 }
 
-/// What `workers` workers read at once of the lines of a piece, as those of a log of this format, into the room of these
-/// lists, nothing where memory for it was refused; and what the calling thread did meanwhile. The piece may begin within a
-/// line.
-pub(crate) fn fronts_of<R: Threads + Sync, M: FnMut() -> T, T>(
+/// The fronts of a text that is cut into a chunk for each worker, who parse them in parallel, as those of a log of this
+/// format. Err where memory was refused.
+pub(crate) fn fronts_of<'a, R: Threads + Sync>(
     rt: &R,
     alloc: Global,
     format: Format,
-    piece: &[u8],
+    text: &'a [u8],
     workers: usize,
-    rooms: &mut Vec<Vec<Record>>,
-    meanwhile: &mut M,
-) -> (Option<Fronts>, T)
-    requires { M.pre meanwhile.old }
-    ensures fronts { IfSome result.0 (λ fronts. HasFronts fronts.format piece.now fronts.list.items) }
-    ensures meanwhile { M.step meanwhile.old result.1 meanwhile.new }
+) -> Result<Vec<Front<'a>>, AllocError>
+    ensures { IfOk result (λ fronts. AreFronts format fronts.items × (chunks_text fronts.items ≡ text.now)) }
 {
-    let (list, done) = list_fronts(rt, alloc, format, piece, workers, rooms, meanwhile);
-    match list {
-        Ok(list) => (Some(Fronts { format, list }), done),
-        Err(_) => (None, done),
-    }
+    front_of_each(rt, alloc, format, chunks_of(alloc, text, workers)?)
 }

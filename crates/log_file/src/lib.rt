@@ -1,13 +1,11 @@
 //! Log files: the devices that hold them, the reader of one, and its writer.
 #![tactic(auto)]
 
-mod ahead;
 mod byte_sink;
 mod byte_source;
 mod chunks;
 mod device_fault;
 mod entry_list;
-mod entry_reader;
 mod fault;
 mod laws;
 mod line_reader;
@@ -17,13 +15,11 @@ mod mem_sink;
 mod mem_source;
 mod one_line;
 mod one_log;
-mod piece_reader;
 mod pieces;
 mod progress;
 mod read;
 mod record_list;
 mod record_reader;
-mod set;
 mod step;
 mod taking;
 mod write;
@@ -45,7 +41,6 @@ pub use one_log::read_log;
 pub use pieces::read_pieces;
 pub use read::read_all;
 pub use record_reader::RecordReader;
-pub use set::read_set;
 pub use step::Step;
 pub use write::write_log;
 pub use write_fault::LogWriteFault;

@@ -3,7 +3,7 @@
 ghost use Rattle.std.specs.Prelude.{◌≡◌, ◌<◌, ◌≤◌, true, false, [], ◌++◌, List, IfOk, IfErr, IfSome, IsNone, OnOk, MatchResult, length};
 ghost use Rattle.log_record.specs.declared.record.Record.{Record};
 ghost use Rattle.log_file.specs.declared.progress.Stage.TheVariants as stage;
-ghost use Rattle.log_file.specs.Answers.{IsFaultOf};
+ghost use Rattle.log_file.specs.Answers.{IsFaultOf, IsOfText};
 ghost use Rattle.log_file.specs.Log.{Spells};
 ghost use Rattle.log_file.specs.Standing.{IsInRange, IsInRecords, SameLog, IsBehind, IsTooFar, IsPartRefused, IsLineRefused};
 ghost use Rattle.log_file.specs.Standing.{HasRoom, IsPassed, Stands, IsSettledWith, TakesNext, read_text};
@@ -125,6 +125,7 @@ impl LineReader {
         ensures in_range { IsInRange self.new.progress }
         ensures within { IfOk result (λ line. IfSome line (λ l.
             (0 < l.taken) × (l.taken ≤ length piece.now))) }
+        ensures text { IfErr result IsOfText }
         ensures taken { (records : List Record) → Stands self.old records → MatchResult result
             (λ line. TakesNext self.old records piece.now line self.new)
             (IsSettledWith self.old records piece.now) }

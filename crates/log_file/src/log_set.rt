@@ -1,20 +1,30 @@
 //! The logs of a set, in one list of entries.
 
-ghost use Rattle.std.specs.Prelude.{◌≡◌, ◌≤◌, ◌+◌, ℕ, List, All, IfErr, IfOk, IfSome, drop, length, option_map, slice_get};
+ghost use Rattle.std.specs.Prelude.{◌≡◌, ◌≤◌, ◌+◌, ℕ, List, All, IfErr, IfOk, IfSome, drop, length, map, option_map, slice_get, vec_len};
 ghost use Rattle.mem_op.specs.Limits.{operation_limit};
-ghost use Rattle.log_record.specs.Entries.{core_entries, entries};
+ghost use Rattle.log_record.specs.Entries.{core_entries, entries, record_lists};
+ghost use Rattle.log_record.specs.declared.record.Entry.{Entry};
 ghost use Rattle.log_file.specs.SetKeeping.{start_in};
-ghost use Rattle.log_file.specs.Sets.{IsLogSetAnswer, ReaderFailed, TellEach};
+ghost use Rattle.log_file.specs.Sets.{IsReadFault, IsSetAnswer, NoneFailed, ReaderFailed, TellEach};
 
-use super::ahead::Buffers;
 use super::byte_source::ByteSource;
+use super::entry_list::EntryList;
 use super::fault::{LogFault, SetFault};
-use super::one_log::read_entries;
-use log_record::Entry;
+use super::one_log::read_list;
+use super::record_reader::RecordReader;
+use log_record::{Entry, Record};
 use mem_op::CoreId;
-use std::alloc::Global;
+use std::alloc::{AllocError, Global};
 use std::marker::Model;
 use std::thread::Threads;
+
+/// The records of some entries.
+fn records_of(alloc: Global, entries: &[Entry]) -> Result<Vec<Record>, AllocError>
+    ensures records { IfOk result (λ records. records.items ≡ map (λ (e : Entry). e.logged) entries.now) }
+    ensures len { IfOk result (λ records. vec_len records ≡ length entries.now) }
+{
+    entries.iter().map(|e| e.logged()).collect(alloc)
+}
 
 /// The logs of a set in one list, each record with its id, core 0's first: at most 64 logs, each of at most 1,048,576
 /// records.
@@ -39,10 +49,10 @@ impl Model for LogSet {
 }
 
 impl LogSet {
-    /// The logs of a set, one from each reader in their order, or the fault of the first file that has one, as `read_set`
-    /// answers: file k is to be the log of core k, and the cores as many as the readers. 10 comes where a growth was
-    /// refused, 28 where a read failed. The records are read straight into the one list. The calling thread reads the
-    /// files; `workers` workers read their lines (0 counts as 1), and the answer doesn't depend on how many.
+    /// The logs of a set, one from each reader in their order, or the fault of the first file that has one. File k is to
+    /// be the log of core k, and the cores as many as the readers. 10 comes where a growth was refused, 28 where a read
+    /// failed. The calling thread reads the files; `workers` workers parse their lines in parallel (0 counts as 1), and the
+    /// answer doesn't depend on how many.
     pub fn read<R: Threads + Sync, S: ByteSource>(
         rt: &R,
         alloc: Global,
@@ -52,10 +62,12 @@ impl LogSet {
         requires { length readers.old ≤ 64 }
         // There are texts, those that the readers tell, of which this is the answer.
         ensures answer { (texts : List (List ℕ)) × TellEach S.remaining readers.old texts
-            × IsLogSetAnswer texts result }
+            × IsSetAnswer texts result }
         // A failed read is answered only where that reader failed in this call.
         ensures read { IfErr result (λ e. e.fault ≡ LogFault.Read →
             ReaderFailed S.failed readers.old readers.new e.file) }
+        // And no failed read is passed over.
+        ensures quiet { ¬ IsReadFault result → NoneFailed S.failed readers.old readers.new }
         // The readers after the file that is refused aren't read.
         ensures unread { IfErr result (λ e.
             drop (e.file + 1) readers.new ≡ drop (e.file + 1) readers.old) }
@@ -64,20 +76,12 @@ impl LogSet {
         let cores = readers.len() as u64;
         let mut entries = Vec::new(alloc);
         let mut ends = Vec::new(alloc);
-        let mut buffers = Buffers::new(alloc);
         for (file, reader) in readers.iter_mut().enumerate() {
             let core = CoreId::at(file);
-            entries = match read_entries(
-                rt,
-                alloc,
-                reader,
-                core,
-                cores,
-                workers,
-                &mut buffers,
-                entries,
-            ) {
-                Ok(entries) => entries,
+            let fresh = RecordReader::new(core, cores);
+            let list = EntryList::after(core, entries);
+            entries = match read_list(rt, alloc, reader, fresh, list, workers) {
+                Ok(list) => list.into_entries(),
                 Err(fault) => return Err(SetFault { file, fault }),
             };
             if ends.push(entries.len()).is_err() {
@@ -122,6 +126,22 @@ impl LogSet {
             return 0;
         }
         self.ends[place - 1]
+    }
+
+    /// The records of each log, core 0's first. Err where memory was refused.
+    pub fn logs(&self, alloc: Global) -> Result<Vec<Vec<Record>>, AllocError>
+        ensures logs { IfOk result (λ logs. record_lists logs.items ≡ self.now) }
+        ensures count { IfOk result (λ logs. vec_len logs ≡ length self.now) }
+        ensures short { IfOk result (λ logs. All (λ log. vec_len log ≤ operation_limit) logs.items) }
+    {
+        let mut logs = Vec::with_capacity(alloc, self.len())?;
+        for number in 0..self.len() {
+            let Some(log) = self.get(CoreId::at(number)) else {
+                unreachable!()
+            };
+            logs.push(records_of(alloc, log)?)?;
+        }
+        Ok(logs)
     }
 
     /// The entries of all logs, by core and then by index, to be kept.

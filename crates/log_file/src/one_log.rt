@@ -1,24 +1,60 @@
-//! A log read from a device.
+//! A log read from a device, piece by piece.
 
-ghost use Rattle.std.specs.Prelude.{◌≡◌, ◌<◌, ◌≤◌, ℕ, List, IsErrOf};
+ghost use Rattle.std.specs.Prelude.{◌≡◌, ◌<◌, ◌≤◌, ℕ, List, [], IfOk, IsErrOf};
+ghost use Rattle.log_file.specs.Answering.{HasAnswered};
+ghost use Rattle.log_file.specs.Answers.{IsListAnswer, IsReadAnswer};
 ghost use Rattle.log_file.specs.Devices.{Failed, Tells};
-ghost use Rattle.log_file.specs.Answers.{IsReadAnswer};
-ghost use Rattle.log_file.specs.inner.EntryFeeding.{IsEntryAnswer};
 
-use super::ahead::{Buffers, read_ahead};
 use super::byte_source::ByteSource;
-use super::entry_reader::EntryReader;
 use super::fault::LogFault;
-use super::log_reader::LogReader;
-use log_record::{Entry, Record};
+use super::record_list::RecordList;
+use super::record_reader::RecordReader;
+use log_record::Record;
 use mem_op::CoreId;
 use std::alloc::Global;
 use std::thread::Threads;
 
+/// The most bytes of a piece that the calling thread parses alone: it stays near the processor.
+const OWN_PIECE: usize = 32_768;
+
+/// The most bytes of a piece that several workers parse.
+const SHARED_PIECE: usize = 2_097_152;
+
+/// The records of the log that the source's bytes spell, kept in this list, or the first fault of these bytes. The reader was
+/// fed nothing.
+pub(crate) fn read_list<R: Threads + Sync, S: ByteSource, L: RecordList + Drop>(
+    rt: &R,
+    alloc: Global,
+    source: &mut S,
+    mut reader: RecordReader,
+    mut list: L,
+    workers: usize,
+) -> Result<L, LogFault>
+    requires { HasAnswered reader [] (L.records list) }
+    ensures base { IfOk result (λ read. L.base read ≡ L.base list) }
+    ensures answer { (bytes : List ℕ) × Tells (S.remaining source.old) bytes
+        × IsListAnswer L.records reader.core reader.cores bytes result }
+    ensures read { IsErrOf result LogFault.Read →
+        Failed (S.failed source.old) (S.failed source.new) }
+    ensures quiet { ¬ IsErrOf result LogFault.Read → S.failed source.new ≡ S.failed source.old }
+{
+    let size = if workers > 1 { SHARED_PIECE } else { OWN_PIECE };
+    let mut buffer = vec![in alloc; 0u8; size]?;
+    'pieces: loop {
+        let room = buffer.as_mut_slice();
+        let count = source.read(room)?;
+        if count == 0 {
+            reader.finish()?;
+            return Ok(list);
+        }
+        reader.feed_all_by(rt, alloc, &mut list, &room[..count], workers)?;
+    }
+}
+
 /// The log of this core of `cores` that the source's bytes spell, or their first fault. 10 comes
-/// where a growth was refused, 28 where a read failed. The calling thread reads the source; the
-/// lines of each piece are read by `workers` workers at once (0 counts as 1), and the answer doesn't
-/// depend on how many.
+/// where a growth was refused, 28 where a read failed. The calling thread reads the source; `workers`
+/// workers parse the lines of each piece in parallel (0 counts as 1), and the answer doesn't depend on
+/// how many.
 pub fn read_log<R: Threads + Sync, S: ByteSource>(
     rt: &R,
     alloc: Global,
@@ -38,38 +74,6 @@ pub fn read_log<R: Threads + Sync, S: ByteSource>(
     // And no failed read is passed over.
     ensures quiet { ¬ IsErrOf result LogFault.Read → S.failed source.new ≡ S.failed source.old }
 {
-    let mut reader = LogReader::new(alloc, core, cores);
-    read_ahead(
-        rt,
-        alloc,
-        source,
-        &mut reader,
-        workers,
-        &mut Buffers::new(alloc),
-    )?;
-    reader.finish()
-}
-
-/// The entries of the log of this core of `cores`, read as `read_log` does, after those that stand in the list.
-pub(crate) fn read_entries<R: Threads + Sync, S: ByteSource>(
-    rt: &R,
-    alloc: Global,
-    source: &mut S,
-    core: CoreId,
-    cores: u64,
-    workers: usize,
-    buffers: &mut Buffers,
-    entries: Vec<Entry>,
-) -> Result<Vec<Entry>, LogFault>
-    requires core { core < cores }
-    requires cores { cores ≤ 64 }
-    ensures answer { (bytes : List ℕ) × Tells (S.remaining source.old) bytes
-        × IsEntryAnswer core cores bytes entries.items result }
-    ensures read { IsErrOf result LogFault.Read →
-        Failed (S.failed source.old) (S.failed source.new) }
-    ensures quiet { ¬ IsErrOf result LogFault.Read → S.failed source.new ≡ S.failed source.old }
-{
-    let mut reader = EntryReader::new(core, cores, entries);
-    read_ahead(rt, alloc, source, &mut reader, workers, buffers)?;
-    reader.finish()
+    let reader = RecordReader::new(core, cores);
+    read_list(rt, alloc, source, reader, Vec::new(alloc), workers)
 }

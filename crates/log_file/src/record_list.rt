@@ -4,8 +4,7 @@ ghost use Rattle.std.specs.Prelude.{◌≡◌, ◌<◌, ◌≤◌, ◌+◌, ◌+
 ghost use Rattle.mem_op.specs.Limits.{operation_limit};
 ghost use Rattle.log_file.specs.inner.Listing.{Base};
 
-use log_record::{Entry, Record};
-use mem_op::{CoreId, OpId, OpIndex};
+use log_record::Record;
 use std::alloc::AllocError;
 
 /// Keeps the records of a log, one after another.
@@ -31,19 +30,6 @@ pub(crate) trait RecordList {
         ensures kept { OnOk result (records self.new ≡ records self.old ++ more.now) };
 }
 
-/// The record, put together from its parts: these stay in registers, where a whole record goes through memory from each result to
-/// the next one.
-#[inline(always)]
-pub(crate) fn by_parts(logged: &Record) -> Record
-    ensures { result ≡ logged.now }
-{
-    let first = OpId {
-        core: CoreId::at(0),
-        index: OpIndex::at(0),
-    };
-    Entry::new(first, logged).logged()
-}
-
 impl RecordList for Vec<Record> {
     ghost records = { λ list. list.items };
 
@@ -51,7 +37,7 @@ impl RecordList for Vec<Record> {
 
     #[inline(always)]
     fn keep(&mut self, logged: Record) -> Result<(), AllocError> {
-        self.push(by_parts(&logged))?;
+        self.push(logged)?;
         Ok(())
     }
 

@@ -1,22 +1,20 @@
 //! The records of a log, one at a time.
 
-ghost use Rattle.std.specs.Prelude.{◌≡◌, ◌<◌, ◌≤◌, ◌++◌, ℕ, List, [], None, Some, IfOk, IfSome, MatchResult, length};
+ghost use Rattle.std.specs.Prelude.{◌≡◌, ◌<◌, ◌≤◌, ◌++◌, ℕ, List, [], None, Some, IfErr, IfOk, IfSome, IsNone, MatchResult, length};
 ghost use Rattle.log_record.specs.declared.record.Record.{Record};
 ghost use Rattle.log_file.specs.Answering.{AnswersOne, HasAnswered, fed_text};
-ghost use Rattle.log_file.specs.Answers.{IsFaultOf};
+ghost use Rattle.log_file.specs.Answers.{IsFaultOf, IsOfText};
 ghost use Rattle.log_file.specs.Feeding.{IsSettled};
 ghost use Rattle.log_file.specs.Keeping.{KeepsRecords};
 ghost use Rattle.log_file.specs.Log.{Spells};
-ghost use Rattle.log_file.specs.inner.Chunks.{HasFronts};
 ghost use Rattle.log_file.specs.inner.FedAll.{AnswersPiece};
 ghost use Rattle.log_file.specs.Standing.{IsInRange, IsSettledWith, SameLog, Stands, TakesRecord};
 
-use super::chunks::Fronts;
 use super::fault::LogFault;
 use super::line_reader::LineReader;
 use super::record_list::RecordList;
-use super::taking::{take_fronts, take_piece, take_piece_by};
-use log_record::{Format, Record};
+use super::taking::{take_piece, take_piece_by};
+use log_record::Record;
 use mem_op::CoreId;
 use std::alloc::Global;
 use std::marker::Model;
@@ -29,6 +27,7 @@ fn next_record(lines: &mut LineReader, piece: &[u8]) -> Result<(usize, Option<Re
     ensures same { SameLog lines.old.progress lines.new.progress }
     ensures in_range { IsInRange lines.new.progress }
     ensures within { IfOk result (λ one. one.0 ≤ length piece.now) }
+    ensures text { IfErr result IsOfText }
     ensures taken { (records : List Record) → Stands lines.old records → MatchResult result
         (λ one. TakesRecord lines.old records piece.now one lines.new)
         (IsSettledWith lines.old records piece.now) }
@@ -105,6 +104,8 @@ impl RecordReader {
             × IsSettled self.old.core self.old.cores (bytes ++ piece.now) fault) }
         ensures again { IfSome self.old.fault (λ fault.
             MatchResult result (λ _. ⊥) (λ f. f ≡ fault) × (self.new.fault ≡ Some fault)) }
+        // So 10 and 28 come only where they came before.
+        ensures text { IsNone self.old.fault → IfErr result IsOfText }
     {
         self.faultless()?;
         remember(&mut self.fault, next_record(&mut self.lines, piece))
@@ -125,7 +126,7 @@ impl RecordReader {
         remember(&mut self.fault, take_piece(&mut self.lines, records, piece))
     }
 
-    /// Takes all of a piece as `feed_all` does; `workers` workers read its lines at once. 0 counts as 1.
+    /// Takes all of a piece as `feed_all` does. `workers` workers parse its lines in parallel; 0 counts as 1.
     pub(crate) fn feed_all_by<R: Threads + Sync, L: RecordList>(
         &mut self,
         rt: &R,
@@ -145,25 +146,6 @@ impl RecordReader {
         )
     }
 
-    /// Takes all of a piece as `feed_all` does, whose chunks' fronts workers have read.
-    pub(crate) fn feed_fronts<L: RecordList>(
-        &mut self,
-        records: &mut L,
-        piece: &[u8],
-        fronts: &Fronts,
-    ) -> Result<(), LogFault>
-        requires kept { KeepsRecords self.old (L.records records.old) }
-        requires fronts { HasFronts fronts.now.format piece.now fronts.now.list.items }
-        ensures base { L.base records.new ≡ L.base records.old }
-        ensures fed { AnswersPiece self.old (L.records records.old) piece.now result self.new (L.records records.new) }
-    {
-        self.faultless()?;
-        remember(
-            &mut self.fault,
-            take_fronts(&mut self.lines, records, piece, fronts),
-        )
-    }
-
     /// Answers the fault that is kept, where one is.
     fn faultless(&self) -> Result<(), LogFault>
         ensures { MatchResult result (λ _. self.now.fault ≡ None) (λ fault. self.now.fault ≡ Some fault) }
@@ -172,11 +154,6 @@ impl RecordReader {
             Some(fault) => Err(fault),
             None => Ok(()),
         }
-    }
-
-    /// The format of the log, where its header was read and its end line wasn't.
-    pub(crate) fn format(&self) -> Option<Format> {
-        self.lines.format()
     }
 
     /// Whether the log is whole, where its bytes end here: the fault that came before, or Truncated at

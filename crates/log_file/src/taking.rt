@@ -1,16 +1,19 @@
-//! How the pieces of a log are taken: by the calling thread alone, or with other workers.
+//! The lines of a piece, taken one after another, or parsed by workers before.
 
-ghost use Rattle.std.specs.Prelude.{◌≡◌, IfSome, MatchResult};
-ghost use Rattle.log_file.specs.inner.Chunks.{HasFront, HasFronts};
+ghost use Rattle.std.specs.Prelude.{◌≡◌, MatchResult};
+ghost use Rattle.log_file.specs.inner.Chunks.{AreFronts, IsFrontOf, chunks_text};
 ghost use Rattle.log_file.specs.Standing.{IsInRange, IsSettledWith, SameLog, Stands, Takes};
 
-use super::chunks::{Front, Fronts, cut, fronts_of};
+use super::chunks::{Front, cut, fronts_of};
 use super::fault::LogFault;
 use super::line_reader::LineReader;
 use super::record_list::RecordList;
 use log_record::Format;
 use std::alloc::Global;
 use std::thread::Threads;
+
+/// The fewest bytes that are worth the threads of workers.
+const SHARED: usize = 65_536;
 
 /// Takes all of a piece, and keeps its records.
 pub(crate) fn take_piece<L: RecordList>(
@@ -37,61 +40,55 @@ pub(crate) fn take_piece<L: RecordList>(
     Ok(())
 }
 
-/// Takes all of a chunk, whose front a worker has read as that of a log of this format.
+/// Takes all of a chunk, whose front a worker has parsed as that of a log of this format.
 fn take_front<L: RecordList>(
     lines: &mut LineReader,
     records: &mut L,
     format: Format,
-    chunk: &[u8],
-    front: &Front,
+    front: &Front<'_>,
 ) -> Result<(), LogFault>
     requires in_range { IsInRange lines.old.progress }
     requires stands { Stands lines.old (L.records records.old) }
-    requires front { HasFront format chunk.now front.now }
+    requires front { IsFrontOf format front.now.chunk.now front.now }
     ensures same { SameLog lines.old.progress lines.new.progress }
     ensures in_range { IsInRange lines.new.progress }
     ensures base { L.base records.new ≡ L.base records.old }
     ensures taken { MatchResult result
-        (λ _. Takes lines.old (L.records records.old) chunk.now lines.new (L.records records.new))
-        (IsSettledWith lines.old (L.records records.old) chunk.now) }
+        (λ _. Takes lines.old (L.records records.old) front.now.chunk.now lines.new (L.records records.new))
+        (IsSettledWith lines.old (L.records records.old) front.now.chunk.now) }
 {
     if !lines.pass(format, front.records.len()) {
-        return take_piece(lines, records, chunk);
+        return take_piece(lines, records, front.chunk);
     }
     records.keep_all(front.records.as_slice())?;
-    let (_, rest) = chunk.split_at(front.taken);
-    take_piece(lines, records, rest)
+    take_piece(lines, records, front.rest)
 }
 
-/// Takes all of a piece, whose chunks' fronts workers have read, and keeps its records.
-pub(crate) fn take_fronts<L: RecordList>(
+/// Takes all of some chunks, whose fronts workers have parsed as those of a log of this format.
+fn take_fronts<L: RecordList>(
     lines: &mut LineReader,
     records: &mut L,
-    piece: &[u8],
-    fronts: &Fronts,
+    format: Format,
+    fronts: &[Front<'_>],
 ) -> Result<(), LogFault>
     requires in_range { IsInRange lines.old.progress }
     requires stands { Stands lines.old (L.records records.old) }
-    requires fronts { HasFronts fronts.now.format piece.now fronts.now.list.items }
+    requires fronts { AreFronts format fronts.now }
     ensures same { SameLog lines.old.progress lines.new.progress }
     ensures in_range { IsInRange lines.new.progress }
     ensures base { L.base records.new ≡ L.base records.old }
     ensures taken { MatchResult result
-        (λ _. Takes lines.old (L.records records.old) piece.now lines.new (L.records records.new))
-        (IsSettledWith lines.old (L.records records.old) piece.now) }
+        (λ _. Takes lines.old (L.records records.old) (chunks_text fronts.now) lines.new (L.records records.new))
+        (IsSettledWith lines.old (L.records records.old) (chunks_text fronts.now)) }
 {
-    let mut rest = piece;
-    for front in &fronts.list {
-        let (chunk, later) = rest.split_at(front.len);
-        take_front(lines, records, fronts.format, chunk, front)?;
-        rest = later;
+    for front in fronts {
+        take_front(lines, records, format, front)?;
     }
     Ok(())
 }
 
-/// Takes all of a piece, whose lines `workers` workers read at once, and keeps its records. The calling
-/// thread reads the first line before the others: it may be the header, which tells their format. After the end
-/// line it reads the lines alone.
+/// Takes all of a piece as `take_piece` does. `workers` workers parse its lines in parallel, but for the first line, which
+/// may be the header or the end of a line that was begun; after the end line, or where the piece is short, none does.
 pub(crate) fn take_piece_by<R: Threads + Sync, L: RecordList>(
     rt: &R,
     alloc: Global,
@@ -111,27 +108,11 @@ pub(crate) fn take_piece_by<R: Threads + Sync, L: RecordList>(
 {
     let (first, rest) = cut(piece, 0);
     take_piece(lines, records, first)?;
-    match read_by(rt, alloc, lines.format(), rest, workers) {
-        Some(fronts) => take_fronts(lines, records, rest, &fronts),
-        None => take_piece(lines, records, rest),
+    match lines.format() {
+        Some(format) if workers > 1 && rest.len() >= SHARED => {
+            let fronts = fronts_of(rt, alloc, format, rest, workers)?;
+            take_fronts(lines, records, format, &fronts)
+        }
+        _ => take_piece(lines, records, rest),
     }
-}
-
-/// What `workers` workers read at once of a piece of a log of this format; nothing where the format isn't known, or
-/// there are no two workers.
-fn read_by<R: Threads + Sync>(
-    rt: &R,
-    alloc: Global,
-    format: Option<Format>,
-    piece: &[u8],
-    workers: usize,
-) -> Option<Fronts>
-    ensures { IfSome result (λ fronts. HasFronts fronts.format piece.now fronts.list.items) }
-{
-    if workers <= 1 {
-        return None;
-    }
-    let rooms = &mut Vec::new(alloc);
-    let (fronts, ()) = fronts_of(rt, alloc, format?, piece, workers, rooms, &mut || ());
-    fronts
 }

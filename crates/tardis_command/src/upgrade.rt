@@ -13,7 +13,7 @@ use super::fault::CommandFault;
 use super::folder::Folder;
 use super::writing::{Logs, write_logs};
 use command_line::Upgrade;
-use log_file::read_set;
+use log_file::LogSet;
 use log_record::{Format, Record};
 use mem_op::CoreId;
 use std::alloc::Global;
@@ -80,5 +80,6 @@ fn read_files<R: Threads + Sync, F: Folder>(
         (upgrading.IsUnread (F.told folder.now) names.now (length names.now)) }
 {
     let mut sources = open_all(alloc, folder, names)?;
-    Ok(read_set(rt, alloc, sources.as_mut_slice(), 1)?)
+    let set = LogSet::read(rt, alloc, sources.as_mut_slice(), 1)?;
+    Ok(set.logs(alloc)?)
 }

@@ -12,23 +12,23 @@ returns-in_err-sources-clause-err g c =
     let is : c.from_residual.result ≡ Err c.in_err-sources.field-0.0 = search rules in
     rw is (unopened (g.F.Folder.told c.args.folder.now) c.args.names.now c.in_err-sources.field-0.0 c.in_err-sources.ensures.err)
 
-pub read_set-requires : goal.read_set-requires
-read_set-requires g c =
+pub read-set-requires : goal.read-set-requires
+read-set-requires g c =
     let are : AreSourcesOf (g.F.Folder.told c.args.folder.now) g.F.Source.ByteSource.remaining c.as_mut_slice.result.now c.args.names.now = search rules in
     let long = AllZip-long _ _ c.args.names.now are in
     let few : length c.as_mut_slice.result.now ≤ 64 = omega (arith, long, c.requires) in
     search rules
 
-pub returns-in_err-read_set-clause-err : goal.returns-in_err-read_set-clause-err
-returns-in_err-read_set-clause-err g c =
+pub returns-in_err-set-clause-err : goal.returns-in_err-set-clause-err
+returns-in_err-set-clause-err g c =
     let told = g.F.Folder.told c.args.folder.now in
     let remaining = g.F.Source.ByteSource.remaining in
     let names = c.args.names.now in
     let are : AreSourcesOf told remaining c.as_mut_slice.result.now names = search rules in
-    let e = c.in_err-read_set.field-0.0 in
-    let (texts, tell, is) = c.in_err-read_set.ensures.answer in
+    let e = c.in_err-set.field-0.0 in
+    let (texts, tell, is) = c.in_err-set.ensures.answer in
     let many : length texts ≡ length names = AllZip-long _ _ texts tell ∙ sym (AllZip-long _ _ names are) in
-    let told_so : c.from_residual-in_err-read_set.result ≡ Err (from_set e.file e.fault) = search rules in
+    let told_so : c.from_residual-in_err-set.result ≡ Err (from_set e.file e.fault) = search rules in
     rw told_so (faulty told names texts e.file e.fault (told_by_sources told remaining _ names texts are tell) many is)
 
 pub returns-clause-ok : goal.returns-clause-ok
@@ -37,10 +37,10 @@ returns-clause-ok g c =
     let remaining = g.F.Source.ByteSource.remaining in
     let names = c.args.names.now in
     let are : AreSourcesOf told remaining c.as_mut_slice.result.now names = search rules in
-    let (texts, tell, spell) = c.in_ok-read_set.ensures.answer in
-    (texts, told_by_sources told remaining _ names texts are tell, (record_lists c.in_ok-read_set.field-0.items, spell, refl))
+    let (texts, tell, spell) = c.in_ok-set.ensures.answer in
+    (texts, told_by_sources told remaining _ names texts are tell, (record_lists c.in_ok-logs.field-0.items, rw c.in_ok-logs.ensures.logs spell, refl))
 
 pub returns-clause-count : goal.returns-clause-count
 returns-clause-count g c =
     let are : AreSourcesOf (g.F.Folder.told c.args.folder.now) g.F.Source.ByteSource.remaining c.as_mut_slice.result.now c.args.names.now = search rules in
-    c.in_ok-read_set.ensures.count ∙ sym (AllZip-long _ _ c.args.names.now are)
+    c.in_ok-logs.ensures.count ∙ c.in_ok-set.ensures.count ∙ sym (AllZip-long _ _ c.args.names.now are)

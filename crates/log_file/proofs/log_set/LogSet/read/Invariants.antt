@@ -2,6 +2,7 @@
 use Rattle.std.proofs.Common.{◌≡◌, List, length, drop}
 use Rattle.log_record.specs.declared.record.Record.{Record}
 use Rattle.log_file.specs.SetKeeping.{KeepsLogs}
+use Rattle.log_file.specs.Sets.{NoneFailed}
 use Rattle.log_file.proofs.Sets.{LogsSoFar}
 use Rattle.log_file.proofs.log_set.LogSet.read.Given as goal
 
@@ -11,3 +12,4 @@ invariant-loop-file g l =
     × KeepsLogs l.entries.items l.ends.items logs)
     × (drop l.file l.readers ≡ drop l.file l.fn.readers)
     × (l.cores ≡ length l.fn.readers)
+    × NoneFailed g.S.ByteSource.failed l.fn.readers l.readers

@@ -1,9 +1,0 @@
--- While no fault came, no fault but Truncated holds, and the bytes are no more than a log's.
-use Rattle.log_file.proofs.FedAll.{open_after, few_after}
-use Rattle.log_file.proofs.log_reader.LogReader.feed_by.Goals as goal
-
-pub returns-clause-at_once : goal.returns-clause-at_once
-returns-clause-at_once g c = open_after c.feed_all_by.result c.feed_all_by.ensures.fed
-
-pub returns-clause-bounded : goal.returns-clause-bounded
-returns-clause-bounded g c = few_after c.feed_all_by.result c.feed_all_by.ensures.fed
