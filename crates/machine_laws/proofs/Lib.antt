@@ -1,5 +1,6 @@
 pub mod Stamps
 pub mod Versions
+pub mod Agreeing
 pub mod Moves
 pub mod Quiet
 pub mod Operations
@@ -10,6 +11,7 @@ pub mod Keeping
 pub mod Opening
 pub mod Rules
 pub mod Judged
+pub mod Swaps
 pub mod Replies
 pub mod Refusing
 pub mod Merged

@@ -9,13 +9,13 @@ use Rattle.private_cache.specs.declared.held.Held.{Held}
 use Rattle.private_cache.specs.declared.held.Held.TheVariants.{Shared, Exclusive}
 use Rattle.manager_slice.specs.declared.managed.ManagedLine.{ManagedLine}
 use Rattle.manager_slice.specs.declared.managed.ManagedLine.TheVariants as managed
-use Rattle.machine_laws.specs.Views.{View}
 use Rattle.machine_laws.specs.Stamps.{HasStamps}
 use Rattle.machine_laws.specs.Versions.{AtMost, HasVersions, IsSourced}
 use Rattle.machine_laws.specs.Settled.{Settled, line_in, copy_in, is_dirty, home_from, home, view}
 use Rattle.machine_laws.specs.Hands.{AgreeOnOwners}
 use Rattle.machine_laws.proofs.Stamps.{IsQuiet, Follows, Taken, which}
 use Rattle.machine_laws.proofs.Versions.{IsQuietSource}
+use Rattle.machine_laws.proofs.Agreeing.{agree_on_versions}
 
 -- x and y differ at most in what core c has of the address a, and in what its slice has of a
 pub record IsElsewhere (x y : Settled) (c a : ℕ) : Type 0 where
@@ -151,15 +151,11 @@ pub served_rts : (x : Settled) (c a : ℕ) (l : Line) (t : ℕ) (k : Line) → I
 served_rts x c a l t k whole = refl
 served_rts x c a l t k (renewed k0 e w) = refl
 
--- equal `wts` at one address means equal source
-pub same_version : (v : View) → HasStamps v → HasVersions v → (c a : ℕ) (k : Line) → v.copy c a ≡ Some k → k.stamps.wts ≡ (v.home a).stamps.wts → k.source ≡ (v.home a).source
-same_version v p o c a k e w = elim (o.version c a k e) [ inl same ↦ same | inr lt ↦ absurd (omega (arith, p.copy_lease c a k e)) ]
-
 pub served_source : (x : Settled) (c a : ℕ) (l : Line) (t : ℕ) (k : Line) → HasStamps (view x) → HasVersions (view x) → home x a ≡ l → IsServed x c a l t k → (k.source ≡ l.source) × IsSourced (view x) k.source a k.value k.stamps.wts k.stamps.wr
 served_source x c a l t k p o h whole = (refl, subst (λ (u : Line). IsSourced (view x) u.source a u.value u.stamps.wts u.stamps.wr) h (o.home_source a))
 served_source x c a l t k p o h (renewed k0 e w) =
     let copy : copy_in (x.entry c a) ≡ Some k0 = ap copy_in e in
-    (same_version (view x) p o c a k0 copy (w ∙ ap (λ (u : Line). u.stamps.wts) (sym h)) ∙ ap (λ (u : Line). u.source) h, o.copy_source c a k0 copy)
+    (((agree_on_versions (view x) p o).home c a k0 copy (w ∙ ap (λ (u : Line). u.stamps.wts) (sym h))).source ∙ ap (λ (u : Line). u.source) h, o.copy_source c a k0 copy)
 
 pub data Move (x y : Settled) : Type 0 where
   -- nothing is changed

@@ -16,8 +16,8 @@ use Rattle.machine_laws.specs.Stamps.{HasStamps}
 use Rattle.machine_laws.specs.Versions.{AtMost, NotAfter, HasVersions, IsSourced}
 use Rattle.machine_laws.specs.Settled.{Settled, home, view, copy_in, is_dirty}
 use Rattle.machine_laws.specs.Hands.{AgreeOnOwners}
-use Rattle.machine_laws.proofs.Stamps.{IsQuiet, which, IsPerformed, IsStoring, load_stamps, store_stamps}
-use Rattle.machine_laws.proofs.Versions.{IsQuietSource, IsReading, load_versions, store_versions}
+use Rattle.machine_laws.proofs.Stamps.{IsQuiet, which, IsPerformed, IsStoring, not_both, load_stamps, store_stamps}
+use Rattle.machine_laws.proofs.Versions.{IsQuietSource, IsReading, IsStoringSource, load_versions, store_versions}
 use Rattle.machine_laws.proofs.Moves.{dirty_is, home_same, home_owned, Move, stays}
 use Rattle.machine_laws.proofs.Quiet.{follow_same, home_sourced, move_quiet, move_sources}
 
@@ -200,6 +200,26 @@ write_storing x y c a q m l s ex ey t o oy =
     other : (d : ℕ) (k : Line) → d ≢ c → x.entry d a ≡ Some (Exclusive true k) → ⊥
     other d k n e = let i : x.managed a ≡ managed.Exclusive d = o.owner d a true k e in let j : x.managed a ≡ managed.Exclusive c = o.owner c a m l ex in n (cc)
 
+write_sources : (x y : Settled) (c a : ℕ) (q : Record) (m : Bool) (l : Line) → IsOperation x y c a q → x.entry c a ≡ Some (Exclusive m l) → y.entry c a ≡ Some (stored q.value (Store (record { core = c; index = length (x.log c) })) q.ts q.rank) → IsWrite x c q m l → AgreeOnOwners x → AgreeOnOwners y → IsStoringSource (view x) (view y) c q
+write_sources x y c a q m l s ex ey t o oy =
+    let hx : home x a ≡ l = home_owned x o c a m l ex in
+    let hy = write_home x y c a q oy ey in
+    record {
+      own = λ b e. let i : b ≡ a = e ∙ s.addr in (rw (i, hy) refl, rw (i, hy) refl, rw (i, hy) refl);
+      read = λ z w e. rw (s.addr, hx) (t.read z w e);
+      from = write_from x c q m l t;
+      to = s.to;
+      reached = grows x y c a q s (write_from x c q m l t);
+    }
+
+-- a hit that stores is the store of both passes
+pub hit_stores : (x y : Settled) (c a : ℕ) (q : Record) → IsOperation x y c a q → IsHit x y c a q → is_store q.act ≡ true → AgreeOnOwners x → IsStoring (view x) (view y) c q × IsStoringSource (view x) (view y) c q
+hit_stores x y c a q s (reads_copy k ex ey within t) st o = absurd (not_both q t.act st)
+hit_stores x y c a q s (reads_own m l t ex ey up le le' is) st o = absurd (not_both q is.act st)
+hit_stores x y c a q s (writes m l ex ey t) st o =
+    let oy : AgreeOnOwners y = hit_owns x y c a q s (writes m l ex ey t) o in
+    (write_storing x y c a q m l s ex ey t o oy, write_sources x y c a q m l s ex ey t o oy)
+
 copy_home : (x y : Settled) (c a : ℕ) (q : Record) (k : Line) → IsOperation x y c a q → x.entry c a ≡ Some (Shared k) → y.entry c a ≡ Some (Shared k) → (b : ℕ) → home y b ≡ home x b
 copy_home x y c a q k s ex ey b = home_same x y b (s.managed b) (λ d. entry_same x y c a q s (ey ∙ sym ex) d b)
 
@@ -224,8 +244,7 @@ hit_stamps x y c a q s (reads_own m l t ex ey up le le' is) o p =
     inl (cc))
     p
 hit_stamps x y c a q s (writes m l ex ey t) o p =
-    let oy : AgreeOnOwners y = hit_owns x y c a q s (writes m l ex ey t) o in
-    store_stamps (view x) (view y) c q (hit_performed x y c a q s) (write_storing x y c a q m l s ex ey t o oy) p
+    store_stamps (view x) (view y) c q (hit_performed x y c a q s) (hit_stores x y c a q s (writes m l ex ey t) t.act o).0 p
 
 own_read_sources : (x y : Settled) (c a : ℕ) (q : Record) (m : Bool) (l : Line) (t : ℕ) → IsOperation x y c a q → x.entry c a ≡ Some (Exclusive m l) → y.entry c a ≡ Some (Exclusive m (with_rts l t)) → IsRead x c q l → AgreeOnOwners x → AgreeOnOwners y → HasVersions (view x) → IsQuietSource (view x) (view (unlogged x y))
 own_read_sources x y c a q m l t s ex ey is o oy v =
@@ -275,15 +294,5 @@ hit_versions x y c a q s (reads_own m l t ex ey up le le' is) o p v =
     (λ d j z did e st. inl (subst (λ (w : Line). NotAfter (view x) w.source d j z) hx (subst (λ (b : ℕ). NotAfter (view x) (home x b).source d j z) e (v.last d j z did st)))))
     v
 hit_versions x y c a q s (writes m l ex ey t) o p v =
-    let oy : AgreeOnOwners y = hit_owns x y c a q s (writes m l ex ey t) o in
-    let hx : home x a ≡ l = home_owned x o c a m l ex in
-    let hy = write_home x y c a q oy ey in
-    store_versions (view x) (view y) c q (hit_performed x y c a q s) (write_storing x y c a q m l s ex ey t o oy)
-    (record {
-      own = λ b e. let i : b ≡ a = e ∙ s.addr in (rw (i, hy) refl, rw (i, hy) refl, rw (i, hy) refl);
-      read = λ z w e. rw (s.addr, hx) (t.read z w e);
-      from = write_from x c q m l t;
-      to = s.to;
-      reached = grows x y c a q s (write_from x c q m l t);
-    })
-    p v
+    let z = hit_stores x y c a q s (writes m l ex ey t) t.act o in
+    store_versions (view x) (view y) c q (hit_performed x y c a q s) z.0 z.1 p v

@@ -1,5 +1,5 @@
 -- No event is refused with 14 or with 11.
-use Rattle.std.proofs.Common.{◌≡◌, ◌++◌, ◌∷◌, [], ◌+◌, List, zero, suc, take, ap, sym, subst, ◌∙◌, ℕ, inl, inr, Bool, true, false, refl, length}
+use Rattle.std.proofs.Common.{◌≡◌, ◌++◌, ◌∷◌, [], ◌+◌, List, take, ap, sym, subst, ◌∙◌, ℕ, inl, inr, Bool, true, false, refl, length}
 use Rattle.std.specs.Prelude.{option_and_then, Option, Some, None, ◌||◌, nat_lt, nat_eq, is_some, if◌then◌else◌, slice_get, slice_set, Result, Ok, Err}
 use Rattle.std.specs.FinMap as map
 use Rattle.std.specs.Map.{lookup}

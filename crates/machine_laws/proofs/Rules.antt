@@ -1,6 +1,6 @@
 -- From the passes to the rules of logs: where they hold of a view, its logs break none.
 use Rattle.std.proofs.Common.{◌≡◌, ◌∷◌, [], zero, suc, ap, sym, subst, ◌∙◌, ℕ, ◌<◌, ◌≤◌, ◌⊎◌, inl, inr, Bool, true, false, List, refl, arith}
-use Rattle.std.specs.Prelude.{Option, Some, None, slice_get, filter, option_and_then, ◌==◌}
+use Rattle.std.specs.Prelude.{Option, Some, None, slice_get, filter, option_and_then}
 use Rattle.std.specs.List.{filter_map}
 use Rattle.std.specs.Option.{option_map_or}
 use Rattle.std.specs.declared.cmp.Ordering.{Ordering}
@@ -22,10 +22,11 @@ use Rattle.log_record.specs.Entries.{entries, entry_cmp, record_at}
 use Rattle.log_record.proofs.EntryFacts.{at, same_id, same_id-refl, record_of_entry, entry_of_record, same_record}
 use Rattle.core_check.specs.CoreOrder.{falls, is_core_fault}
 use Rattle.core_check.specs.CoreFaults.{breaks_core_order, order_faults}
-use Rattle.address_check.specs.AddressFaults.{is_store, is_earlier_store, right_store, is_source, broken_rule, fault_by, act_fault, address_fault, address_faults}
+use Rattle.address_check.specs.AddressFaults.{is_store, is_earlier_store, right_store, is_source, value_from, broken_rule, fault_by, act_fault, address_fault, address_faults}
 use Rattle.address_check.proofs.Totals.{entry_total}
 use Rattle.machine_laws.specs.Views.{View, Did, read_of}
 use Rattle.machine_laws.specs.Versions.{AtMost, Earlier, NotAfter, IsFrom, IsRight, HasVersions}
+use Rattle.machine_laws.specs.Swaps.{IsRightRead}
 
 -- the view's logs are these
 pub record AreLogs (v : View) (logs : List (List Record)) : Type 0 where
@@ -137,29 +138,27 @@ source_store v logs is e id x f = (
   record { act = f.act; addr = f.addr; less = earlier_less (at id f.store) e f.earlier },
 )
 
-eqb_same : (a b : ℕ) → a ≡ b → (a == b) ≡ true
-eqb_same a b e = eq-eqb a b e
-
--- what was read is of the right store
-reads_right : (v : View) (logs : List (List Record)) → AreLogs v logs → (e : Entry) (source : Source) (x : ℕ) → In e (entries logs) → IsRight v e.id.core e.id.index e.logged source x
-    → (o : Option Entry) → IsGreatest entry_cmp (is_earlier_store e) (entries logs) o → broken_rule source x o ≡ None
-reads_right v logs is e Init x there r None g = rw (eqb_same x 0 r.comes) refl
-reads_right v logs is e Init x there r (Some s) g = absurd (behind_source v logs is e Init x there r s g.0 (earlier_store e s g.1))
-reads_right v logs is e (From id) x there r None g =
+-- what was read is right, where this store is the right one
+right_read : (v : View) (logs : List (List Record)) → AreLogs v logs → (e : Entry) (source : Source) (x : ℕ) → In e (entries logs) → IsRight v e.id.core e.id.index e.logged source x
+    → (o : Option Entry) → IsGreatest entry_cmp (is_earlier_store e) (entries logs) o → IsRightRead source x o
+right_read v logs is e Init x there r None g = record { store = refl; word = r.comes }
+right_read v logs is e Init x there r (Some s) g = absurd (behind_source v logs is e Init x there r s g.0 (earlier_store e s g.1))
+right_read v logs is e (From id) x there r None g =
     let f = source_store v logs is e id x r.comes in
     let h : is_earlier_store e (at id r.comes.store) ≡ false = g (at id r.comes.store) f.0 in
     let k : is_earlier_store e (at id r.comes.store) ≡ true = is_earlier_from e (at id r.comes.store) f.1 in
     absurd (cc)
-reads_right v logs is e (From id) x there r (Some s) g =
+right_read v logs is e (From id) x there r (Some s) g =
     let f = source_store v logs is e id x r.comes in
     let store : Entry = at id r.comes.store in
     let greatest : is_lt (entry_cmp s store) ≡ false = g.2 store f.0 (is_earlier_from e store f.1) in
     elim (behind_source v logs is e (From id) x there r s g.0 (earlier_store e s g.1)) [
       | inl same ↦
           let one : store ≡ s = same_entry logs store s f.0 g.0 (sym (same_id s.id id same.0 same.1)) in
-          let value : x ≡ s.logged.value = sym r.comes.value ∙ ap (λ (y : Entry). y.logged.value) one in
-          let names : is_source (From id) (Some s) ≡ true = subst (λ (y : Entry). is_source (From id) (Some y) ≡ true) one (same_id-refl id) in
-          rw (names, eqb_same x s.logged.value value) refl
+          record {
+            store = subst (λ (y : Entry). is_source (From id) (Some y) ≡ true) one (same_id-refl id);
+            word = sym r.comes.value ∙ ap (λ (y : Entry). y.logged.value) one;
+          }
       | inr before ↦
           let kept : Some before.store ≡ Some r.comes.store = sym (is.logged id.core id.index before.store before.did) ∙ is.logged id.core id.index r.comes.store r.comes.did in
           let one : before.store ≡ r.comes.store = cc in
@@ -168,13 +167,20 @@ reads_right v logs is e (From id) x there r (Some s) g =
           absurd (cc)
     ]
 
+pub reads_right : (v : View) (logs : List (List Record)) → AreLogs v logs → HasVersions v → (e : Entry) (source : Source) (x : ℕ) → In e (entries logs) → read_of e.logged ≡ Some (source, x) → IsRightRead source x (right_store (entries logs) e)
+reads_right v logs is p e source x there f =
+    right_read v logs is e source x there (p.right e.id.core e.id.index e.logged source x (is.did e.id e.logged (record_of_entry logs e there)) f)
+    (right_store (entries logs) e) (greatest_from_least entry_cmp entry_total (is_earlier_store e) (entries logs))
+
+-- and so breaks no rule
+right_unbroken : (source : Source) (x : ℕ) (o : Option Entry) → IsRightRead source x o → broken_rule source x o ≡ None
+right_unbroken source x o r = rw (r.store, eq-eqb x (value_from o) r.word) refl
+
 no_fault_at : (v : View) (logs : List (List Record)) → AreLogs v logs → HasVersions v → (e : Entry) → In e (entries logs) → address_fault (entries logs) e ≡ None
 no_fault_at v logs is p e there = go e.logged.act refl
   where
     reads : (source : Source) (x : ℕ) → read_of e.logged ≡ Some (source, x) → fault_by e (broken_rule source x (right_store (entries logs) e)) ≡ None
-    reads source x f =
-        let right : IsRight v e.id.core e.id.index e.logged source x = p.right e.id.core e.id.index e.logged source x (is.did e.id e.logged (record_of_entry logs e there)) f in
-        rw (reads_right v logs is e source x there right (right_store (entries logs) e) (greatest_from_least entry_cmp entry_total (is_earlier_store e) (entries logs))) refl
+    reads source x f = rw (right_unbroken source x (right_store (entries logs) e) (reads_right v logs is p e source x there f)) refl
 
     go : (act : Act) → e.logged.act ≡ act → act_fault act e (right_store (entries logs) e) ≡ None
     go Store f = refl

@@ -204,7 +204,7 @@ pub record IsStoringSource (v w : View) (c : ℕ) (q : Record) : Type 0 where
   pub reached : (d : ℕ) → AtMost (v.pts d) (v.r d) (w.pts d) (w.r d)
 
 -- a store's key is above that of each operation at its address
-store_after : (v w : View) (c : ℕ) (q : Record) → IsStoring v w c q → IsStoringSource v w c q → HasStamps v → HasVersions v → (d j : ℕ) (x : Record) → x.addr ≡ q.addr → Did v d j x → Earlier d j x c (length (v.log c)) q
+pub store_after : (v w : View) (c : ℕ) (q : Record) → IsStoring v w c q → IsStoringSource v w c q → HasStamps v → HasVersions v → (d j : ℕ) (x : Record) → x.addr ≡ q.addr → Did v d j x → Earlier d j x c (length (v.log c)) q
 store_after v w c q t m p o d j x e did = elim (t.stamp x.addr e) [
   | inl above ↦ let b : x.ts < q.ts = omega (arith, above, p.bound d j x did) in record { time = omega arith; rank = λ h. absurd (omega arith); core = λ h g. absurd (omega arith); index = λ h g l. absurd (omega arith) }
   | inr own ↦ elim (p.dirty_first c d j x own.1 did) [

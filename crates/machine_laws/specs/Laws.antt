@@ -23,13 +23,18 @@ use Rattle.audit.specs.Lists.{transcripts, histories}
 use Rattle.audit.specs.Merges.{HasMerge}
 use Rattle.audit.specs.Runs.{IsRun}
 use Rattle.machine_laws.specs.Stamps.{HasStamps}
-use Rattle.machine_laws.specs.Versions.{HasVersions}
+use Rattle.machine_laws.specs.Versions.{HasVersions, AgreeOnVersions}
+use Rattle.machine_laws.specs.Swaps.{HasSwaps}
 use Rattle.machine_laws.specs.Settled.{settled, view_of}
 use Rattle.machine_laws.specs.Hands.{AgreeOnOwners, HandsTell, RepliesFit}
 
 -- some events lead from the start of these programs to w
 abbrev pub IsReachedFrom : List (List Instruction) → ConfigParts → World → Type 0
 IsReachedFrom programs g w = (events : List Event) × Run g (opening programs g.slices) events w
+
+-- the operations that each core has performed so far
+abbrev pub logs_of : World → List (List Record)
+logs_of w = map (λ u. u.log) w.cores
 
 -- ---- the invariants
 
@@ -48,6 +53,12 @@ StampsHold = (programs : List (List Instruction)) (g : ConfigParts) (w : World) 
 abbrev pub VersionsHold : Type 0
 VersionsHold = (programs : List (List Instruction)) (g : ConfigParts) (w : World) → IsReachedFrom programs g w → HasVersions (view_of g w)
 
+abbrev pub VersionsAgree : Type 0
+VersionsAgree = (programs : List (List Instruction)) (g : ConfigParts) (w : World) → IsReachedFrom programs g w → AgreeOnVersions (view_of g w)
+
+abbrev pub SwapsHold : Type 0
+SwapsHold = (programs : List (List Instruction)) (g : ConfigParts) (w : World) → IsReachedFrom programs g w → HasSwaps w (view_of g w) (logs_of w)
+
 -- ---- the verdict
 
 -- the logs get Yes, with the number of their records
@@ -57,10 +68,6 @@ GetYes logs = verdict_of logs ≡ Yes (length (entries logs))
 -- they get it against these programs too
 abbrev pub GetYesBy : List (List Instruction) → List (List Record) → Type 0
 GetYesBy programs logs = run_verdict_of programs logs ≡ Yes (length (entries logs))
-
--- the operations that each core has performed so far
-abbrev pub logs_of : World → List (List Record)
-logs_of w = map (λ u. u.log) w.cores
 
 -- no core has an operation left
 abbrev pub HaveEnded : World → Type 0

@@ -84,3 +84,17 @@ pub record HasVersions (v : View) : Type 0 where
   pub copy_last : (c : ℕ) (k : Line) (d j : ℕ) (p : Record) → v.copy c p.addr ≡ Some k → Did v d j p → is_store p.act ≡ true → NotAfter v k.source d j p ⊎ (k.stamps.rts < p.ts)
   -- each operation has read the last store before it
   pub right : (c i : ℕ) (q : Record) (source : Source) (x : ℕ) → Did v c i q → read_of q ≡ Some (source, x) → IsRight v c i q source x
+
+-- ---- equal stamps
+
+-- two lines have the same word from the same source
+pub record AreOneVersion (k l : Line) : Type 0 where
+  pub value : k.value ≡ l.value
+  pub source : k.source ≡ l.source
+
+-- equal `wts` at one address means equal value and source
+pub record AgreeOnVersions (v : View) : Type 0 where
+  -- of two copies
+  pub copies : (c d a : ℕ) (k l : Line) → v.copy c a ≡ Some k → v.copy d a ≡ Some l → k.stamps.wts ≡ l.stamps.wts → AreOneVersion k l
+  -- of a copy and its home
+  pub home : (c a : ℕ) (k : Line) → v.copy c a ≡ Some k → k.stamps.wts ≡ (v.home a).stamps.wts → AreOneVersion k (v.home a)

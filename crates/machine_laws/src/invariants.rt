@@ -1,6 +1,13 @@
 //! What no event of the core machine breaks. Each function does nothing: its contract is the law.
 
-ghost use Rattle.machine_laws.specs.Laws.{HandsAlwaysTell, OwnersAgree, StampsHold, VersionsHold};
+ghost use Rattle.machine_laws.specs.Laws.{
+  HandsAlwaysTell,
+  OwnersAgree,
+  StampsHold,
+  SwapsHold,
+  VersionsAgree,
+  VersionsHold,
+};
 
 /// After any events, where what is in flight counts as arrived, a core owns a line exactly where the line's slice names it as the owner;
 /// and a message in hand speaks of its core's line as it is.
@@ -16,7 +23,15 @@ pub fn stamps_hold()
 {}
 
 /// After any events each line has the value of its source, which has the line's stamp and rank or lesser ones, and each operation has
-/// read the last store of lesser key to its address.
+/// read the last store of lesser key to its address. Two copies of one address with equal `wts`, or a copy and its home, have equal value
+/// and source.
 pub fn versions_hold()
-    ensures { VersionsHold }
+    ensures sources { VersionsHold }
+    ensures agree { VersionsAgree }
+{}
+
+/// After any events a swap that hits reads the value and source of its line's home, each earlier operation at the address has a lesser
+/// key, and each swap in a log has read its right store.
+pub fn swaps_hold()
+    ensures { SwapsHold }
 {}
