@@ -11,7 +11,6 @@ pub mod Once
 pub mod NextRecord
 pub mod OneLine
 pub mod OnlyCut
-pub mod Ranges
 pub mod Sets
 pub mod Settled
 pub mod Spelled

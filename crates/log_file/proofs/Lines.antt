@@ -7,7 +7,7 @@ use Rattle.std.proofs.lemmas.List.Splits.{slice_split_at, slice_split_none, join
 use Rattle.log_record.specs.declared.format.Format.{Format}
 use Rattle.log_record.specs.declared.record.Record.{Record}
 use Rattle.log_record.specs.Line.{format_number, record_text, end_text, FitsIn}
-use Rattle.log_record.proofs.Lines.{NoLf, NoLf-all, record_no_lf, header_no_lf}
+use Rattle.log_record.proofs.Lines.{NoLf, NoLf-all, record_no_lf, header_no_lf, end_no_lf}
 use Rattle.log_file.specs.Log.{with_lf, begun, text_of, spelling, lines_of}
 use Rattle.log_file.specs.OneLine.{IsOneLine}
 
@@ -19,6 +19,9 @@ lines_of_last xs p = slice_split_none (λ b. eqb b 10) xs p
 
 pub lines_of_front : (l more : List ℕ) → IsOneLine l → lines_of (with_lf l ++ more) ≡ l ∷ lines_of more
 lines_of_front l more one = ap lines_of (append_assoc l (10 ∷ []) more) ∙ lines_of_line l more one
+
+pub lines_of_end : (n : ℕ) (more : List ℕ) → lines_of (end_text n ++ 10 ∷ more) ≡ end_text n ∷ lines_of more
+lines_of_end n more = lines_of_line (end_text n) more (NoLf-all (end_text n) (end_no_lf n))
 
 pub lines_of_text : (done : List (List ℕ)) (rest : List ℕ) → AllByRecursion NoLf done
     → lines_of (text_of done ++ rest) ≡ done ++ lines_of rest

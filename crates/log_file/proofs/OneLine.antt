@@ -1,10 +1,14 @@
 -- A whole line is what may stand there, or has a least fault.
-use Rattle.std.proofs.Common.{◌≡◌, ◌≢◌, ℕ, ◌<◌, ◌≤◌, ◌⊎◌, List, length, Option, None, Some, true, refl, sym, ap, ◌∙◌, arith, inl, inr}
+use Rattle.std.proofs.Common.{◌≡◌, ◌≢◌, ℕ, ◌<◌, ◌≤◌, ◌⊎◌, List, length, Option, None, Some, refl, sym, ap, ◌∙◌, arith, inl, inr}
 use Rattle.std.proofs.lemmas.Bool.{cases_lt, cases_eq, cases_Bool}
 use Rattle.mem_op.specs.Limits.{operation_limit}
+use Rattle.mem_op.specs.declared.id.Source.{Source}
+use Rattle.mem_op.specs.declared.id.Source.TheVariants as source
+use Rattle.log_record.specs.declared.act.Act.{Act}
+use Rattle.log_record.specs.declared.act.Act.TheVariants as act
 use Rattle.log_record.specs.declared.format.Format.{Format}
 use Rattle.log_record.specs.declared.record.Record.{Record}
-use Rattle.log_record.specs.Line.{format_number, record_text, header_text, end_text, has_act, Fits, FitsIn, IsSomeHeader, line_limit, limit_of}
+use Rattle.log_record.specs.Line.{format_number, record_text, header_text, end_text, has_act, ActFits, Fits, FitsIn, SourceFits, IsSomeHeader, line_limit, limit_of}
 use Rattle.log_record.specs.Numbers.{as_u64}
 use Rattle.log_record.specs.inner.Reading.{record_of, end_of, header_of}
 use Rattle.log_record.proofs.Records.{record_takes, record_again}
@@ -14,7 +18,19 @@ use Rattle.log_file.specs.declared.fault.FormatFault.{FormatFault}
 use Rattle.log_file.specs.declared.fault.FormatFault.TheVariants.{BadHeader, BadLine, OutOfRange, TooMany, CountDiffers, WrongCore}
 use Rattle.log_file.specs.Log.{IsLonger}
 use Rattle.log_file.specs.OneLine.{BodyHolds, LeastHeader, LeastBody}
-use Rattle.log_file.proofs.Ranges.{record_fits}
+
+-- the numbers of a record are in range, or one of them isn't
+source_fits : (s : Source) → SourceFits s ⊎ (SourceFits s → ⊥)
+source_fits source.Init = inl tt
+source_fits (source.Store id) = grind arith
+
+act_fits : (a : Act) → ActFits a ⊎ (ActFits a → ⊥)
+act_fits act.Store = inl tt
+act_fits (act.Load s) = source_fits s
+act_fits (act.Swap s read) = let known = source_fits s in grind arith
+
+record_fits : (r : Record) → Fits r ⊎ (Fits r → ⊥)
+record_fits r = let known = act_fits r.act in grind arith
 
 -- what a reader finds in a line that takes just the texts
 read : {A : Type 0} (text : A → List ℕ) (of : List ℕ → Option A) → ((l : List ℕ) (a : A) → of l ≡ Some a → l ≡ text a)
@@ -31,9 +47,6 @@ module _ (format : Format) (count : ℕ) (l : List ℕ) where
   pub bad_least : BodyHolds format count l BadLine → LeastBody format count l BadLine
   bad_least h = (h, λ g p. grind arith)
 
-  range_least : (r : Record) → length l ≤ limit_of format → l ≡ record_text r → has_act format r.act ≡ true → (Fits r → ⊥) → LeastBody format count l OutOfRange
-  range_least r short e has bad = ((r, e, bad), λ g p. grind arith)
-
   pub too_many : (r : Record) → length l ≤ limit_of format → l ≡ record_text r → FitsIn format r → operation_limit ≤ count → LeastBody format count l TooMany
   too_many r short e fits many = (((r, e, fits.has), many), λ g p. grind (arith, record_once))
 
@@ -49,7 +62,7 @@ module _ (format : Format) (count : ℕ) (l : List ℕ) where
       elim (cases_Bool (has_act format r.act)) [
         | inr none ↦ inr (inr (BadLine, bad_least (inr (λ s. let one = record_once r s.0 (sym is ∙ s.1) in let has = s.2 in cc, λ s. record_no_end r s.0 (sym is ∙ s.1)))))
         | inl has ↦ elim (record_fits r) [
-          | inr bad ↦ inr (inr (OutOfRange, range_least r short is has bad))
+          | inr bad ↦ inr (inr (OutOfRange, ((r, is, bad), λ g p. grind arith)))
           | inl fits ↦ elim (cases_lt count operation_limit) [
             | inl few ↦ inl (r, is, record { has = has; numbers = fits }, few)
             | inr many ↦ inr (inr (TooMany, too_many r short is (record { has = has; numbers = fits }) many))
@@ -79,9 +92,6 @@ module _ (core cores : ℕ) (l : List ℕ) where
   header_bad bad = (bad, λ g p. grind arith)
 
   module _ (format : Format) (c n : ℕ) (short : length l ≤ line_limit) (e : l ≡ header_text (format_number format) c n) where
-    header_range : ((c < n) × (n ≤ 64) → ⊥) → LeastHeader core cores l OutOfRange
-    header_range bad = ((format, (c, (n, e, bad))), λ g p. grind arith)
-
     header_wrong : c < n → n ≤ 64 → (c ≢ core) ⊎ (n ≢ cores) → LeastHeader core cores l WrongCore
     header_wrong lt few other = ((format, (c, (n, e, other))), λ g p. grind (arith, header_once))
 
@@ -107,7 +117,7 @@ module _ (core cores : ℕ) (l : List ℕ) where
     | inr short ↦ elim (read (λ (x : Format × (ℕ × ℕ)). header_text (format_number x.0) x.1.0 x.1.1) header_of header_takes (λ x. header_again x.0 x.1.0 x.1.1) l) [
       | inr none ↦ inr (BadHeader, header_bad (inr (λ s. none (s.0, (s.1.0, s.1.1.0)) s.1.1.1)))
       | inl p ↦ elim (in_range p.0.1.0 p.0.1.1) [
-        | inr bad ↦ inr (OutOfRange, header_range p.0.0 p.0.1.0 p.0.1.1 short p.1 bad)
+        | inr bad ↦ inr (OutOfRange, ((p.0.0, (p.0.1.0, (p.0.1.1, p.1, bad))), λ g q. grind arith))
         | inl fits ↦ elim (same p.0.1.0 p.0.1.1) [
           | inr other ↦ inr (WrongCore, header_wrong p.0.0 p.0.1.0 p.0.1.1 short p.1 fits.0 fits.1 other)
           | inl both ↦ inl (p.0.0, rw (← both.0, ← both.1) p.1)

@@ -6,7 +6,6 @@ use Rattle.std.proofs.lemmas.List.Elements.{All-head, All-nil, All-tail}
 use Rattle.log_record.specs.declared.format.Format.{Format}
 use Rattle.log_record.specs.declared.record.Record.{Record}
 use Rattle.log_record.specs.Line.{end_text}
-use Rattle.log_record.proofs.Lines.{NoLf-all, end_no_lf}
 use Rattle.log_file.specs.declared.fault.FormatFault.TheVariants.{TrailingBytes}
 use Rattle.log_file.specs.Log.{spelling, IsLog, lines_of, IsFirstFault}
 use Rattle.log_file.specs.declared.fault.LogFault.{LogFault}
@@ -14,22 +13,18 @@ use Rattle.log_file.specs.declared.fault.LogFault.TheVariants.{At, OutOfMemory, 
 use Rattle.log_file.specs.Feeding.{IsSettled}
 use Rattle.log_file.specs.OneLine.{IsOneLine}
 use Rattle.log_file.proofs.Front.{trailing}
-use Rattle.log_file.proofs.Lines.{lines_of_line, some_more, spelling_text}
-
--- a line goes on
-lines_join : (xs ys h : List ℕ) (t : List (List ℕ)) → IsOneLine xs → lines_of ys ≡ h ∷ t → lines_of (xs ++ ys) ≡ (xs ++ h) ∷ t
-lines_join [] ys h t one e = e
-lines_join (x ∷ xs) ys h t one e =
-    slice_split-cons_no (λ (b : ℕ). eqb b 10) x (xs ++ ys) (All-head (λ b. eqb b 10 ≡ false) x xs one)
-    ∙ ap (onto_first x) (lines_join xs ys h t (All-tail (λ b. eqb b 10 ≡ false) x xs one) e)
+use Rattle.log_file.proofs.Lines.{lines_of_end, some_more, spelling_text}
 
 -- the first line of bytes that begin with a part of it
 pub lines_begin : (xs ys : List ℕ) → IsOneLine xs → (h : List ℕ) × ((t : List (List ℕ)) × (lines_of (xs ++ ys) ≡ (xs ++ h) ∷ t))
-lines_begin xs ys one = go (lines_of ys) refl
+lines_begin [] ys one = some (lines_of ys) (omega (arith, length-slice_split (λ b. eqb b 10) ys))
   where
-    go : (ls : List (List ℕ)) → lines_of ys ≡ ls → (h : List ℕ) × ((t : List (List ℕ)) × (lines_of (xs ++ ys) ≡ (xs ++ h) ∷ t))
-    go [] e = absurd (omega (arith, ap length e, length-slice_split (λ b. eqb b 10) ys))
-    go (h ∷ t) e = (h, (t, lines_join xs ys h t one e))
+    some : (ls : List (List ℕ)) → 0 < length ls → (h : List ℕ) × ((t : List (List ℕ)) × (ls ≡ h ∷ t))
+    some [] less = absurd (omega arith)
+    some (h ∷ t) more = (h, (t, refl))
+lines_begin (x ∷ xs) ys one =
+    let rest = lines_begin xs ys (All-tail (λ b. eqb b 10 ≡ false) x xs one) in
+    (rest.0, (rest.1.0, slice_split-cons_no (λ (b : ℕ). eqb b 10) x (xs ++ ys) (All-head (λ b. eqb b 10 ≡ false) x xs one) ∙ ap (onto_first x) rest.1.1))
 
 -- bytes after the end line
 pub trailing_settled : {format : Format} {core cores : ℕ} {records : List Record} → IsLog format core cores records → (xs : List ℕ) → 0 < length xs
@@ -37,7 +32,7 @@ pub trailing_settled : {format : Format} {core cores : ℕ} {records : List Reco
 trailing_settled {format = format} {core = core} {cores = cores} {records = records} log xs some =
     let line = end_text (length records) in
     let b = lines_begin [] xs (All-nil (λ b. eqb b 10 ≡ false)) in
-    let split = lines_of_line line xs (NoLf-all line (end_no_lf (length records))) ∙ ap (λ (ls : List (List ℕ)). line ∷ ls) b.1.1 in
+    let split = lines_of_end (length records) xs ∙ ap (λ (ls : List (List ℕ)). line ∷ ls) b.1.1 in
     rw spelling_text (trailing log (line ++ 10 ∷ xs) b.0 b.1.0 split (some_more xs b.0 b.1.0 some b.1.1))
 
 -- the fault of a front is that of the whole

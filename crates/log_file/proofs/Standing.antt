@@ -1,7 +1,7 @@
 -- What a line, or a part of one, does to where a reader of lines stands.
-use Rattle.std.proofs.Common.{take, ◌≡◌, ℕ, eqb, false, ◌+◌, ◌<◌, ◌≤◌, ◌⊎◌, List, [], ◌∷◌, ◌++◌, length, Option, None, Some, refl, sym, ap, ◌∙◌, arith, inl, inr, append_assoc, append-nil, length-append}
+use Rattle.std.proofs.Common.{take, drop, ◌≡◌, ℕ, eqb, false, ◌+◌, ◌<◌, ◌≤◌, ◌⊎◌, List, [], ◌∷◌, ◌++◌, length, Option, None, Some, refl, sym, ap, ◌∙◌, arith, inl, inr, append_assoc, append-nil, length-append}
+use Rattle.std.proofs.lemmas.List.{take-append-drop}
 use Rattle.std.proofs.lemmas.List.Elements.{All-append, All-nil}
-use Rattle.std.proofs.lemmas.Bool.{cases_lt}
 use Rattle.log_record.specs.declared.format.Format.{Format}
 use Rattle.log_record.specs.declared.record.Record.{Record}
 use Rattle.log_file.specs.declared.fault.FormatFault.TheVariants.{BadHeader, BadLine, Truncated}
@@ -11,7 +11,6 @@ use Rattle.log_file.specs.declared.progress.Stage.{Stage}
 use Rattle.log_file.specs.declared.progress.Stage.TheVariants as stage
 use Rattle.log_file.specs.declared.progress.Progress.{Progress}
 use Rattle.log_file.specs.declared.line_reader.LineReader.{LineReader}
-use Rattle.log_file.specs.declared.line_reader.TakenLine.{TakenLine}
 use Rattle.log_file.specs.Log.{IsFirstFault, Spells, begun, text_of, spelling, with_lf, lines_of}
 use Rattle.log_file.specs.Feeding.{IsSettled}
 use Rattle.log_file.specs.OneLine.{IsOneLine}
@@ -57,10 +56,10 @@ pub line_refused : (q : Stage) (p : Progress) (line part : List ℕ) (f : LogFau
     → IsSound q p.core p.cores records part → p.count ≡ length records → IsOneLine line → RefusedAt q p line f
     → IsSettled p.core p.cores (whole_text q p.core p.cores records ++ with_lf line) f
 line_refused stage.Header p line part (At k f) records sound count one (at, found) = λ more.
-    rw at (header_refused p.core p.cores (with_lf line ++ more) line (lines_of more) (lines_of_front line more one) f found (inl (some_line more)))
+    rw at (header_refused p.core p.cores (with_lf line ++ more) line (lines_of more) f (lines_of_front line more one) found (inl (some_line more)))
 line_refused (stage.Records format) p line part (At k f) records sound count one (at, found) = λ more.
     rw (at, count, append_assoc (text_of (begun format p.core p.cores records)) (with_lf line) more)
-    (body_refused sound (with_lf line ++ more) line (lines_of more) (lines_of_front line more one) f (rw count at found) (inl (some_line more)))
+    (body_refused sound (with_lf line ++ more) line (lines_of more) f (lines_of_front line more one) (rw count at found) (inl (some_line more)))
 line_refused (stage.Ended format) p line part (At k f) records sound count one (at, is) = λ more.
     rw (at, is, count, append_assoc (spelling format p.core p.cores records) (with_lf line) more)
     (trailing_settled sound.0 (with_lf line ++ more) (omega (arith, length-append (with_lf line) more, length-append line (10 ∷ []))))
@@ -77,12 +76,12 @@ pub goes_too_far : (q : Stage) (core cores count : ℕ) (line part : List ℕ) (
 goes_too_far stage.Header core cores count line part records sound count-is one (inl long) = λ more.
     let b = lines_begin (line ++ part) more one in
     let far : limit_at stage.Header < length ((line ++ part) ++ b.0) = omega (arith, length-append (line ++ part) b.0) in
-    header_refused core cores ((line ++ part) ++ more) ((line ++ part) ++ b.0) b.1.0 b.1.1 BadHeader (header_bad core cores ((line ++ part) ++ b.0) (inl far)) (inr (refl, far))
+    header_refused core cores ((line ++ part) ++ more) ((line ++ part) ++ b.0) b.1.0 BadHeader b.1.1 (header_bad core cores ((line ++ part) ++ b.0) (inl far)) (inr (refl, far))
 goes_too_far (stage.Records format) core cores count line part records sound count-is one (inl long) = λ more.
     let b = lines_begin (line ++ part) more one in
     let far : limit_at (stage.Records format) < length ((line ++ part) ++ b.0) = omega (arith, length-append (line ++ part) b.0) in
     rw (count-is, append_assoc (text_of (begun format core cores records)) (line ++ part) more)
-    (body_refused sound ((line ++ part) ++ more) ((line ++ part) ++ b.0) b.1.0 b.1.1 BadLine (bad_least format (length records) ((line ++ part) ++ b.0) (inl far)) (inr (refl, far)))
+    (body_refused sound ((line ++ part) ++ more) ((line ++ part) ++ b.0) b.1.0 BadLine b.1.1 (bad_least format (length records) ((line ++ part) ++ b.0) (inl far)) (inr (refl, far)))
 goes_too_far (stage.Ended format) core cores count line part records sound count-is one far = λ more.
     let some : 0 < length (line ++ part) = elim far [ inl long ↦ omega arith | inr p ↦ omega (arith, p.1, length-append line part) ] in
     rw (count-is, append_assoc (spelling format core cores records) (line ++ part) more)
@@ -99,65 +98,56 @@ stays_sound (stage.Records format) core cores line part records sound fits = sou
 stays_sound (stage.Ended format) core cores line [] records sound fits = (sound.0, append-nil line ∙ sound.1)
 stays_sound (stage.Ended format) core cores line (b ∷ part) records sound fits = absurd (fits (inr (tt, omega arith)))
 
-pub takes_part : (old new : LineReader) (records : List Record) (piece : List ℕ) → Stands old records
-    → new.progress ≡ old.progress → new.begun.items ≡ old.begun.items ++ piece → IsOneLine piece
-    → (IsTooFar old piece → ⊥) → Takes old records piece new records
-takes_part old new records piece stands progress begun-is one fits =
-    let p = old.progress in
-    record {
-      stands = record {
-        sound = rw (progress, begun-is) (stays_sound p.stage p.core p.cores old.begun.items piece records stands.sound fits);
-        count = rw progress stands.count;
-        one = rw begun-is (All-append (λ b. eqb b 10 ≡ false) old.begun.items piece stands.one one);
-        short = rw (progress, begun-is) (elim (cases_lt (limit_at p.stage) (length (old.begun.items ++ piece))) [ inl long ↦ absurd (fits (inl long)) | inr short ↦ short ]);
-      };
-      text = rw (progress, begun-is) (sym (append_assoc (whole_text p.stage p.core p.cores records) old.begun.items piece));
-    }
+module _ {old : LineReader} {records : List Record} (stands : Stands old records) where
+  abbrev p : Progress
+  p = old.progress
 
-pub takes_line : (old new : LineReader) (records : List Record) (piece part : List ℕ) (l : TakenLine) → Stands old records
-    → IsBehind old.progress (old.begun.items ++ part) l.logged new.progress → new.begun.items ≡ []
-    → take l.taken piece ≡ with_lf part
-    → TakesNext old records piece (Some l) new
-takes_line old new records piece part l stands behind none taken-is =
-    let p = old.progress in
-    let taken = line_taken p.stage p new.progress (old.begun.items ++ part) old.begun.items l.logged records refl stands.sound stands.count behind in (
-      record {
-        stands = record {
-          sound = rw none taken.0;
-          count = taken.1;
-          one = rw none (All-nil (λ b. eqb b 10 ≡ false));
-          short = rw none (omega arith);
-        };
-        text = rw (none, append-nil, taken.2, taken-is) (simp append_assoc);
-      },
-      none,
-    )
+  abbrev whole : List ℕ
+  whole = whole_text p.stage p.core p.cores records
 
--- ---- a piece that is refused
+  joined : (part : List ℕ) → IsOneLine part → IsOneLine (old.begun.items ++ part)
+  joined part one = All-append (λ b. eqb b 10 ≡ false) old.begun.items part stands.one one
 
-pub part_refused : (old : LineReader) (records : List Record) (piece : List ℕ) (f : LogFault) → Stands old records
-    → IsOneLine piece → IsPartRefused old piece f
-    → IsSettledWith old records piece f
-part_refused old records piece f stands one (far, f-is) =
-    let p = old.progress in
-    rw (f-is, append_assoc (whole_text p.stage p.core p.cores records) old.begun.items piece)
-    (goes_too_far p.stage p.core p.cores p.count old.begun.items piece records stands.sound stands.count
-    (All-append (λ b. eqb b 10 ≡ false) old.begun.items piece stands.one one) far)
+  pub takes_part : (new : LineReader) (piece : List ℕ) → new.progress ≡ old.progress → new.begun.items ≡ old.begun.items ++ piece → IsOneLine piece
+      → (IsTooFar old piece → ⊥) → Takes old records piece new records
+  takes_part new piece progress begun-is one fits = record {
+    stands = record {
+      sound = rw (progress, begun-is) (stays_sound p.stage p.core p.cores old.begun.items piece records stands.sound fits);
+      count = rw progress stands.count;
+      one = rw begun-is (joined piece one);
+      short = rw (progress, begun-is) (grind arith);
+    };
+    text = rw (progress, begun-is) (sym (append_assoc whole old.begun.items piece));
+  }
 
-pub line_of_piece_refused : (old : LineReader) (records : List Record) (piece part rest : List ℕ) (f : LogFault)
-    → Stands old records → piece ≡ with_lf part ++ rest → IsOneLine part → IsLineRefused old part f
-    → IsSettledWith old records piece f
-line_of_piece_refused old records piece part rest f stands piece-is one (inl refused) =
-    let p = old.progress in
-    let whole = whole_text p.stage p.core p.cores records in
-    let same : (whole ++ with_lf (old.begun.items ++ part)) ++ rest ≡ read_text old records ++ piece = rw piece-is (simp append_assoc) in
-    rw (← same) (settled_front p.core p.cores (whole ++ with_lf (old.begun.items ++ part)) rest f
-    (line_refused p.stage p (old.begun.items ++ part) old.begun.items f records stands.sound stands.count
-    (All-append (λ b. eqb b 10 ≡ false) old.begun.items part stands.one one) refused))
-line_of_piece_refused old records piece part rest f stands piece-is one (inr far) =
-    let p = old.progress in
-    let same : (read_text old records ++ part) ++ (10 ∷ rest) ≡ read_text old records ++ piece = rw piece-is (simp append_assoc) in
-    rw (← same) (settled_front p.core p.cores (read_text old records ++ part) (10 ∷ rest) f (part_refused old records part f stands one far))
+  pub part_refused : (piece : List ℕ) (f : LogFault) → IsOneLine piece → IsPartRefused old piece f → IsSettledWith old records piece f
+  part_refused piece f one (far, f-is) =
+      rw (f-is, append_assoc whole old.begun.items piece)
+      (goes_too_far p.stage p.core p.cores p.count old.begun.items piece records stands.sound stands.count (joined piece one) far)
+
+  module _ (piece part : List ℕ) (n : ℕ) (taken-is : take n piece ≡ with_lf part) where
+    pub takes_line : (new : LineReader) (r : Option Record) → IsBehind old.progress (old.begun.items ++ part) r new.progress → new.begun.items ≡ []
+        → TakesNext old records piece (Some (record { logged = r; taken = n })) new
+    takes_line new r behind none =
+        let taken = line_taken p.stage p new.progress (old.begun.items ++ part) old.begun.items r records refl stands.sound stands.count behind in (
+          record {
+            stands = record { sound = rw none taken.0; count = taken.1; one = rw none (All-nil (λ b. eqb b 10 ≡ false)); short = rw none (omega arith) };
+            text = rw (none, append-nil, taken.2, taken-is) (simp append_assoc);
+          },
+          none,
+        )
+
+    piece_is : piece ≡ with_lf part ++ drop n piece
+    piece_is = sym (take-append-drop n piece) ∙ ap (λ (xs : List ℕ). xs ++ drop n piece) taken-is
+
+    pub line_of_piece_refused : (f : LogFault) → IsOneLine part → IsLineRefused old part f → IsSettledWith old records piece f
+    line_of_piece_refused f one (inl refused) =
+        let same : (whole ++ with_lf (old.begun.items ++ part)) ++ drop n piece ≡ read_text old records ++ (with_lf part ++ drop n piece) = simp append_assoc in
+        rw piece_is (rw (← same) (settled_front p.core p.cores (whole ++ with_lf (old.begun.items ++ part)) (drop n piece) f
+        (line_refused p.stage p (old.begun.items ++ part) old.begun.items f records stands.sound stands.count (joined part one) refused)))
+    line_of_piece_refused f one (inr far) =
+        let same : (read_text old records ++ part) ++ (10 ∷ drop n piece) ≡ read_text old records ++ (with_lf part ++ drop n piece) = simp append_assoc in
+        rw piece_is (rw (← same) (settled_front p.core p.cores (read_text old records ++ part) (10 ∷ drop n piece) f (part_refused part f one far)))
 
 -- ---- the end of the bytes
 
@@ -179,5 +169,4 @@ ends_at (stage.Ended format) core cores count line records sound count-is one sh
 
 pub ends : (s : LineReader) (records : List Record) → Stands s records
     → EndsAt s.progress.stage s.progress.core s.progress.cores s.progress.count (read_text s records) records
-ends s records stands =
-    let p = s.progress in ends_at p.stage p.core p.cores p.count s.begun.items records stands.sound stands.count stands.one stands.short
+ends s records stands = let p = s.progress in ends_at p.stage p.core p.cores p.count s.begun.items records stands.sound stands.count stands.one stands.short

@@ -1,6 +1,6 @@
 -- Every text is a log's spelling or has a first fault, which stays however the bytes go on, unless it is
 -- Truncated.
-use Rattle.std.proofs.Common.{◌≡◌, ◌≢◌, ℕ, zero, suc, ◌+◌, ◌<◌, ◌≤◌, ◌⊎◌, eqb, false, List, [], ◌∷◌, ◌++◌, length, Option, Some, None, refl, sym, ap, subst, ◌∙◌, arith, inl, inr, length-append, append_assoc, append-nil}
+use Rattle.std.proofs.Common.{◌≡◌, ◌≢◌, ℕ, zero, suc, ◌+◌, ◌<◌, ◌≤◌, ◌⊎◌, eqb, false, List, [], ◌∷◌, ◌++◌, length, Option, Some, None, refl, ap, arith, inl, inr, length-append, append_assoc, append-nil}
 use Rattle.std.proofs.lemmas.Bool.{cases_lt, cases_Bool, eqb-true}
 use Rattle.std.proofs.lemmas.List.Elements.{All-nil, All-cons}
 use Rattle.log_record.specs.declared.record.Record.{Record}
@@ -77,20 +77,14 @@ module _ (core cores : ℕ) where
     | inl one ↦ last q count records rest sound count-is one
     | inr s ↦
         let whole = whole_text q core cores records in
-        let joined : (whole ++ with_lf s.0) ++ s.1.0 ≡ whole ++ rest = append_assoc whole (with_lf s.0) s.1.0 ∙ ap (λ (x : List ℕ). whole ++ x) (sym s.1.1) in
-        subst Answered joined (elim (outcome q count s.0) [
+        rw (s.1.1, ← (append_assoc whole (with_lf s.0) s.1.0)) (elim (outcome q count s.0) [
           | inl o ↦
               let taken = line_taken q (progress q count) (progress o.1.0 o.1.1.0) s.0 [] o.0 records refl sound count-is o.1.1.1 in
-              subst (λ (x : List ℕ). Answered (x ++ s.1.0)) taken.2
-              (walk n o.1.0 o.1.1.0 (with_read records o.0) s.1.0 (omega (arith, ap length s.1.1, length-append (with_lf s.0) s.1.0, length-append s.0 (10 ∷ []))) taken.0 taken.1)
-          | inr o ↦ inr (inl (
-            o.0,
-            (
-              o.1.0,
-              settled_front core cores (whole ++ with_lf s.0) s.1.0 (At o.0 o.1.0)
-                  (line_refused q (progress q count) s.0 [] (At o.0 o.1.0) records sound count-is s.1.2 o.1.1),
-            ),
-          ))
+              let less : length s.1.0 < n = omega (arith, ap length s.1.1, length-append (with_lf s.0) s.1.0, length-append s.0 (10 ∷ [])) in
+              rw (← taken.2) (walk n o.1.0 o.1.1.0 (with_read records o.0) s.1.0 less taken.0 taken.1)
+          | inr o ↦
+              let refused = line_refused q (progress q count) s.0 [] (At o.0 o.1.0) records sound count-is s.1.2 o.1.1 in
+              inr (inl (o.0, (o.1.0, settled_front core cores (whole ++ with_lf s.0) s.1.0 (At o.0 o.1.0) refused)))
         ])
   ]
 

@@ -26,22 +26,17 @@ front_taken old new front whole (rest, is) p =
 -- and so it is where one more line was taken, or a part of it
 pub line_taken : (old mid new : Option (List ℕ)) (front line whole : List ℕ) → Begins (front ++ line) whole → Appends old mid front → TakesSome mid new line → TakesSome old new whole
 line_taken old mid new front line whole (rest, is) p (n, few, q) =
-    front_taken old new (front ++ take n line) whole (
-      drop n line ++ rest,
-      simp append_assoc (ap (λ (x : List ℕ). front ++ x) (sym (append_assoc (take n line) (drop n line) rest)
-          ∙ ap (λ (x : List ℕ). x ++ rest) (take-append-drop n line)) ∙ sym (append_assoc front line rest) ∙ is),
-    ) (appends_more old mid new front (take n line) p q)
+    let joined : (front ++ take n line) ++ (drop n line ++ rest) ≡ whole =
+    cc (append_assoc front (take n line) (drop n line ++ rest), append_assoc (take n line) (drop n line) rest, take-append-drop n line, append_assoc front line rest) in
+    front_taken old new (front ++ take n line) whole (drop n line ++ rest, joined) (appends_more old mid new front (take n line) p q)
 
 module _ (format : Format) (core cores : ℕ) (records : List Record) (i : ℕ) where
   -- the text begins with that of its first records
   pub begun_front : Begins (text_of (begun format core cores (take i records))) (spelling format core cores records)
   begun_front =
-      let rest = map record_text (drop i records) ++ end_text (length records) ∷ [] in (
-        text_of rest,
-        sym (flat_map-append with_lf (begun format core cores (take i records)) rest) ∙ ap (λ (ls : List (List ℕ)). text_of (begun format core cores [] ++ ls))
-            (sym (append_assoc (map record_text (take i records)) (map record_text (drop i records)) (end_text (length records) ∷ []))
-            ∙ ap (λ (ls : List (List ℕ)). ls ++ end_text (length records) ∷ []) (sym (map-append record_text (take i records) (drop i records)) ∙ ap (map record_text) (take-append-drop i records))),
-      )
+      let parts : map record_text records ≡ map record_text (take i records) ++ map record_text (drop i records) =
+      rw (← (map-append record_text (take i records) (drop i records)), take-append-drop) refl in
+      (text_of (map record_text (drop i records) ++ end_text (length records) ∷ []), rw parts (simp (flat_map-append, append_assoc)))
 
   -- the end line completes the text
   pub end_front : length records ≤ i → Begins (text_of (begun format core cores (take i records)) ++ with_lf (end_text (length records))) (spelling format core cores records)
