@@ -1,8 +1,7 @@
 -- How long the bytes are that are read before a fault comes.
-use Rattle.std.proofs.Common.{◌≡◌, ℕ, ◌+◌, ◌-◌, ◌*◌, ◌^◌, ◌<◌, ◌≤◌, List, [], ◌∷◌, length, map, ap, arith, length-append}
+use Rattle.std.proofs.Common.{◌≡◌, ℕ, ◌+◌, ◌-◌, ◌*◌, ◌^◌, ◌<◌, ◌≤◌, List, [], ◌∷◌, ◌++◌, length, map, ap, arith, length-append}
 use Rattle.std.specs.List.{AllByRecursion}
 use Rattle.log_record.specs.declared.format.Format.{Format}
-use Rattle.log_record.specs.declared.format.Format.TheVariants.{One, Two}
 use Rattle.log_record.specs.declared.record.Record.{Record}
 use Rattle.log_record.specs.Line.{format_number, record_text, header_text, end_text, FitsIn, limit_of}
 use Rattle.log_record.proofs.Lines.{record_short, header_short, end_short}
@@ -14,36 +13,36 @@ use Rattle.log_file.specs.Standing.{IsSound, limit_at, whole_text}
 use Rattle.log_file.proofs.Lines.{spelling_is}
 
 limit_few : (format : Format) → limit_of format ≤ 96
-limit_few One = omega arith
-limit_few Two = omega arith
+limit_few format = grind arith
 
-line_long : (l : List ℕ) → length (with_lf l) ≡ length l + 1
-line_long l = omega (arith, length-append l (10 ∷ []))
+limit_at_few : (q : Stage) → limit_at q ≤ 96
+limit_at_few q = grind arith
 
-records_long : (format : Format) (records : List Record) → AllByRecursion (FitsIn format) records → length (text_of (map record_text records)) ≤ 97 * length records
+line_long : (l bytes : List ℕ) → length (with_lf l ++ bytes) ≡ length l + 1 + length bytes
+line_long l bytes = omega (arith, length-append (with_lf l) bytes, length-append l (10 ∷ []))
+
+records_long : (format : Format) (records : List Record) → AllByRecursion (FitsIn format) records
+    → length (text_of (map record_text records)) ≤ 97 * length records
 records_long format [] all = omega arith
 records_long format (r ∷ records) all =
-    let text = record_text r in
-    omega (arith, length-append (with_lf text) (text_of (map record_text records)), line_long text, record_short format r all.0, limit_few format, records_long format records all.1)
+    let rest = text_of (map record_text records) in
+    omega (arith, line_long (record_text r) rest, record_short format r all.0, limit_few format, records_long format records all.1)
 
 begun_long : (format : Format) (core cores : ℕ) (records : List Record) → IsLog format core cores records
     → length (text_of (begun format core cores records)) ≤ 97 * length records + 81
 begun_long format core cores records log =
-    let line = header_text (format_number format) core cores in
     let short = header_short format core cores log.core_fits (omega (arith, log.cores_fit)) in
-    omega (arith, length-append (with_lf line) (text_of (map record_text records)), line_long line, short, records_long format records log.each_fits)
+    omega (arith, line_long (header_text (format_number format) core cores) (text_of (map record_text records)), short, records_long format records log.each_fits)
 
-whole_long : (q : Stage) (core cores : ℕ) (records : List Record) (line : List ℕ) → IsSound q core cores records line → length (whole_text q core cores records) < 2 ^ 27 - 100
+whole_long : (q : Stage) (core cores : ℕ) (records : List Record) (line : List ℕ) → IsSound q core cores records line
+    → length (whole_text q core cores records) < 2 ^ 27 - 100
 whole_long stage.Header core cores records line sound = omega arith
 whole_long (stage.Records format) core cores records line sound = omega (arith, begun_long format core cores records sound, sound.few)
 whole_long (stage.Ended format) core cores records line (log, none) =
-    let end = end_text (length records) in
-    omega (arith, ap length (spelling_is format core cores records), length-append (text_of (begun format core cores records)) (with_lf end), line_long end, begun_long format core cores records log, end_short (length records) log.few, log.few)
-
-limit_at_few : (q : Stage) → limit_at q ≤ 96
-limit_at_few stage.Header = omega arith
-limit_at_few (stage.Records format) = limit_few format
-limit_at_few (stage.Ended format) = limit_few format
+    let whole = ap length (spelling_is format core cores records) in
+    let long = length-append (text_of (begun format core cores records)) (with_lf (end_text (length records))) in
+    let short = end_short (length records) log.few in
+    omega (arith, whole, long, length-append (end_text (length records)) (10 ∷ []), begun_long format core cores records log, short, log.few)
 
 pub read_long : (s : Answering) (bytes : List ℕ) (records : List Record) → HasAnswered s bytes records → length bytes < 2 ^ 27
 read_long s bytes records h =

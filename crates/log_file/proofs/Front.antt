@@ -42,21 +42,25 @@ module _ (core cores : ℕ) (lines : List (List ℕ)) where
     header_short_only : (k : ℕ) (g : FormatFault) → length lines ≡ 1 → length l ≤ line_limit → FaultAt core cores lines k g → g ≡ Truncated
     header_short_only k g last short p = grind arith
 
-  module _ (format : Format) (k n : ℕ) (l : List ℕ) (said : said_format lines ≡ format) (k-is : k ≡ n + 2) (none : NoEndBefore lines k) (at : line lines k ≡ l) where
-    record_quiet : (r : Record) (g : FormatFault) → l ≡ record_text r → FitsIn format r → n < operation_limit → k < length lines → FaultAt core cores lines k g → ⊥
+  module _ (format : Format) (k n : ℕ) (l : List ℕ) (said : said_format lines ≡ format) (k-is : k ≡ n + 2) (none : NoEndBefore lines k)
+      (at : line lines k ≡ l) where
+    record_quiet : (r : Record) (g : FormatFault) → l ≡ record_text r → FitsIn format r → n < operation_limit → k < length lines
+        → FaultAt core cores lines k g → ⊥
     record_quiet r g is fits few whole p = grind (arith, record_short, record_once, record_no_end)
 
     end_quiet : (g : FormatFault) → l ≡ end_text n → n ≤ operation_limit → k < length lines → FaultAt core cores lines k g → ⊥
     end_quiet g is few whole p = grind (arith, within_limit, end_short, record_no_end, end_once)
 
-    body_least : (f : FormatFault) → k ≤ length lines → LeastBody format n l f → IsWhole lines k ⊎ ((f ≡ BadLine) × (limit_of format < length l)) → IsLeastAt k f
+    body_least : (f : FormatFault) → k ≤ length lines → LeastBody format n l f → IsWhole lines k ⊎ ((f ≡ BadLine) × (limit_of format < length l))
+        → IsLeastAt k f
     body_least f there found why = (grind arith, λ g p. let least = found.1 g in grind arith)
 
     body_short_only : (j : ℕ) (g : FormatFault) → k ≤ j → length lines ≡ k → length l ≤ limit_of format → FaultAt core cores lines j g → g ≡ Truncated
     body_short_only j g from last short p = grind arith
 
   -- behind the end line
-  behind_end : (k j : ℕ) (g : FormatFault) → j ≡ k + 1 → IsEnd lines k → FaultAt core cores lines j g → (g ≡ TrailingBytes) × ((0 < length (line lines j)) ⊎ IsWhole lines j)
+  behind_end : (k j : ℕ) (g : FormatFault) → j ≡ k + 1 → IsEnd lines k → FaultAt core cores lines j g
+      → (g ≡ TrailingBytes) × ((0 < length (line lines j)) ⊎ IsWhole lines j)
   behind_end k j g at end p = grind arith
 
 -- the fault of a text is the first, where it is the least of its line, and no line before has one
@@ -154,7 +158,8 @@ module _ {format : Format} {core cores : ℕ} {records : List Record} (log : IsL
   rest_line : (i : ℕ) → line lines (length records + (2 + i)) ≡ get_or (lines_of rest) i []
   rest_line i =
       ap (λ (ls : List (List ℕ)). line ls (length records + (2 + i))) parts
-      ∙ get_or-append_right ([] ∷ begun format core cores records) (lines_of rest) next (length records + (2 + i)) [] (omega (arith, length-map records record_text)) (omega arith)
+      ∙ get_or-append_right ([] ∷ begun format core cores records) (lines_of rest) next (length records + (2 + i)) []
+      (omega (arith, length-map records record_text)) (omega arith)
       ∙ ap (λ (j : ℕ). get_or (lines_of rest) j []) (let z : (length records + (2 + i)) - next ≡ i = omega arith in z)
 
   no_end : NoEndBefore lines next
@@ -166,7 +171,8 @@ module _ {format : Format} {core cores : ℕ} {records : List Record} (log : IsL
   -- no fault stands up to there
   quiet : (j : ℕ) (g : FormatFault) → j < next → FaultAt core cores lines j g → ⊥
   quiet zero g lt p = omega (arith, placed core cores lines 0 g (some_line text) p)
-  quiet (suc zero) g lt p = header_quiet core cores lines (line lines 1) refl format g log.core_fits log.cores_fit header_line (omega (arith, len, some_line rest)) p
+  quiet (suc zero) g lt p =
+      header_quiet core cores lines (line lines 1) refl format g log.core_fits log.cores_fit header_line (omega (arith, len, some_line rest)) p
   quiet (suc (suc i)) g lt p =
       let r = record_line (suc (suc i)) (omega arith) lt in
       record_quiet core cores lines format (suc (suc i)) i (record_text r.0) said (omega arith) (λ j lo hi. no_end j lo (omega arith)) r.1 r.0 g refl r.2
@@ -187,7 +193,8 @@ module _ {format : Format} {core cores : ℕ} {records : List Record} (log : IsL
       let e = lines_of_last rest one in
       elim (cases_lt k next) [
         | inl later ↦ absurd (quiet k g later p)
-        | inr from ↦ body_short_only core cores lines format next (length records) rest said refl no_end (next_is rest [] e) k g from (omega (arith, len, ap length e)) short p
+        | inr from ↦ body_short_only core cores lines format next (length records) rest said refl no_end (next_is rest [] e) k g from
+            (omega (arith, len, ap length e)) short p
       ]
 
   pub body_cut : IsOneLine rest → length rest ≤ limit_of format → IsFirstFault core cores text next Truncated
@@ -197,7 +204,11 @@ module _ {format : Format} {core cores : ℕ} {records : List Record} (log : IsL
 
   module _ (l : List ℕ) (ls : List (List ℕ)) (e : lines_of rest ≡ end_text (length records) ∷ l ∷ ls) where
     end : IsEnd lines next
-    end = record { body = body; whole = (omega arith, omega (arith, len, ap length e)); shape = (length records, next_is (end_text (length records)) (l ∷ ls) e) }
+    end = record {
+      body = body;
+      whole = (omega arith, omega (arith, len, ap length e));
+      shape = (length records, next_is (end_text (length records)) (l ∷ ls) e);
+    }
 
     behind : line lines (length records + 3) ≡ l
     behind = rest_line 1 ∙ ap (λ (x : List (List ℕ)). get_or x 1 []) e
@@ -207,8 +218,8 @@ module _ {format : Format} {core cores : ℕ} {records : List Record} (log : IsL
       | inl before ↦ quiet j g before p
       | inr from ↦
           let at : j ≡ next = omega arith in
-          end_quiet core cores lines format next (length records) (end_text (length records)) said refl no_end (next_is (end_text (length records)) (l ∷ ls) e) g refl log.few
-          (omega (arith, len, ap length e))
+          end_quiet core cores lines format next (length records) (end_text (length records)) said refl no_end
+          (next_is (end_text (length records)) (l ∷ ls) e) g refl log.few (omega (arith, len, ap length e))
           (subst (λ (k : ℕ). FaultAt core cores lines k g) at p)
     ]
 

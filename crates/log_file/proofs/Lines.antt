@@ -1,5 +1,5 @@
 -- The lines of a text.
-use Rattle.std.proofs.Common.{◌≡◌, ◌<◌, ◌⊎◌, ℕ, List, [], ◌∷◌, ◌++◌, length, map, eqb, refl, ap, ◌∙◌, arith, inl, inr, append_assoc, append-nil}
+use Rattle.std.proofs.Common.{◌≡◌, ◌<◌, ◌⊎◌, ℕ, List, [], ◌∷◌, ◌++◌, length, map, eqb, refl, sym, ap, ◌∙◌, arith, append_assoc, append-nil}
 use Rattle.std.specs.List.{AllByRecursion, join_with_byte}
 use Rattle.std.proofs.lemmas.Grind.{flat_map-append}
 use Rattle.std.proofs.lemmas.List.{map-append}
@@ -39,11 +39,8 @@ begun_no_lf format core cores records = (header_no_lf (format_number format) cor
 
 -- bytes have a line feed, or bytes in their last line
 pub some_more : (bytes x : List ℕ) (xs : List (List ℕ)) → 0 < length bytes → lines_of bytes ≡ x ∷ xs → (0 < length x) ⊎ (0 < length xs)
-some_more bytes (b ∷ x) xs more e = inl (omega arith)
-some_more bytes [] (x ∷ xs) more e = inr (omega arith)
-some_more bytes [] [] more e =
-    let none : join_with_byte 10 (lines_of bytes) ≡ [] = ap (join_with_byte 10) e in
-    absurd (omega (arith, ap length none, ap length (join_with_byte-slice_split 10 bytes)))
+some_more bytes x xs more e =
+    let whole : join_with_byte 10 (x ∷ xs) ≡ bytes = ap (join_with_byte 10) (sym e) ∙ join_with_byte-slice_split 10 bytes in grind arith
 
 -- ---- the text of a log
 

@@ -8,7 +8,7 @@ use Rattle.log_record.specs.declared.act.Act.{Act}
 use Rattle.log_record.specs.declared.act.Act.TheVariants as act
 use Rattle.log_record.specs.declared.format.Format.{Format}
 use Rattle.log_record.specs.declared.record.Record.{Record}
-use Rattle.log_record.specs.Line.{format_number, record_text, header_text, end_text, has_act, ActFits, Fits, FitsIn, SourceFits, IsSomeHeader, line_limit, limit_of}
+use Rattle.log_record.specs.Line.{format_number, record_text, header_text, end_text, has_act, ActFits, Fits, FitsIn, SourceFits, IsRecordShape, IsSomeHeader, line_limit, limit_of}
 use Rattle.log_record.specs.Numbers.{as_u64}
 use Rattle.log_record.specs.inner.Reading.{record_of, end_of, header_of}
 use Rattle.log_record.proofs.Records.{record_takes, record_again}
@@ -55,12 +55,15 @@ module _ (format : Format) (count : ℕ) (l : List ℕ) where
 
   abbrev pub BodyOutcome : Type 0
   BodyOutcome =
-      ((r : Record) × (l ≡ record_text r) × FitsIn format r × (count < operation_limit)) ⊎ ((l ≡ end_text count) ⊎ ((f : FormatFault) × LeastBody format count l f))
+      ((r : Record) × (l ≡ record_text r) × FitsIn format r × (count < operation_limit))
+      ⊎ ((l ≡ end_text count) ⊎ ((f : FormatFault) × LeastBody format count l f))
 
   by_record : (r : Record) → l ≡ record_text r → length l ≤ limit_of format → BodyOutcome
   by_record r is short =
       elim (cases_Bool (has_act format r.act)) [
-        | inr none ↦ inr (inr (BadLine, bad_least (inr (λ s. let one = record_once r s.0 (sym is ∙ s.1) in let has = s.2 in cc, λ s. record_no_end r s.0 (sym is ∙ s.1)))))
+        | inr none ↦
+            let no_record : IsRecordShape format l → ⊥ = λ s. let one = record_once r s.0 (sym is ∙ s.1) in let has = s.2 in cc in
+            inr (inr (BadLine, bad_least (inr (no_record, λ s. record_no_end r s.0 (sym is ∙ s.1)))))
         | inl has ↦ elim (record_fits r) [
           | inr bad ↦ inr (inr (OutOfRange, ((r, is, bad), λ g p. grind arith)))
           | inl fits ↦ elim (cases_lt count operation_limit) [
@@ -111,10 +114,13 @@ module _ (core cores : ℕ) (l : List ℕ) where
   same : (c n : ℕ) → ((c ≡ core) × (n ≡ cores)) ⊎ ((c ≢ core) ⊎ (n ≢ cores))
   same c n = grind arith
 
+  abbrev text : Format × (ℕ × ℕ) → List ℕ
+  text x = header_text (format_number x.0) x.1.0 x.1.1
+
   pub header_outcome : HeaderOutcome
   header_outcome = elim (cases_lt line_limit (length l)) [
     | inl long ↦ inr (BadHeader, header_bad (inl long))
-    | inr short ↦ elim (read (λ (x : Format × (ℕ × ℕ)). header_text (format_number x.0) x.1.0 x.1.1) header_of header_takes (λ x. header_again x.0 x.1.0 x.1.1) l) [
+    | inr short ↦ elim (read text header_of header_takes (λ x. header_again x.0 x.1.0 x.1.1) l) [
       | inr none ↦ inr (BadHeader, header_bad (inr (λ s. none (s.0, (s.1.0, s.1.1.0)) s.1.1.1)))
       | inl p ↦ elim (in_range p.0.1.0 p.0.1.1) [
         | inr bad ↦ inr (OutOfRange, ((p.0.0, (p.0.1.0, (p.0.1.1, p.1, bad))), λ g q. grind arith))

@@ -76,12 +76,14 @@ pub goes_too_far : (q : Stage) (core cores count : ℕ) (line part : List ℕ) (
 goes_too_far stage.Header core cores count line part records sound count-is one (inl long) = λ more.
     let b = lines_begin (line ++ part) more one in
     let far : limit_at stage.Header < length ((line ++ part) ++ b.0) = omega (arith, length-append (line ++ part) b.0) in
-    header_refused core cores ((line ++ part) ++ more) ((line ++ part) ++ b.0) b.1.0 BadHeader b.1.1 (header_bad core cores ((line ++ part) ++ b.0) (inl far)) (inr (refl, far))
+    header_refused core cores ((line ++ part) ++ more) ((line ++ part) ++ b.0) b.1.0 BadHeader b.1.1
+    (header_bad core cores ((line ++ part) ++ b.0) (inl far)) (inr (refl, far))
 goes_too_far (stage.Records format) core cores count line part records sound count-is one (inl long) = λ more.
     let b = lines_begin (line ++ part) more one in
     let far : limit_at (stage.Records format) < length ((line ++ part) ++ b.0) = omega (arith, length-append (line ++ part) b.0) in
     rw (count-is, append_assoc (text_of (begun format core cores records)) (line ++ part) more)
-    (body_refused sound ((line ++ part) ++ more) ((line ++ part) ++ b.0) b.1.0 BadLine b.1.1 (bad_least format (length records) ((line ++ part) ++ b.0) (inl far)) (inr (refl, far)))
+    (body_refused sound ((line ++ part) ++ more) ((line ++ part) ++ b.0) b.1.0 BadLine b.1.1
+    (bad_least format (length records) ((line ++ part) ++ b.0) (inl far)) (inr (refl, far)))
 goes_too_far (stage.Ended format) core cores count line part records sound count-is one far = λ more.
     let some : 0 < length (line ++ part) = elim far [ inl long ↦ omega arith | inr p ↦ omega (arith, p.1, length-append line part) ] in
     rw (count-is, append_assoc (spelling format core cores records) (line ++ part) more)

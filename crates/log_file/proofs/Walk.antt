@@ -66,7 +66,8 @@ module _ (core cores : ℕ) where
     | inl long ↦ inr (inl (count + 2, (_, goes_too_far (stage.Records format) core cores count [] rest records sound count-is one (inl long))))
     | inr short ↦ inr (inr (count + 2, ends_at (stage.Records format) core cores count rest records sound count-is one short))
   ]
-  last (stage.Ended format) count records [] sound count-is one = inl (records, ends_at (stage.Ended format) core cores count [] records sound count-is one (omega arith))
+  last (stage.Ended format) count records [] sound count-is one =
+      inl (records, ends_at (stage.Ended format) core cores count [] records sound count-is one (omega arith))
   last (stage.Ended format) count records (b ∷ rest) sound count-is one =
       inr (inl (count + 3, (_, goes_too_far (stage.Ended format) core cores count [] (b ∷ rest) records sound count-is one (inr (tt, omega arith)))))
 

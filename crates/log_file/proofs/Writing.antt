@@ -1,5 +1,5 @@
 -- A log's text, line by line: what was written so far is a beginning of it.
-use Rattle.std.proofs.Common.{◌≡◌, ℕ, ◌+◌, ◌<◌, ◌≤◌, List, [], ◌∷◌, ◌++◌, length, map, take, drop, get_or, true, Option, refl, sym, ap, subst, ◌∙◌, arith, append_assoc}
+use Rattle.std.proofs.Common.{◌≡◌, ℕ, ◌+◌, ◌<◌, ◌≤◌, List, [], ◌∷◌, ◌++◌, length, map, take, drop, get_or, true, Option, refl, sym, ap, ◌∙◌, arith, append_assoc}
 use Rattle.std.proofs.lemmas.List.{append-nil, length-append, map-append, take-append-drop, take_all, take_at, take_more}
 use Rattle.std.proofs.lemmas.Grind.{flat_map-append}
 use Rattle.std.specs.Io.KnownBytes.{Appends}
@@ -24,38 +24,48 @@ front_taken old new front whole (rest, is) p =
     (length front, omega (arith, ap length is, length-append front rest), rw (← is, take_at front rest (length front) refl) p)
 
 -- and so it is where one more line was taken, or a part of it
-pub line_taken : (old mid new : Option (List ℕ)) (front line whole : List ℕ) → Begins (front ++ line) whole → Appends old mid front → TakesSome mid new line → TakesSome old new whole
+pub line_taken : (old mid new : Option (List ℕ)) (front line whole : List ℕ) → Begins (front ++ line) whole → Appends old mid front
+    → TakesSome mid new line → TakesSome old new whole
 line_taken old mid new front line whole (rest, is) p (n, few, q) =
     let joined : (front ++ take n line) ++ (drop n line ++ rest) ≡ whole =
-    cc (append_assoc front (take n line) (drop n line ++ rest), append_assoc (take n line) (drop n line) rest, take-append-drop n line, append_assoc front line rest) in
+    cc (
+      append_assoc front (take n line) (drop n line ++ rest),
+      append_assoc (take n line) (drop n line) rest,
+      append_assoc front line rest,
+      take-append-drop n line,
+    ) in
     front_taken old new (front ++ take n line) whole (drop n line ++ rest, joined) (appends_more old mid new front (take n line) p q)
 
-module _ (format : Format) (core cores : ℕ) (records : List Record) (i : ℕ) where
-  -- the text begins with that of its first records
-  pub begun_front : Begins (text_of (begun format core cores (take i records))) (spelling format core cores records)
-  begun_front =
+module _ (format : Format) (core cores : ℕ) (records : List Record) where
+  -- the text of the first records
+  abbrev pub so_far : ℕ → List ℕ
+  so_far i = text_of (begun format core cores (take i records))
+
+  abbrev whole : List ℕ
+  whole = spelling format core cores records
+
+  pub begun_front : (i : ℕ) → Begins (so_far i) whole
+  begun_front i =
       let parts : map record_text records ≡ map record_text (take i records) ++ map record_text (drop i records) =
       rw (← (map-append record_text (take i records) (drop i records)), take-append-drop) refl in
       (text_of (map record_text (drop i records) ++ end_text (length records) ∷ []), rw parts (simp (flat_map-append, append_assoc)))
 
   -- the end line completes the text
-  pub end_front : length records ≤ i → Begins (text_of (begun format core cores (take i records)) ++ with_lf (end_text (length records))) (spelling format core cores records)
-  end_front all = ([], rw (take_all i records all, append-nil) (sym (spelling_is format core cores records)))
+  pub end_front : (i : ℕ) → length records ≤ i → Begins (so_far i ++ with_lf (end_text (length records))) whole
+  end_front i all = ([], rw (take_all i records all, append-nil) (sym (spelling_is format core cores records)))
 
-  module _ (r : Record) (below : i < length records) (at : r ≡ get_or records i r) where
-    -- one record more
+  -- one record more
+  module _ (i : ℕ) (r : Record) (below : i < length records) (at : r ≡ get_or records i r) where
     take_next : take (i + 1) records ≡ take i records ++ r ∷ []
     take_next = take_more records i r below ∙ ap (λ (x : Record). take i records ++ x ∷ []) (sym at)
 
-    pub text_next : text_of (begun format core cores (take (i + 1) records)) ≡ text_of (begun format core cores (take i records)) ++ with_lf (record_text r)
+    pub text_next : so_far (i + 1) ≡ so_far i ++ with_lf (record_text r)
     text_next = rw take_next (begun_push format core cores (take i records) r)
+
+    pub next_front : Begins (so_far i ++ with_lf (record_text r)) whole
+    next_front = rw text_next at (begun_front (i + 1))
 
     pub fits_next : HasEach format records → AllByRecursion (FitsIn format) (take i records) → Fits r → AllByRecursion (FitsIn format) (take (i + 1) records)
     fits_next each all fits =
         let has : has_act format r.act ≡ true = rw at (each i r below) in
         rw take_next (fits_push format (take i records) r all (record { has = has; numbers = fits }))
-
-pub next_front : (format : Format) (core cores : ℕ) (records : List Record) (i : ℕ) (r : Record) → i < length records → r ≡ get_or records i r
-    → Begins (text_of (begun format core cores (take i records)) ++ with_lf (record_text r)) (spelling format core cores records)
-next_front format core cores records i r below at =
-    subst (λ (x : List ℕ). Begins x (spelling format core cores records)) (text_next format core cores records i r below at) (begun_front format core cores records (i + 1))

@@ -7,12 +7,11 @@ use Rattle.log_file.proofs.byte_sink.write_all.Goals as goal
 
 pub loop-at-preserved : goal.loop-at-preserved
 loop-at-preserved g c =
-    let held = g.W.ByteSink.contents in
     let bytes = c.args.bytes.now in
     let at = c.loop-at.at in
     let e = c.in_ok-at.ensures in
     record {
       within = omega (arith, e.bound, length-drop at bytes);
-      taken = rw (take-add at c.in_ok-at.field-0 bytes, ← (take_rest bytes at)) (appends_more (held c.args.sink.now) (held c.loop-at.sink) (held c.write.new.self) _ _ c.loop-at.invariant.taken e.bytes);
+      taken = rw (take-add at c.in_ok-at.field-0 bytes, ← (take_rest bytes at)) (appends_more _ _ _ _ _ c.loop-at.invariant.taken e.bytes);
       quiet = e.counts ∙ c.loop-at.invariant.quiet;
     }
