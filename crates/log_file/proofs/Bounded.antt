@@ -32,7 +32,8 @@ begun_long : (format : Format) (core cores : ℕ) (records : List Record) → Is
     → length (text_of (begun format core cores records)) ≤ 97 * length records + 81
 begun_long format core cores records log =
     let short = header_short format core cores log.core_fits (omega (arith, log.cores_fit)) in
-    omega (arith, line_long (header_text (format_number format) core cores) (text_of (map record_text records)), short, records_long format records log.each_fits)
+    let first = line_long (header_text (format_number format) core cores) (text_of (map record_text records)) in
+    omega (arith, first, short, records_long format records log.each_fits)
 
 whole_long : (q : Stage) (core cores : ℕ) (records : List Record) (line : List ℕ) → IsSound q core cores records line
     → length (whole_text q core cores records) < 2 ^ 27 - 100

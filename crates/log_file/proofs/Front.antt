@@ -2,7 +2,7 @@
 use Rattle.std.proofs.Common.{◌≡◌, ℕ, zero, suc, ◌+◌, ◌-◌, ◌<◌, ◌≤◌, ◌⊎◌, List, [], ◌∷◌, ◌++◌, length, eqb, get_or, map, refl, sym, ap, subst, ◌∙◌, arith, inl, inr, length-append}
 use Rattle.std.specs.List.{AllByRecursion}
 use Rattle.std.specs.Prelude.{codes, if◌then◌else◌, is_some, None}
-use Rattle.std.proofs.lemmas.Bool.{cases_lt, cases_order}
+use Rattle.std.proofs.lemmas.Bool.{cases_lt}
 use Rattle.std.proofs.lemmas.List.{get_or-append_right, length-map}
 use Rattle.std.proofs.lemmas.List.Splits.{length-slice_split}
 use Rattle.mem_op.specs.Limits.{operation_limit}
@@ -69,11 +69,7 @@ first_from : (core cores : ℕ) (bytes : List ℕ) (k : ℕ) (f : FormatFault) �
     → ((j : ℕ) (g : FormatFault) → j < k → FaultAt core cores (lines_of bytes) j g → ⊥) → IsFirstFault core cores bytes k f
 first_from core cores bytes k f holds least none = record {
   holds = holds;
-  least = λ j g p. elim (cases_order k j) [
-    | inl same ↦ inr (same, least g (subst (λ (i : ℕ). FaultAt core cores (lines_of bytes) i g) (sym same) p))
-    | inr (inl before) ↦ inl before
-    | inr (inr later) ↦ absurd (none j g later p)
-  ];
+  least = λ j g p. let here = least g in let before = none j g in grind arith;
 }
 
 -- where no other fault holds, Truncated is the first

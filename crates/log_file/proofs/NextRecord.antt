@@ -34,8 +34,8 @@ module _ (piece rest : List ℕ) (taken : ℕ) (is : rest ≡ drop taken piece) 
       comes_to some further = let h = line_more in grind arith
 
   -- what is refused after the lines that were taken
-  pub refused_after : {old mid : LineReader} {records : List Record} (fault : LogFault) → SameLog old.progress mid.progress → Takes old records (take taken piece) mid records
-      → IsSettledWith mid records rest fault → IsSettledWith old records piece fault
+  pub refused_after : {old mid : LineReader} {records : List Record} (fault : LogFault) → SameLog old.progress mid.progress
+      → Takes old records (take taken piece) mid records → IsSettledWith mid records rest fault → IsSettledWith old records piece fault
   refused_after {old = old} {mid = mid} {records = records} fault same first settled =
       let whole : take taken piece ++ rest ≡ piece = rw is (take-append-drop taken piece) in
       rw whole at (settled_more old mid records records (take taken piece) rest fault first same settled)

@@ -1,5 +1,5 @@
 -- What a line, or a part of one, does to where a reader of lines stands.
-use Rattle.std.proofs.Common.{take, drop, ◌≡◌, ℕ, eqb, false, ◌+◌, ◌<◌, ◌≤◌, ◌⊎◌, List, [], ◌∷◌, ◌++◌, length, Option, None, Some, refl, sym, ap, ◌∙◌, arith, inl, inr, append_assoc, append-nil, length-append}
+use Rattle.std.proofs.Common.{take, drop, ◌≡◌, ℕ, eqb, false, ◌+◌, ◌<◌, ◌≤◌, ◌⊎◌, List, [], ◌∷◌, ◌++◌, length, Option, None, Some, refl, sym, ap, subst, ◌∙◌, arith, inl, inr, append_assoc, append-nil, length-append}
 use Rattle.std.proofs.lemmas.List.{take-append-drop}
 use Rattle.std.proofs.lemmas.List.Elements.{All-append, All-nil}
 use Rattle.log_record.specs.declared.format.Format.{Format}
@@ -95,10 +95,8 @@ goes_too_far q core cores count line part records sound count-is one (inr p) = a
 -- a piece without a line feed
 stays_sound : (q : Stage) (core cores : ℕ) (line part : List ℕ) (records : List Record)
     → IsSound q core cores records line → (TooFarAt q line part → ⊥) → IsSound q core cores records (line ++ part)
-stays_sound stage.Header core cores line part records sound fits = sound
-stays_sound (stage.Records format) core cores line part records sound fits = sound
-stays_sound (stage.Ended format) core cores line [] records sound fits = (sound.0, append-nil line ∙ sound.1)
-stays_sound (stage.Ended format) core cores line (b ∷ part) records sound fits = absurd (fits (inr (tt, omega arith)))
+stays_sound q core cores line [] records sound fits = rw append-nil sound
+stays_sound q core cores line (b ∷ part) records sound fits = grind arith
 
 module _ {old : LineReader} {records : List Record} (stands : Stands old records) where
   abbrev p : Progress
@@ -169,6 +167,9 @@ ends_at stage.Header core cores count line records sound count-is one short = he
 ends_at (stage.Records format) core cores count line records sound count-is one short = rw count-is (body_cut sound line one short)
 ends_at (stage.Ended format) core cores count line records sound count-is one short = ended_spells format core cores records line sound
 
-pub ends : (s : LineReader) (records : List Record) → Stands s records
-    → EndsAt s.progress.stage s.progress.core s.progress.cores s.progress.count (read_text s records) records
-ends s records stands = let p = s.progress in ends_at p.stage p.core p.cores p.count s.begun.items records stands.sound stands.count stands.one stands.short
+pub ends : (s : LineReader) (records : List Record) (q : Stage) → s.progress.stage ≡ q → Stands s records
+    → EndsAt q s.progress.core s.progress.cores s.progress.count (read_text s records) records
+ends s records q at stands =
+    let p = s.progress in
+    subst (λ (k : Stage). EndsAt k p.core p.cores p.count (read_text s records) records) at
+    (ends_at p.stage p.core p.cores p.count s.begun.items records stands.sound stands.count stands.one stands.short)
