@@ -31,17 +31,6 @@ module _ (core cores : ℕ) (lines : List (List ℕ)) where
   abbrev IsLeastAt : ℕ → FormatFault → Type 0
   IsLeastAt k f = FaultAt core cores lines k f × ((g : FormatFault) → FaultAt core cores lines k g → number f ≤ number g)
 
-  module _ (l : List ℕ) (at : line lines 1 ≡ l) where
-    header_quiet : (format : Format) (g : FormatFault) → core < cores → cores ≤ 64 → l ≡ header_text (format_number format) core cores → 1 < length lines
-        → FaultAt core cores lines 1 g → ⊥
-    header_quiet format g lt few is whole p = grind (arith, header_short, header_once)
-
-    header_least : (f : FormatFault) → LeastHeader core cores l f → IsWhole lines 1 ⊎ ((f ≡ BadHeader) × (line_limit < length l)) → IsLeastAt 1 f
-    header_least f found why = (grind arith, λ g p. let least = found.1 g in grind arith)
-
-    header_short_only : (k : ℕ) (g : FormatFault) → length lines ≡ 1 → length l ≤ line_limit → FaultAt core cores lines k g → g ≡ Truncated
-    header_short_only k g last short p = grind arith
-
   module _ (format : Format) (k n : ℕ) (l : List ℕ) (said : said_format lines ≡ format) (k-is : k ≡ n + 2) (none : NoEndBefore lines k)
       (at : line lines k ≡ l) where
     record_quiet : (r : Record) (g : FormatFault) → l ≡ record_text r → FitsIn format r → n < operation_limit → k < length lines
@@ -77,9 +66,7 @@ first_cut : (core cores : ℕ) (bytes : List ℕ) (k : ℕ) → ((j : ℕ) (g : 
     → length (lines_of bytes) ≡ k → NoEndBefore (lines_of bytes) k → IsFirstFault core cores bytes k Truncated
 first_cut core cores bytes k only last none = record {
   holds = (sym last, none);
-  least = λ j g p.
-      let at = subst (λ (f : FormatFault). FaultAt core cores (lines_of bytes) j f) (only j g p) p in
-      inr (sym (at.0 ∙ last), omega (arith, ap number (only j g p)));
+  least = λ j g p. let is = only j g p in grind arith;
 }
 
 -- ---- a text of no whole line that is right
@@ -90,15 +77,12 @@ some_line bytes = omega (arith, length-slice_split (λ b. eqb b 10) bytes)
 pub header_refused : (core cores : ℕ) (bytes l : List ℕ) (ls : List (List ℕ)) (f : FormatFault) → lines_of bytes ≡ l ∷ ls → LeastHeader core cores l f
     → (0 < length ls) ⊎ ((f ≡ BadHeader) × (line_limit < length l)) → IsFirstFault core cores bytes 1 f
 header_refused core cores bytes l ls f e found why =
-    let h = header_least core cores (lines_of bytes) l (ap (λ (x : List (List ℕ)). line x 1) e) f found
-    (elim why [ inl whole ↦ inl (omega arith, omega (arith, ap length e)) | inr long ↦ inr long ]) in
-    first_from core cores bytes 1 f h.0 h.1 (λ j g lt p. omega (arith, placed core cores (lines_of bytes) j g (some_line bytes) p))
+    first_from core cores bytes 1 f (grind arith) (λ g p. let least = found.1 g in grind arith)
+    (λ j g lt p. omega (arith, placed core cores (lines_of bytes) j g (some_line bytes) p))
 
 pub header_only : (core cores : ℕ) (bytes : List ℕ) → IsOneLine bytes → length bytes ≤ line_limit → (k : ℕ) (g : FormatFault)
     → FaultAt core cores (lines_of bytes) k g → g ≡ Truncated
-header_only core cores bytes one short k g p =
-    let e = lines_of_last bytes one in
-    header_short_only core cores (lines_of bytes) bytes (ap (λ (x : List (List ℕ)). line x 1) e) k g (ap length e) short p
+header_only core cores bytes one short k g p = let e = lines_of_last bytes one in grind arith
 
 pub header_cut : (core cores : ℕ) (bytes : List ℕ) → IsOneLine bytes → length bytes ≤ line_limit → IsFirstFault core cores bytes 1 Truncated
 header_cut core cores bytes one short =
@@ -167,8 +151,7 @@ module _ {format : Format} {core cores : ℕ} {records : List Record} (log : IsL
   -- no fault stands up to there
   quiet : (j : ℕ) (g : FormatFault) → j < next → FaultAt core cores lines j g → ⊥
   quiet zero g lt p = omega (arith, placed core cores lines 0 g (some_line text) p)
-  quiet (suc zero) g lt p =
-      header_quiet core cores lines (line lines 1) refl format g log.core_fits log.cores_fit header_line (omega (arith, len, some_line rest)) p
+  quiet (suc zero) g lt p = let at = header_line in let n = len in let some = some_line rest in grind (arith, header_short, header_once)
   quiet (suc (suc i)) g lt p =
       let r = record_line (suc (suc i)) (omega arith) lt in
       record_quiet core cores lines format (suc (suc i)) i (record_text r.0) said (omega arith) (λ j lo hi. no_end j lo (omega arith)) r.1 r.0 g refl r.2
