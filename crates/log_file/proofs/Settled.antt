@@ -1,6 +1,7 @@
 -- Faults that stay, however the bytes go on.
-use Rattle.std.proofs.Common.{◌≡◌, ℕ, ◌+◌, ◌<◌, List, [], ◌∷◌, ◌++◌, length, eqb, false, refl, ap, ◌∙◌, arith, append_assoc}
+use Rattle.std.proofs.Common.{◌≡◌, ℕ, ◌+◌, ◌<◌, List, [], ◌∷◌, ◌++◌, length, eqb, false, drop, get_or, ap, ◌∙◌, arith, append_assoc}
 use Rattle.std.specs.List.{onto_first}
+use Rattle.std.proofs.lemmas.List.{drop_more}
 use Rattle.std.proofs.lemmas.List.Splits.{slice_split-cons_no, length-slice_split}
 use Rattle.std.proofs.lemmas.List.Elements.{All-head, All-nil, All-tail}
 use Rattle.log_record.specs.declared.format.Format.{Format}
@@ -17,11 +18,8 @@ use Rattle.log_file.proofs.Lines.{lines_of_end, some_more, spelling_text}
 
 -- the first line of bytes that begin with a part of it
 pub lines_begin : (xs ys : List ℕ) → IsOneLine xs → (h : List ℕ) × ((t : List (List ℕ)) × (lines_of (xs ++ ys) ≡ (xs ++ h) ∷ t))
-lines_begin [] ys one = some (lines_of ys) (omega (arith, length-slice_split (λ b. eqb b 10) ys))
-  where
-    some : (ls : List (List ℕ)) → 0 < length ls → (h : List ℕ) × ((t : List (List ℕ)) × (ls ≡ h ∷ t))
-    some [] less = absurd (omega arith)
-    some (h ∷ t) more = (h, (t, refl))
+lines_begin [] ys one =
+    let lines = lines_of ys in (get_or lines 0 [], (drop 1 lines, drop_more lines 0 [] (omega (arith, length-slice_split (λ b. eqb b 10) ys))))
 lines_begin (x ∷ xs) ys one =
     let rest = lines_begin xs ys (All-tail (λ b. eqb b 10 ≡ false) x xs one) in
     (rest.0, (rest.1.0, slice_split-cons_no (λ (b : ℕ). eqb b 10) x (xs ++ ys) (All-head (λ b. eqb b 10 ≡ false) x xs one) ∙ ap (onto_first x) rest.1.1))
