@@ -1,45 +1,100 @@
--- The header and the records of a text: no fault stands among them.
-use Rattle.std.proofs.Common.{◌≡◌, ℕ, zero, suc, ◌+◌, ◌<◌, ◌≤◌, ◌⊎◌, List, [], ◌∷◌, ◌++◌, length, get_or, map, eqb, true, None, refl, sym, ap, subst, ◌∙◌, arith, inl, inr, length-append}
-use Rattle.std.proofs.lemmas.List.{length-map}
+-- What a fault at a line says of it, and the header and the records of a text, which have no fault.
+use Rattle.std.proofs.Common.{◌≡◌, ℕ, zero, suc, ◌+◌, ◌-◌, ◌<◌, ◌≤◌, ◌⊎◌, List, [], ◌∷◌, ◌++◌, length, eqb, get_or, map, refl, sym, ap, subst, ◌∙◌, arith, inl, inr, length-append}
 use Rattle.std.specs.List.{AllByRecursion}
-use Rattle.std.specs.Prelude.{codes, if◌then◌else◌, is_some}
-use Rattle.std.proofs.lemmas.Bool.{cases_order}
+use Rattle.std.specs.Prelude.{codes, if◌then◌else◌, is_some, None}
+use Rattle.std.proofs.lemmas.Bool.{cases_lt}
+use Rattle.std.proofs.lemmas.List.{get_or-append_right, length-map}
 use Rattle.std.proofs.lemmas.List.Splits.{length-slice_split}
+use Rattle.mem_op.specs.Limits.{operation_limit}
 use Rattle.log_record.specs.declared.format.Format.{Format}
 use Rattle.log_record.specs.declared.format.Format.TheVariants.{One, Two}
 use Rattle.log_record.specs.declared.record.Record.{Record}
-use Rattle.log_record.specs.Line.{format_number, record_text, header_text, has_act, limit_of, IsEndShape, Fits, FitsIn, line_limit}
-use Rattle.log_record.proofs.Lines.{record_short, header_short, record_once, header_once, record_no_end}
+use Rattle.log_record.specs.Line.{format_number, record_text, header_text, end_text, limit_of, FitsIn, line_limit}
+use Rattle.log_record.proofs.Lines.{record_short, header_short, end_short, within_limit, record_once, header_once, end_once, record_no_end}
 use Rattle.log_record.proofs.Ends.{header_text_is, words_of}
 use Rattle.decimal_text.specs.Numbers.{numeral}
 use Rattle.decimal_text.specs.Reading.{after}
 use Rattle.decimal_text.proofs.Numbers.{after_again}
 use Rattle.log_file.specs.declared.fault.FormatFault.{FormatFault}
-use Rattle.log_file.specs.declared.fault.FormatFault.TheVariants.{BadHeader, BadLine, OutOfRange, TooMany, CountDiffers, TrailingBytes, Truncated, WrongCore}
-use Rattle.log_file.specs.Log.{begun, text_of, IsLog, lines_of, line, IsBody, FaultAt, number, said_format}
-use Rattle.log_file.proofs.Lines.{begun_no_lf, lines_of_text}
+use Rattle.log_file.specs.declared.fault.FormatFault.TheVariants.{BadHeader, BadLine, TrailingBytes, Truncated}
+use Rattle.log_file.specs.Log.{begun, text_of, IsLog, IsWhole, IsBody, IsEnd, IsFirstFault, NoEndBefore, lines_of, line, FaultAt, number, said_format}
+use Rattle.log_file.specs.OneLine.{IsOneLine, LeastHeader, LeastBody}
+use Rattle.log_file.proofs.Lines.{begun_no_lf, lines_of_last, lines_of_text}
 
-pub record Front (format : Format) (core cores : ℕ) (records : List Record) (lines rest : List (List ℕ)) : Type 0 where
-  pub log : IsLog format core cores records
-  pub parts : lines ≡ begun format core cores records ++ rest
-  pub more : 0 < length rest
+-- ---- the faults at one line
+
+module _ (core cores : ℕ) (lines : List (List ℕ)) where
+  -- a fault stands at a line that is there
+  placed : (k : ℕ) (g : FormatFault) → 0 < length lines → FaultAt core cores lines k g → (0 < k) × (k ≤ length lines)
+  placed k g more p = grind arith
+
+  abbrev IsLeastAt : ℕ → FormatFault → Type 0
+  IsLeastAt k f = FaultAt core cores lines k f × ((g : FormatFault) → FaultAt core cores lines k g → number f ≤ number g)
+
+  module _ (format : Format) (k n : ℕ) (l : List ℕ) (said : said_format lines ≡ format) (k-is : k ≡ n + 2) (none : NoEndBefore lines k)
+      (at : line lines k ≡ l) where
+    record_quiet : (r : Record) (g : FormatFault) → l ≡ record_text r → FitsIn format r → n < operation_limit → k < length lines
+        → FaultAt core cores lines k g → ⊥
+    record_quiet r g is fits few whole p = grind (arith, record_short, record_once, record_no_end)
+
+    end_quiet : (g : FormatFault) → l ≡ end_text n → n ≤ operation_limit → k < length lines → FaultAt core cores lines k g → ⊥
+    end_quiet g is few whole p = grind (arith, within_limit, end_short, record_no_end, end_once)
+
+    body_least : (f : FormatFault) → k ≤ length lines → LeastBody format n l f → IsWhole lines k ⊎ ((f ≡ BadLine) × (limit_of format < length l))
+        → IsLeastAt k f
+    body_least f there found why = (grind arith, λ g p. let least = found.1 g in grind arith)
+
+    body_short_only : (j : ℕ) (g : FormatFault) → k ≤ j → length lines ≡ k → length l ≤ limit_of format → FaultAt core cores lines j g → g ≡ Truncated
+    body_short_only j g from last short p = grind arith
+
+  -- behind the end line
+  behind_end : (k j : ℕ) (g : FormatFault) → j ≡ k + 1 → IsEnd lines k → FaultAt core cores lines j g
+      → (g ≡ TrailingBytes) × ((0 < length (line lines j)) ⊎ IsWhole lines j)
+  behind_end k j g at end p = grind arith
+
+-- the fault of a text is the first, where it is the least of its line, and no line before has one
+first_from : (core cores : ℕ) (bytes : List ℕ) (k : ℕ) (f : FormatFault) → FaultAt core cores (lines_of bytes) k f
+    → ((g : FormatFault) → FaultAt core cores (lines_of bytes) k g → number f ≤ number g)
+    → ((j : ℕ) (g : FormatFault) → j < k → FaultAt core cores (lines_of bytes) j g → ⊥) → IsFirstFault core cores bytes k f
+first_from core cores bytes k f holds least none = record {
+  holds = holds;
+  least = λ j g p. let here = least g in let before = none j g in grind arith;
+}
+
+-- where no other fault holds, Truncated is the first
+first_cut : (core cores : ℕ) (bytes : List ℕ) (k : ℕ) → ((j : ℕ) (g : FormatFault) → FaultAt core cores (lines_of bytes) j g → g ≡ Truncated)
+    → length (lines_of bytes) ≡ k → NoEndBefore (lines_of bytes) k → IsFirstFault core cores bytes k Truncated
+first_cut core cores bytes k only last none = record {
+  holds = (sym last, none);
+  least = λ j g p. let is = only j g p in grind arith;
+}
+
+-- ---- a text of no whole line that is right
+
+pub some_line : (bytes : List ℕ) → 0 < length (lines_of bytes)
+some_line bytes = omega (arith, length-slice_split (λ b. eqb b 10) bytes)
+
+pub header_refused : (core cores : ℕ) (bytes l : List ℕ) (ls : List (List ℕ)) (f : FormatFault) → lines_of bytes ≡ l ∷ ls → LeastHeader core cores l f
+    → (0 < length ls) ⊎ ((f ≡ BadHeader) × (line_limit < length l)) → IsFirstFault core cores bytes 1 f
+header_refused core cores bytes l ls f e found why =
+    first_from core cores bytes 1 f (grind arith) (λ g p. let least = found.1 g in grind arith)
+    (λ j g lt p. omega (arith, placed core cores (lines_of bytes) j g (some_line bytes) p))
+
+pub header_only : (core cores : ℕ) (bytes : List ℕ) → IsOneLine bytes → length bytes ≤ line_limit → (k : ℕ) (g : FormatFault)
+    → FaultAt core cores (lines_of bytes) k g → g ≡ Truncated
+header_only core cores bytes one short k g p = let e = lines_of_last bytes one in grind arith
+
+pub header_cut : (core cores : ℕ) (bytes : List ℕ) → IsOneLine bytes → length bytes ≤ line_limit → IsFirstFault core cores bytes 1 Truncated
+header_cut core cores bytes one short =
+    first_cut core cores bytes 1 (header_only core cores bytes one short) (ap length (lines_of_last bytes one)) (λ j lo hi shape. omega arith)
+
+-- ---- a text that begins with the header and the records of a log
 
 record_at : (format : Format) (records : List Record) (rest : List (List ℕ)) (i : ℕ) → AllByRecursion (FitsIn format) records → i < length records
     → (r : Record) × (get_or (map record_text records ++ rest) i [] ≡ record_text r) × FitsIn format r
 record_at format [] rest i all lt = absurd (omega arith)
 record_at format (r ∷ records) rest zero all lt = (r, refl, all.0)
 record_at format (r ∷ records) rest (suc i) all lt = record_at format records rest i all.1 (omega arith)
-
-behind : (records : List Record) (rest : List (List ℕ)) (i : ℕ)
-    → get_or (map record_text records ++ rest) (length records + i) [] ≡ get_or rest i []
-behind [] rest i = ap (λ (k : ℕ). get_or rest k []) (let e : 0 + i ≡ i = omega arith in e)
-behind (r ∷ records) rest i =
-    let e : suc (length records) + i ≡ suc (length records + i) = omega arith in
-    ap (λ (k : ℕ). get_or (map record_text (r ∷ records) ++ rest) k []) e ∙ behind records rest i
-
-header_line : (format : Format) (core cores : ℕ) (records : List Record) (lines rest : List (List ℕ))
-    → Front format core cores records lines rest → line lines 1 ≡ header_text (format_number format) core cores
-header_line format core cores records lines rest h = ap (λ (ls : List (List ℕ)). line ls 1) h.parts
 
 -- line 1 says the format
 said_of : (format : Format) (core cores : ℕ) (lines : List (List ℕ)) → line lines 1 ≡ header_text (format_number format) core cores
@@ -51,105 +106,116 @@ said_of format core cores lines e = rw (e, header_text_is format core cores) (by
     by_words One rest = let other : after (codes "tardis-log 2 core ") (codes "tardis-log 1 core " ++ rest) ≡ None = unfold after in refl in rw other refl
     by_words Two rest = rw (after_again (codes "tardis-log 2 core ") rest) refl
 
-pub said_there : (format : Format) (core cores : ℕ) (records : List Record) (lines rest : List (List ℕ))
-    → Front format core cores records lines rest → said_format lines ≡ format
-said_there format core cores records lines rest h = said_of format core cores lines (header_line format core cores records lines rest h)
+module _ {format : Format} {core cores : ℕ} {records : List Record} (log : IsLog format core cores records) (rest : List ℕ) where
+  abbrev text : List ℕ
+  text = text_of (begun format core cores records) ++ rest
 
--- what holds by a format and of a line
-pub moved : (P : Format → List ℕ → Type 0) (f g : Format) (x y : List ℕ) → f ≡ g → x ≡ y → P f x → P g y
-moved P f g x y p q h = subst (λ (k : Format). P k y) p (subst (λ (l : List ℕ). P f l) q h)
+  abbrev lines : List (List ℕ)
+  lines = lines_of text
 
-record_line : (format : Format) (core cores : ℕ) (records : List Record) (lines rest : List (List ℕ))
-    → Front format core cores records lines rest → (j : ℕ) → 1 < j → j < length records + 2 → (r : Record)
-    × (line lines j ≡ record_text r) × FitsIn format r
-record_line format core cores records lines rest h zero lo hi = absurd (omega arith)
-record_line format core cores records lines rest h (suc zero) lo hi = absurd (omega arith)
-record_line format core cores records lines rest h (suc (suc i)) lo hi =
-    let p = record_at format records rest i h.log.each_fits (omega arith) in
-    (p.0, ap (λ (ls : List (List ℕ)). line ls (suc (suc i))) h.parts ∙ p.1, p.2)
+  abbrev next : ℕ
+  next = length records + 2
 
-pub rest_line : (format : Format) (core cores : ℕ) (records : List Record) (lines rest : List (List ℕ))
-    → Front format core cores records lines rest → (i : ℕ) → line lines (length records + (2 + i)) ≡ get_or rest i []
-rest_line format core cores records lines rest h i =
-    let e : length records + (2 + i) ≡ suc (suc (length records + i)) = omega arith in
-    ap (λ (k : ℕ). line lines k) e ∙ ap (λ (ls : List (List ℕ)). line ls (suc (suc (length records + i)))) h.parts
-    ∙ behind records rest i
+  parts : lines ≡ begun format core cores records ++ lines_of rest
+  parts = lines_of_text (begun format core cores records) rest (begun_no_lf format core cores records)
 
-pub front_length : (format : Format) (core cores : ℕ) (records : List Record) (lines rest : List (List ℕ))
-    → Front format core cores records lines rest → length lines ≡ length records + 1 + length rest
-front_length format core cores records lines rest h =
-    ap length h.parts ∙ omega (arith, length-append (map record_text records) rest, length-map records record_text)
+  len : length lines ≡ length records + 1 + length (lines_of rest)
+  len = ap length parts ∙ omega (arith, length-append (map record_text records) (lines_of rest), length-map records record_text)
 
-pub no_end : (format : Format) (core cores : ℕ) (records : List Record) (lines rest : List (List ℕ))
-    → Front format core cores records lines rest → (j : ℕ) → 1 < j → j < length records + 2 → IsEndShape (line lines j) → ⊥
-no_end format core cores records lines rest h j lo hi shape =
-    let p = record_line format core cores records lines rest h j lo hi in
-    record_no_end p.0 shape.0 (sym p.1 ∙ shape.1)
+  header_line : line lines 1 ≡ header_text (format_number format) core cores
+  header_line = ap (λ (ls : List (List ℕ)). line ls 1) parts
 
-pub body_there : (format : Format) (core cores : ℕ) (records : List Record) (lines rest : List (List ℕ))
-    → Front format core cores records lines rest → IsBody lines (length records + 2)
-body_there format core cores records lines rest h = record {
-  later = omega arith;
-  there = omega (arith, front_length format core cores records lines rest h, h.more);
-  open_yet = λ j lo hi shape. no_end format core cores records lines rest h j lo hi shape;
-}
+  said : said_format lines ≡ format
+  said = said_of format core cores lines header_line
 
--- no fault holds up to there
-pub quiet : (format : Format) (core cores : ℕ) (records : List Record) (lines rest : List (List ℕ))
-    → Front format core cores records lines rest → (j : ℕ) (g : FormatFault) → j < length records + 2
-    → FaultAt core cores lines j g → ⊥
-quiet format core cores records lines rest h j BadHeader lt (at, inl long) =
-    let e = header_line format core cores records lines rest h in
-    let s = header_short format core cores h.log.core_fits (omega (arith, h.log.cores_fit)) in
-    let l : line_limit < length (header_text (format_number format) core cores) = subst (λ (x : List ℕ). line_limit < length x) e long in
-    omega arith
-quiet format core cores records lines rest h j BadHeader lt (at, inr bad) =
-    bad.1 (format, (core, (cores, header_line format core cores records lines rest h)))
-quiet format core cores records lines rest h j BadLine lt (body, inl long) =
-    let p = record_line format core cores records lines rest h j body.later lt in
-    let s = record_short format p.0 p.2 in
-    let l : limit_of format < length (record_text p.0) =
-    moved (λ f x. limit_of f < length x) (said_format lines) format (line lines j) (record_text p.0)
-    (said_there format core cores records lines rest h) p.1 long in
-    omega arith
-quiet format core cores records lines rest h j BadLine lt (body, inr bad) =
-    let p = record_line format core cores records lines rest h j body.later lt in
-    bad.1 (p.0, p.1, subst (λ (f : Format). has_act f p.0.act ≡ true) (sym (said_there format core cores records lines rest h)) p.2.has)
-quiet format core cores records lines rest h j OutOfRange lt (inl p) =
-    let q = p.2 in
-    let e = header_once q.0 format q.1.0 q.1.1.0 core cores (sym q.1.1.1 ∙ header_line format core cores records lines rest h) in
-    q.1.1.2 (omega (arith, e.1, e.2, h.log.core_fits), omega (arith, e.2, h.log.cores_fit))
-quiet format core cores records lines rest h j OutOfRange lt (inr p) =
-    let q = record_line format core cores records lines rest h j p.0.later lt in
-    p.2.2 (subst Fits (record_once q.0 p.2.0 (sym q.1 ∙ p.2.1)) q.2.numbers)
-quiet format core cores records lines rest h j TooMany lt p = omega (arith, h.log.few, p.3)
-quiet format core cores records lines rest h j CountDiffers lt p =
-    no_end format core cores records lines rest h j p.0.body.later lt p.0.shape
-quiet format core cores records lines rest h j TrailingBytes lt p =
-    no_end format core cores records lines rest h p.0.0 p.0.1.body.later (omega (arith, p.0.2)) p.0.1.shape
-quiet format core cores records lines rest h j Truncated lt p =
-    omega (arith, p.0, front_length format core cores records lines rest h, h.more)
-quiet format core cores records lines rest h j WrongCore lt (at, whole, (f, (c, (n, e, inl ne)))) =
-    let s = header_once f format c n core cores (sym e ∙ header_line format core cores records lines rest h) in ne s.1
-quiet format core cores records lines rest h j WrongCore lt (at, whole, (f, (c, (n, e, inr ne)))) =
-    let s = header_once f format c n core cores (sym e ∙ header_line format core cores records lines rest h) in ne s.2
+  record_line : (j : ℕ) → 1 < j → j < next → (r : Record) × (line lines j ≡ record_text r) × FitsIn format r
+  record_line zero lo hi = absurd (omega arith)
+  record_line (suc zero) lo hi = absurd (omega arith)
+  record_line (suc (suc i)) lo hi =
+      let p = record_at format records (lines_of rest) i log.each_fits (omega arith) in
+      (p.0, ap (λ (ls : List (List ℕ)). line ls (suc (suc i))) parts ∙ p.1, p.2)
 
--- the fault of the line after them is the first, where it is the least of that line
-pub first_there : (format : Format) (core cores : ℕ) (records : List Record) (lines rest : List (List ℕ))
-    → Front format core cores records lines rest → (f : FormatFault)
-    → ((g : FormatFault) → FaultAt core cores lines (length records + 2) g → number f ≤ number g) → (j : ℕ) (g : FormatFault)
-    → FaultAt core cores lines j g → (length records + 2 < j) ⊎ ((length records + 2 ≡ j) × (number f ≤ number g))
-first_there format core cores records lines rest h f least j g p =
-    elim (cases_order (length records + 2) j) [
-      | inl same ↦ inr (same, least g (subst (λ (k : ℕ). FaultAt core cores lines k g) (sym same) p))
-      | inr (inl before) ↦ inl before
-      | inr (inr later) ↦ absurd (quiet format core cores records lines rest h j g later p)
+  rest_line : (i : ℕ) → line lines (length records + (2 + i)) ≡ get_or (lines_of rest) i []
+  rest_line i =
+      ap (λ (ls : List (List ℕ)). line ls (length records + (2 + i))) parts
+      ∙ get_or-append_right ([] ∷ begun format core cores records) (lines_of rest) next (length records + (2 + i)) []
+      (omega (arith, length-map records record_text)) (omega arith)
+      ∙ ap (λ (j : ℕ). get_or (lines_of rest) j []) (let z : (length records + (2 + i)) - next ≡ i = omega arith in z)
+
+  no_end : NoEndBefore lines next
+  no_end j lo hi shape = let p = record_line j lo hi in record_no_end p.0 shape.0 (sym p.1 ∙ shape.1)
+
+  body : IsBody lines next
+  body = record { later = omega arith; there = omega (arith, len, some_line rest); open_yet = no_end }
+
+  -- no fault stands up to there
+  quiet : (j : ℕ) (g : FormatFault) → j < next → FaultAt core cores lines j g → ⊥
+  quiet zero g lt p = omega (arith, placed core cores lines 0 g (some_line text) p)
+  quiet (suc zero) g lt p = let at = header_line in let n = len in let some = some_line rest in grind (arith, header_short, header_once)
+  quiet (suc (suc i)) g lt p =
+      let r = record_line (suc (suc i)) (omega arith) lt in
+      record_quiet core cores lines format (suc (suc i)) i (record_text r.0) said (omega arith) (λ j lo hi. no_end j lo (omega arith)) r.1 r.0 g refl r.2
+      (omega (arith, log.few)) (omega (arith, len, some_line rest)) p
+
+  next_is : (l : List ℕ) (ls : List (List ℕ)) → lines_of rest ≡ l ∷ ls → line lines next ≡ l
+  next_is l ls e = rest_line 0 ∙ ap (λ (x : List (List ℕ)). get_or x 0 []) e
+
+  pub body_refused : (l : List ℕ) (ls : List (List ℕ)) (f : FormatFault) → lines_of rest ≡ l ∷ ls → LeastBody format (length records) l f
+      → (0 < length ls) ⊎ ((f ≡ BadLine) × (limit_of format < length l)) → IsFirstFault core cores text next f
+  body_refused l ls f e found why =
+      let h = body_least core cores lines format next (length records) l said refl no_end (next_is l ls e) f body.there found
+      (elim why [ inl whole ↦ inl (omega arith, omega (arith, len, ap length e)) | inr long ↦ inr long ]) in
+      first_from core cores text next f h.0 h.1 quiet
+
+  pub body_only : IsOneLine rest → length rest ≤ limit_of format → (k : ℕ) (g : FormatFault) → FaultAt core cores lines k g → g ≡ Truncated
+  body_only one short k g p =
+      let e = lines_of_last rest one in
+      elim (cases_lt k next) [
+        | inl later ↦ absurd (quiet k g later p)
+        | inr from ↦ body_short_only core cores lines format next (length records) rest said refl no_end (next_is rest [] e) k g from
+            (omega (arith, len, ap length e)) short p
+      ]
+
+  pub body_cut : IsOneLine rest → length rest ≤ limit_of format → IsFirstFault core cores text next Truncated
+  body_cut one short = first_cut core cores text next (body_only one short) (omega (arith, len, ap length (lines_of_last rest one))) no_end
+
+  -- ---- behind the end line
+
+  module _ (l : List ℕ) (ls : List (List ℕ)) (e : lines_of rest ≡ end_text (length records) ∷ l ∷ ls) where
+    end : IsEnd lines next
+    end = record {
+      body = body;
+      whole = (omega arith, omega (arith, len, ap length e));
+      shape = (length records, next_is (end_text (length records)) (l ∷ ls) e);
+    }
+
+    behind : line lines (length records + 3) ≡ l
+    behind = rest_line 1 ∙ ap (λ (x : List (List ℕ)). get_or x 1 []) e
+
+    quiet_end : (j : ℕ) (g : FormatFault) → j < length records + 3 → FaultAt core cores lines j g → ⊥
+    quiet_end j g lt p = elim (cases_lt j next) [
+      | inl before ↦ quiet j g before p
+      | inr from ↦
+          let at : j ≡ next = omega arith in
+          end_quiet core cores lines format next (length records) (end_text (length records)) said refl no_end
+          (next_is (end_text (length records)) (l ∷ ls) e) g refl log.few (omega (arith, len, ap length e))
+          (subst (λ (k : ℕ). FaultAt core cores lines k g) at p)
     ]
 
-pub front_from : (format : Format) (core cores : ℕ) (records : List Record) (bytes rest : List ℕ) → IsLog format core cores records
-    → bytes ≡ text_of (begun format core cores records) ++ rest → Front format core cores records (lines_of bytes) (lines_of rest)
-front_from format core cores records bytes rest log e = record {
-  log = log;
-  parts = ap lines_of e ∙ lines_of_text (begun format core cores records) rest (begun_no_lf format core cores records);
-  more = omega (arith, length-slice_split (λ b. eqb b 10) rest);
-}
+    pub trailing : (0 < length l) ⊎ (0 < length ls) → IsFirstFault core cores text (length records + 3) TrailingBytes
+    trailing more = first_from core cores text (length records + 3) TrailingBytes (
+      (next, end, omega arith),
+      elim more [
+        | inl some ↦ inl (omega (arith, ap length behind))
+        | inr some ↦ inr (omega arith, omega (arith, len, ap length e))
+      ],
+    ) (λ g p. omega (arith, ap number (behind_end core cores lines next (length records + 3) g (omega arith) end p).0)) quiet_end
+
+    pub spelled : length l ≡ 0 → length ls ≡ 0 → (k : ℕ) (g : FormatFault) → FaultAt core cores lines k g → ⊥
+    spelled none last k g p = elim (cases_lt k (length records + 3)) [
+      | inl before ↦ quiet_end k g before p
+      | inr from ↦
+          let at : k ≡ length records + 3 = omega (arith, placed core cores lines k g (some_line text) p, len, ap length e) in
+          let found = (behind_end core cores lines next k g (omega arith) end p).1 in
+          omega (arith, found, ap length (ap (line lines) at ∙ behind), len, ap length e)
+    ]

@@ -1,9 +1,7 @@
-pub mod Behind
 pub mod Bounded
 pub mod Devices
 pub mod Fed
 pub mod FedAll
-pub mod FirstLine
 pub mod Front
 pub mod Fronts
 pub mod Joined
@@ -13,13 +11,10 @@ pub mod Once
 pub mod NextRecord
 pub mod OneLine
 pub mod OnlyCut
-pub mod Outcomes
-pub mod Ranges
 pub mod Sets
 pub mod Settled
 pub mod Spelled
 pub mod Standing
-pub mod Steps
 pub mod TakenParts
 pub mod Walk
 pub mod Writing

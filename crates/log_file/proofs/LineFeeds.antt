@@ -1,28 +1,20 @@
 -- The first line feed of a piece.
-use Rattle.std.proofs.Common.{◌≡◌, ℕ, ◌+◌, ◌<◌, eqb, List, [], ◌∷◌, ◌++◌, length, get_or, take, sym, ap, ◌∙◌, arith}
-use Rattle.std.proofs.lemmas.Bool.{false_from_ne_true, eqb-true}
+use Rattle.std.proofs.Common.{◌≡◌, ℕ, ◌+◌, List, [], ◌∷◌, ◌++◌, length, take, arith}
+use Rattle.std.proofs.lemmas.Bool.Decides.{nat_tests}
 use Rattle.std.proofs.lemmas.List.{get_or_default, get_or-take, length-take, take_more}
 use Rattle.memchr.specs.Find.{Nowhere, NoneBefore, Passes, is_byte}
 use Rattle.log_file.specs.OneLine.{IsOneLine}
 
 -- no byte of these is a line feed
 pub none_is_one_line : (xs : List ℕ) → Nowhere (Passes (is_byte 10) xs) 0 (length xs) → IsOneLine xs
-none_is_one_line xs none k d lt =
-    false_from_ne_true (eqb (get_or xs k d) 10)
-    (λ e. none k (omega arith) lt (ap (λ (b : ℕ). eqb b 10) (get_or_default xs k 0 d lt) ∙ e))
+none_is_one_line xs none k d lt = let same = get_or_default xs k 0 d lt in let no = none k (omega arith) lt in grind (arith, nat_tests)
 
 -- no byte before place `at` is a line feed
 pub front_is_one_line : (xs : List ℕ) (at : ℕ) → NoneBefore (Passes (is_byte 10) xs) 0 (length xs) at
     → IsOneLine (take at xs)
-front_is_one_line xs at first k d lt =
-    let k-at : k < at = omega (arith, length-take at xs, lt) in
-    false_from_ne_true (eqb (get_or (take at xs) k d) 10)
-    (λ e. first.before k (omega arith) k-at
-    (ap (λ (b : ℕ). eqb b 10) (get_or_default xs k 0 d (omega (arith, first.high)) ∙ sym (get_or-take at xs k d k-at))
-    ∙ e))
+front_is_one_line xs at first k d lt = grind (arith, nat_tests, length-take, get_or-take, get_or_default)
 
 -- the bytes up to the line feed and with it
 pub taken_with_feed : (xs : List ℕ) (at : ℕ) → NoneBefore (Passes (is_byte 10) xs) 0 (length xs) at
     → Passes (is_byte 10) xs at → take (at + 1) xs ≡ take at xs ++ 10 ∷ []
-taken_with_feed xs at first feed =
-    take_more xs at 0 first.high ∙ ap (λ (b : ℕ). take at xs ++ b ∷ []) (eqb-true (get_or xs at 0) 10 feed)
+taken_with_feed xs at first feed = let more = take_more xs at 0 first.high in grind (arith, nat_tests)

@@ -1,6 +1,5 @@
 -- Where the reader stands after a line, or after a part of one.
-use Rattle.std.proofs.Common.{◌++◌, sym, ap, ◌∙◌, take, drop, ◌+◌, List, ℕ}
-use Rattle.std.proofs.lemmas.List.{take-append-drop}
+use Rattle.std.proofs.Common.{take, ◌+◌}
 use Rattle.std.proofs.lemmas.Result.{err_from_is_err_and}
 use Rattle.log_file.proofs.LineFeeds.{none_is_one_line, front_is_one_line, taken_with_feed}
 use Rattle.log_file.proofs.Standing.{takes_part, takes_line, part_refused, line_of_piece_refused}
@@ -10,13 +9,12 @@ pub returns-in_err-begin-clause-taken : goal.returns-in_err-begin-clause-taken
 returns-in_err-begin-clause-taken c = λ records stands.
     let p = err_from_is_err_and c.from_residual.result c.from_residual.ensures.1 in
     let one = none_is_one_line c.args.piece.now c.in_default.ensures in
-    rw (p.1, p.2) (part_refused c.args.self.now records c.args.piece.now c.in_err-begin.field-0.0 stands one c.in_err-begin.ensures.refused)
+    rw (p.1, p.2) (part_refused stands c.args.piece.now c.in_err-begin.field-0.0 one c.in_err-begin.ensures.refused)
 
 pub returns-in_default-clause-taken : goal.returns-in_default-clause-taken
 returns-in_default-clause-taken c = λ records stands.
     let e = c.in_ok-begin.ensures in
-    takes_part c.args.self.now c.begin.new.self records c.args.piece.now stands e.progress e.kept
-    (none_is_one_line c.args.piece.now c.in_default.ensures) e.fits
+    takes_part stands c.begin.new.self c.args.piece.now e.progress e.kept (none_is_one_line c.args.piece.now c.in_default.ensures) e.fits
 
 pub returns-in_err-logged-clause-taken : goal.returns-in_err-logged-clause-taken
 returns-in_err-logged-clause-taken c = λ records stands.
@@ -24,18 +22,13 @@ returns-in_err-logged-clause-taken c = λ records stands.
     let piece = c.args.piece.now in
     let at = c.in-Some.at in
     let first = c.in-Some.ensures in
-    let whole = sym (take-append-drop (at + 1) piece)
-    ∙ ap (λ (xs : List ℕ). xs ++ drop (at + 1) piece) (taken_with_feed piece at first.0 first.1) in
-    rw (p.1, p.2) (line_of_piece_refused c.args.self.now records piece (take at piece)
-    (drop (at + 1) piece) c.in_err-logged.field-0.0 stands
-    whole (front_is_one_line piece at first.0) c.in_err-logged.ensures.refused)
+    rw (p.1, p.2) (line_of_piece_refused stands piece (take at piece) (at + 1) (taken_with_feed piece at first.0 first.1) c.in_err-logged.field-0.0
+    (front_is_one_line piece at first.0) c.in_err-logged.ensures.refused)
 
 pub returns-clause-taken : goal.returns-clause-taken
 returns-clause-taken c = λ records stands.
     let piece = c.args.piece.now in
     let at = c.in-Some.at in
-    let first = c.in-Some.ensures in
     let e = c.in_ok-logged.ensures in
-    takes_line c.args.self.now c.end.new.self records piece (take at piece)
-    (record { logged = c.in_ok-logged.logged; taken = at + 1 }) stands e.behind e.none_begun
-    (taken_with_feed piece at first.0 first.1)
+    takes_line stands piece (take at piece) (at + 1) (taken_with_feed piece at c.in-Some.ensures.0 c.in-Some.ensures.1) c.end.new.self c.in_ok-logged.logged
+    e.behind e.none_begun
