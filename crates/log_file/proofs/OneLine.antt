@@ -17,7 +17,7 @@ use Rattle.log_record.proofs.Lines.{header_once, record_no_end, record_once}
 use Rattle.log_file.specs.declared.fault.FormatFault.{FormatFault}
 use Rattle.log_file.specs.declared.fault.FormatFault.TheVariants.{BadHeader, BadLine, OutOfRange, TooMany, CountDiffers, WrongCore}
 use Rattle.log_file.specs.Log.{IsLonger}
-use Rattle.log_file.specs.OneLine.{BodyHolds, LeastHeader, LeastBody}
+use Rattle.log_file.specs.OneLine.{BodyHolds, HeaderIs, LeastHeader, LeastBody}
 
 -- the numbers of a record are in range, or one of them isn't
 source_fits : (s : Source) → SourceFits s ⊎ (SourceFits s → ⊥)
@@ -106,7 +106,7 @@ module _ (core cores : ℕ) (l : List ℕ) where
         header_wrong (omega arith) (omega arith) (rw (a-is, b-is) at other)
 
   abbrev pub HeaderOutcome : Type 0
-  HeaderOutcome = ((format : Format) × (l ≡ header_text (format_number format) core cores)) ⊎ ((f : FormatFault) × LeastHeader core cores l f)
+  HeaderOutcome = ((format : Format) × HeaderIs format core cores l) ⊎ ((f : FormatFault) × LeastHeader core cores l f)
 
   in_range : (c n : ℕ) → ((c < n) × (n ≤ 64)) ⊎ ((c < n) × (n ≤ 64) → ⊥)
   in_range c n = grind arith
@@ -126,7 +126,7 @@ module _ (core cores : ℕ) (l : List ℕ) where
         | inr bad ↦ inr (OutOfRange, ((p.0.0, (p.0.1.0, (p.0.1.1, p.1, bad))), λ g q. grind arith))
         | inl fits ↦ elim (same p.0.1.0 p.0.1.1) [
           | inr other ↦ inr (WrongCore, header_wrong p.0.0 p.0.1.0 p.0.1.1 short p.1 fits.0 fits.1 other)
-          | inl both ↦ inl (p.0.0, rw (← both.0, ← both.1) p.1)
+          | inl both ↦ inl (p.0.0, (rw (← both.0, ← both.1) p.1, omega (arith, both.0, both.1, fits.0), omega (arith, both.1, fits.1)))
         ]
       ]
     ]

@@ -33,9 +33,9 @@ pub line_taken : (q : Stage) (old new : Progress) (line part : List ℕ) (r : Op
     → old.stage ≡ q → IsSound q old.core old.cores records part → old.count ≡ length records
     → BehindAt q old line r new
     → Taken q old line records (with_read records r) new
-line_taken stage.Header old new line part None records at sound count (format, is, new-is) = rw (new-is, is, sound.2) (
-  record { core_fits = sound.0; cores_fit = sound.1; few = omega arith; each_fits = tt },
-  count ∙ ap length sound.2,
+line_taken stage.Header old new line part None records at sound count (format, (is, lt, most), new-is) = rw (new-is, is, sound) (
+  record { core_fits = lt; cores_fit = most; few = omega arith; each_fits = tt },
+  count ∙ ap length sound,
   append-nil _,
 )
 line_taken (stage.Records format) old new line part None records at sound count (is, new-is) =

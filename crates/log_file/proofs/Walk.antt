@@ -1,6 +1,6 @@
 -- Every text is a log's spelling or has a first fault, which stays however the bytes go on, unless it is
 -- Truncated.
-use Rattle.std.proofs.Common.{◌≡◌, ◌≢◌, ℕ, zero, suc, ◌+◌, ◌<◌, ◌≤◌, ◌⊎◌, eqb, false, List, [], ◌∷◌, ◌++◌, length, Option, Some, None, refl, ap, arith, inl, inr, length-append, append_assoc, append-nil}
+use Rattle.std.proofs.Common.{◌≡◌, ◌≢◌, ℕ, zero, suc, ◌+◌, ◌<◌, ◌⊎◌, eqb, false, List, [], ◌∷◌, ◌++◌, length, Option, Some, None, refl, ap, arith, inl, inr, length-append, append_assoc, append-nil}
 use Rattle.std.proofs.lemmas.Bool.{cases_lt, cases_Bool, eqb-true}
 use Rattle.std.proofs.lemmas.List.Elements.{All-nil, All-cons}
 use Rattle.log_record.specs.declared.record.Record.{Record}
@@ -89,8 +89,8 @@ module _ (core cores : ℕ) where
         ])
   ]
 
-  answered : (bytes : List ℕ) → core < cores → cores ≤ 64 → Answered bytes
-  answered bytes lt few = walk (suc (length bytes)) stage.Header 0 [] bytes (omega arith) (lt, few, refl) refl
+  answered : (bytes : List ℕ) → Answered bytes
+  answered bytes = walk (suc (length bytes)) stage.Header 0 [] bytes (omega arith) refl refl
 
 -- ---- the laws
 
@@ -109,18 +109,18 @@ now : (core cores : ℕ) (bytes : List ℕ) (k : ℕ) (f : FormatFault) → IsSe
 now core cores bytes k f h = rw append-nil at (h [])
 
 -- a text without a fault spells a log
-pub faultless_spells : (core cores : ℕ) (bytes : List ℕ) → core < cores → cores ≤ 64 → HasNoFault core cores bytes
+pub faultless_spells : (core cores : ℕ) (bytes : List ℕ) → HasNoFault core cores bytes
     → (records : List Record) × Spells core cores bytes records
-faultless_spells core cores bytes lt few none = elim (answered core cores bytes lt few) [
+faultless_spells core cores bytes none = elim (answered core cores bytes) [
   | inl p ↦ p
   | inr (inl p) ↦ absurd (none p.0 p.1.0 (now core cores bytes p.0 p.1.0 p.1.1).holds)
   | inr (inr p) ↦ absurd (none p.0 Truncated p.1.holds)
 ]
 
 -- a first fault other than Truncated stays, however the bytes go on
-pub first_stays : (core cores : ℕ) (bytes more : List ℕ) (k : ℕ) (f : FormatFault) → core < cores → cores ≤ 64
+pub first_stays : (core cores : ℕ) (bytes more : List ℕ) (k : ℕ) (f : FormatFault)
     → IsFirstFault core cores bytes k f → f ≢ Truncated → IsFirstFault core cores (bytes ++ more) k f
-first_stays core cores bytes more k f lt few first ne = elim (answered core cores bytes lt few) [
+first_stays core cores bytes more k f first ne = elim (answered core cores bytes) [
   | inl p ↦ absurd (spelled_quiet core cores bytes p.0 p.1 k f first.holds)
   | inr (inl p) ↦ let same = first_once core cores bytes k p.0 f p.1.0 first (now core cores bytes p.0 p.1.0 p.1.1) in rw (same.0, same.1) (p.1.1 more)
   | inr (inr p) ↦ absurd (ne (first_once core cores bytes k p.0 f Truncated first p.1).1)

@@ -1,5 +1,5 @@
 -- Laws of the definitions.
-use Rattle.std.specs.Prelude.{◌≡◌, ◌≢◌, ◌<◌, ◌≤◌, ◌^◌, ℕ, List, ◌++◌, length, Ok}
+use Rattle.std.specs.Prelude.{◌≡◌, ◌≢◌, ◌<◌, ◌^◌, ℕ, List, ◌++◌, length, Ok}
 use Rattle.log_record.specs.declared.format.Format.{Format}
 use Rattle.log_record.specs.declared.record.Record.{Record}
 use Rattle.log_file.specs.declared.fault.FormatFault.{FormatFault}
@@ -16,7 +16,7 @@ SpelledHasNoFault =
 -- bytes without a fault spell a log, and one log only
 abbrev pub FaultlessSpellsOne : Type 0
 FaultlessSpellsOne =
-    (core cores : ℕ) (bytes : List ℕ) → core < cores → cores ≤ 64 → HasNoFault core cores bytes
+    (core cores : ℕ) (bytes : List ℕ) → HasNoFault core cores bytes
     → (records : List Record) × (Spells core cores bytes records)
     × ((others : List Record) → Spells core cores bytes others → others ≡ records)
 
@@ -29,7 +29,7 @@ NoSpellingBeginsAnother =
 -- a first fault other than Truncated is that of the whole, however the bytes go on
 abbrev pub FaultStays : Type 0
 FaultStays =
-    (core cores : ℕ) (bytes more : List ℕ) (k : ℕ) (f : FormatFault) → core < cores → cores ≤ 64
+    (core cores : ℕ) (bytes more : List ℕ) (k : ℕ) (f : FormatFault)
     → IsFirstFault core cores bytes k f → f ≢ Truncated → IsFirstFault core cores (bytes ++ more) k f
 
 -- no fault but Truncated holds of bytes that a reader of records took without a fault, and no log has more of them

@@ -3,7 +3,7 @@ use Rattle.std.specs.Prelude.{◌≡◌, ◌≢◌, ℕ, ◌<◌, ◌≤◌, ◌
 use Rattle.mem_op.specs.Limits.{operation_limit}
 use Rattle.log_record.specs.declared.format.Format.{Format}
 use Rattle.log_record.specs.declared.record.Record.{Record}
-use Rattle.log_record.specs.Line.{record_text, end_text, IsRecordShape, IsSomeHeader, IsEndShape, FitsIn, line_limit, limit_of}
+use Rattle.log_record.specs.Line.{format_number, header_text, record_text, end_text, IsRecordShape, IsSomeHeader, IsEndShape, FitsIn, line_limit, limit_of}
 use Rattle.log_file.specs.declared.fault.FormatFault.{FormatFault}
 use Rattle.log_file.specs.declared.fault.FormatFault.TheVariants.{BadHeader, BadLine, OutOfRange, TooMany, CountDiffers, TrailingBytes, Truncated, WrongCore}
 use Rattle.log_file.specs.Log.{IsLonger, IsHeaderOutOfRange, IsRecordOutOfRange, IsOtherHeader, number}
@@ -42,6 +42,10 @@ LeastHeader core cores line f = Least (HeaderHolds core cores line) f
 
 abbrev pub LeastBody : Format → ℕ → List ℕ → FormatFault → Type 0
 LeastBody format count line f = Least (BodyHolds format count line) f
+
+-- a whole first line is the header of this core of so many, which are in range
+abbrev pub HeaderIs : Format → ℕ → ℕ → List ℕ → Type 0
+HeaderIs format core cores line = (line ≡ header_text (format_number format) core cores) × (core < cores) × (cores ≤ 64)
 
 -- the record that a whole later line is in a log of this format, where it has no fault; else it is the end line
 abbrev pub BodyIs : Format → ℕ → List ℕ → Option Record → Type 0

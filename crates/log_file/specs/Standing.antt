@@ -3,7 +3,7 @@ use Rattle.std.specs.Prelude.{◌≡◌, ⊤, ℕ, ◌+◌, ◌<◌, ◌≤◌, 
 use Rattle.mem_op.specs.Limits.{operation_limit}
 use Rattle.log_record.specs.declared.format.Format.{Format}
 use Rattle.log_record.specs.declared.record.Record.{Record}
-use Rattle.log_record.specs.Line.{format_number, record_text, header_text, end_text, FitsIn, line_limit, limit_of}
+use Rattle.log_record.specs.Line.{record_text, end_text, FitsIn, line_limit, limit_of}
 use Rattle.log_file.specs.declared.fault.FormatFault.TheVariants.{BadHeader, BadLine, TrailingBytes}
 use Rattle.log_file.specs.declared.fault.LogFault.{LogFault}
 use Rattle.log_file.specs.declared.fault.LogFault.TheVariants.{At, OutOfMemory, Read}
@@ -14,7 +14,7 @@ use Rattle.log_file.specs.declared.line_reader.LineReader.{LineReader}
 use Rattle.log_file.specs.declared.line_reader.TakenLine.{TakenLine}
 use Rattle.log_file.specs.Feeding.{IsSettled}
 use Rattle.log_file.specs.Log.{IsLog, begun, text_of, spelling}
-use Rattle.log_file.specs.OneLine.{IsOneLine, LeastHeader, LeastBody}
+use Rattle.log_file.specs.OneLine.{HeaderIs, IsOneLine, LeastHeader, LeastBody}
 
 -- ---- one line
 
@@ -36,10 +36,8 @@ IsEnded stage.Header = ⊥
 IsEnded (stage.Records format) = ⊥
 IsEnded (stage.Ended format) = ⊤
 
--- numbers as those of a log are
+-- no more records than a log may have
 pub record IsInRange (p : Progress) : Type 0 where
-  pub core : p.core < p.cores
-  pub cores : p.cores ≤ 64
   pub count : p.count ≤ operation_limit
 
 -- of the same log
@@ -50,7 +48,7 @@ pub record SameLog (old new : Progress) : Type 0 where
 -- what a whole line is that isn't refused, and the progress after it
 abbrev pub BehindAt : Stage → Progress → List ℕ → Option Record → Progress → Type 0
 BehindAt stage.Header old line None new =
-    (format : Format) × (line ≡ header_text (format_number format) old.core old.cores) × (new ≡ record old { stage = stage.Records format })
+    (format : Format) × HeaderIs format old.core old.cores line × (new ≡ record old { stage = stage.Records format })
 BehindAt stage.Header old line (Some r) new = ⊥
 BehindAt (stage.Records format) old line None new =
     (line ≡ end_text old.count) × (new ≡ record old { stage = stage.Ended format })
@@ -103,7 +101,7 @@ abbrev pub read_text : LineReader → List Record → List ℕ
 read_text s records = whole_text s.progress.stage s.progress.core s.progress.cores records ++ s.begun.items
 
 abbrev pub IsSound : Stage → ℕ → ℕ → List Record → List ℕ → Type 0
-IsSound stage.Header core cores records line = (core < cores) × (cores ≤ 64) × (records ≡ [])
+IsSound stage.Header core cores records line = records ≡ []
 IsSound (stage.Records format) core cores records line = IsLog format core cores records
 IsSound (stage.Ended format) core cores records line = IsLog format core cores records × (line ≡ [])
 

@@ -45,8 +45,6 @@ fn begun_or<'a>(begun: &'a [u8], line: &'a [u8]) -> &'a [u8]
 impl LineReader {
     /// A reader of the log of core `core` of `cores`, at its beginning.
     pub(crate) fn new(core: u64, cores: u64) -> LineReader
-        requires core { core < cores }
-        requires cores { cores ≤ 64 }
         ensures core { result.progress.core ≡ core }
         ensures cores { result.progress.cores ≡ cores }
         ensures stands { Stands result [] }

@@ -32,8 +32,6 @@ impl Model for LogReader {
 impl LogReader {
     /// A reader of the log of this core of `cores`, which was fed nothing.
     pub fn new(alloc: Global, core: CoreId, cores: u64) -> LogReader
-        requires core { core < cores }
-        requires cores { cores ≤ 64 }
         ensures { result ≡ record { core = core; cores = cores; fed = Ok [] } }
     {
         LogReader {

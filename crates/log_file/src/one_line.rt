@@ -2,8 +2,7 @@
 
 ghost use Rattle.std.specs.Prelude.{◌≡◌, ◌<◌, ◌≤◌, MatchResult};
 ghost use Rattle.mem_op.specs.Limits.{operation_limit};
-ghost use Rattle.log_record.specs.Line.{format_number, header_text};
-ghost use Rattle.log_file.specs.OneLine.{LeastHeader, LeastBody, BodyIs};
+ghost use Rattle.log_file.specs.OneLine.{HeaderIs, LeastHeader, LeastBody, BodyIs};
 
 use super::fault::FormatFault;
 use log_record::{Format, LineFault, Record, read_end, read_header, read_line};
@@ -22,10 +21,8 @@ const CORE_LIMIT: u64 = 64;
 
 /// Looks at a whole first line: whether it is the header of core `core` of `cores`, and of which format.
 pub(crate) fn check_header(line: &[u8], core: u64, cores: u64) -> Result<Format, FormatFault>
-    requires core { core < cores }
-    requires cores { cores ≤ 64 }
     ensures { MatchResult result
-        (λ format. line.now ≡ header_text (format_number format) core cores)
+        (λ format. HeaderIs format core cores line.now)
         (λ fault. LeastHeader core cores line.now fault) }
 {
     if line.len() > HEADER_LIMIT {

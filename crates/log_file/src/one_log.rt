@@ -63,8 +63,6 @@ pub fn read_log<R: Threads + Sync, S: ByteSource>(
     cores: u64,
     workers: usize,
 ) -> Result<Vec<Record>, LogFault>
-    requires core { core < cores }
-    requires cores { cores ≤ 64 }
     // There are bytes, those that the source tells, of which this is the answer.
     ensures answer { (bytes : List ℕ) × Tells (S.remaining source.old) bytes
         × IsReadAnswer core cores bytes result }

@@ -18,8 +18,6 @@ pub fn read_pieces(
     core: CoreId,
     cores: u64,
 ) -> Result<Vec<Record>, LogFault>
-    requires core { core < cores }
-    requires cores { cores ≤ 64 }
     ensures { IsAnswer core cores (flat_map (λ piece. piece.items) pieces.now) result }
 {
     let mut reader = LogReader::new(alloc, core, cores);

@@ -76,8 +76,6 @@ impl Model for RecordReader {
 impl RecordReader {
     /// A reader of the log of this core of `cores`, which was fed nothing.
     pub fn new(core: CoreId, cores: u64) -> RecordReader
-        requires core { core < cores }
-        requires cores { cores ≤ 64 }
         ensures core { result.core ≡ core }
         ensures cores { result.cores ≡ cores }
         ensures none { HasAnswered result [] [] }
