@@ -12,7 +12,6 @@ use Rattle.log_file.specs.declared.fault.LogFault.TheVariants.{At, OutOfMemory, 
 use Rattle.log_file.specs.Answers.{IsAnswer, IsFaultOf, IsFaultOrMemory, IsFaultOrDevice, IsListAnswer}
 use Rattle.log_file.specs.Devices.{Tells}
 use Rattle.log_file.specs.Feeding.{Feeds, IsSettled}
-
 use Rattle.log_file.proofs.Devices.{told, tells_told, consumes_told, consumes_end}
 
 -- the answer of a reader that was fed `front` without a fault and then refused a piece

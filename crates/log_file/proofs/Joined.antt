@@ -27,6 +27,7 @@ length-core_entries c i (r ∷ log) = ap suc (length-core_entries c (suc i) log)
 records_again : (c i : ℕ) (log : List Record) → map (λ (e : Entry). e.logged) (core_entries c i log) ≡ log
 records_again c i [] = refl
 records_again c i (r ∷ log) = ap (λ (rs : List Record). r ∷ rs) (records_again c (suc i) log)
+
 -- the records of a log of a set, read back from its entries
 pub log_again : (logs : List (List Record)) (k : ℕ) (es : List Entry) → k < length logs → Some es ≡ option_map (λ (log : List Record). core_entries k 0 log) (slice_get logs k)
     → map (λ (e : Entry). e.logged) es ≡ get_or logs k []

@@ -1,10 +1,10 @@
 -- What the judge answers to the texts of a set of logs.
-use Rattle.std.specs.Prelude.{◌≡◌, ◌<◌, ℕ, ◌+◌, List, drop, length, Option, Some, None, Result, Ok, Err, IfSome}
+use Rattle.std.specs.Prelude.{◌≡◌, ◌<◌, ℕ, ◌+◌, List, drop, length, Option, Some, None, Result, Ok, Err}
 use Rattle.mem_op.specs.Consistency.{IsConsistent}
 use Rattle.log_record.specs.declared.record.Record.{Record}
 use Rattle.log_record.specs.Entries.{operations_of}
 use Rattle.core_program.specs.declared.instruction.Instruction.{Instruction}
-use Rattle.log_file.specs.Sets.{SpellSet, SpellBefore, IsFirstOfSet}
+use Rattle.log_file.specs.Sets.{SpellSet, SpellBefore, IsFirstOfSet, NoneFailed, ReaderFailed}
 use Rattle.verdict.specs.declared.answer.Verdict.{Verdict}
 use Rattle.verdict.specs.declared.answer.Verdict.TheVariants.{Yes, No}
 use Rattle.verdict.specs.declared.judge_fault.JudgeFault.{JudgeFault}
@@ -40,16 +40,25 @@ abbrev pub IsAnswerAgainst : Option (List (List Instruction)) → List (List ℕ
 IsAnswerAgainst None = IsAnswerTo
 IsAnswerAgainst (Some programs) = IsRunAnswerTo programs
 
--- the file at which the reading ended
-abbrev pub last_file : JudgeFault → Option ℕ
-last_file (Log file line fault) = Some file
-last_file (Read file) = Some file
-last_file (BadConfig count) = None
-last_file OutOfMemory = None
+-- The reading went no further than this file: the texts before it spell their logs, and the readers after it are as they
+-- were.
+abbrev pub StopsAt : {S : Type 0} → List (List ℕ) → List S → List S → ℕ → Type 0
+StopsAt texts old new file = SpellBefore texts file × (drop (file + 1) new ≡ drop (file + 1) old)
 
--- the readers after it are as they were
-abbrev pub AreLaterUnread : {S : Type 0} → JudgeFault → List S → List S → Type 0
-AreLaterUnread fault old new = IfSome (last_file fault) (λ file. drop (file + 1) new ≡ drop (file + 1) old)
+-- how far the readers were read before this fault: after a bad count they weren't, and lack of memory names no file
+abbrev pub IsReadUpTo : {S : Type 0} → List (List ℕ) → List S → List S → JudgeFault → Type 0
+IsReadUpTo texts old new (Log file line fault) = StopsAt texts old new file
+IsReadUpTo texts old new (Read file) = StopsAt texts old new file
+IsReadUpTo texts old new OutOfMemory = (file : ℕ) × StopsAt texts old new file
+IsReadUpTo texts old new (BadConfig count) = new ≡ old
+
+-- Where a failed read is answered, the reader of that file failed in this call; else none of the readers did.
+abbrev pub TellsFailures : {S T : Type 0} → (S → ℕ) → List S → List S → Result T JudgeFault → Type 0
+TellsFailures failed old new (Err (Read file)) = ReaderFailed failed old new file
+TellsFailures failed old new (Err (Log file line fault)) = NoneFailed failed old new
+TellsFailures failed old new (Err (BadConfig count)) = NoneFailed failed old new
+TellsFailures failed old new (Err OutOfMemory) = NoneFailed failed old new
+TellsFailures failed old new (Ok x) = NoneFailed failed old new
 
 -- the answer is the texts' alone: a verdict, or the fault of a log
 abbrev pub IsOfTexts : Result Verdict JudgeFault → Type 0

@@ -1,13 +1,13 @@
 //! The judge of a set of log files that keeps what its verdict stands on.
 
 ghost use Rattle.std.specs.Prelude.{◌≡◌, ◌↔◌, ℕ, List, length, IfErr, IfOk, IsErrOf, OnOk};
-ghost use Rattle.log_file.specs.Sets.{ReaderFailed, TellEach};
+ghost use Rattle.log_file.specs.Sets.{TellEach};
 ghost use Rattle.verdict.specs.CoreFaultsOf.{given};
-ghost use Rattle.verdict.specs.Counts.{AreAsMany, AreNotAsMany, IsBadCount, IsInRange, IsOutOfRange};
+ghost use Rattle.verdict.specs.Counts.{AreAsMany, AreNotAsMany, IsInRange, IsOutOfRange};
 ghost use Rattle.verdict.specs.Bases.{IsExaminedBy, verdict_in};
-ghost use Rattle.verdict.specs.Judgement.{AreLaterUnread, IsAnswerAgainst, IsYes, SpellConsistentSet, SpellFlatRunBy};
+ghost use Rattle.verdict.specs.Judgement.{IsAnswerAgainst, IsReadUpTo, IsYes, SpellConsistentSet, SpellFlatRunBy, TellsFailures};
 ghost use Rattle.verdict.specs.declared.judge_fault.Count.TheVariants.{Files, Workers, Programs};
-ghost use Rattle.verdict.specs.declared.judge_fault.JudgeFault.TheVariants.{BadConfig, Read};
+ghost use Rattle.verdict.specs.declared.judge_fault.JudgeFault.TheVariants.{BadConfig};
 
 use super::basis::Examined;
 use super::counts::{check_counts, check_programs};
@@ -35,12 +35,11 @@ fn examination<R: Threads + Sync, S: ByteSource, G: Gate + Sync>(
     ensures programs { IsErrOf result (BadConfig Programs)
         ↔ (IsInRange (length readers.old) × IsInRange workers
         × AreNotAsMany (length readers.old) (given programs.entry)) }
-    ensures unread { IfErr result (λ fault. IsBadCount fault → readers.new ≡ readers.old) }
-    ensures later { IfErr result (λ fault. AreLaterUnread fault readers.old readers.new) }
+    ensures later { (texts : List (List ℕ)) × TellEach S.remaining readers.old texts
+        × IfErr result (IsReadUpTo texts readers.old readers.new) }
     ensures exact { (texts : List (List ℕ)) × TellEach S.remaining readers.old texts
         × IsExaminedBy (given programs.entry) texts result }
-    ensures read { IfErr result (λ fault. (file : ℕ) → fault ≡ Read file
-        → ReaderFailed S.failed readers.old readers.new file) }
+    ensures read { TellsFailures S.failed readers.old readers.new result }
     ensures each { OnOk result (AreAsMany (length readers.old) (given programs.entry)) }
 {
     let files = readers.len();
@@ -64,24 +63,23 @@ pub fn examine<R: Threads + Sync, S: ByteSource, G: Gate + Sync>(
     workers: usize,
     gate: &G,
 ) -> Result<Examined, JudgeFault>
-    // 6 comes exactly where a count is out of range, and nothing is read then.
+    // 6 comes exactly where a count is out of range.
     ensures files { IsErrOf result (BadConfig Files) ↔ IsOutOfRange (length readers.old) }
     ensures workers { IsErrOf result (BadConfig Workers)
         ↔ (IsInRange (length readers.old) × IsOutOfRange workers) }
     ensures programs { IsErrOf result (BadConfig Programs)
         ↔ (IsInRange (length readers.old) × IsInRange workers
         × AreNotAsMany (length readers.old) (given programs.entry)) }
-    ensures unread { IfErr result (λ fault. IsBadCount fault → readers.new ≡ readers.old) }
-    // No file after the one that is refused is read.
-    ensures later { IfErr result (λ fault. AreLaterUnread fault readers.old readers.new) }
+    // No reader is read then, and after another refusal none after the file that it came at.
+    ensures later { (texts : List (List ℕ)) × TellEach S.remaining readers.old texts
+        × IfErr result (IsReadUpTo texts readers.old readers.new) }
 
     // The readers tell texts. The verdict is that of the judge on the set that these spell, and what it
     // stands on is that set's.
     ensures exact { (texts : List (List ℕ)) × TellEach S.remaining readers.old texts
         × IsAnswerAgainst (given programs.entry) texts (verdict_in result)
         × IsExaminedBy (given programs.entry) texts result }
-    ensures read { IfErr result (λ fault. (file : ℕ) → fault ≡ Read file
-        → ReaderFailed S.failed readers.old readers.new file) }
+    ensures read { TellsFailures S.failed readers.old readers.new result }
 
     // Where it is Yes, the set is sequentially consistent, and a whole run of the flat machine performs
     // just its operations where programs are given.

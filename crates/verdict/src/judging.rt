@@ -1,11 +1,11 @@
 //! The judge of a set of log files.
 
 ghost use Rattle.std.specs.Prelude.{◌≡◌, ◌↔◌, ℕ, List, length, IfErr, IfOk, IsErrOf};
-ghost use Rattle.log_file.specs.Sets.{ReaderFailed, TellEach};
-ghost use Rattle.verdict.specs.Counts.{IsBadCount, IsInRange, IsOutOfRange};
-ghost use Rattle.verdict.specs.Judgement.{AreLaterUnread, IsAnswerTo, IsYes, SpellConsistentSet};
+ghost use Rattle.log_file.specs.Sets.{TellEach};
+ghost use Rattle.verdict.specs.Counts.{IsInRange, IsOutOfRange};
+ghost use Rattle.verdict.specs.Judgement.{IsAnswerTo, IsReadUpTo, IsYes, SpellConsistentSet, TellsFailures};
 ghost use Rattle.verdict.specs.declared.judge_fault.Count.TheVariants.{Files, Workers, Programs};
-ghost use Rattle.verdict.specs.declared.judge_fault.JudgeFault.TheVariants.{BadConfig, Read};
+ghost use Rattle.verdict.specs.declared.judge_fault.JudgeFault.TheVariants.{BadConfig};
 
 use super::answer::Verdict;
 use super::examining::examine;
@@ -18,10 +18,9 @@ use std::thread::Threads;
 /// The verdict on the set of logs that the readers give, file `k` the log of core `k` of as many cores
 /// as there are files. A set that gets Yes is sequentially consistent, whoever made its logs.
 ///
-/// The calling thread reads the files in their order and stops at the first fault. Of what it has read of a
-/// file all workers but one parse a part, while that one takes the records of the part before. Then come the phases
-/// `Cores` and, where no core has a fault, `Addresses`, each cut into as many pieces as there are
-/// workers. Each worker enters the gate with the number of its piece, from 1; a single worker is the
+/// The calling thread reads the files in their order and stops at the first fault; workers parse the lines of
+/// what it has read. Then come the phases `Cores` and, where no core has a fault, `Addresses`, each cut into as
+/// many pieces as there are workers. Each worker enters the gate with the number of its piece, from 1; a single worker is the
 /// calling thread.
 ///
 /// Refusals: 6 BadConfig before any read, where the number of files, or else that of workers, isn't
@@ -34,21 +33,20 @@ pub fn judge<R: Threads + Sync, S: ByteSource, G: Gate + Sync>(
     workers: usize,
     gate: &G,
 ) -> Result<Verdict, JudgeFault>
-    // 6 comes exactly where a count is out of range, and nothing is read then.
+    // 6 comes exactly where a count is out of range.
     ensures files { IsErrOf result (BadConfig Files) ↔ IsOutOfRange (length readers.old) }
     ensures workers { IsErrOf result (BadConfig Workers)
         ↔ (IsInRange (length readers.old) × IsOutOfRange workers) }
     ensures programs { ¬ (IsErrOf result (BadConfig Programs)) }
-    ensures unread { IfErr result (λ fault. IsBadCount fault → readers.new ≡ readers.old) }
-    // No file after the one that is refused is read.
-    ensures later { IfErr result (λ fault. AreLaterUnread fault readers.old readers.new) }
+    // No reader is read then, and after another refusal none after the file that it came at.
+    ensures later { (texts : List (List ℕ)) × TellEach S.remaining readers.old texts
+        × IfErr result (IsReadUpTo texts readers.old readers.new) }
 
     // The readers tell texts, and the answer is the verdict on the set that these spell, or their
     // first fault. It names no number of workers.
     ensures exact { (texts : List (List ℕ)) × TellEach S.remaining readers.old texts
         × IsAnswerTo texts result }
-    ensures read { IfErr result (λ fault. (file : ℕ) → fault ≡ Read file
-        → ReaderFailed S.failed readers.old readers.new file) }
+    ensures read { TellsFailures S.failed readers.old readers.new result }
 
     // The readers tell texts, and where the answer is Yes, these spell a set whose operations have
     // one order that keeps each core's program order and in which each load answers the last

@@ -1,11 +1,12 @@
 //! The judge of a set of log files against the programs of its cores.
 
-ghost use Rattle.std.specs.Prelude.{◌≡◌, ◌≢◌, ◌↔◌, ℕ, List, length, IfErr, IfOk, IsErrOf};
-ghost use Rattle.log_file.specs.Sets.{ReaderFailed, TellEach};
-ghost use Rattle.verdict.specs.Counts.{IsBadCount, IsInRange, IsOutOfRange};
-ghost use Rattle.verdict.specs.Judgement.{AreLaterUnread, IsRunAnswerTo, IsYes, SpellConsistentSet, SpellFlatRun};
+ghost use Rattle.std.specs.Prelude.{◌≡◌, ◌≢◌, ◌↔◌, ℕ, List, All, length, IfErr, IfOk, IsErrOf};
+ghost use Rattle.core_program.specs.Shape.{IsProgram};
+ghost use Rattle.log_file.specs.Sets.{TellEach};
+ghost use Rattle.verdict.specs.Counts.{IsInRange, IsOutOfRange};
+ghost use Rattle.verdict.specs.Judgement.{IsReadUpTo, IsRunAnswerTo, IsYes, SpellConsistentSet, SpellFlatRun, TellsFailures};
 ghost use Rattle.verdict.specs.declared.judge_fault.Count.TheVariants.{Files, Workers, Programs};
-ghost use Rattle.verdict.specs.declared.judge_fault.JudgeFault.TheVariants.{BadConfig, Read};
+ghost use Rattle.verdict.specs.declared.judge_fault.JudgeFault.TheVariants.{BadConfig};
 
 use super::answer::Verdict;
 use super::examining::examine;
@@ -33,32 +34,35 @@ pub fn judge_run<R: Threads + Sync, S: ByteSource, G: Gate + Sync>(
     workers: usize,
     gate: &G,
 ) -> Result<Verdict, JudgeFault>
-    // 6 comes exactly where a count is out of range, and nothing is read then.
+    // 6 comes exactly where a count is out of range.
     ensures files { IsErrOf result (BadConfig Files) ↔ IsOutOfRange (length readers.old) }
     ensures workers { IsErrOf result (BadConfig Workers)
         ↔ (IsInRange (length readers.old) × IsOutOfRange workers) }
     ensures programs { IsErrOf result (BadConfig Programs)
         ↔ (IsInRange (length readers.old) × IsInRange workers
         × (length programs.now.programs ≢ length readers.old)) }
-    ensures unread { IfErr result (λ fault. IsBadCount fault → readers.new ≡ readers.old) }
-    // No file after the one that is refused is read.
-    ensures later { IfErr result (λ fault. AreLaterUnread fault readers.old readers.new) }
+    // No reader is read then, and after another refusal none after the file that it came at.
+    ensures later { (texts : List (List ℕ)) × TellEach S.remaining readers.old texts
+        × IfErr result (IsReadUpTo texts readers.old readers.new) }
 
     // The readers tell texts, and the answer is the verdict on the set that these spell, against the
     // programs, or their first fault. It names no number of workers.
     ensures exact { (texts : List (List ℕ)) × TellEach S.remaining readers.old texts
         × IsRunAnswerTo programs.now.programs texts result }
-    ensures read { IfErr result (λ fault. (file : ℕ) → fault ≡ Read file
-        → ReaderFailed S.failed readers.old readers.new file) }
+    ensures read { TellsFailures S.failed readers.old readers.new result }
 
     // Where the answer is Yes, the set that the texts spell is sequentially consistent.
     ensures sound { (texts : List (List ℕ)) × TellEach S.remaining readers.old texts
         × IfOk result (λ verdict. IsYes verdict → SpellConsistentSet texts) }
 
+    // The programs are programs, so a PROGRAM fault is where a log differs from what its program issues.
+    ensures are_programs { All IsProgram programs.now.programs }
+
     // And some whole run of the flat machine performs just its operations, each with its answer.
     ensures flat { (texts : List (List ℕ)) × TellEach S.remaining readers.old texts
         × IfOk result (λ verdict. IsYes verdict → SpellFlatRun programs.now.programs texts) }
 {
+    let _cores = programs.len();
     match examine(rt, alloc, Some(programs), readers, workers, gate) {
         Ok(examined) => Ok(examined.verdict),
         Err(fault) => Err(fault),
