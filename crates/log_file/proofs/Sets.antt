@@ -66,7 +66,7 @@ pub same_behind : {A : Type 0} (xs ys : List A) (i : ℕ) (x : A) → drop i xs 
 same_behind xs ys i x e =
     drop-set-lt (i + 1) xs i x (omega arith) ∙ sym (drop-drop 1 i xs) ∙ ap (drop 1) e ∙ drop-drop 1 i ys
 
-spelled_at : (k n : ℕ) (ts : List (List ℕ)) (logs : List (List Record)) (j : ℕ) → SpellFrom k n ts logs
+pub spelled_at : (k n : ℕ) (ts : List (List ℕ)) (logs : List (List Record)) (j : ℕ) → SpellFrom k n ts logs
     → j < length ts → (log : List Record) × Spells (k + j) n (get_or ts j []) log
 spelled_at k n [] logs j p lt = absurd (omega arith)
 spelled_at k n (t ∷ ts) [] j p lt = absurd p

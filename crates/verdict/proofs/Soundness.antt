@@ -1,21 +1,23 @@
 -- What an examination answers, and what its Yes says of the set that the texts spell.
-use Rattle.std.specs.Prelude.{◌≡◌, ℕ, suc, ◌+◌, List, [], ◌∷◌, length, map, refl, Option, None, Some, Result, Ok, Err, IfOk, IsErrAnd, OnOk}
-use Rattle.std.proofs.Common.{sym, subst, ◌∙◌, ap}
-use Rattle.std.proofs.lemmas.List.{append-nil}
+use Rattle.std.specs.Prelude.{◌≡◌, ℕ, suc, ◌+◌, List, [], ◌∷◌, length, map, refl, drop, Option, None, Some, Result, Ok, Err, IfErr, IfOk, IsErrAnd, OnOk}
+use Rattle.std.proofs.Common.{sym, subst, ◌∙◌, ap, arith, zero-add}
+use Rattle.std.proofs.lemmas.List.{append-nil, drop_all}
+use Rattle.std.proofs.lemmas.Slice.Zip.{AllZip-long}
 use Rattle.line_stamps.specs.Least.{least_of}
 use Rattle.log_record.specs.declared.record.Record.{Record}
 use Rattle.core_program.specs.declared.instruction.Instruction.{Instruction}
 use Rattle.core_check.specs.CoreFaults.{order_faults}
 use Rattle.core_check.specs.FaultOrder.{core_fault_cmp}
-use Rattle.log_file.specs.Sets.{SpellFrom, TellEach}
+use Rattle.log_file.specs.Sets.{SpellFrom, SpellSet, TellEach}
+use Rattle.log_file.proofs.Sets.{spelled_at}
 use Rattle.verdict.specs.declared.answer.Verdict.{Verdict}
 use Rattle.verdict.specs.declared.answer.Verdict.TheVariants.{Yes, No}
 use Rattle.verdict.specs.declared.basis.Examined.{Examined}
 use Rattle.verdict.specs.declared.judge_fault.JudgeFault.{JudgeFault}
-use Rattle.verdict.specs.declared.judge_fault.JudgeFault.TheVariants.{BadConfig}
+use Rattle.verdict.specs.declared.judge_fault.JudgeFault.TheVariants.{BadConfig, OutOfMemory}
 use Rattle.verdict.specs.Bases.{IsExaminedBy, verdict_in}
 use Rattle.verdict.specs.Counts.{AreAsMany, IsBadCount}
-use Rattle.verdict.specs.Judgement.{IsAnswerAgainst, IsAnswerBy, IsYes, SpellConsistentSet, SpellFlatRunBy}
+use Rattle.verdict.specs.Judgement.{IsAnswerAgainst, IsAnswerBy, IsReadUpTo, IsYes, SpellConsistentSet, SpellFlatRunBy}
 use Rattle.verdict.specs.VerdictOf.{verdict_of, verdict_by, verdict_with}
 use Rattle.verdict.proofs.Bridge.{yes_by_is_consistent, run_yes_runs_flat}
 use Rattle.verdict.proofs.Told.{told, each_tells}
@@ -74,3 +76,30 @@ examined_flat None texts many (Ok examined) known same h = λ h. tt
 examined_flat (Some programs) texts many (Ok examined) known same (logs, spelled, by) = λ h.
     let is = yes_count examined.verdict h in
     (logs, spelled, run_yes_runs_flat programs logs is.0 known.0 (known.1 ∙ same ∙ sym (as_many 0 (length texts) texts logs spelled)) (sym by.verdict ∙ is.1))
+
+-- ---- how far the readers are read
+
+-- after a bad count they aren't
+pub none_read : {S E : Type 0} (remaining : S → Option (List ℕ)) (readers : List S) (result : Result E JudgeFault) (fault : JudgeFault)
+    → IsErrAnd result (λ e. e ≡ fault) → IsBadCount fault → (texts : List (List ℕ)) × TellEach remaining readers texts × IfErr result (IsReadUpTo texts readers readers)
+none_read {E = E} remaining readers result fault same bad = (map (λ reader. told (remaining reader)) readers, each_tells remaining readers, here result same)
+  where
+    unread : (f : JudgeFault) → IsBadCount f → IsReadUpTo (map (λ reader. told (remaining reader)) readers) readers readers f
+    unread (BadConfig count) h = refl
+    unread f h = absurd h
+
+    here : (r : Result E JudgeFault) → IsErrAnd r (λ e. e ≡ fault) → IfErr r (IsReadUpTo (map (λ reader. told (remaining reader)) readers) readers readers)
+    here (Ok x) h = tt
+    here (Err e) h = unread e (subst IsBadCount (sym h) bad)
+
+-- where memory is refused after the logs were read, all are
+pub all_read : {S : Type 0} (remaining : S → Option (List ℕ)) (old new : List S) (texts : List (List ℕ)) (logs : List (List Record)) → length new ≡ length old
+    → TellEach remaining old texts → SpellSet texts logs → IsReadUpTo texts old new OutOfMemory
+all_read remaining old new texts logs len tell spell =
+    let many : length texts ≡ length old = AllZip-long _ old texts tell in (
+      length texts,
+      (
+        λ k lt. let log = spelled_at 0 (length texts) texts logs k spell lt in (log.0, rw (zero-add k) at log.1),
+        drop_all (length texts + 1) new (omega (arith, many, len)) ∙ sym (drop_all (length texts + 1) old (omega (arith, many))),
+      ),
+    )
