@@ -1,6 +1,5 @@
 pub mod ByAddress
 pub mod Collecting
-pub mod Meeting
 pub mod Pairs
 pub mod Pieces
 pub mod Sorting

@@ -1,7 +1,6 @@
 -- What a load or a swap should have read, and what it breaks where it read something else. Here "load" covers a
 -- swap's read and "store" its write.
-use Rattle.std.specs.Prelude.{ℕ, Bool, true, false, ◌&&◌, ◌==◌, if◌then◌else◌, List, Option, Some, None, filter}
-use Rattle.std.specs.List.{filter_map}
+use Rattle.std.specs.Prelude.{ℕ, Bool, true, false, ◌&&◌, ◌==◌, if◌then◌else◌, List, Option, Some, None, filter, filter_map}
 use Rattle.std.specs.Ordering.{is_lt, flip_args}
 use Rattle.mem_op.specs.declared.id.Source.{Source}
 use Rattle.mem_op.specs.declared.id.Source.TheVariants.{Init, Store as From}

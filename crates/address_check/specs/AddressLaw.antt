@@ -1,9 +1,6 @@
 -- The law of the check of addresses, which an `impl` cites.
-use Rattle.std.specs.Prelude.{◌≡◌, List, ◌++◌, refl}
-use Rattle.std.specs.List.{flat_map}
-use Rattle.std.proofs.Common.{subst, ◌∙◌, ap}
+use Rattle.std.proofs.Common.{◌≡◌, List, ◌++◌, Ordering, flat_map, refl, subst, ◌∙◌, ap}
 use Rattle.std.proofs.lemmas.List.Concat.{flat_map-append}
-use Rattle.std.specs.declared.cmp.Ordering.{Ordering}
 use Rattle.line_stamps.specs.KeyParts.{KeyParts}
 use Rattle.line_stamps.specs.Least.{lesser, least_of}
 use Rattle.std.specs.Cmp.{IsTotalOrder}

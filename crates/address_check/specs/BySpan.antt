@@ -1,6 +1,5 @@
 -- The address faults of a list of entries, by spans of addresses.
-use Rattle.std.specs.Prelude.{◌≡◌, ℕ, Bool, true, ◌&&◌, nat_le, nat_lt, List, Option, filter}
-use Rattle.std.specs.List.{filter_map, flat_map}
+use Rattle.std.specs.Prelude.{◌≡◌, ℕ, Bool, true, ◌&&◌, nat_le, nat_lt, List, Option, filter, filter_map, flat_map}
 use Rattle.line_stamps.specs.Least.{least_of}
 use Rattle.line_stamps.specs.Ordered.{In}
 use Rattle.log_record.specs.declared.record.Entry.{Entry}

@@ -6,4 +6,3 @@ pub mod FaultParts
 pub mod Groups
 pub mod Ids
 pub mod LastStores
-pub mod inner

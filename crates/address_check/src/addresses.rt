@@ -58,8 +58,7 @@ impl AddressIndex {
         ensures { IfOk result (λ fault. fault ≡ least_address_fault self.now) }
     {
         let spans = self.spans(alloc, workers)?;
-        let fault = fault_by_workers(rt, alloc, gate, Phase::Addresses, self, &spans, workers)?;
-        Ok(fault)
+        fault_by_workers(rt, alloc, gate, Phase::Addresses, self, &spans, workers)
     }
 }
 

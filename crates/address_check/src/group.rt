@@ -33,10 +33,11 @@ pub fn is_store(entry: &Entry) -> bool
 fn broken_rule(source: &Source, read: Word, right: Option<&Entry>) -> Option<AddressRule>
     ensures { result ≡ broken_rule source.now read (option_copied right.entry) }
 {
-    let (named, value) = match (source, right) {
-        (Source::Init, None) => (true, 0),
-        (Source::Store(id), Some(store)) => (*id == store.id(), store.value()),
-        _ => (false, 0),
+    let value = right.map_or(0, |store| store.value());
+    let named = match (source, right) {
+        (Source::Init, None) => true,
+        (Source::Store(id), Some(store)) => *id == store.id(),
+        _ => false,
     };
     if !named {
         Some(AddressRule::Source)
@@ -47,19 +48,6 @@ fn broken_rule(source: &Source, read: Word, right: Option<&Entry>) -> Option<Add
     }
 }
 
-/// The rule that an operation of this act breaks, where this is the store that it should have read.
-fn act_rule(entry: &Entry, act: &Act, right: Option<&Entry>) -> Option<AddressRule>
-    requires { act.now ≡ entry.now.logged.act }
-    ensures { fault_by entry.now result
-        ≡ act_fault entry.now.logged.act entry.now (option_copied right.entry) }
-{
-    match act {
-        Act::Load(source) => broken_rule(source, entry.value(), right),
-        Act::Store => None,
-        Act::Swap(source, read) => broken_rule(source, *read, right),
-    }
-}
-
 /// The rule that an operation of this act breaks, where this is the last store before it by address and then by key: its
 /// right store, if it is at the same address.
 fn entry_rule(entry: &Entry, act: &Act, last: Option<&Entry>) -> Option<AddressRule>
@@ -67,9 +55,11 @@ fn entry_rule(entry: &Entry, act: &Act, last: Option<&Entry>) -> Option<AddressR
     ensures { fault_by entry.now result
         ≡ act_fault entry.now.logged.act entry.now (at_its_address entry.now (option_copied last.entry)) }
 {
-    match last {
-        Some(store) if store.addr() == entry.addr() => act_rule(entry, act, last),
-        _ => act_rule(entry, act, None),
+    let right = last.filter(|store| store.addr() == entry.addr());
+    match act {
+        Act::Load(source) => broken_rule(source, entry.value(), right),
+        Act::Store => None,
+        Act::Swap(source, read) => broken_rule(source, *read, right),
     }
 }
 

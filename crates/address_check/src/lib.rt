@@ -9,7 +9,6 @@ mod group;
 mod index;
 mod local_check;
 mod span;
-mod spread;
 mod workers;
 
 pub use fault::{AddressFault, AddressRule};

@@ -1,8 +1,7 @@
 //! Workers that share a check, each with a piece of its items.
 
-ghost use Rattle.std.specs.Prelude.{◌≡◌, ◌<◌, ◌≤◌, ◌*◌, ℕ, Option, None, IfOk, length, fold, slice_index_or};
+ghost use Rattle.std.specs.Prelude.{◌≡◌, ◌<◌, ◌≤◌, ◌*◌, ℕ, Option, None, IfOk, length, take, drop, fold, slice_index_or};
 ghost use Rattle.line_stamps.specs.Least.{lesser};
-ghost use Rattle.address_check.specs.inner.Piece.{piece_of};
 
 use super::gate::{Gate, Phase};
 use super::local_check::{LocalCheck, lesser_fault};
@@ -19,15 +18,6 @@ fn least_fault<F: Ord + Copy>(found: &[Option<F>]) -> Option<F>
         .fold(None, |least, fault| lesser_fault(least, *fault))
 }
 
-/// The items of a piece.
-fn piece<T>(items: &[T], size: usize, number: usize) -> &[T]
-    ensures { result.now ≡ piece_of size items.now number }
-{
-    let start = number.saturating_mul(size).min(items.len());
-    let end = start.saturating_add(size).min(items.len());
-    &items[start..end]
-}
-
 /// Items that are cut into pieces, each of at most `size`, the first with number 0.
 #[derive(Drop)]
 struct Pieces<'a, C: LocalCheck> {
@@ -40,9 +30,11 @@ impl<'a, C: LocalCheck> Pieces<'a, C> {
     /// The fault of a piece.
     fn fault(&self, number: usize) -> Option<C::Fault>
         ensures { result ≡ C.fault_of self.now.check.now
-            (piece_of self.now.size self.now.items.now number) }
+            (take self.now.size (drop (number * self.now.size) self.now.items.now)) }
     {
-        self.check.fault(piece(self.items, self.size, number))
+        let start = number.saturating_mul(self.size).min(self.items.len());
+        let end = start.saturating_add(self.size).min(self.items.len());
+        self.check.fault(&self.items[start..end])
     }
 
     /// The fault of all items, from those of the pieces.
@@ -50,7 +42,7 @@ impl<'a, C: LocalCheck> Pieces<'a, C> {
         requires cover { length self.now.items.now ≤ length found.now * self.now.size }
         requires each { (k : ℕ) (d : Option C.Fault) → k < length found.now →
             slice_index_or found.now k d
-            ≡ C.fault_of self.now.check.now (piece_of self.now.size self.now.items.now k) }
+            ≡ C.fault_of self.now.check.now (take self.now.size (drop (k * self.now.size) self.now.items.now)) }
         ensures { result ≡ C.fault_of self.now.check.now self.now.items.now }
     {
         least_fault(found)
@@ -85,7 +77,7 @@ pub fn fault_by_workers<R: Threads + Sync, G: Gate + Sync, C: LocalCheck + Sync>
         &|i: usize| -> Option<C::Fault>
             requires { i < 64 }
             ensures { result ≡ C.fault_of pieces.entry.check.now
-                (piece_of pieces.entry.size pieces.entry.items.now i) }
+                (take pieces.entry.size (drop (i * pieces.entry.size) pieces.entry.items.now)) }
         {
             gate.enter(phase, i + 1);
             pieces.fault(i)

@@ -26,7 +26,7 @@ fn index(
     second: Vec<Record>,
 ) -> Result<AddressIndex, Fail> {
     assert!(rt; first.len() <= 1_048_576 && second.len() <= 1_048_576);
-    Ok(AddressIndex::build(rt, alloc, vec![in alloc; first, second]?)?)
+    Ok(AddressIndex::build(rt, alloc, &[first, second])?)
 }
 
 /// The cores and indices of some entries.

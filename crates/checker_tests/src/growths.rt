@@ -129,7 +129,7 @@ fn indexed(
 ) -> Result<(usize, bool), LogFault> {
     let all = read_both(rt, alloc, logs)?;
     assert!(rt; all.iter().all(|log| log.len() <= 1_048_576) && all.len() <= 64);
-    let index = AddressIndex::build(rt, alloc, all)?;
+    let index = AddressIndex::build(rt, alloc, &all)?;
     let fault = group_fault(index.group(Addr::new(0).unwrap()));
     Ok((index.all().len(), fault.is_some()))
 }

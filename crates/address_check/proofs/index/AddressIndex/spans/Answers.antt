@@ -1,5 +1,5 @@
 -- The span up to a cut, and the one up to the last address.
-use Rattle.std.proofs.Common.{◌≡◌, ◌+◌, ◌-◌, get_or, length}
+use Rattle.std.proofs.Common.{◌+◌}
 use Rattle.address_check.proofs.ByAddress.{HaveBelow, have_more, have_all}
 use Rattle.address_check.proofs.Window.{addresses_rise}
 use Rattle.address_check.proofs.index.AddressIndex.spans.Goals as goal
@@ -15,7 +15,5 @@ pub returns : goal.returns
 returns c =
     let es = c.args.self.now in
     let last = c.in-Some.last.now in
-    let up = addresses_rise es c.all-entries.ensures.ascends in
     let more : HaveBelow (last.logged.addr + 1) c.push-2.new.self.items = rw (c.in_ok-push-2.ensures.items, c.get-end-2.ensures.value, c.addr-2.ensures) (have_more c.loop-number.spans.items c.loop-number.start (last.logged.addr + 1) c.loop-number.invariant) in
-    let at : last ≡ get_or es (length es - 1) last = rw c.all-entries.ensures.value at c.in-Some.ensures.item.1 in
-    have_all es c.push-2.new.self.items last up at more
+    have_all es c.push-2.new.self.items last (addresses_rise es c.all-entries.ensures.ascends) (rw c.all-entries.ensures.value at c.in-Some.ensures.item.1) more
