@@ -1,5 +1,5 @@
 -- What an examination answers, and what its Yes says of the set that the texts spell.
-use Rattle.std.specs.Prelude.{◌≡◌, ℕ, suc, ◌+◌, List, [], ◌∷◌, length, map, refl, drop, Option, None, Some, Result, Ok, Err, IfErr, IfOk, IsErrAnd, OnOk}
+use Rattle.std.specs.Prelude.{◌≡◌, ℕ, suc, ◌+◌, List, [], ◌∷◌, length, map, refl, Option, None, Some, Result, Ok, Err, IfErr, IfOk, IsErrAnd, OnOk}
 use Rattle.std.proofs.Common.{sym, subst, ◌∙◌, ap, arith, zero-add}
 use Rattle.std.proofs.lemmas.List.{append-nil, drop_all}
 use Rattle.std.proofs.lemmas.Slice.Zip.{AllZip-long}
