@@ -25,16 +25,14 @@ pub fn write_log<W: ByteSink>(
     cores: u64,
     records: &[Record],
 ) -> Result<(), LogWriteFault>
-    requires core { core < cores }
-    requires cores { cores ≤ 64 }
+    requires core { (core < cores) × (cores ≤ 64) }
     requires few { length records.now ≤ operation_limit }
     // 15 comes exactly where a log of this format may not have one of the records, before any byte.
     ensures swap { IsErrOf result LogWriteFault.SwapInFormatOne ↔ ¬ HasEach format records.now }
     ensures untouched { IsErrOf result LogWriteFault.SwapInFormatOne → sink.new ≡ sink.old }
     // What is written spells a log, the one of these records.
-    ensures log { OnOk result (IsLog format core cores records.now) }
-    ensures written { OnOk result
-        (Appends (W.contents sink.old) (W.contents sink.new) (spelling format core cores records.now)) }
+    ensures written { OnOk result (IsLog format core cores records.now
+        × Appends (W.contents sink.old) (W.contents sink.new) (spelling format core cores records.now)) }
     ensures begun { (n : ℕ) × (n ≤ length (spelling format core cores records.now))
         × Appends (W.contents sink.old) (W.contents sink.new)
         (take n (spelling format core cores records.now)) }
@@ -66,8 +64,7 @@ fn write_lines<W: ByteSink>(
     cores: u64,
     records: &[Record],
 ) -> Result<(), WriteFault>
-    requires core { core < cores }
-    requires cores { cores ≤ 64 }
+    requires core { (core < cores) × (cores ≤ 64) }
     requires few { length records.now ≤ operation_limit }
     requires each { HasEach format records.now }
     ensures log { OnOk result (IsLog format core cores records.now) }
