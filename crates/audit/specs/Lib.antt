@@ -1,4 +1,5 @@
 pub mod Events
+pub mod Faults
 pub mod Lists
 pub mod Merges
 pub mod Pairs

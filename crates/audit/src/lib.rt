@@ -10,9 +10,11 @@ mod lists;
 mod machine_fault;
 mod merging;
 mod pairs;
+mod run_fault;
 mod settling;
 
 pub use auditing::audit;
 pub use fault::AuditFault;
 pub use machine_fault::{Cause, MachineFault, RunEnd};
+pub use run_fault::RunFault;
 pub use settling::settle;

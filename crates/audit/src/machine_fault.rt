@@ -4,10 +4,14 @@ ghost use Rattle.std.specs.Prelude.{◌≡◌, ◌⊎◌, []};
 ghost use Rattle.audit.specs.Runs.{IsUnitLog, kept_log};
 
 use super::fault::AuditFault;
+use super::run_fault::RunFault;
 use core_unit::{CoreUnit, UnitFault};
 use log_record::Record;
 use manager_slice::{ManagerSlice, SliceFault};
 use mem_op::CoreId;
+use std::fmt;
+use std::fmt::{Debug, Display};
+use thiserror::Error;
 
 /// Why a core of a run stopped, or the run isn't accepted.
 #[derive(Clone, Copy, Debug, PartialEq, Eq)]
@@ -38,7 +42,7 @@ pub struct RunEnd {
 }
 
 /// Why a run of threads isn't ended, with the units that its threads gave back.
-#[derive(Drop)]
+#[derive(Drop, Error)]
 pub struct MachineFault {
     /// The core that the fault is of; of 33 its core.
     pub core: usize,
@@ -62,5 +66,26 @@ impl MachineFault {
         }
         unit.replays();
         unit.log()
+    }
+}
+
+// The units, which hold whole programs, caches and logs, aren't shown.
+impl Debug for MachineFault {
+    fn fmt<W: fmt::Write>(&self, f: &mut fmt::Formatter<W>) -> fmt::Result {
+        f.debug_struct("MachineFault")
+            .field("core", &self.core)
+            .field("cause", &self.cause)
+            .finish_non_exhaustive()
+    }
+}
+
+impl Display for MachineFault {
+    ghost use Rattle.std.specs.Prelude.{Some};
+    ghost use Rattle.audit.specs.Faults.{fault_text};
+
+    ghost output = { λ fault. Some (fault_text fault.core fault.cause) };
+
+    fn fmt<W: fmt::Write>(&self, f: &mut fmt::Formatter<W>) -> fmt::Result {
+        write!(f, "{}", RunFault::of(self))
     }
 }

@@ -1,6 +1,6 @@
 //! The recalls that wait for a core.
 
-ghost use Rattle.std.specs.Prelude.{◌≡◌, ◌≤◌, IfErr};
+ghost use Rattle.std.specs.Prelude.{◌≡◌, max, IfOk, IfErr};
 
 use crossbeam_queue::ArrayQueue;
 use line_stamps::Recall;
@@ -15,12 +15,14 @@ pub struct Inbox {
 }
 
 impl Inbox {
-    /// An empty inbox, for at most this many recalls; the caller owes room for one at least. 10 OutOfMemory alone is refused.
+    ghost use Rattle.inbox.specs.Capacity.{capacity_of};
+
+    /// An empty inbox, for at most this many recalls; a capacity of 0 counts as 1. 10 OutOfMemory alone is refused.
     pub fn new(alloc: Global, capacity: usize) -> Result<Inbox, AllocError>
-        requires { 1 ≤ capacity }
+        ensures { IfOk result (λ inbox. capacity_of inbox ≡ max 1 capacity) }
     {
         Ok(Inbox {
-            queue: ArrayQueue::new(alloc, capacity)?,
+            queue: ArrayQueue::new(alloc, capacity.max(1))?,
         })
     }
 

@@ -1,2 +1,3 @@
+mod Giving
 mod Judged
 mod Kept

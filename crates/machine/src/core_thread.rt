@@ -1,7 +1,9 @@
 //! What the thread of a core does.
 
-ghost use Rattle.std.specs.Prelude.{◌≡◌};
+ghost use Rattle.std.specs.Prelude.{◌≡◌, None, IfOk, IsOk, IsSome, OnOk};
 ghost use Rattle.core_unit.specs.Parts.{SameUnit};
+ghost use Rattle.machine.specs.declared.core_thread.Turned.TheVariants.{Performed};
+ghost use Rattle.machine.specs.inner.Giving.{HasGivenAll, HasTaken};
 
 use super::ends::Ended;
 use super::gate::StartGate;
@@ -16,7 +18,7 @@ use std::sync::Wait;
 use std::thread;
 
 /// A core that is answered Busy looks into its inbox so often before it asks again, so that the owner of the line finds the lock of
-/// the slice free.
+/// the slice free; after a recall it asks at once.
 const LOOKS: u32 = 64;
 
 /// After as many turns for an operation a core that is answered Busy lets other threads have its processor, since the owner of the
@@ -61,7 +63,8 @@ fn run_core<T: Port + Drop, P: Pace, R: Wait>(
     inboxes: &[Inbox],
     pace: &P,
 ) -> Ended
-    ensures { SameUnit unit result.unit }
+    ensures same { SameUnit unit result.unit }
+    ensures given { result.fault ≡ None → unit.hand ≡ None → HasGivenAll result.unit }
 {
     let mut unit = unit;
     let mut port = port;
@@ -81,7 +84,8 @@ fn run_program<T: Port, P: Pace, R: Wait>(
     inboxes: &[Inbox],
     pace: &P,
 ) -> Result<(), Cause>
-    ensures { SameUnit unit.old unit.new }
+    ensures same { SameUnit unit.old unit.new }
+    ensures free { OnOk result (unit.old.hand ≡ None → unit.new.hand ≡ None) }
 {
     // Jumps only skip, so there are at most as many operations as instructions.
     let most = unit.program().instructions().len();
@@ -100,7 +104,7 @@ fn has_ended(unit: &CoreUnit) -> bool {
 }
 
 // Makes turns until one more operation is performed: 31 where the pace says Stop, 30 where as many turns as the configuration
-// says bring none. Before a turn a recall is answered, but where the turn before it filled a line.
+// says bring none. Between two turns it takes one recall at most, and none after a turn that filled a line.
 fn perform<T: Port, P: Pace, R: Wait>(
     rt: &R,
     unit: &mut CoreUnit,
@@ -108,62 +112,69 @@ fn perform<T: Port, P: Pace, R: Wait>(
     inboxes: &[Inbox],
     pace: &P,
 ) -> Result<(), Cause>
-    ensures { SameUnit unit.old unit.new }
+    ensures same { SameUnit unit.old unit.new }
+    ensures free { OnOk result (unit.new.hand ≡ None) }
 {
-    let mut before = Turned::Waits;
+    // Whether it looks into its inbox before the next turn.
+    let mut looks = true;
     for turn in 0..unit.config().turns() {
         if pace.before(unit.core(), unit.log().len(), turn) == Go::Stop {
             return Err(Cause::Stopped);
         }
-        if before != Turned::Filled {
+        if looks {
             answer_recall(rt, unit, port, inboxes)?;
         }
-        before = make_turn(rt, unit, port, inboxes)?;
-        if before == Turned::Performed {
-            return Ok(());
-        }
-        if before == Turned::Refused {
-            stand_back(rt, unit, port, inboxes)?;
-            if turn % PATIENCE == PATIENCE - 1 {
-                thread::yield_now();
+        match make_turn(rt, unit, port, inboxes)? {
+            Turned::Performed => return Ok(()),
+            Turned::Filled => looks = false,
+            Turned::Waits => looks = true,
+            Turned::Refused => {
+                looks = !stand_back(rt, unit, port, inboxes)?;
+                if turn % PATIENCE == PATIENCE - 1 {
+                    thread::yield_now();
+                }
             }
         }
     }
     Err(Cause::GaveUp)
 }
 
-// Asks nothing for a while. Recalls are answered meanwhile, since two cores may wait for each other's lines.
+// Asks nothing for a while, or until a recall is answered, since two cores may wait for each other's lines. Whether one was: it is
+// the one before the next turn.
 fn stand_back<T: Port, R: Wait>(
     rt: &R,
     unit: &mut CoreUnit,
     port: &mut T,
     inboxes: &[Inbox],
-) -> Result<(), Cause>
+) -> Result<bool, Cause>
     ensures { SameUnit unit.old unit.new }
 {
     for _ in 0..LOOKS {
         spin_loop();
-        answer_recall(rt, unit, port, inboxes)?;
+        if answer_recall(rt, unit, port, inboxes)? {
+            return Ok(true);
+        }
     }
-    Ok(())
+    Ok(false)
 }
 
-// Takes a recall from the core's inbox, if one waits there, and gives its line back.
+// Takes a recall from the core's inbox, if one waits there, and gives its line back. Whether one waited.
 fn answer_recall<T: Port, R: Wait>(
     rt: &R,
     unit: &mut CoreUnit,
     port: &mut T,
     inboxes: &[Inbox],
-) -> Result<(), Cause>
+) -> Result<bool, Cause>
     ensures { SameUnit unit.old unit.new }
 {
     let Some(own) = inboxes.get(unit.core().get() as usize) else {
-        return Ok(());
+        return Ok(false);
     };
-    match own.poll(rt) {
-        Some(recall) => give_back(unit, port, &recall),
-        None => Ok(()),
-    }
+    let Some(recall) = own.poll(rt) else {
+        return Ok(false);
+    };
+    give_back(unit, port, &recall)?;
+    Ok(true)
 }
 
 // Gives the line back that a recall asks for, where the core has it as Exclusive.
@@ -187,7 +198,8 @@ fn make_turn<T: Port, R: Wait>(
     port: &mut T,
     inboxes: &[Inbox],
 ) -> Result<Turned, Cause>
-    ensures { SameUnit unit.old unit.new }
+    ensures same { SameUnit unit.old unit.new }
+    ensures free { IfOk result (λ turned. turned ≡ Performed → unit.new.hand ≡ None) }
 {
     let message = match unit.turn() {
         Ok(Outcome::Performed(_)) => return Ok(Turned::Performed),
@@ -214,7 +226,8 @@ fn offer<R: Wait>(rt: &R, inboxes: &[Inbox], recall: Recall) {
 
 // Has the message in hand served, and takes the reply.
 fn exchange<T: Port>(unit: &mut CoreUnit, port: &mut T, message: &Message) -> Result<Reply, Cause>
-    ensures { SameUnit unit.old unit.new }
+    ensures same { SameUnit unit.old unit.new }
+    ensures taken { IfOk result (λ reply. HasTaken unit.old reply unit.new) }
 {
     let reply = match port.serve(unit.core(), message) {
         Ok(reply) => reply,
@@ -228,12 +241,11 @@ fn exchange<T: Port>(unit: &mut CoreUnit, port: &mut T, message: &Message) -> Re
 
 // Gives the core's Exclusive lines back, in ascending order of their addresses. Does nothing while a message is in hand.
 fn give_lines_back<T: Port>(unit: &mut CoreUnit, port: &mut T) -> Result<(), Cause>
-    ensures { SameUnit unit.old unit.new }
+    ensures same { SameUnit unit.old unit.new }
+    ensures given { unit.old.hand ≡ None → OnOk result (HasGivenAll unit.new) }
+    ensures barred { IsSome unit.old.hand → IsOk result × (unit.new ≡ unit.old) }
 {
-    for _ in 0..unit.config().cache_lines() {
-        let Some(addr) = unit.next_exclusive() else {
-            break;
-        };
+    while let Some(addr) = unit.next_exclusive() {
         match unit.evict(addr) {
             Ok(Outcome::Gave(message)) => {
                 exchange(unit, port, &message)?;

@@ -3,11 +3,10 @@
 
 mod core_thread;
 mod ends;
-mod fault;
 mod gate;
 mod pace;
 mod running;
 
-pub use fault::RunFault;
+pub use audit::{AuditFault, Cause, MachineFault, RunEnd, RunFault, audit};
 pub use pace::{Go, Pace};
 pub use running::run_threads;

@@ -1,5 +1,5 @@
 -- What rounds do is a run of the machine.
-use Rattle.std.proofs.Common.{arith, true, ◌≡◌, ℕ, List, [], ◌∷◌, ◌++◌, append_assoc, append-nil, refl, sym, ap, subst, ◌∙◌}
+use Rattle.std.proofs.Common.{arith, true, ◌≡◌, ℕ, List, [], ◌∷◌, ◌++◌, refl, sym, ap, subst, ◌∙◌}
 use Rattle.std.specs.Prelude.{Option, Some, None, option_and_then}
 use Rattle.log_record.specs.declared.record.Record.{Record}
 use Rattle.lease_rule.specs.ConfigParts.{ConfigParts}

@@ -15,14 +15,28 @@ use core_program::ProgramSet;
 use lease_rule::Config;
 use machine_laws::verdicts::{ended_runs_get_yes, runs_get_yes};
 use std::alloc::Global;
+use std::fmt;
+use std::fmt::Display;
+use thiserror::Error;
 
 /// Which event of a run is refused, counted from 0, and why.
-#[derive(Clone, Copy, Debug, PartialEq, Eq)]
+#[derive(Clone, Copy, Debug, PartialEq, Eq, Error)]
 pub struct RunFault {
     /// The index of the event.
     pub at: usize,
     /// Why it is refused.
     pub fault: CoreFault,
+}
+
+impl Display for RunFault {
+    ghost use Rattle.std.specs.Prelude.{Some};
+    ghost use Rattle.tardis_core.specs.RunFaults.{fault_text};
+
+    ghost output = { λ fault. Some (fault_text fault) };
+
+    fn fmt<W: fmt::Write>(&self, f: &mut fmt::Formatter<W>) -> fmt::Result {
+        write!(f, "event {}: {}", self.at, self.fault)
+    }
 }
 
 /// Runs the machine from its start over these events. Where one of them is refused, its index and the

@@ -30,10 +30,21 @@ impl Display for RoundCause {
 }
 
 /// Whose event or operation it is that isn't ended, and why.
-#[derive(Clone, Copy, Debug, PartialEq, Eq)]
+#[derive(Clone, Copy, Debug, PartialEq, Eq, Error)]
 pub struct RoundFault {
     /// The core whose event is refused, or that gave up.
     pub core: CoreId,
     /// Why.
     pub fault: RoundCause,
+}
+
+impl Display for RoundFault {
+    ghost use Rattle.std.specs.Prelude.{Some};
+    ghost use Rattle.tardis_core.specs.RoundFaults.{fault_text};
+
+    ghost output = { λ fault. Some (fault_text fault) };
+
+    fn fmt<W: fmt::Write>(&self, f: &mut fmt::Formatter<W>) -> fmt::Result {
+        write!(f, "core {}: {}", self.core.get(), self.fault)
+    }
 }

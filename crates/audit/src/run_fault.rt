@@ -2,7 +2,7 @@
 
 ghost use Rattle.std.specs.Prelude.{◌≡◌};
 
-use audit::{Cause, MachineFault};
+use super::machine_fault::{Cause, MachineFault};
 use std::fmt;
 use std::fmt::Display;
 use thiserror::Error;
@@ -31,7 +31,7 @@ impl RunFault {
 
 impl Display for RunFault {
     ghost use Rattle.std.specs.Prelude.{Some};
-    ghost use Rattle.machine.specs.Faults.{fault_text};
+    ghost use Rattle.audit.specs.Faults.{fault_text};
 
     ghost output = { λ fault. Some (fault_text fault.core fault.cause) };
 
@@ -40,11 +40,7 @@ impl Display for RunFault {
             Cause::GaveUp => write!(f, "core {}: 30 GaveUp", self.core),
             Cause::Stopped => write!(f, "core {}: 31 Stopped", self.core),
             Cause::Spawn => write!(f, "core {}: 32 Spawn", self.core),
-            Cause::Audit(fault) => write!(
-                f,
-                "core {} slice {} place {}: 33 Audit",
-                fault.core, fault.slice, fault.place
-            ),
+            Cause::Audit(fault) => write!(f, "{fault}"),
             Cause::Unit(fault) => write!(f, "core {}: {fault}", self.core),
             Cause::Slice(fault) => write!(f, "core {}: {fault}", self.core),
             Cause::OutOfMemory => f.write_str("10 OutOfMemory"),
