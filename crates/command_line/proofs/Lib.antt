@@ -1,4 +1,6 @@
 mod Local
+mod Numbers
 mod Reading
 mod Rules
 mod Subcommands
+mod Values

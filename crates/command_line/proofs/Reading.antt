@@ -8,7 +8,7 @@ use Rattle.clap.specs.Matches.{ReadsOne}
 use Rattle.clap.specs.Words.{Text, kind_of}
 use Rattle.clap.specs.declared.error.Error.{Error}
 use Rattle.clap.specs.declared.error.kind.ErrorKind.TheVariants as kind
-use Rattle.command_line.specs.Asking.{IsNumberOf, IsRefusalOf, texts}
+use Rattle.command_line.specs.Asking.{IsNumber, IsNumberOf, IsRefusalOf, texts}
 use Rattle.command_line.specs.Grammar.{tardis}
 use Rattle.command_line.specs.declared.refusal.Refusal.{Refusal}
 use Rattle.command_line.specs.declared.refusal.Refusal.TheVariants.{Usage, OutOfMemory}
@@ -24,14 +24,15 @@ refused words kinds error (Usage text) is (inr among) memory = λ none. subst (I
 
 -- the text of a number, read
 pub numbered : {E : Type 0} (gives : List ℕ → Result ℕ E → Type 0) → ((t : List ℕ) (x : Result ℕ E) → gives t x → ParsesUnsigned 64 10 t x)
-    → (o : Option Text) (r : Option ℕ) → (o ≡ None → r ≡ None) → ((t : Text) → o ≡ Some t → ReadsOne gives t r) → IsNumberOf o r
-numbered gives parses None r none some = none refl
-numbered gives parses (Some t) None none some =
+    → (o : Option Text) (r : Option ℕ) → (o ≡ None → r ≡ None) → ((t : Text) → o ≡ Some t → ReadsOne gives t r) → ((t : Text) → o ≡ Some t → IsNumber t)
+    → IsNumberOf o r
+numbered gives parses None r none some is = none refl
+numbered gives parses (Some t) None none some is =
     let failed = some t refl in
-    inr (parses t (Err failed.0) failed.1, refl)
-numbered gives parses (Some t) (Some n) none some =
+    absurd (parses t (Err failed.0) failed.1 (is t refl))
+numbered gives parses (Some t) (Some n) none some is =
     let parsed = parses t (Ok n) (some t refl) in
-    inl (parsed.0, ap (λ (k : ℕ). Some k) parsed.1)
+    (parsed.0, ap (λ (k : ℕ). Some k) parsed.1)
 
 -- the texts of what there is, or none
 pub texts_or_none : (found : Option (Bor (List (Bor Text)))) (none : Bor (List (Bor Text))) → none.now ≡ []

@@ -4,14 +4,15 @@ use Rattle.std.specs.Prelude.{codes, find, fold, option_map}
 use Rattle.std.specs.Str.{bytes_eq}
 use Rattle.std.proofs.lemmas.Bool.{cases_Bool}
 use Rattle.std.proofs.lemmas.Slice.Eq.{bytes_eq-Decides}
-use Rattle.clap.specs.Faults.{built_fault, fault_of, level_fault, other_fault, step_fault, turn_fault, walk_fault, word_fault}
+use Rattle.clap.specs.Faults.{built_fault, fault_of, is_simple_and_free, level_fault, other_fault, step_fault, turn_fault, walk_fault, word_fault}
 use Rattle.clap.specs.Kinds.{Kinds, or_else}
 use Rattle.clap.specs.Lexer.{long_of, short_of}
 use Rattle.clap.specs.Simple.{App, Shape, argument_words, built, entered, label_of, names_of, rows_at}
 use Rattle.clap.specs.Walk.{Held, Names, Outcome, Row, Rule, Step, Text, Waiting, Walk, after_flag, after_step, answers_to, arg_by_index, bundle, done, idle, long_or_other, next, nothing_held, option, plain, plain_word, positional, refused, short_or_plain, stop_after, subcommand, subcommand_met, subcommand_or_other, to_positional, trailing, value, waits, walk_from, walked, walked_from, word_met}
-use Rattle.clap.specs.Words.{HasMatchesOf, is_simple, subcommand_of, subcommand_rows_of}
+use Rattle.clap.specs.Words.{HasMatchesOf, is_simple, subcommand_name_of, subcommand_of, subcommand_rows_of}
 use Rattle.clap.specs.declared.error.kind.ErrorKind.TheVariants as kind
 use Rattle.clap.specs.declared.parser.matches.ArgMatches.{ArgMatches}
+use Rattle.command_line.specs.Asking.{IsCommandLine}
 use Rattle.command_line.specs.Grammar.{tardis}
 
 -- ---- a word that isn't a subcommand's name
@@ -61,7 +62,7 @@ stays c word w h value quiet none = go (arg_by_index c w.position)
 
 -- ---- a walk without a fault
 
-or_none : (a b : Kinds) → or_else a b ≡ [] → (a ≡ []) × (b ≡ [])
+pub or_none : (a b : Kinds) → or_else a b ≡ [] → (a ≡ []) × (b ≡ [])
 or_none [] b e = (refl, e)
 or_none (k ∷ ks) b e = absurd cc
 
@@ -193,11 +194,11 @@ names_own words named quiet is = go (stop_after (built tardis).top.rules (names_
 -- ---- the subcommand that was found
 
 -- what is found of it
-abbrev pub found_by : {B : Type 0} → (B → Text) → (B → List Row) → B → Text × List Row
+abbrev found_by : {B : Type 0} → (B → Text) → (B → List Row) → B → Text × List Row
 found_by name rows b = (name b, rows b)
 
 -- its name and its rows, found one by one
-pub both_found : {B : Type 0} (o : Option B) (name : B → Text) (rows : B → List Row) (n : Text) (r : List Row) → Some n ≡ option_map name o
+both_found : {B : Type 0} (o : Option B) (name : B → Text) (rows : B → List Row) (n : Text) (r : List Row) → Some n ≡ option_map name o
     → Some r ≡ option_map (λ (p : Text × List Row). p.1) (option_map (found_by name rows) o) → option_map (found_by name rows) o ≡ Some (n, r)
 both_found None name rows n r e f = absurd cc
 both_found (Some b) name rows n r e f =
@@ -205,7 +206,11 @@ both_found (Some b) name rows n r e f =
     let r-is : r ≡ rows b = cc in
     rw (n-is, r-is) refl
 
--- it is the one that the words name
-pub found_named : (app : App) (words : List Text) (matches : ArgMatches) (named : Text × List Row) → app ≡ tardis → HasMatchesOf app words matches
-    → subcommand_rows_of matches ≡ Some named → subcommand_of tardis words ≡ Some named
-found_named app words matches named is has found = sym (ap (λ (a : App). subcommand_of a words) is) ∙ sym (has (ap is_simple is)).1 ∙ found
+-- the words are a command line, and it is the subcommand that they name
+pub found_named : (app : App) (words : List Text) (matches : ArgMatches) (n : Text) (r : List Row) → app ≡ tardis → HasMatchesOf app words matches
+    → (is_simple_and_free app ≡ true → fault_of app words ≡ []) → Some n ≡ subcommand_name_of matches
+    → Some r ≡ option_map (λ (p : Text × List Row). p.1) (subcommand_rows_of matches) → IsCommandLine words × (subcommand_of tardis words ≡ Some (n, r))
+found_named app words matches n r is has free name rows = (
+  sym (ap (λ (a : App). fault_of a words) is) ∙ free (ap is_simple_and_free is),
+  sym (ap (λ (a : App). subcommand_of a words) is) ∙ sym (has (ap is_simple is)).1 ∙ both_found _ _ _ n r name rows,
+)

@@ -1,5 +1,5 @@
 -- What the words of a command line ask for, and when they ask for nothing.
-use Rattle.std.specs.Prelude.{◌≡◌, ◌⊎◌, ◌<◌, ◌^◌, ⊤, ℕ, Bool, true, false, List, [], Option, Some, None, map, option_map, unwrap_or, codes}
+use Rattle.std.specs.Prelude.{◌≡◌, ◌<◌, ◌^◌, ⊤, ℕ, Bool, true, false, List, [], Option, Some, None, map, option_map, unwrap_or, codes}
 use Rattle.std.specs.Borrow.{Bor}
 use Rattle.std.specs.Str.Parse.{IsNumeral, digits_value, without_leading_plus}
 use Rattle.clap.specs.Faults.{fault_of}
@@ -26,10 +26,10 @@ texts = map (λ word. word.now)
 abbrev pub IsNumber : Text → Type 0
 IsNumber text = IsNumeral 10 (without_leading_plus text) × (digits_value 10 (without_leading_plus text) < 2 ^ 64)
 
--- the number that an option gives: none where the option isn't there, or has no number
+-- the number that an option gives, which is that of its word; none only where the option isn't there
 abbrev pub IsNumberOf : Option Text → Option ℕ → Type 0
 IsNumberOf None number = number ≡ None
-IsNumberOf (Some text) number = (IsNumber text × (number ≡ Some (digits_value 10 (without_leading_plus text)))) ⊎ ((¬ (IsNumber text)) × (number ≡ None))
+IsNumberOf (Some text) number = IsNumber text × (number ≡ Some (digits_value 10 (without_leading_plus text)))
 
 -- the same, with a number instead of none
 abbrev pub IsCountOr : ℕ → Option Text → ℕ → Type 0
@@ -108,13 +108,14 @@ IsAskedBy named (request.Sim sim) = (named.0 ≡ codes "sim") × IsSim named.1 s
 IsAskedBy named (request.Run run) = (named.0 ≡ codes "run") × IsThreaded named.1 run
 IsAskedBy named (request.Litmus litmus) = (named.0 ≡ codes "litmus") × IsLitmus named.1 litmus
 
--- the request is that of the subcommand that the words name, by its arguments there
-abbrev pub Asks : List Text → Request → Type 0
-Asks words asked = (named : Text × List Row) × (subcommand_of tardis words ≡ Some named) × IsAskedBy named asked
-
--- the words are a command line of the program
+-- the words are a command line of the program: none is unknown, missing or one too many, and each option has what it takes
 abbrev pub IsCommandLine : List Text → Type 0
 IsCommandLine words = fault_of tardis words ≡ []
+
+-- the words are a command line, and the request is that of the subcommand that they name, by its arguments there
+abbrev pub Asks : List Text → Request → Type 0
+Asks words asked =
+    IsCommandLine words × ((named : Text × List Row) × (subcommand_of tardis words ≡ Some named) × IsAskedBy named asked)
 
 -- only words that aren't a command line of the program are refused for their usage
 abbrev pub IsRefusalOf : List Text → Refusal → Type 0

@@ -1,3 +1,4 @@
 pub mod Asking
 pub mod Grammar
 pub mod Refusals
+pub mod inner

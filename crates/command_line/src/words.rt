@@ -1,9 +1,10 @@
 //! Reads the words of a command line.
 
-ghost use Rattle.std.specs.Prelude.{◌≡◌, IfOk, MatchResult, [], codes, unwrap_or};
+ghost use Rattle.std.specs.Prelude.{◌≡◌, IfErr, IfOk, IsTrue, [], codes, unwrap_or};
 ghost use Rattle.clap.specs.Words.{all_of, first_of, found_of, kind_of, one_of, rows_of};
 ghost use Rattle.clap.specs.declared.error.kind.ErrorKind.TheVariants as kind;
 ghost use Rattle.command_line.specs.Asking as asking;
+ghost use Rattle.command_line.specs.inner.Numbers.{HasNumbers, takes_number};
 
 use super::grammar::tardis;
 use super::refusal::Refusal;
@@ -13,12 +14,10 @@ use clap::{ArgMatches, Error};
 use std::alloc::{AllocError, Global};
 
 /// What the words ask for; the first is the program's own name. Numbers are those of a
-/// u64; whether they are in range isn't looked at.
+/// u64, and another word in the place of one is refused; whether they are in range isn't looked at.
 pub fn read<'a>(alloc: Global, words: &'a [&'a str]) -> Result<Request<'a>, Refusal>
-    ensures request { MatchResult result
-        (asking.Asks (asking.texts words.entry.now))
-        (asking.IsRefusalOf (asking.texts words.entry.now)) }
-    ensures usage { IfOk result (λ _. asking.IsCommandLine (asking.texts words.entry.now)) }
+    ensures request { IfOk result (asking.Asks (asking.texts words.entry.now)) }
+    ensures usage { IfErr result (asking.IsRefusalOf (asking.texts words.entry.now)) }
 {
     let matches = match tardis(alloc)?.try_get_matches_from(words) {
         Ok(matches) => matches,
@@ -50,6 +49,7 @@ pub fn read<'a>(alloc: Global, words: &'a [&'a str]) -> Result<Request<'a>, Refu
 
 /// What the words after `check` ask for.
 fn check_of<'a>(alloc: Global, matches: &ArgMatches<'a>) -> Result<Check<'a>, AllocError>
+    requires { HasNumbers (rows_of (found_of matches.now)) }
     ensures { IfOk result (asking.IsCheck (rows_of (found_of matches.now))) }
 {
     Ok(Check {
@@ -94,6 +94,7 @@ fn upgrade_of<'a>(alloc: Global, matches: &ArgMatches<'a>) -> Result<Upgrade<'a>
 
 /// What the words after `sim` ask for.
 fn sim_of<'a>(matches: &ArgMatches<'a>) -> Sim<'a>
+    requires { HasNumbers (rows_of (found_of matches.now)) }
     ensures { asking.IsSim (rows_of (found_of matches.now)) result }
 {
     Sim {
@@ -107,6 +108,7 @@ fn sim_of<'a>(matches: &ArgMatches<'a>) -> Sim<'a>
 
 /// What the words after `run` ask for.
 fn run_of<'a>(matches: &ArgMatches<'a>) -> Run<'a>
+    requires { HasNumbers (rows_of (found_of matches.now)) }
     ensures { asking.IsThreaded (rows_of (found_of matches.now)) result }
 {
     Run {
@@ -118,6 +120,7 @@ fn run_of<'a>(matches: &ArgMatches<'a>) -> Run<'a>
 
 /// What the words after `litmus` ask for.
 fn litmus_of<'a>(matches: &ArgMatches<'a>) -> Litmus<'a>
+    requires { HasNumbers (rows_of (found_of matches.now)) }
     ensures { asking.IsLitmus (rows_of (found_of matches.now)) result }
 {
     Litmus {
@@ -131,6 +134,7 @@ fn litmus_of<'a>(matches: &ArgMatches<'a>) -> Litmus<'a>
 
 /// The numbers of the machine.
 fn limits_of(matches: &ArgMatches<'_>) -> Limits
+    requires { HasNumbers (rows_of (found_of matches.now)) }
     ensures { asking.AreLimits (rows_of (found_of matches.now)) result }
 {
     Limits {
@@ -145,6 +149,8 @@ fn limits_of(matches: &ArgMatches<'_>) -> Limits
 
 /// The number that an option gives, or this one where the option isn't there.
 fn count_of(matches: &ArgMatches<'_>, name: &str, default: u64) -> u64
+    requires named { IsTrue (takes_number name.now) }
+    requires numbers { HasNumbers (rows_of (found_of matches.now)) }
     ensures { asking.IsCountOr default (one_of name.now (rows_of (found_of matches.now))) result }
 {
     number_of(matches, name).unwrap_or(default)
@@ -152,6 +158,8 @@ fn count_of(matches: &ArgMatches<'_>, name: &str, default: u64) -> u64
 
 /// The number that an option gives, or none where the option isn't there.
 fn number_of(matches: &ArgMatches<'_>, name: &str) -> Option<u64>
+    requires named { IsTrue (takes_number name.now) }
+    requires numbers { HasNumbers (rows_of (found_of matches.now)) }
     ensures { asking.IsNumberOf (one_of name.now (rows_of (found_of matches.now))) result }
 {
     matches.get_one(name)

@@ -125,6 +125,11 @@ length-sections-push core (p ∷ programs) program =
       length-append (program_lines p) (sections (suc core) programs),
     )
 
+-- the lines of the sections up to the next one
+pub length-sections-next : (set : List (List Instruction)) (n : ℕ) (program : List Instruction) → slice_get set n ≡ Some program
+    → length (sections 0 (take (suc n) set)) ≡ length (sections 0 (take n set)) + 1 + length program
+length-sections-next set n program at = ap (λ ps. length (sections 0 ps)) (take_push set n program at) ∙ length-sections-push 0 (take n set) program
+
 pub one_more_program : (set programs more : List (List Instruction)) (n m line next : ℕ) (program : List Instruction) → NoJumps set programs n line
     → slice_get set n ≡ Some program → IsProgram program → more ≡ programs ++ program ∷ [] → m ≡ n + 1 → next ≡ line + (length program + 1)
     → NoJumps set more m next
@@ -134,6 +139,6 @@ one_more_program set programs more n m line next program so-far at is more-is m-
     record {
       programs_are = more-is ∙ ap (λ (ps : List (List Instruction)). ps ++ program ∷ []) so-far.programs_are ∙ sym pushed;
       each = subst (AllByRecursion IsProgram) (sym pushed) (each_push (take n set) program so-far.each is);
-      line_is = omega (arith, ap (λ (ps : List (List Instruction)). length (sections 0 ps)) pushed, length-sections-push 0 (take n set) program, so-far.line_is, next-is);
+      line_is = omega (arith, ap (λ (k : ℕ). length (sections 0 (take k set))) next-m, length-sections-next set n program at, so-far.line_is, next-is);
       line_small = omega (arith, so-far.line_small, is.short, next-is, m-is);
     }

@@ -30,6 +30,11 @@ IsBadLine Lines bytes k = IsFirstWrong (Lines IsSection) bytes k × (BeginsText 
 abbrev pub IsTooLong : ((Format → List Instruction → Type 0) → List (List ℕ) → Type 0) → List ℕ → ℕ → Type 0
 IsTooLong Lines bytes k = IsFirstWrong (Lines IsSection) bytes k × BeginsText (Lines EachFits) bytes k
 
+-- The line of a set that a line of a core's program is. Before it come the header, the sections of the cores before its own, its core's
+-- line, and the lines of the program before it.
+abbrev pub line_in_set : List (List Instruction) → ℕ → ℕ → ℕ
+line_in_set set core place = 1 + length (sections 0 (take core set)) + 1 + place
+
 -- ---- jumps past the end
 
 -- line k of a program is a jump past its end
@@ -38,15 +43,14 @@ pub record SkipsAt (program : List Instruction) (k : ℕ) : Type 0 where
   pub passes : is_skip_past_end program index ≡ true
   pub line : k ≡ index + 1
 
--- Line k of a set is a jump past the end of its program: before it come the header, the sections of the
--- cores before its own, its core's line, and the instructions before it.
+-- line k of a set is a jump past the end of its program
 pub record SkipsInSetAt (set : List (List Instruction)) (k : ℕ) : Type 0 where
   pub core : ℕ
   pub program : List Instruction
   pub of_core : slice_get set core ≡ Some program
   pub place : ℕ
   pub skips : SkipsAt program place
-  pub line : k ≡ 1 + length (sections 0 (take core set)) + 1 + place
+  pub line : k ≡ line_in_set set core place
 
 -- the least number for which this holds
 abbrev pub IsLeast : (ℕ → Type 0) → ℕ → Type 0

@@ -5,3 +5,4 @@ pub mod Drawing
 pub mod Examining
 pub mod Finding
 pub mod RightStores
+pub mod Uses

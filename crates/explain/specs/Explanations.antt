@@ -1,28 +1,35 @@
 -- Why a set got its verdict.
-use Rattle.std.specs.Prelude.{◌≡◌, ◌≤◌, ◌↔◌, ℕ, List, Option, Some, length, count_by, slice_get, ◌+◌, IfSome, IsSome, IsPermutation, ⊤}
+use Rattle.std.specs.Prelude.{◌≡◌, ◌≤◌, ◌↔◌, ℕ, List, Option, Some, length, count_by, slice_get, ◌+◌, IfSome, IsSome, IsPermutation, IsSorted, ⊤}
 use Rattle.log_record.specs.declared.record.Entry.{Entry}
 use Rattle.log_record.specs.declared.record.Record.{Record}
+use Rattle.log_record.specs.Entries.{entry_cmp}
 use Rattle.core_program.specs.declared.instruction.Instruction.{Instruction}
 use Rattle.verdict.specs.declared.rule.Rule.TheVariants.{CoreOrder as OfCoreOrder, Program as OfProgram}
 use Rattle.verdict.specs.declared.answer.Verdict.{Verdict}
 use Rattle.verdict.specs.declared.answer.Verdict.TheVariants.{Yes, No}
 use Rattle.verdict.specs.declared.basis.Basis.{Basis}
 use Rattle.verdict.specs.declared.basis.Basis.TheVariants.{Logs, Index}
+use Rattle.explain.specs.Ends.{AreEnds}
 use Rattle.explain.specs.Kinds.{is_load, is_only_store, is_swap}
 use Rattle.explain.specs.LogFaults.{IsDepartureBy, IsFall}
 use Rattle.explain.specs.Pictures.{most_drawn}
+use Rattle.explain.specs.Uses.{AreMostUsed}
 use Rattle.explain.specs.WrongReads.{IsWrongRead}
 use Rattle.explain.specs.declared.explanation.Explanation.{Explanation}
 use Rattle.explain.specs.declared.explanation.Explanation.TheVariants.{Load, CoreOrder, Program, Summed}
 use Rattle.explain.specs.declared.explanation.Summary.{Summary}
 
--- what all records of a set have: how many are loads, stores and swaps, and, where they are few enough to be drawn, each of them once
+-- what all records of a set have: how many are loads, stores and swaps, the least and the greatest stamp, at which addresses most are,
+-- and, where they are few enough to be drawn, each of them once, in the order of keys
 pub record IsSummary (es : List Entry) (summary : Summary) : Type 0 where
   pub loads : summary.loads ≡ count_by (λ e. is_load e.logged.act) es
   pub stores : summary.stores ≡ count_by (λ e. is_only_store e.logged.act) es
   pub swaps : summary.swaps ≡ count_by (λ e. is_swap e.logged.act) es
   pub all : summary.loads + summary.stores + summary.swaps ≡ length es
+  pub stamps : AreEnds es summary.stamps
+  pub used : AreMostUsed es summary.addresses summary.most_used.items
   pub rows : IfSome summary.rows (λ rows. IsPermutation es rows.items)
+  pub ordered : IfSome summary.rows (λ rows. IsSorted entry_cmp rows.items)
   pub told : IsSome summary.rows ↔ (length es ≤ most_drawn)
 
 -- an explanation of all records tells of so many cores

@@ -1,9 +1,11 @@
+pub mod Ends
 pub mod Escapes
 pub mod Explanations
 pub mod Kinds
 pub mod LogFaults
 pub mod Pictures
 pub mod ProgramOf
+pub mod Uses
 pub mod Windows
 pub mod WrongReads
 pub mod inner

@@ -1,13 +1,13 @@
 -- The explanation of a core's log that breaks a rule.
-use Rattle.std.specs.Prelude.{◌≡◌, ◌<◌, ℕ, suc, List, Option, Some, option_map, slice_get, slice_index, map, take}
+use Rattle.std.specs.Prelude.{◌≡◌, ◌<◌, ◌+◌, ℕ, suc, List, Option, Some, IfSome, IsSomeAnd, option_map, slice_get, slice_index, map, take}
 use Rattle.mem_op.specs.declared.id.OpId.{OpId}
 use Rattle.log_record.specs.declared.record.Entry.{Entry}
 use Rattle.log_record.specs.declared.record.Record.{Record}
 use Rattle.log_record.specs.Entries.{core_entries, operation_of}
 use Rattle.core_program.specs.declared.instruction.Instruction.{Instruction}
+use Rattle.core_program.specs.Answers.{line_in_set}
 use Rattle.core_program.specs.Running.{next_op, state_after}
 use Rattle.core_program.specs.State.{State, reg}
-use Rattle.explain.specs.ProgramOf.{program_of}
 use Rattle.explain.specs.declared.explanation.Departure.{Departure}
 use Rattle.explain.specs.declared.explanation.Fall.{Fall}
 use Rattle.explain.specs.Windows.{window}
@@ -28,17 +28,20 @@ pub record IsFall (log : List Record) (id : OpId) (fall : Fall) : Type 0 where
 abbrev pub IsStateAt : List Instruction → List Record → ℕ → State → Type 0
 IsStateAt program log index state = state_after program (map operation_of (take index log)) ≡ Some state
 
--- What stands at this id in its log, if it hasn't ended, and the records around it; and, where the program issues those before, the
--- operation that it issues next with its instruction, if it hasn't ended, and what its registers hold then.
-pub record IsDeparture (program : List Instruction) (log : List Record) (id : OpId) (departure : Departure) : Type 0 where
+-- What stands at this id in its log, if it hasn't ended, and the records around it; and, where the core's program issues those before,
+-- the operation that it issues next with its instruction and the line of that in the programs' text, if it hasn't ended, and what its
+-- registers hold then.
+pub record IsDeparture (programs : List (List Instruction)) (log : List Record) (id : OpId) (departure : Departure) : Type 0 where
+  pub program : List Instruction
+  pub there : slice_get programs id.core ≡ Some program
   pub id_is : departure.id ≡ id
   pub found : departure.found ≡ slice_get (of_core id.core log) id.index
   pub rows : departure.rows.items ≡ window (of_core id.core log) id.index
   pub due : (state : State) → IsStateAt program log id.index state → option_map (λ due. due.op) departure.due ≡ next_op program state
   pub instruction : (state : State) → IsStateAt program log id.index state → option_map (λ due. due.instruction) departure.due ≡ slice_get program state.position
+  pub line : (state : State) → IsStateAt program log id.index state → IfSome departure.due (λ due. due.line ≡ line_in_set programs id.core (state.position + 1))
   pub registers : (state : State) → IsStateAt program log id.index state → (n : ℕ) → n < 16 → slice_index departure.registers n ≡ reg state n
 
--- the same by the program of its core
+-- the same by the programs that were given
 abbrev pub IsDepartureBy : Option (List (List Instruction)) → List Record → OpId → Departure → Type 0
-IsDepartureBy programs log id departure =
-    (program : List Instruction) × (program_of programs id.core ≡ Some program) × IsDeparture program log id departure
+IsDepartureBy programs log id departure = IsSomeAnd programs (λ set. IsDeparture set log id departure)

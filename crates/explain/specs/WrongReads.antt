@@ -7,7 +7,7 @@ use Rattle.log_record.specs.declared.act.Act.{Act}
 use Rattle.log_record.specs.declared.act.Act.TheVariants.{Load, Store, Swap}
 use Rattle.log_record.specs.declared.record.Entry.{Entry}
 use Rattle.address_check.specs.AddressFaults.{right_store}
-use Rattle.address_check.specs.Groups.{at_address}
+use Rattle.address_check.specs.Groups.{at_address, IsGroup}
 use Rattle.verdict.specs.declared.rule.Rule.{Rule}
 use Rattle.explain.specs.declared.explanation.WrongRead.{WrongRead}
 use Rattle.explain.specs.Windows.{window, window_start}
@@ -25,7 +25,7 @@ abbrev pub of_id : List Entry → OpId → Option Entry
 of_id es id = find (λ e. is_same_id e.id id) es
 
 -- The load of this id among all records, the store that it should read, what its source names, and the records of its address around it,
--- in the order of keys.
+-- which stand in the order of keys.
 pub record IsWrongRead (es : List Entry) (id : OpId) (rule : Rule) (found : WrongRead) : Type 0 where
   pub rule_is : found.rule ≡ rule
   pub load : of_id es id ≡ Some found.load
@@ -33,5 +33,6 @@ pub record IsWrongRead (es : List Entry) (id : OpId) (rule : Rule) (found : Wron
   pub named : found.named ≡ option_and_then (of_id es) (named_id found.load.logged.act)
   pub place : ℕ
   pub stands : slice_get (at_address found.load.logged.addr es) place ≡ Some found.load
+  pub ordered : IsGroup (at_address found.load.logged.addr es)
   pub rows : found.rows.items ≡ window (at_address found.load.logged.addr es) place
   pub marked : found.place ≡ place - window_start place

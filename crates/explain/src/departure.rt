@@ -1,6 +1,7 @@
 //! The explanation of a log that isn't its program's.
 
-ghost use Rattle.std.specs.Prelude.{◌≡◌, ◌<◌, ◌≤◌, ℕ, IfOk, IfSome, IsSome, length, map, option_map, slice_get, slice_index};
+ghost use Rattle.std.specs.Prelude.{◌≡◌, ◌<◌, ◌≤◌, ◌+◌, ◌*◌, ℕ, IfOk, IfSome, IsSome, length, map, option_map, slice_get, slice_index};
+ghost use Rattle.core_program.specs.Answers.{line_in_set};
 ghost use Rattle.core_program.specs.Running.{IsAtRest, next_op, state_after};
 ghost use Rattle.core_program.specs.State.{State, reg};
 ghost use Rattle.log_record.specs.Entries.{operation_of};
@@ -34,28 +35,32 @@ fn state_after(program: &Program, log: &[Entry]) -> ProgramState
 
 /// The line in the file of the programs of a core's first instruction: a line comes before all sections, and one before
 /// the instructions of each.
-fn first_line(programs: &ProgramSet, core: CoreId) -> u64 {
-    let mut line: u64 = 3;
+fn first_line(programs: &ProgramSet, core: CoreId) -> u64
+    ensures line { result ≡ line_in_set programs.now.programs core 1 }
+    ensures small { result ≤ 3 + 64 * 4097 }
+{
+    let mut line = 3;
     for number in 0..core.get() as usize {
         if let Some(program) = programs.get(CoreId::at(number)) {
-            let lines = program.instructions().len() as u64;
-            line = line.saturating_add(lines).saturating_add(1);
+            line += program.instructions().len() as u64 + 1;
         }
     }
     line
 }
 
-/// What a program does next, from this state on; none at its end.
+/// What a core's program does next, from this state on; none at its end.
 fn due(programs: &ProgramSet, core: CoreId, program: &Program, state: &ProgramState) -> Option<Due>
     requires { IsAtRest program.now state.now }
     ensures op { option_map (λ due. due.op) result ≡ next_op program.now state.now }
     ensures instruction { option_map (λ due. due.instruction) result
         ≡ slice_get program.now state.now.position }
+    ensures line { IfSome result (λ due. due.line
+        ≡ line_in_set programs.now.programs core (state.now.position + 1)) }
 {
     let op = state.next_op(program)?;
     let instruction = program.instructions().get(state.position())?;
     Some(Due {
-        line: first_line(programs, core).saturating_add(state.position() as u64),
+        line: first_line(programs, core) + state.position() as u64,
         instruction: *instruction,
         op,
     })
@@ -89,9 +94,10 @@ fn departure_from(
     log: &[Entry],
     id: OpId,
 ) -> Result<Departure, AllocError>
+    requires there { slice_get programs.now.programs id.core ≡ Some program.now }
     requires inside { id.index ≤ length log.now }
     requires whole { IsLogOf id.core log.now }
-    ensures { IfOk result (IsDeparture program.now (records_of log.now) id) }
+    ensures { IfOk result (IsDeparture programs.now.programs (records_of log.now) id) }
 {
     let index = id.index.get() as usize;
     let state = state_after(program, &log[..index]);

@@ -13,38 +13,46 @@ pub(crate) fn push_wrong_read(text: &mut String, found: &WrongRead) -> Result<()
     if found.rule == Rule::Value {
         return push_wrong_value(text, found);
     }
-    let (load, addr) = (ShownId(found.load.id()), found.load.addr().get());
     match named_id(&found.load) {
         Some(named) => {
+            let (load, addr) = (ShownId(found.load.id()), found.load.addr().get());
             let source = ShownId(named);
             write!(text, "{load} read address {addr} from {source}")?;
             push_wrong_source(text, found)
         }
         None => {
-            write!(text, "{load} read the initial 0 of address {addr}")?;
+            push_initial_read(text, found)?;
             push_last_store(text, found, "before it")
         }
     }?;
     text.push('.')
 }
 
-/// Adds what is wrong with a value.
-fn push_wrong_value(text: &mut String, found: &WrongRead) -> Result<(), AllocError> {
+/// Adds what a load or a swap read whose source is the initial word. That word is 0, but a log may have another.
+fn push_initial_read(text: &mut String, found: &WrongRead) -> Result<(), AllocError> {
     let load = ShownId(found.load.id());
     let (addr, value) = (found.load.addr().get(), found.load.logged().word_answered());
-    match &found.right {
-        None => write!(
-            text,
-            "{load} read {value} as the initial word of address {addr}, but that is 0."
-        ),
-        Some(right) => {
-            let (store, stored) = (ShownId(right.id()), right.value());
-            write!(
-                text,
-                "{load} read {value} from {store} at address {addr}, but {store} stored {stored} there."
-            )
-        }
+    if value == 0 {
+        return write!(text, "{load} read the initial 0 of address {addr}");
     }
+    write!(
+        text,
+        "{load} read {value} as the initial word of address {addr}"
+    )
+}
+
+/// Adds what is wrong with a value.
+fn push_wrong_value(text: &mut String, found: &WrongRead) -> Result<(), AllocError> {
+    let Some(right) = &found.right else {
+        push_initial_read(text, found)?;
+        return text.push_str(", but that is 0.");
+    };
+    let (load, store, stored) = (ShownId(found.load.id()), ShownId(right.id()), right.value());
+    let (addr, value) = (found.load.addr().get(), found.load.logged().word_answered());
+    write!(
+        text,
+        "{load} read {value} from {store} at address {addr}, but {store} stored {stored} there."
+    )
 }
 
 /// Adds what is wrong with the record that a source names.

@@ -1,8 +1,14 @@
 //! What a set has that gets Yes.
 
-ghost use Rattle.std.specs.Prelude.{◌≡◌, ◌≤◌, ◌↔◌, IfOk, IfSome, IsSome, IsPermutation, length};
+ghost use Rattle.std.specs.Prelude.{◌≡◌, ◌≤◌, ◌↔◌, IfOk, IfSome, IsSome, IsPermutation, IsSorted, length};
+ghost use Rattle.std.specs.Option.{option_copied};
+ghost use Rattle.address_check.specs.Groups.{AscendsByPlace};
+ghost use Rattle.log_record.specs.Entries.{entry_cmp};
 ghost use Rattle.explain.specs.Explanations.{IsSummary};
+ghost use Rattle.explain.specs.Ends.{AreEnds};
 ghost use Rattle.explain.specs.Pictures.{most_drawn};
+ghost use Rattle.explain.specs.Uses.{AreFirst, AreUses};
+ghost use Rattle.explain.specs.inner.Following.{goes_on};
 
 use super::acts::count;
 use super::explanation::{Summary, Use};
@@ -21,17 +27,26 @@ const COUNTED_EACH: usize = 8;
 /// How many addresses are told as the most used.
 const MOST_USED: usize = 5;
 
+/// Whether the entry that comes next, if there is one, has the address of this one.
+fn goes_on(entry: &Entry, next: Option<&Entry>) -> bool
+    ensures { result ≡ goes_on entry.now (option_copied next.entry) }
+{
+    match next {
+        Some(next) => next.addr() == entry.addr(),
+        None => false,
+    }
+}
+
 /// How often each address is used, from the lowest.
-fn uses(alloc: Global, entries: &[Entry]) -> Result<Vec<Use>, AllocError> {
-    let mut uses: Vec<Use> = Vec::new(alloc);
+fn uses(alloc: Global, entries: &[Entry]) -> Result<Vec<Use>, AllocError>
+    requires { AscendsByPlace entries.now }
+    ensures { IfOk result (λ uses. AreUses entries.now uses.items) }
+{
+    let mut uses = Vec::new(alloc);
     let mut operations = 0;
     for (place, entry) in entries.iter().enumerate() {
         operations += 1;
-        let is_last = match entries.get(place + 1) {
-            Some(next) => next.addr() != entry.addr(),
-            None => true,
-        };
-        if is_last {
+        if !goes_on(entry, entries.get(place + 1)) {
             uses.push(Use {
                 addr: entry.addr(),
                 operations,
@@ -43,7 +58,9 @@ fn uses(alloc: Global, entries: &[Entry]) -> Result<Vec<Use>, AllocError> {
 }
 
 /// The least and the greatest stamp of the entries; none where there are no entries.
-fn range_of(entries: &[Entry]) -> Option<(Stamp, Stamp)> {
+fn range_of(entries: &[Entry]) -> Option<(Stamp, Stamp)>
+    ensures { AreEnds entries.now result }
+{
     let first = entries.first()?.key().ts;
     let mut range = (first, first);
     for entry in entries {
@@ -108,7 +125,8 @@ fn sharing(
 
 /// These entries in the order of their keys.
 pub(crate) fn by_key(alloc: Global, entries: &[Entry]) -> Result<Vec<Entry>, AllocError>
-    ensures { IfOk result (λ rows. IsPermutation entries.now rows.items) }
+    ensures same { IfOk result (λ rows. IsPermutation entries.now rows.items) }
+    ensures sorted { IfOk result (λ rows. IsSorted entry_cmp rows.items) }
 {
     let mut rows = Vec::from_slice(alloc, entries)?;
     rows.sort_unstable_by_key(|entry| entry.key());
@@ -118,6 +136,7 @@ pub(crate) fn by_key(alloc: Global, entries: &[Entry]) -> Result<Vec<Entry>, All
 /// All entries in the order of their keys, where they are few enough to be drawn.
 fn rows(alloc: Global, entries: &[Entry]) -> Result<Option<Vec<Entry>>, AllocError>
     ensures all { IfOk result (λ rows. IfSome rows (λ rows. IsPermutation entries.now rows.items)) }
+    ensures sorted { IfOk result (λ rows. IfSome rows (λ rows. IsSorted entry_cmp rows.items)) }
     ensures told { IfOk result (λ rows. IsSome rows ↔ (length entries.now ≤ most_drawn)) }
 {
     if entries.len() > DRAWN {
@@ -127,7 +146,9 @@ fn rows(alloc: Global, entries: &[Entry]) -> Result<Option<Vec<Entry>>, AllocErr
 }
 
 /// The most used of the addresses, the most used first.
-fn most_used(uses: Vec<Use>) -> Result<Vec<Use>, AllocError> {
+fn most_used(uses: Vec<Use>) -> Result<Vec<Use>, AllocError>
+    ensures { IfOk result (λ most. AreFirst uses.items most.items) }
+{
     let mut most = uses;
     most.sort_by_key(|it| Reverse(it.operations))?;
     most.truncate(MOST_USED);

@@ -1,97 +1,79 @@
-use Rattle.std.proofs.Common.{◌≡◌, ◌∙◌, ap, sym, Bool, true, false, [], inl, inr}
+use Rattle.std.proofs.Common.{◌≡◌, ◌∙◌, ap, sym, Bool, true, false, inl, inr}
 use Rattle.std.specs.Prelude.{codes}
 use Rattle.std.specs.Str.{bytes_eq}
 use Rattle.std.proofs.lemmas.Slice.Eq.{bytes_eq-Decides}
 use Rattle.clap.specs.Faults.{fault_of, is_simple_and_free}
 use Rattle.clap.specs.Words.{App, Text}
 use Rattle.command_line.specs.Asking.{texts}
+use Rattle.command_line.proofs.Numbers.{numbers_named}
 use Rattle.command_line.proofs.Reading.{refused}
-use Rattle.command_line.proofs.Subcommands.{names_own, both_found, found_named}
-use Rattle.command_line.specs.Grammar.{tardis}
+use Rattle.command_line.proofs.Subcommands.{found_named, names_own}
 use Rattle.command_line.proofs.words.read.Goals as goal
 
-pub returns-in-Err-clause-request : goal.returns-in-Err-clause-request
-returns-in-Err-clause-request c =
+pub returns-in-Err-clause-usage : goal.returns-in-Err-clause-usage
+returns-in-Err-clause-usage c =
     refused (texts c.args.words.now) _ c.in-Err.error c.refusal.result (ap (λ (app : App). fault_of app (texts c.args.words.now)) c.in_ok-tardis.ensures.app)
     (c.in-Err.ensures.kinds (ap is_simple_and_free c.in_ok-tardis.ensures.app)) c.refusal.ensures
 
+pub sim_of-requires : goal.sim_of-requires
+sim_of-requires c =
+    let words = found_named _ (texts c.args.words.now) c.in-Ok.matches c.in-Some.name.now _ c.in_ok-tardis.ensures.app c.in-Ok.ensures.matches c.in-Ok.ensures.kinds
+    c.in-Some.ensures.name c.in-Some.ensures.rows in
+    numbers_named (texts c.args.words.now) _ words.0 words.1
+
 pub returns-then-eq-clause-request : goal.returns-then-eq-clause-request
 returns-then-eq-clause-request c =
-    let words = texts c.args.words.now in
-    let found = both_found _ _ _ c.in-Some.name.now _ c.in-Some.ensures.name c.in-Some.ensures.rows in
-    let named = found_named _ words c.in-Ok.matches _ c.in_ok-tardis.ensures.app c.in-Ok.ensures.matches found in
-    let is_sim = (bytes_eq-Decides c.in-Some.name.now (codes "sim")).0 (sym c.eq.ensures ∙ c.if-eq.true) in
-    (_, named, (is_sim, c.sim_of.ensures))
+    let words = found_named _ (texts c.args.words.now) c.in-Ok.matches c.in-Some.name.now _ c.in_ok-tardis.ensures.app c.in-Ok.ensures.matches c.in-Ok.ensures.kinds
+    c.in-Some.ensures.name c.in-Some.ensures.rows in
+    (words.0, (_, words.1, ((bytes_eq-Decides c.in-Some.name.now (codes "sim")).0 (sym c.eq.ensures ∙ c.if-eq.true), c.sim_of.ensures)))
 
-pub returns-then-eq-clause-usage : goal.returns-then-eq-clause-usage
-returns-then-eq-clause-usage c =
-    sym (ap (λ (app : App). fault_of app (texts c.args.words.now)) c.in_ok-tardis.ensures.app)
-    ∙ c.in-Ok.ensures.kinds (ap is_simple_and_free c.in_ok-tardis.ensures.app)
+pub run_of-requires : goal.run_of-requires
+run_of-requires c =
+    let words = found_named _ (texts c.args.words.now) c.in-Ok.matches c.in-Some.name.now _ c.in_ok-tardis.ensures.app c.in-Ok.ensures.matches c.in-Ok.ensures.kinds
+    c.in-Some.ensures.name c.in-Some.ensures.rows in
+    numbers_named (texts c.args.words.now) _ words.0 words.1
 
 pub returns-then-eq-2-clause-request : goal.returns-then-eq-2-clause-request
 returns-then-eq-2-clause-request c =
-    let words = texts c.args.words.now in
-    let found = both_found _ _ _ c.in-Some.name.now _ c.in-Some.ensures.name c.in-Some.ensures.rows in
-    let named = found_named _ words c.in-Ok.matches _ c.in_ok-tardis.ensures.app c.in-Ok.ensures.matches found in
-    let is_run = (bytes_eq-Decides c.in-Some.name.now (codes "run")).0 (sym c.eq-2.ensures ∙ c.if-eq-2.true) in
-    (_, named, (is_run, c.run_of.ensures))
-
-pub returns-then-eq-2-clause-usage : goal.returns-then-eq-2-clause-usage
-returns-then-eq-2-clause-usage c =
-    sym (ap (λ (app : App). fault_of app (texts c.args.words.now)) c.in_ok-tardis.ensures.app)
-    ∙ c.in-Ok.ensures.kinds (ap is_simple_and_free c.in_ok-tardis.ensures.app)
+    let words = found_named _ (texts c.args.words.now) c.in-Ok.matches c.in-Some.name.now _ c.in_ok-tardis.ensures.app c.in-Ok.ensures.matches c.in-Ok.ensures.kinds
+    c.in-Some.ensures.name c.in-Some.ensures.rows in
+    (words.0, (_, words.1, ((bytes_eq-Decides c.in-Some.name.now (codes "run")).0 (sym c.eq-2.ensures ∙ c.if-eq-2.true), c.run_of.ensures)))
 
 pub returns-then-eq-3-clause-request : goal.returns-then-eq-3-clause-request
 returns-then-eq-3-clause-request c =
-    let words = texts c.args.words.now in
-    let found = both_found _ _ _ c.in-Some.name.now _ c.in-Some.ensures.name c.in-Some.ensures.rows in
-    let named = found_named _ words c.in-Ok.matches _ c.in_ok-tardis.ensures.app c.in-Ok.ensures.matches found in
-    let is_order = (bytes_eq-Decides c.in-Some.name.now (codes "order")).0 (sym c.eq-3.ensures ∙ c.if-eq-3.true) in
-    (_, named, (is_order, c.in_ok-order_of.ensures))
+    let words = found_named _ (texts c.args.words.now) c.in-Ok.matches c.in-Some.name.now _ c.in_ok-tardis.ensures.app c.in-Ok.ensures.matches c.in-Ok.ensures.kinds
+    c.in-Some.ensures.name c.in-Some.ensures.rows in
+    (words.0, (_, words.1, ((bytes_eq-Decides c.in-Some.name.now (codes "order")).0 (sym c.eq-3.ensures ∙ c.if-eq-3.true), c.in_ok-order_of.ensures)))
 
-pub returns-then-eq-3-clause-usage : goal.returns-then-eq-3-clause-usage
-returns-then-eq-3-clause-usage c =
-    sym (ap (λ (app : App). fault_of app (texts c.args.words.now)) c.in_ok-tardis.ensures.app)
-    ∙ c.in-Ok.ensures.kinds (ap is_simple_and_free c.in_ok-tardis.ensures.app)
+pub litmus_of-requires : goal.litmus_of-requires
+litmus_of-requires c =
+    let words = found_named _ (texts c.args.words.now) c.in-Ok.matches c.in-Some.name.now _ c.in_ok-tardis.ensures.app c.in-Ok.ensures.matches c.in-Ok.ensures.kinds
+    c.in-Some.ensures.name c.in-Some.ensures.rows in
+    numbers_named (texts c.args.words.now) _ words.0 words.1
 
 pub returns-then-eq-4-clause-request : goal.returns-then-eq-4-clause-request
 returns-then-eq-4-clause-request c =
-    let words = texts c.args.words.now in
-    let found = both_found _ _ _ c.in-Some.name.now _ c.in-Some.ensures.name c.in-Some.ensures.rows in
-    let named = found_named _ words c.in-Ok.matches _ c.in_ok-tardis.ensures.app c.in-Ok.ensures.matches found in
-    let is_litmus = (bytes_eq-Decides c.in-Some.name.now (codes "litmus")).0 (sym c.eq-4.ensures ∙ c.if-eq-4.true) in
-    (_, named, (is_litmus, c.litmus_of.ensures))
-
-pub returns-then-eq-4-clause-usage : goal.returns-then-eq-4-clause-usage
-returns-then-eq-4-clause-usage c =
-    sym (ap (λ (app : App). fault_of app (texts c.args.words.now)) c.in_ok-tardis.ensures.app)
-    ∙ c.in-Ok.ensures.kinds (ap is_simple_and_free c.in_ok-tardis.ensures.app)
+    let words = found_named _ (texts c.args.words.now) c.in-Ok.matches c.in-Some.name.now _ c.in_ok-tardis.ensures.app c.in-Ok.ensures.matches c.in-Ok.ensures.kinds
+    c.in-Some.ensures.name c.in-Some.ensures.rows in
+    (words.0, (_, words.1, ((bytes_eq-Decides c.in-Some.name.now (codes "litmus")).0 (sym c.eq-4.ensures ∙ c.if-eq-4.true), c.litmus_of.ensures)))
 
 pub returns-then-eq-5-clause-request : goal.returns-then-eq-5-clause-request
 returns-then-eq-5-clause-request c =
-    let words = texts c.args.words.now in
-    let found = both_found _ _ _ c.in-Some.name.now _ c.in-Some.ensures.name c.in-Some.ensures.rows in
-    let named = found_named _ words c.in-Ok.matches _ c.in_ok-tardis.ensures.app c.in-Ok.ensures.matches found in
-    let is_explain = (bytes_eq-Decides c.in-Some.name.now (codes "explain")).0 (sym c.eq-5.ensures ∙ c.if-eq-5.true) in
-    (_, named, (is_explain, c.in_ok-explain_of.ensures))
-
-pub returns-then-eq-5-clause-usage : goal.returns-then-eq-5-clause-usage
-returns-then-eq-5-clause-usage c =
-    sym (ap (λ (app : App). fault_of app (texts c.args.words.now)) c.in_ok-tardis.ensures.app)
-    ∙ c.in-Ok.ensures.kinds (ap is_simple_and_free c.in_ok-tardis.ensures.app)
+    let words = found_named _ (texts c.args.words.now) c.in-Ok.matches c.in-Some.name.now _ c.in_ok-tardis.ensures.app c.in-Ok.ensures.matches c.in-Ok.ensures.kinds
+    c.in-Some.ensures.name c.in-Some.ensures.rows in
+    (words.0, (_, words.1, ((bytes_eq-Decides c.in-Some.name.now (codes "explain")).0 (sym c.eq-5.ensures ∙ c.if-eq-5.true), c.in_ok-explain_of.ensures)))
 
 pub returns-then-eq-6-clause-request : goal.returns-then-eq-6-clause-request
 returns-then-eq-6-clause-request c =
-    let words = texts c.args.words.now in
-    let found = both_found _ _ _ c.in-Some.name.now _ c.in-Some.ensures.name c.in-Some.ensures.rows in
-    let named = found_named _ words c.in-Ok.matches _ c.in_ok-tardis.ensures.app c.in-Ok.ensures.matches found in
-    let is_upgrade = (bytes_eq-Decides c.in-Some.name.now (codes "upgrade")).0 (sym c.eq-6.ensures ∙ c.if-eq-6.true) in
-    (_, named, (is_upgrade, c.in_ok-upgrade_of.ensures))
+    let words = found_named _ (texts c.args.words.now) c.in-Ok.matches c.in-Some.name.now _ c.in_ok-tardis.ensures.app c.in-Ok.ensures.matches c.in-Ok.ensures.kinds
+    c.in-Some.ensures.name c.in-Some.ensures.rows in
+    (words.0, (_, words.1, ((bytes_eq-Decides c.in-Some.name.now (codes "upgrade")).0 (sym c.eq-6.ensures ∙ c.if-eq-6.true), c.in_ok-upgrade_of.ensures)))
 
-pub returns-then-eq-6-clause-usage : goal.returns-then-eq-6-clause-usage
-returns-then-eq-6-clause-usage c =
-    sym (ap (λ (app : App). fault_of app (texts c.args.words.now)) c.in_ok-tardis.ensures.app)
-    ∙ c.in-Ok.ensures.kinds (ap is_simple_and_free c.in_ok-tardis.ensures.app)
+pub check_of-requires : goal.check_of-requires
+check_of-requires c =
+    let words = found_named _ (texts c.args.words.now) c.in-Ok.matches c.in-Some.name.now _ c.in_ok-tardis.ensures.app c.in-Ok.ensures.matches c.in-Ok.ensures.kinds
+    c.in-Some.ensures.name c.in-Some.ensures.rows in
+    numbers_named (texts c.args.words.now) _ words.0 words.1
 
 -- a name that was looked for isn't there
 other : (name own : Text) (b : Bool) → b ≡ bytes_eq name own → b ≡ false → name ≡ own → ⊥
@@ -99,12 +81,9 @@ other name own b is off same = let wrong : true ≡ false = sym ((bytes_eq-Decid
 
 pub returns-clause-request : goal.returns-clause-request
 returns-clause-request c =
-    let words = texts c.args.words.now in
-    let found = both_found _ _ _ c.in-Some.name.now _ c.in-Some.ensures.name c.in-Some.ensures.rows in
-    let named = found_named _ words c.in-Ok.matches _ c.in_ok-tardis.ensures.app c.in-Ok.ensures.matches found in
-    let quiet : fault_of tardis words ≡ [] =
-    sym (ap (λ (app : App). fault_of app words) c.in_ok-tardis.ensures.app) ∙ c.in-Ok.ensures.kinds (ap is_simple_and_free c.in_ok-tardis.ensures.app) in
-    let is_check : c.in-Some.name.now ≡ codes "check" = elim (names_own words _ quiet named) [
+    let words = found_named _ (texts c.args.words.now) c.in-Ok.matches c.in-Some.name.now _ c.in_ok-tardis.ensures.app c.in-Ok.ensures.matches c.in-Ok.ensures.kinds
+    c.in-Some.ensures.name c.in-Some.ensures.rows in
+    let is_check : c.in-Some.name.now ≡ codes "check" = elim (names_own (texts c.args.words.now) _ words.0 words.1) [
       | inl is ↦ is
       | inr (inl is) ↦ absurd (other c.in-Some.name.now (codes "order") _ c.eq-3.ensures c.if-eq-3.false is)
       | inr (inr (inl is)) ↦ absurd (other c.in-Some.name.now (codes "explain") _ c.eq-5.ensures c.if-eq-5.false is)
@@ -114,9 +93,4 @@ returns-clause-request c =
       | inr (inr (inr (inr (inr (inr (inl is)))))) ↦ absurd (other c.in-Some.name.now (codes "upgrade") _ c.eq-6.ensures c.if-eq-6.false is)
       | inr (inr (inr (inr (inr (inr (inr never)))))) ↦ absurd never
     ] in
-    (_, named, (is_check, c.in_ok-check_of.ensures))
-
-pub returns-clause-usage : goal.returns-clause-usage
-returns-clause-usage c =
-    sym (ap (λ (app : App). fault_of app (texts c.args.words.now)) c.in_ok-tardis.ensures.app)
-    ∙ c.in-Ok.ensures.kinds (ap is_simple_and_free c.in_ok-tardis.ensures.app)
+    (words.0, (_, words.1, (is_check, c.in_ok-check_of.ensures)))

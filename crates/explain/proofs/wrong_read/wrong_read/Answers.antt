@@ -40,6 +40,7 @@ returns-clause-found c =
       named = search rules;
       place = place;
       stands = stands;
+      ordered = is;
       rows = c.in_ok-rows.ensures ∙ ap (λ xs. window xs place) group;
       marked = search rules;
     }
