@@ -2,6 +2,7 @@
 
 use super::paces::Always;
 use super::running::ran;
+use super::values::*;
 use audit::{AuditFault, RunEnd, audit};
 use core_unit::CoreUnit;
 use lease_rule::Config;
@@ -23,9 +24,9 @@ fn one_slice() -> Result<Config, Fail> {
     Ok(Config::new(1, 10, 100, 64, 64, 8, 1_000)?)
 }
 
-// The run of the core in a thread.
-fn ended<R: Threads + Wait + Sync>(rt: &R, alloc: Global) -> Result<RunEnd, Fail> {
-    match ran(rt, alloc, PRIVATE, &one_slice()?, &Always)? {
+// The run of this program in a thread.
+fn ended<R: Threads + Wait + Sync>(rt: &R, alloc: Global, text: &[u8]) -> Result<RunEnd, Fail> {
+    match ran(rt, alloc, text, &one_slice()?, &Always)? {
         Ok(end) => Ok(end),
         Err(_) => Err(Fail::from("the run comes to its end")),
     }
@@ -43,7 +44,7 @@ fn given() -> Result<Line, Fail> {
 
 #[test]
 fn what_a_core_leaves_in_its_slice(rt: HostRuntime) -> Result<(), Fail> {
-    let end = ended(&rt, rt.alloc())?;
+    let end = ended(&rt, rt.alloc(), PRIVATE)?;
     let slice = end.slices.first().ok_or("slice 0 is there")?;
     let addr = Addr::new(5)?;
     let fresh = Line::new(0, Source::Init, LineStamps::at(Stamp::ZERO, Rank::ZERO));
@@ -56,6 +57,36 @@ fn what_a_core_leaves_in_its_slice(rt: HostRuntime) -> Result<(), Fail> {
             Reply::ExRep(fresh),
         ),
         HistoryEntry::Served(core, Message::FlushRep { addr, line }, Reply::Taken),
+    ];
+    assert_eq!(rt; slice.history(), entries.as_slice());
+    Ok(())
+}
+
+/// Stores whose addresses don't ascend, nor descend.
+const SCATTERED: &[u8] = b"tardis-programs 1 cores 1\ncore 0\nst 5 1\nst 9 1\nst 2 1\nend\n";
+
+// The core gets the line of an address as its owner.
+fn owns(number: u16) -> HistoryEntry {
+    HistoryEntry::Served(core(0), write(number, None), Reply::ExRep(initial(0, 0)))
+}
+
+// The line of an address goes back as the core's operation of this index left it.
+fn goes_back(number: u16, index: u8) -> HistoryEntry {
+    let line = stored(1, id(0, index), 1, 1);
+    HistoryEntry::Served(core(0), flushed(number, line), Reply::Taken)
+}
+
+#[test]
+fn lines_go_back_in_the_order_of_their_addresses(rt: HostRuntime) -> Result<(), Fail> {
+    let end = ended(&rt, rt.alloc(), SCATTERED)?;
+    let slice = end.slices.first().ok_or("slice 0 is there")?;
+    let entries = [
+        owns(5),
+        owns(9),
+        owns(2),
+        goes_back(2, 2),
+        goes_back(5, 0),
+        goes_back(9, 1),
     ];
     assert_eq!(rt; slice.history(), entries.as_slice());
     Ok(())
@@ -74,7 +105,7 @@ fn audits(
 
 #[test]
 fn units_and_slices_of_one_run_agree(rt: HostRuntime) -> Result<(), Fail> {
-    let end = ended(&rt, rt.alloc())?;
+    let end = ended(&rt, rt.alloc(), PRIVATE)?;
     let fresh = SliceBank::new(rt.alloc(), &one_slice()?)?.into_slices();
     let first = AuditFault {
         core: 0,

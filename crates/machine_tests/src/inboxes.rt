@@ -10,14 +10,17 @@ use std::process::Abort;
 use std::test::Fail;
 
 #[test]
-fn an_inbox_for_one_recall(rt: HostRuntime) -> Result<(), Fail> {
-    let inbox = Inbox::new(rt.alloc(), 1)?;
+fn an_inbox_for_two_recalls(rt: HostRuntime) -> Result<(), Fail> {
+    let inbox = Inbox::new(rt.alloc(), 2)?;
     let first = recall(1, 0, RecallKind::Flush, 0);
     let second = recall(1, 5, RecallKind::WriteBack, 17);
+    let third = recall(1, 3, RecallKind::WriteBack, 4);
     assert_eq!(rt; inbox.poll(&rt), None);
     assert_eq!(rt; inbox.offer(&rt, first), Ok(()));
-    assert_eq!(rt; inbox.offer(&rt, second), Err(second));
+    assert_eq!(rt; inbox.offer(&rt, second), Ok(()));
+    assert_eq!(rt; inbox.offer(&rt, third), Err(third));
     assert_eq!(rt; inbox.poll(&rt), Some(first));
+    assert_eq!(rt; inbox.poll(&rt), Some(second));
     assert_eq!(rt; inbox.poll(&rt), None);
     Ok(())
 }

@@ -6,6 +6,8 @@ mod audited;
 #[cfg(test)]
 mod audits;
 #[cfg(test)]
+mod caches;
+#[cfg(test)]
 mod growths;
 #[cfg(test)]
 mod inboxes;

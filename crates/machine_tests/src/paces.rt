@@ -5,8 +5,8 @@ use mem_op::CoreId;
 use std::sync::atomic::{AtomicU64, Ordering};
 use std::thread;
 
-/// As often as a pace looks for what it waits for: ten seconds or more, and longer where other programs want the processors.
-const LOOKS: u64 = 20_000_000;
+/// As often as a pace looks for what it waits for: fifty seconds or more, and longer where other programs want the processors.
+const LOOKS: u64 = 100_000_000;
 
 /// Looks until something has come to this number, or says Stop. Between two looks other threads may have the processor, so that
 /// what is waited for comes where there is only one.

@@ -4,7 +4,7 @@ ghost use Rattle.std.specs.Prelude.{◌<◌};
 
 use super::values::*;
 use lease_rule::Config;
-use line_stamps::{Message, RecallKind, Reply};
+use line_stamps::{Message, RecallKind, Reply, Stamp};
 use manager_slice::*;
 use mem_op::CoreId;
 use std::alloc::Global;
@@ -127,5 +127,38 @@ fn shared_lines_are_evicted_on_demand(rt: HostRuntime) -> Result<(), Fail> {
     slice.replays();
     assert_eq!(rt; slice.number(), 0);
     assert_eq!(rt; slice.config().lease(), 10);
+    Ok(())
+}
+
+#[test]
+fn a_slice_of_one_line(rt: HostRuntime) -> Result<(), Fail> {
+    let mut slice = slice_of(rt.alloc(), 1)?;
+    let (shared, owned) = (
+        &Reply::ShRep(initial(0, 10)),
+        &Reply::ExRep(initial(10, 10)),
+    );
+    let busy = Reply::Busy(recall(1, 1, RecallKind::Flush, 0));
+    let last = Message::ShReq {
+        addr: addr(1),
+        copy: None,
+        pts: Stamp::new(281_474_976_710_656).unwrap(),
+    };
+    meets(
+        &rt,
+        &mut slice,
+        &[
+            answered(0, read(0, None, 0), *shared),
+            answered(1, write(1, None), *owned),
+            answered(0, read(0, None, 5), busy),
+            refused(0, flushed(1, initial(10, 10)), SliceFault::NotOwner),
+            refused(0, last, SliceFault::StampLimit),
+        ],
+    );
+    let entries = [
+        HistoryEntry::Served(core(0), read(0, None, 0), *shared),
+        HistoryEntry::Evicted(addr(0)),
+        HistoryEntry::Served(core(1), write(1, None), *owned),
+    ];
+    assert_eq!(rt; slice.history(), entries.as_slice());
     Ok(())
 }
