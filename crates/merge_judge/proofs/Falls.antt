@@ -21,10 +21,13 @@ get_past [] i l = refl
 get_past (x ∷ xs) zero l = absurd (omega arith)
 get_past (x ∷ xs) (suc i) l = get_past xs i (omega arith)
 
--- before the new record nothing changes
+-- before what comes behind nothing changes
+pub fall_left : (xs ys : List Record) (i : ℕ) → i < length xs → is_core_fault (xs ++ ys) i ≡ is_core_fault xs i
+fall_left xs ys zero l = refl
+fall_left xs ys (suc i) l = (λ j. falls (get_left xs ys i (omega arith) j) (get_left xs ys (suc i) l j))
+
 fall_before : (xs : List Record) (r : Record) (i : ℕ) → i < length xs → is_core_fault (xs ++ r ∷ []) i ≡ is_core_fault xs i
-fall_before xs r zero l = refl
-fall_before xs r (suc i) l = (λ j. falls (get_left xs (r ∷ []) i (omega arith) j) (get_left xs (r ∷ []) (suc i) l j))
+fall_before xs r = fall_left xs (r ∷ [])
 
 nothing_later : (o : Option Record) → falls o None ≡ false
 nothing_later None = refl
@@ -33,6 +36,10 @@ nothing_later (Some r) = refl
 pub fall_past : (xs : List Record) (i : ℕ) → length xs ≤ i → is_core_fault xs i ≡ false
 fall_past xs zero l = refl
 fall_past xs (suc i) l = ap (falls (slice_get xs i)) (get_past xs (suc i) l) ∙ nothing_later (slice_get xs i)
+
+-- the first records of a log that doesn't fall don't either
+pub never_front : (xs ys : List Record) → ((i : ℕ) → is_core_fault (xs ++ ys) i ≡ false) → (i : ℕ) → is_core_fault xs i ≡ false
+never_front xs ys h i = elim (cases_lt i (length xs)) [ inl l ↦ sym (fall_left xs ys i l) ∙ h i | inr past ↦ fall_past xs i past ]
 
 -- at the new record
 fall_here : (xs : List Record) (e r : Record) (n : ℕ) → n ≡ length (xs ++ e ∷ []) → is_core_fault ((xs ++ e ∷ []) ++ r ∷ []) n ≡ falls_after e r

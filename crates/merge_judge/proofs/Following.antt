@@ -12,9 +12,11 @@ use Rattle.log_file.specs.Devices.{Tells}
 use Rattle.log_file.specs.Feeding.{IsSettled}
 use Rattle.log_file.specs.Log.{Spells}
 use Rattle.log_file.proofs.Bounded.{read_long}
-use Rattle.log_file.proofs.Devices.{told, tells_told, consumes_more, consumes_told, consumes_end}
+use Rattle.log_file.proofs.Devices.{told, consumes_more, consumes_told, consumes_end}
+use Rattle.merge_judge.specs.Begun.{BeginsLog}
 use Rattle.merge_judge.specs.OpenedLog.{OpenedLog}
 use Rattle.merge_judge.specs.inner.Following.{EndsAt, EndsWhole, Follows, IsNext, TakesOne}
+use Rattle.merge_judge.proofs.Begins.{begins_there}
 
 -- ---- one record of the bytes that were read
 
@@ -53,18 +55,27 @@ fault_holds core cores bytes (At k f) h = h
 fault_holds core cores bytes OutOfMemory h = absurd h
 fault_holds core cores bytes Read h = absurd h
 
-pub read_failed : (core cores : ℕ) (first : Option (List ℕ)) → EndsAt core cores first Read
-read_failed core cores first = record { text = told first; tells = tells_told first; holds = tt }
+module _ (core cores : ℕ) (first still : Option (List ℕ)) (log : OpenedLog) (records : List Record) (h : Follows core cores first still log records) where
+  begins_so_far : BeginsLog core cores ((h.bytes ++ log.unused) ++ told still) records
+  begins_so_far = begins_there core cores log.reader h.core_is h.cores_is h.bytes log.unused (told still) records h.answered
+
+  -- the text that the log begins
+  pub begun_text : (text : List ℕ) × Tells first text × BeginsLog core cores text records
+  begun_text = ((h.bytes ++ log.unused) ++ told still, consumes_told first still (h.bytes ++ log.unused) h.given, begins_so_far)
+
+  pub read_failed : EndsAt core cores first records Read
+  read_failed = record { text = begun_text.0; begins = begun_text.2; tells = begun_text.1; holds = tt }
 
 module _ (core cores : ℕ) (first still : Option (List ℕ)) (log new : OpenedLog) (records : List Record) (h : Follows core cores first still log records) where
   -- a fault of the bytes that were read
-  pub refused_at : (f : LogFault) → ((bytes : List ℕ) (rs : List Record) → HasAnswered log.reader bytes rs → TakesOne bytes rs log (Err f) new) → EndsAt core cores first f
+  pub refused_at : (f : LogFault) → ((bytes : List ℕ) (rs : List Record) → HasAnswered log.reader bytes rs → TakesOne bytes rs log (Err f) new) → EndsAt core cores first records f
   refused_at f takes =
       let settled : IsSettled core cores (h.bytes ++ log.unused) f =
       subst (λ k. IsSettled core k (h.bytes ++ log.unused) f) h.cores_is
       (subst (λ k. IsSettled k log.reader.cores (h.bytes ++ log.unused) f) h.core_is (takes h.bytes records h.answered)) in
       record {
         text = (h.bytes ++ log.unused) ++ told still;
+        begins = begins_so_far core cores first still log records h;
         tells = consumes_told first still (h.bytes ++ log.unused) h.given;
         holds = settled_holds core cores (h.bytes ++ log.unused) (told still) f settled;
       }
@@ -124,9 +135,10 @@ module _ (core cores : ℕ) (first still : Option (List ℕ)) (log : OpenedLog) 
         (subst (λ k. Spells k log.reader.cores h.bytes records) h.core_is (spells h.bytes records h.answered));
   }
 
-  pub ends_at : (f : LogFault) → ((bytes : List ℕ) (rs : List Record) → HasAnswered log.reader bytes rs → IsFaultOf log.reader.core log.reader.cores bytes f) → EndsAt core cores first f
+  pub ends_at : (f : LogFault) → ((bytes : List ℕ) (rs : List Record) → HasAnswered log.reader bytes rs → IsFaultOf log.reader.core log.reader.cores bytes f) → EndsAt core cores first records f
   ends_at f holds = record {
     text = h.bytes;
+    begins = subst (λ xs. BeginsLog core cores xs records) (append-nil (h.bytes ++ []) ∙ append-nil h.bytes) (begins_there core cores log.reader h.core_is h.cores_is h.bytes [] [] records h.answered);
     tells = tells_bytes;
     holds = fault_holds core cores h.bytes f (subst (λ k. IsFaultOf core k h.bytes f) h.cores_is
         (subst (λ k. IsFaultOf k log.reader.cores h.bytes f) h.core_is (holds h.bytes records h.answered)));

@@ -1,10 +1,15 @@
 -- What a merge answers that ends before its verdict.
-use Rattle.std.specs.Prelude.{◌≡◌, ℕ, List, [], ◌++◌, refl, Option, Result, Ok, Err, map}
+use Rattle.std.specs.Prelude.{◌≡◌, ℕ, List, [], ◌++◌, refl, Option, Result, Ok, Err, map, replicate, take, ◌⊎◌}
 use Rattle.std.proofs.Common.{sym, ◌∙◌, ap}
 use Rattle.log_file.specs.declared.device_fault.WriteFault.{WriteFault}
 use Rattle.log_file.specs.declared.device_fault.WriteFault.TheVariants.{OutOfMemory as NoMemory, Write as WriteFailed}
 use Rattle.verdict.specs.declared.judge_fault.JudgeFault.{JudgeFault}
-use Rattle.verdict.specs.declared.judge_fault.JudgeFault.TheVariants.{OutOfMemory, Read}
+use Rattle.verdict.specs.declared.judge_fault.JudgeFault.TheVariants.{BadConfig, Log, OutOfMemory, Read}
+use Rattle.log_file.specs.Sets.{TellEach}
+use Rattle.verdict.specs.Judgement.{IsYes}
+use Rattle.verdict.specs.ByKey.{by_key}
+use Rattle.merge_judge.specs.Begun.{BeginsOrder, BeginsWhole, EndBefore, StopsBefore}
+use Rattle.merge_judge.specs.inner.Lanes.{IsMerged, NoFalls}
 use Rattle.verdict.proofs.Told.{each_tells, told}
 use Rattle.std.specs.Io.KnownBytes.{Appends}
 use Rattle.merge_judge.specs.declared.merge_fault.MergeFault.TheVariants.{Judge, Write}
@@ -27,32 +32,37 @@ use Rattle.verdict.specs.FaultParts.{FaultParts}
 use Rattle.verdict.proofs.Bridge.{yes_is_sequential}
 use Rattle.merge_judge.specs.declared.lane.Lane.{Lane}
 use Rattle.merge_judge.specs.declared.merge.Merge.{Merge}
-use Rattle.merge_judge.specs.OrderText.{end_line, id_lines}
+use Rattle.merge_judge.specs.OrderText.{end_line, id_lines, order_text}
 use Rattle.merge_judge.specs.inner.Judging.{line_where}
 use Rattle.merge_judge.specs.inner.Merging.{HasMerged}
 use Rattle.merge_judge.specs.inner.Settling.{Settles}
 use Rattle.merge_judge.specs.inner.Writing.{IsWritten}
-use Rattle.merge_judge.proofs.MergeSoFar.{ids, joined, lacks_end, lacks_more, lines_where, order_where}
+use Rattle.merge_judge.proofs.MergeSoFar.{front_of, joined, lacks_end, lacks_more, lines_where}
+use Rattle.merge_judge.proofs.Shown.{IsShown, ids, order_where, shown_none}
+use Rattle.merge_judge.proofs.Stopped.{before_fault, begins_order, begun_texts, none_begun}
 use Rattle.merge_judge.proofs.WritingFacts.{appends_none}
 
-module _ {S : Type 0} (remaining : S → Option (List ℕ)) (failed : S → ℕ) (old new : Option (List ℕ)) (before after : List S) (written : List ℕ) (appends : Appends old new written) (lacks : LacksEnd written) where
-  pub ends_early : (f : WriteFault) → IsMergedBy remaining failed old new before after (Err (from_write f))
-  ends_early NoMemory = record {
-    texts = map (λ reader. told (remaining reader)) before;
-    tells = each_tells remaining before;
+-- what ends in place of a verdict has no word of the texts but how they begin
+module _ {S : Type 0} (remaining : S → Option (List ℕ)) (failed : S → ℕ) (old new : Option (List ℕ)) (before after : List S) (written : List ℕ) (appends : Appends old new written) (lacks : LacksEnd written) (texts : List (List ℕ)) (tells : TellEach remaining before texts) where
+  pub ends_early : (f : WriteFault) → BeginsOrder texts (Err (from_write f)) written ⊎ BeginsWhole texts written → IsMergedBy remaining failed old new before after (Err (from_write f))
+  ends_early NoMemory stops = record {
+    texts = texts;
+    tells = tells;
     answers = tt;
     written = written;
     appends = appends;
     writes = lacks;
+    stops = stops;
     read = λ file h. absurd cc;
   }
-  ends_early WriteFailed = record {
-    texts = map (λ reader. told (remaining reader)) before;
-    tells = each_tells remaining before;
+  ends_early WriteFailed stops = record {
+    texts = texts;
+    tells = tells;
     answers = tt;
     written = written;
     appends = appends;
     writes = lacks;
+    stops = stops;
     read = λ file h. absurd cc;
   }
 
@@ -62,39 +72,58 @@ wrote NoMemory h = absurd cc
 wrote WriteFailed h = refl
 
 pub no_memory : {S : Type 0} (remaining : S → Option (List ℕ)) (failed : S → ℕ) (old : Option (List ℕ)) (before after : List S) → IsMergedBy remaining failed old old before after (Err (Judge OutOfMemory))
-no_memory remaining failed old before after = ends_early remaining failed old old before after [] (appends_none old) (lacks_end [] [] [] refl) NoMemory
+no_memory remaining failed old before after =
+    let texts = map (λ reader. told (remaining reader)) before in
+    let none = replicate (length before) [] in
+    ends_early remaining failed old old before after [] (appends_none old) (lacks_end [] [] [] refl) texts (each_tells remaining before) NoMemory
+    (inl (begins_order texts (Err (Judge OutOfMemory)) [] none [] [] [] (shown_none (length before)) (none_begun remaining before) refl tt))
+
+early : (f : WriteFault) (texts : List (List ℕ)) (logs : List (List Record)) → EndBefore texts (Err (from_write f)) logs
+early NoMemory texts logs = tt
+early WriteFailed texts logs = tt
 
 -- a write that fails at a record
-pub look_fails : {S : Type 0} (remaining : S → Option (List ℕ)) (failed : S → ℕ) (old mid new : Option (List ℕ)) (before after : List S) (written kept kept_new : List ℕ) (order : List OpId) (on : Bool) (id : OpId) (f : WriteFault)
+pub look_fails : {S : Type 0} (remaining : S → Option (List ℕ)) (failed : S → ℕ) (old mid new : Option (List ℕ)) (before after : List S) (lanes : List Lane) (numbers : List ℕ) (clean : Bool) (merged : List (List Record)) (done : List Entry) (written kept kept_new : List ℕ) (order : List OpId) (on : Bool) (id : OpId) (f : WriteFault)
+    → IsMerged remaining failed before after lanes numbers clean merged done → IsShown (order_where on order id) merged done
     → Appends old mid written → written ++ kept ≡ id_lines order → IsWritten mid new (kept ++ line_where on id) (Err f) kept_new → IsMergedBy remaining failed old new before after (Err (from_write f))
-look_fails remaining failed old mid new before after written kept kept_new order on id f appends lines w =
-    ends_early remaining failed old new before after (written ++ w.0) (appends_more old mid new written w.0 appends w.1.1)
-    (lacks_end (written ++ w.0) w.1.0 (order_where on order id) (joined written kept w.0 w.1.0 (line_where on id) (id_lines order) lines w.1.2 ∙ sym (lines_where on order id))) f
+look_fails remaining failed old mid new before after lanes numbers clean merged done written kept kept_new order on id f m shown appends lines w =
+    let all : (written ++ w.0) ++ w.1.0 ≡ id_lines (order_where on order id) = joined written kept w.0 w.1.0 (line_where on id) (id_lines order) lines w.1.2 ∙ sym (lines_where on order id) in
+    let t = begun_texts remaining failed before after lanes numbers clean merged done m in
+    ends_early remaining failed old new before after (written ++ w.0) (appends_more old mid new written w.0 appends w.1.1) (lacks_end (written ++ w.0) w.1.0 (order_where on order id) all) t.0 t.1.0 f
+    (inl (begins_order t.0 (Err (from_write f)) (order_where on order id) merged done (written ++ w.0) w.1.0 shown t.1.1 all (early f t.0 shown.logs)))
 
 -- a set without a verdict, and one with a No
-pub settled_fault : {S : Type 0} (remaining : S → Option (List ℕ)) (failed : S → ℕ) (old new : Option (List ℕ)) (before after : List S) (lanes : List Lane) (merged : List (List Record)) (written kept : List ℕ) (order : List OpId) (fault : JudgeFault)
-    → Appends old new written → written ++ kept ≡ id_lines order → Settles remaining failed before after lanes merged (Err fault) → IsMergedBy remaining failed old new before after (Err (Judge fault))
-settled_fault remaining failed old new before after lanes merged written kept order fault appends lines s = record {
-  texts = s.texts;
-  tells = s.tells;
-  answers = s.answers;
-  written = written;
-  appends = appends;
-  writes = lacks_end written kept order lines;
-  read = λ file h. s.failed_at file (let e : fault ≡ Read file = cc in e);
-}
+module _ {S : Type 0} (remaining : S → Option (List ℕ)) (failed : S → ℕ) (old new : Option (List ℕ)) (before after : List S) (lanes : List Lane) (merged : List (List Record)) (done : List Entry) (written kept : List ℕ) (order : List OpId)
+    (shown : IsShown order merged done) (appends : Appends old new written) (lines : written ++ kept ≡ id_lines order) where
+  pub settled_fault : (fault : JudgeFault) → (IsBadCount fault → ⊥) → Settles remaining failed before after lanes merged (Err fault) → IsMergedBy remaining failed old new before after (Err (Judge fault))
+  settled_fault fault counts s = record {
+    texts = s.texts;
+    tells = s.tells;
+    answers = s.answers;
+    written = written;
+    appends = appends;
+    writes = lacks_end written kept order lines;
+    stops = go fault counts;
+    read = λ file h. s.failed_at file (let e : fault ≡ Read file = cc in e);
+  }
+    where
+      go : (f : JudgeFault) → (IsBadCount f → ⊥) → StopsBefore s.texts (Err (Judge f)) written
+      go (BadConfig count) h = absurd (h tt)
+      go (Log file line f) h = begins_order s.texts (Err (Judge (Log file line f))) order merged done written kept shown s.begun lines tt
+      go (Read file) h = begins_order s.texts (Err (Judge (Read file))) order merged done written kept shown s.begun lines tt
+      go OutOfMemory h = inl (begins_order s.texts (Err (Judge OutOfMemory)) order merged done written kept shown s.begun lines tt)
 
-pub settled_no : {S : Type 0} (remaining : S → Option (List ℕ)) (failed : S → ℕ) (old new : Option (List ℕ)) (before after : List S) (lanes : List Lane) (merged : List (List Record)) (written kept : List ℕ) (order : List OpId) (fault : FaultParts)
-    → Appends old new written → written ++ kept ≡ id_lines order → Settles remaining failed before after lanes merged (Ok (No fault)) → IsMergedBy remaining failed old new before after (Ok (No fault))
-settled_no remaining failed old new before after lanes merged written kept order fault appends lines s = record {
-  texts = s.texts;
-  tells = s.tells;
-  answers = s.answers;
-  written = written;
-  appends = appends;
-  writes = lacks_end written kept order lines;
-  read = tt;
-}
+  pub settled_no : (fault : FaultParts) → (NoFalls lanes → done ≡ by_key merged) → Settles remaining failed before after lanes merged (Ok (No fault)) → IsMergedBy remaining failed old new before after (Ok (No fault))
+  settled_no fault by_key_is s = record {
+    texts = s.texts;
+    tells = s.tells;
+    answers = s.answers;
+    written = written;
+    appends = appends;
+    writes = lacks_end written kept order lines;
+    stops = begins_order s.texts (Ok (No fault)) order merged done written kept shown s.begun lines (before_fault order merged done shown lanes s.texts fault by_key_is s.clean.0 s.clean.1);
+    read = tt;
+  }
 
 -- a Yes: all records were merged without a fault, and their order is written
 module _ {S : Type 0} (remaining : S → Option (List ℕ)) (failed : S → ℕ) (old mid new : Option (List ℕ)) (before after : List S) (merge : Merge) (merged : List (List Record)) (done : List Entry) (written kept kept_new : List ℕ) (order : List OpId) (count : ℕ)
@@ -132,14 +161,26 @@ module _ {S : Type 0} (remaining : S → Option (List ℕ)) (failed : S → ℕ)
         ),
       ),
     );
+    stops = tt;
     read = tt;
   }
 
   pub end_fails : (f : WriteFault) → IsWritten mid new (kept ++ end_line count) (Err f) kept_new → IsMergedBy remaining failed old new before after (Err (from_write f))
   end_fails f w =
       ends_early remaining failed old new before after (written ++ w.0) (appends_more old mid new written w.0 appends w.1.1)
-      (lacks_more (written ++ w.0) w.1.0 order (joined written kept w.0 w.1.0 (end_line count) (id_lines order) lines w.1.2 ∙ ap (λ n. id_lines order ++ end_line n) long) w.1.4) f
+      (lacks_more (written ++ w.0) w.1.0 order all_is w.1.4) s.texts s.tells f
+      (inr (merged, (s.clean.0, (subst IsYes s.clean.1 tt, (length (written ++ w.0), sym (front_of (written ++ w.0) w.1.0 (order_text order) all_is) ∙ ap (λ ids. take (length (written ++ w.0)) (order_text ids)) by_key_is)))))
+    where
+      all_is : (written ++ w.0) ++ w.1.0 ≡ order_text order
+      all_is = joined written kept w.0 w.1.0 (end_line count) (id_lines order) lines w.1.2 ∙ ap (λ n. id_lines order ++ end_line n) long
 
 -- a bad count is no failed read
 pub bad_no_read : (f : JudgeFault) (file : ℕ) → IsBadCount f → Judge f ≡ Judge (Read file) → ⊥
 bad_no_read f file bad h = let e : f ≡ Read file = cc in subst IsBadCount e bad
+
+-- after it nothing was written
+pub nothing_after : (texts : List (List ℕ)) (f : JudgeFault) → IsBadCount f → StopsBefore texts (Err (Judge f)) []
+nothing_after texts (BadConfig count) bad = refl
+nothing_after texts (Log file line f) bad = absurd bad
+nothing_after texts OutOfMemory bad = absurd bad
+nothing_after texts (Read file) bad = absurd bad

@@ -22,7 +22,7 @@ use Rattle.merge_judge.proofs.Falls.{fall_past, fall_stays, falls_never, first_f
 -- ---- how many records a log has
 
 few_sound : (q : Stage) (core cores : ℕ) (records : List Record) (line : List ℕ) → IsSound q core cores records line → length records ≤ operation_limit
-few_sound last_read.Header core cores records line h = omega (arith, ap length h.2)
+few_sound last_read.Header core cores records line h = omega (arith, ap length h)
 few_sound (last_read.Records format) core cores records line h = h.few
 few_sound (last_read.Ended format) core cores records line h = h.0.few
 

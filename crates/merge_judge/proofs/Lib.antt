@@ -1,5 +1,6 @@
 pub mod Added
 pub mod Along
+pub mod Begins
 pub mod Falls
 pub mod Following
 pub mod LaneFacts
@@ -9,5 +10,7 @@ pub mod WordFacts
 pub mod WritingFacts
 pub mod Opening
 pub mod Settled
+pub mod Shown
 pub mod MergeSoFar
+pub mod Stopped
 pub mod Judged

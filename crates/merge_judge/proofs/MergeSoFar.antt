@@ -1,5 +1,5 @@
 -- A merge with what it has checked and written.
-use Rattle.std.specs.Prelude.{◌≡◌, ◌≢◌, ℕ, zero, suc, ◌<◌, ◌≤◌, Bool, true, false, List, [], ◌∷◌, ◌++◌, refl, Option, Some, None, is_some, is_none, ◌&&◌, length, map, take, slice_get}
+use Rattle.std.specs.Prelude.{◌≡◌, ◌≢◌, ℕ, zero, suc, ◌<◌, ◌≤◌, Bool, true, false, List, [], ◌∷◌, ◌++◌, refl, Option, Some, None, is_some, is_none, ◌&&◌, length, take, slice_get}
 use Rattle.std.proofs.Common.{sym, ◌∙◌, ap, arith, append_assoc, append-nil, length-append}
 use Rattle.std.specs.Option.{option_or}
 use Rattle.std.specs.Io.KnownBytes.{Appends}
@@ -17,10 +17,8 @@ use Rattle.merge_judge.specs.inner.Judging.{line_where}
 use Rattle.merge_judge.specs.inner.Merging.{HasMerged}
 use Rattle.merge_judge.specs.inner.Words.{Holds, first_along}
 use Rattle.merge_judge.proofs.Added.{entries_few}
+use Rattle.merge_judge.proofs.Shown.{IsShown, ids, order_where}
 use Rattle.merge_judge.proofs.WritingFacts.{end_line_some}
-
-abbrev pub ids : List Entry → List OpId
-ids done = map (λ e. e.id) done
 
 pub record MergeSoFar {S : Type 0} (remaining : S → Option (List ℕ)) (failed : S → ℕ) (old new : Option (List ℕ)) (failed_before failed_now : ℕ) (before after : List S) (merge : Merge) (values : List ℕ) (sources : List Source) (kept : List ℕ) (fault : Option AddressFault) (count : ℕ) : Type 0 where
   pub merged : List (List Record)
@@ -35,6 +33,7 @@ pub record MergeSoFar {S : Type 0} (remaining : S → Option (List ℕ)) (failed
   pub appends : Appends old new written
   pub order : List OpId
   pub lines : written ++ kept ≡ id_lines order
+  pub shown : IsShown order merged done
   pub all : fault ≡ None → merge.clean ≡ true → order ≡ ids done
   pub quiet : failed_now ≡ failed_before
 
@@ -56,7 +55,7 @@ few_done remaining failed before after merge merged done m =
 
 -- ---- what lacks the end line
 
-front_of : (written rest text : List ℕ) → written ++ rest ≡ text → take (length written) text ≡ written
+pub front_of : (written rest text : List ℕ) → written ++ rest ≡ text → take (length written) text ≡ written
 front_of written rest text is = ap (take (length written)) (sym is) ∙ take-append_seam written rest
 
 pub lacks_end : (written rest : List ℕ) (order : List OpId) → written ++ rest ≡ id_lines order → LacksEnd written
@@ -81,10 +80,6 @@ earlier_none None p h = refl
 earlier_none (Some x) p h = absurd cc
 
 -- ---- one more record looked at
-
-abbrev pub order_where : Bool → List OpId → OpId → List OpId
-order_where true order id = order ++ id ∷ []
-order_where false order id = order
 
 pub lines_where : (yes : Bool) (order : List OpId) (id : OpId) → id_lines (order_where yes order id) ≡ id_lines order ++ line_where yes id
 lines_where true order id = id_lines-push order id

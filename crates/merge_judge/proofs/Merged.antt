@@ -159,7 +159,8 @@ module _ {S : Type 0} (remaining : S → Option (List ℕ)) (failed : S → ℕ)
         (falls : lane_new.falls ≡ None → lane.falls ≡ None)
         (faulty : IsFaulty lane → IsFaulty lane_new)
         (number_new : IsFrontNumber core lane_new.front n)
-        (found : clean_new ≡ false → (clean ≡ false) ⊎ IsFaulty lane_new) where
+        (found : clean_new ≡ false → (clean ≡ false) ⊎ IsFaulty lane_new)
+        (kept : clean_new ≡ true → (clean ≡ true) × (lane.falls ≡ None → lane_new.falls ≡ None)) where
       abbrev e : Entry
       e = entry_at core (length (log_at merged core)) r
 
@@ -265,6 +266,13 @@ module _ {S : Type 0} (remaining : S → Option (List ℕ)) (failed : S → ℕ)
         | inr now ↦ (core, (lane_new, here, now))
       ]
 
+      steady_new : clean_new ≡ true → NoFalls lanes_new
+      steady_new h k l hl = elim (cases_eq k core) [
+        | inl q ↦ (let l_is : lane_new ≡ l = one (slice_get lanes_new core) lane_new l here (subst (λ j. slice_get lanes_new j ≡ Some l) q hl) in
+            subst (λ (x : Lane). x.falls ≡ None) l_is ((kept h).1 (m.steady (kept h).0 core lane lane_is)))
+        | inr q ↦ m.steady (kept h).0 k l (sym (elsewhere k q) ∙ hl)
+      ]
+
       pub merged_more : IsMerged remaining failed before (slice_set after core source_new) lanes_new (slice_set numbers core n) clean_new (add merged core r) (done ++ e ∷ [])
       merged_more = record {
         readers = length-set after core source_new ∙ m.readers;
@@ -279,4 +287,5 @@ module _ {S : Type 0} (remaining : S → Option (List ℕ)) (failed : S → ℕ)
         by_key_so_far = by_key_new;
         come_before = come_before_new;
         faulty = faulty_new;
+        steady = steady_new;
       }

@@ -1,5 +1,5 @@
 -- The first records of the logs of a set, log by log.
-use Rattle.std.specs.Prelude.{◌≡◌, ℕ, zero, suc, ◌+◌, ◌<◌, ◌≤◌, ◌⊎◌, Bool, true, false, List, [], ◌∷◌, ◌++◌, refl, Option, Some, is_some, not, length, replicate, slice_get, slice_set, slice_index}
+use Rattle.std.specs.Prelude.{◌≡◌, ℕ, zero, suc, ◌+◌, ◌<◌, ◌≤◌, ◌⊎◌, Bool, true, false, List, [], ◌∷◌, ◌++◌, refl, Option, Some, None, is_some, not, length, replicate, slice_get, slice_set, slice_index}
 use Rattle.std.proofs.Common.{sym, ◌∙◌, ap, subst, inl, inr, arith, length-set}
 use Rattle.std.proofs.lemmas.Bool.{cases_lt}
 use Rattle.std.proofs.lemmas.List.{length_push}
@@ -8,7 +8,7 @@ use Rattle.log_record.specs.Entries.{entry_cmp, entries_from}
 use Rattle.line_stamps.specs.Ordered.{sorted}
 use Rattle.verdict.proofs.Lists.{set_here, set_elsewhere}
 use Rattle.merge_judge.specs.declared.lane.Lane.{Lane}
-use Rattle.merge_judge.specs.inner.Lanes.{IsFaulty, IsFrontNumber, IsLaneAt, IsMerged, SomeFaulty, log_at}
+use Rattle.merge_judge.specs.inner.Lanes.{IsFaulty, IsFrontNumber, IsLaneAt, IsMerged, NoFalls, SomeFaulty, log_at}
 
 -- the first record of each of the first n logs was read
 pub record Opened {S : Type 0} (remaining : S → Option (List ℕ)) (failed : S → ℕ) (before after : List S) (n : ℕ) (lanes : List Lane) (numbers : List ℕ) (clean : Bool) : Type 0 where
@@ -18,6 +18,7 @@ pub record Opened {S : Type 0} (remaining : S → Option (List ℕ)) (failed : S
   pub lane : (k : ℕ) (b a : S) (l : Lane) → slice_get before k ≡ Some b → slice_get after k ≡ Some a → slice_get lanes k ≡ Some l → IsLaneAt remaining failed k (length before) b a l []
   pub number : (k : ℕ) (l : Lane) → slice_get lanes k ≡ Some l → IsFrontNumber k l.front (slice_index numbers k)
   pub faulty : clean ≡ false → SomeFaulty lanes
+  pub steady : NoFalls lanes
   pub rest : (k : ℕ) → n ≤ k → slice_get after k ≡ slice_get before k
 
 pub opened_none : {S : Type 0} (remaining : S → Option (List ℕ)) (failed : S → ℕ) (readers : List S) → Opened remaining failed readers readers 0 [] [] true
@@ -28,6 +29,7 @@ opened_none remaining failed readers = record {
   lane = λ k b a l hb ha hl. absurd (let w = slice_get_within [] k l hl in omega (arith, w));
   number = λ k l hl. absurd (let w = slice_get_within [] k l hl in omega (arith, w));
   faulty = λ h. absurd cc;
+  steady = λ k l hl. absurd (let w = slice_get_within [] k l hl in omega (arith, w));
   rest = λ k l. refl;
 }
 
@@ -57,7 +59,7 @@ one o a b p q = cc
 -- one more
 module _ {S : Type 0} (remaining : S → Option (List ℕ)) (failed : S → ℕ) (before after : List S) (n : ℕ) (lanes : List Lane) (numbers : List ℕ) (clean : Bool) (h : Opened remaining failed before after n lanes numbers clean)
     (source source_new : S) (source_is : slice_get after n ≡ Some source) (lane : Lane) (number : ℕ) (clean_new : Bool)
-    (at : IsLaneAt remaining failed n (length before) source source_new lane []) (number_is : IsFrontNumber n lane.front number) (found : clean_new ≡ false → (clean ≡ false) ⊎ IsFaulty lane) where
+    (at : IsLaneAt remaining failed n (length before) source source_new lane []) (number_is : IsFrontNumber n lane.front number) (found : clean_new ≡ false → (clean ≡ false) ⊎ IsFaulty lane) (steady : lane.falls ≡ None) where
   before_is : slice_get before n ≡ Some source
   before_is = sym (h.rest n (omega arith)) ∙ source_is
 
@@ -93,20 +95,21 @@ module _ {S : Type 0} (remaining : S → Option (List ℕ)) (failed : S → ℕ)
       | inl old ↦ (let t = h.faulty old in (t.0, (t.1.0, get_left lanes (lane ∷ []) t.0 (slice_get_within lanes t.0 t.1.0 t.1.1) ∙ t.1.1, t.1.2)))
       | inr now ↦ (n, (lane, get_last lanes lane n h.many, now))
     ];
+    steady = λ k l hl. elim (split k l hl) [ inl p ↦ h.steady k l p.1 | inr p ↦ subst (λ (x : Lane). x.falls ≡ None) p.1 steady ];
     rest = λ k l. set_elsewhere after n k source_new (λ e. omega (arith, l, e)) ∙ h.rest k (omega (arith, l));
   }
 
 -- nothing was merged yet
-no_entries : (core n : ℕ) → entries_from core (replicate n []) ≡ []
+pub no_entries : (core n : ℕ) → entries_from core (replicate n []) ≡ []
 no_entries core zero = refl
 no_entries core (suc n) = no_entries (suc core) n
 
-none_there : (n k : ℕ) → log_at (replicate n []) k ≡ []
+pub none_there : (n k : ℕ) → log_at (replicate n []) k ≡ []
 none_there zero k = refl
 none_there (suc n) zero = refl
 none_there (suc n) (suc k) = none_there n k
 
-replicate_long : {X : Type 0} (n : ℕ) (x : X) → length (replicate n x) ≡ n
+pub replicate_long : {X : Type 0} (n : ℕ) (x : X) → length (replicate n x) ≡ n
 replicate_long zero x = refl
 replicate_long (suc n) x = ap suc (replicate_long n x)
 
@@ -125,6 +128,7 @@ all_opened remaining failed before after n lanes numbers clean h all some few = 
   by_key_so_far = λ steady. sym (ap (sorted entry_cmp) (no_entries 0 (length before)));
   come_before = λ steady x p. absurd p;
   faulty = h.faulty;
+  steady = λ clean. h.steady;
 }
 
 pub is_faulty : (lane : Lane) (b : Bool) → is_some lane.fault ≡ not b → b ≡ false → IsFaulty lane

@@ -32,6 +32,7 @@ use Rattle.verdict.specs.Judgement.{IsAnswerTo}
 use Rattle.verdict.specs.SetFaults.{from_set}
 use Rattle.merge_judge.specs.declared.lane.Lane.{Lane}
 use Rattle.merge_judge.specs.inner.Lanes.{AllEnded, IsMerged, IsStage, NoFalls, front_list, log_at}
+use Rattle.merge_judge.specs.Begun.{BeginSet, BeginsLog}
 use Rattle.merge_judge.specs.inner.Settling.{NoneFaulty, NoneFalls, Settles}
 use Rattle.log_file.specs.Sets.{ReaderFailed}
 use Rattle.address_check.specs.declared.fault.AddressFault.{AddressFault}
@@ -43,10 +44,11 @@ use Rattle.verdict.specs.Faults.{from_address}
 use Rattle.verdict.specs.VerdictOf.{verdict_of, verdict_with}
 use Rattle.merge_judge.specs.inner.Words.{first_along}
 use Rattle.merge_judge.proofs.Along.{along_is_least}
+use Rattle.merge_judge.proofs.Begins.{begins_whole}
 
 -- ---- one text for each reader
 
-gather : {S : Type 0} (P : ℕ → S → List ℕ → Type 0) (xs : List S) → ((k : ℕ) (x : S) → slice_get xs k ≡ Some x → (text : List ℕ) × P k x text)
+pub gather : {S : Type 0} (P : ℕ → S → List ℕ → Type 0) (xs : List S) → ((k : ℕ) (x : S) → slice_get xs k ≡ Some x → (text : List ℕ) × P k x text)
     → (texts : List (List ℕ)) × ((length texts ≡ length xs) × ((k : ℕ) (x : S) → slice_get xs k ≡ Some x → P k x (text_at texts k)))
 gather P [] f = ([], (refl, λ k x h. absurd cc))
 gather {S} P (x ∷ xs) f =
@@ -59,7 +61,7 @@ gather {S} P (x ∷ xs) f =
     go first rest zero y h = let e : x ≡ y = cc in subst (λ z. P 0 z first.0) e first.1
     go first rest (suc k) y h = rest.1.1 k y h
 
-tell_each : {S : Type 0} (remaining : S → Option (List ℕ)) (xs : List S) (texts : List (List ℕ)) → length texts ≡ length xs → ((k : ℕ) (x : S) → slice_get xs k ≡ Some x → Tells (remaining x) (text_at texts k)) → TellEach remaining xs texts
+pub tell_each : {S : Type 0} (remaining : S → Option (List ℕ)) (xs : List S) (texts : List (List ℕ)) → length texts ≡ length xs → ((k : ℕ) (x : S) → slice_get xs k ≡ Some x → Tells (remaining x) (text_at texts k)) → TellEach remaining xs texts
 tell_each remaining [] [] long h = tt
 tell_each remaining [] (text ∷ texts) long h = absurd (omega (arith, long))
 tell_each remaining (x ∷ xs) [] long h = absurd (omega (arith, long))
@@ -74,15 +76,15 @@ spell_from core cores (text ∷ texts) (log ∷ logs) long h = (
   spell_from (core + 1) cores texts logs (omega (arith, long)) (λ k l. subst (λ c. Spells c cores (text_at texts k) (log_at logs k)) (let e : core + suc k ≡ core + 1 + k = omega arith in e) (h (suc k) (omega arith))),
 )
 
-there : {X : Type 0} (xs : List X) (n : ℕ) → n < length xs → (x : X) × (slice_get xs n ≡ Some x)
+pub there : {X : Type 0} (xs : List X) (n : ℕ) → n < length xs → (x : X) × (slice_get xs n ≡ Some x)
 there [] n l = absurd (omega arith)
 there (x ∷ xs) zero l = (x, refl)
 there (x ∷ xs) (suc n) l = there xs n (omega arith)
 
-one : {X : Type 0} (o : Option X) (a b : X) → o ≡ Some a → o ≡ Some b → a ≡ b
+pub one : {X : Type 0} (o : Option X) (a b : X) → o ≡ Some a → o ≡ Some b → a ≡ b
 one o a b p q = cc
 
-log_there : (logs : List (List Record)) (k : ℕ) → k < length logs → slice_get logs k ≡ Some (log_at logs k)
+pub log_there : (logs : List (List Record)) (k : ℕ) → k < length logs → slice_get logs k ≡ Some (log_at logs k)
 log_there [] k l = absurd (omega arith)
 log_there (log ∷ logs) zero l = refl
 log_there (log ∷ logs) (suc k) l = log_there logs k (omega arith)
@@ -99,6 +101,7 @@ module _ {S : Type 0} (remaining : S → Option (List ℕ)) (failed : S → ℕ)
   IsTextOf k b text =
       Tells (remaining b) text × ((l : Lane) → slice_get lanes k ≡ Some l →
       (l.fault ≡ None → Spells k (length before) text (log_at merged k)) × ((f : LogFault) → l.fault ≡ Some f → IsFaultOrDevice k (length before) text f))
+      × BeginsLog k (length before) text (log_at merged k)
 
   text_of : (k : ℕ) (b : S) → slice_get before k ≡ Some b → (text : List ℕ) × IsTextOf k b text
   text_of k b hb =
@@ -111,7 +114,7 @@ module _ {S : Type 0} (remaining : S → Option (List ℕ)) (failed : S → ℕ)
       go : (l : Lane) → slice_get lanes k ≡ Some l → (a : S) → (o : Option LogFault) → l.fault ≡ o → IsStage k (length before) (remaining b) (remaining a) l.log (log_at merged k) None l.fault → (text : List ℕ) × IsTextOf k b text
       go l hl a None e stage =
           let t = subst (λ o. IsStage k (length before) (remaining b) (remaining a) l.log (log_at merged k) None o) e stage in
-          (t.text, (t.tells, λ x hx. ((λ none. t.spells), λ f some. absurd (let q : l ≡ x = one (slice_get lanes k) l x hl hx in let z : x.fault ≡ None = ap (λ (y : Lane). y.fault) (sym q) ∙ e in cc))))
+          (t.text, (t.tells, λ x hx. ((λ none. t.spells), λ f some. absurd (let q : l ≡ x = one (slice_get lanes k) l x hl hx in let z : x.fault ≡ None = ap (λ (y : Lane). y.fault) (sym q) ∙ e in cc)), begins_whole k (length before) t.text (log_at merged k) t.spells))
       go l hl a (Some f) e stage =
           let t = subst (λ o. IsStage k (length before) (remaining b) (remaining a) l.log (log_at merged k) None o) e stage in (
             t.text,
@@ -121,6 +124,7 @@ module _ {S : Type 0} (remaining : S → Option (List ℕ)) (failed : S → ℕ)
                   let q : l ≡ x = one (slice_get lanes k) l x hl hx in
                   let z : x.fault ≡ Some f = ap (λ (y : Lane). y.fault) (sym q) ∙ e in
                   (λ none. absurd cc, λ h some. (let same : f ≡ h = cc in subst (λ y. IsFaultOrDevice k (length before) t.text y) same t.holds))),
+              t.begins,
             ),
           )
 
@@ -138,6 +142,12 @@ module _ {S : Type 0} (remaining : S → Option (List ℕ)) (failed : S → ℕ)
 
   pub tells : TellEach remaining before texts
   tells = tell_each remaining before texts long (λ k b h. (is_text k b h).0)
+
+  begun : BeginSet texts merged
+  begun = record {
+    many = m.logs ∙ sym long;
+    each = λ k w. (let b = there before k (omega (arith, w, long)) in subst (λ n. BeginsLog k n (text_at texts k) (log_at merged k)) (sym long) (is_text k b.0 b.1).2);
+  }
 
   spelled : (k : ℕ) → k < length before → ((l : Lane) → slice_get lanes k ≡ Some l → l.fault ≡ None) → Spells k (length texts) (text_at texts k) (log_at merged k)
   spelled k w none =
@@ -259,6 +269,7 @@ module _ {S : Type 0} (remaining : S → Option (List ℕ)) (failed : S → ℕ)
   settles_fault file fault l hl some none = record {
     texts = texts;
     tells = tells;
+    begun = begun;
     answers = set_fault file fault l hl some none;
     clean = tt;
     failed_at = λ other h. (let t = only_read file other fault h in
@@ -270,8 +281,9 @@ module _ {S : Type 0} (remaining : S → Option (List ℕ)) (failed : S → ℕ)
   settles_fall core index l hl some none whole = record {
     texts = texts;
     tells = tells;
+    begun = begun;
     answers = (merged, spell_set whole, ap (λ o. verdict_with o merged) (first_falls core index l hl some none));
-    clean = tt;
+    clean = (spell_set whole, inl (refl, (subst (λ o. IsLeastWhere (is_core_fault (log_at merged core)) o) some (fall_of core l hl)).0));
     failed_at = tt;
   }
 
@@ -292,8 +304,9 @@ module _ {S : Type 0} (remaining : S → Option (List ℕ)) (failed : S → ℕ)
     settles_address fault is = record {
       texts = texts;
       tells = tells;
+      begun = begun;
       answers = (merged, spell_set whole, ap (λ o. option_map_or No (option_map from_address o) (Yes (length done))) (sym is) ∙ verdict_is);
-      clean = tt;
+      clean = (spell_set whole, inr (steady, (fault, sym least_address ∙ is, refl)));
       failed_at = tt;
     }
 
@@ -303,6 +316,7 @@ module _ {S : Type 0} (remaining : S → Option (List ℕ)) (failed : S → ℕ)
         record {
           texts = texts;
           tells = tells;
+          begun = begun;
           answers = (merged, spell_set whole, says);
           clean = (spell_set whole, says, λ k l hl. (steady k l hl, whole k l (slice_get_within lanes k l hl) hl));
           failed_at = tt;

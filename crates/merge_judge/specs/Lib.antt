@@ -1,4 +1,5 @@
 pub mod Answer
+pub mod Begun
 pub mod Kept
 pub mod LogKept
 pub mod OpenedLog

@@ -10,6 +10,7 @@ ghost use Rattle.verdict.specs.declared.judge_fault.Count.TheVariants.{Files, Pr
 ghost use Rattle.verdict.specs.declared.judge_fault.JudgeFault.TheVariants.{BadConfig, Read};
 ghost use Rattle.merge_judge.specs.declared.merge_fault.MergeFault.TheVariants.{Judge, Write};
 ghost use Rattle.merge_judge.specs.Answer.{WritesOrder, judged};
+ghost use Rattle.merge_judge.specs.Begun.{StopsBefore};
 ghost use Rattle.std.specs.Option.{option_or};
 ghost use Rattle.log_record.specs.declared.record.Entry.{Entry};
 ghost use Rattle.merge_judge.specs.inner.Judging.{IsMergedBy, IsNoCount, line_where};
@@ -126,6 +127,11 @@ pub fn merge_judge<S: ByteSource, W: ByteSink>(
         × IfSome (judged result) (IsAnswerTo texts)
         × ((written : List ℕ) × Appends (W.contents order_out.old) (W.contents order_out.new) written
         × WritesOrder texts result written)) }
+    // Without a Yes the ids that it took are, in the order of keys, the first of records with which the
+    // texts begin and to which the verdict is Yes; they end before the fault. After 6 it took nothing.
+    ensures stops { (texts : List (List ℕ)) × (TellEach S.remaining readers.old texts
+        × ((written : List ℕ) × Appends (W.contents order_out.old) (W.contents order_out.new) written
+        × StopsBefore texts result written)) }
     ensures read { IfErr result (λ fault. (file : ℕ) → fault ≡ Judge (Read file)
         → ReaderFailed S.failed readers.old readers.new file) }
     // A failed write is answered only where the writer failed in this call, and none is passed over.

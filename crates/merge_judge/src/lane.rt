@@ -1,6 +1,6 @@
 //! One log of a merge.
 
-ghost use Rattle.std.specs.Prelude.{◌≡◌, ◌<◌, ◌≤◌, ◌∷◌, ◌++◌, ℕ, List, [], Some, None, IfOk, false};
+ghost use Rattle.std.specs.Prelude.{◌≡◌, ◌<◌, ◌≤◌, ◌∷◌, ◌++◌, ℕ, List, [], Some, None, IfOk, false, true};
 ghost use Rattle.mem_op.specs.Limits.{operation_limit};
 ghost use Rattle.log_record.specs.declared.record.Record.{Record};
 ghost use Rattle.log_file.specs.Answering.{IsFaultless};
@@ -50,6 +50,7 @@ impl Lane {
         ensures at { IfOk result (λ lane.
             IsLaneAt S.remaining S.failed core cores source.old source.new lane []) }
         ensures merged { IfOk result (λ lane. lane.merged ≡ 0) }
+        ensures steady { IfOk result (λ lane. lane.falls ≡ None) }
     {
         let mut log = OpenLog::new(alloc, core, cores)?;
         match log.next(source) {
@@ -80,6 +81,7 @@ impl Lane {
             → IsLaneAt S.remaining S.failed core cores before source.new self.new
             (merged ++ front.now ∷ []) }
         ensures falls { self.new.falls ≡ None → self.old.falls ≡ None }
+        ensures steady { result ≡ true → self.old.falls ≡ None → self.new.falls ≡ None }
         ensures faulty { IsFaulty self.old → IsFaulty self.new }
         ensures found { result ≡ false → IsFaulty self.new }
     {

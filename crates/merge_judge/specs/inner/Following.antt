@@ -8,6 +8,7 @@ use Rattle.log_file.specs.Answers.{IsFaultOrDevice}
 use Rattle.log_file.specs.Devices.{Tells}
 use Rattle.log_file.specs.Feeding.{IsSettled}
 use Rattle.log_file.specs.Log.{Spells}
+use Rattle.merge_judge.specs.Begun.{BeginsLog}
 use Rattle.merge_judge.specs.OpenedLog.{OpenedLog}
 
 -- what taking a record from the bytes that were read answers
@@ -25,14 +26,15 @@ pub record Follows (core cores : ℕ) (first still : Option (List ℕ)) (log : O
   pub answered : HasAnswered log.reader bytes records
   pub given : Consumes first still (bytes ++ log.unused)
 
--- the text that was told spells the log of these records, or has this fault
+-- the text that was told spells the log of these records, or begins with them and has this fault
 pub record EndsWhole (core cores : ℕ) (first : Option (List ℕ)) (records : List Record) : Type 0 where
   pub text : List ℕ
   pub tells : Tells first text
   pub spells : Spells core cores text records
 
-pub record EndsAt (core cores : ℕ) (first : Option (List ℕ)) (fault : LogFault) : Type 0 where
+pub record EndsAt (core cores : ℕ) (first : Option (List ℕ)) (records : List Record) (fault : LogFault) : Type 0 where
   pub text : List ℕ
+  pub begins : BeginsLog core cores text records
   pub tells : Tells first text
   pub holds : IsFaultOrDevice core cores text fault
 
@@ -40,4 +42,4 @@ pub record EndsAt (core cores : ℕ) (first : Option (List ℕ)) (fault : LogFau
 abbrev pub IsNext : ℕ → ℕ → Option (List ℕ) → List Record → Result (Option Record) LogFault → Option (List ℕ) → OpenedLog → Type 0
 IsNext core cores first records (Ok (Some r)) still new = Follows core cores first still new (records ++ r ∷ [])
 IsNext core cores first records (Ok None) still new = EndsWhole core cores first records
-IsNext core cores first records (Err fault) still new = EndsAt core cores first fault
+IsNext core cores first records (Err fault) still new = EndsAt core cores first records fault

@@ -39,7 +39,7 @@ IsFaulty lane = (lane.falls ≢ None) ⊎ (lane.fault ≢ None)
 abbrev pub IsStage : ℕ → ℕ → Option (List ℕ) → Option (List ℕ) → OpenedLog → List Record → Option Record → Option LogFault → Type 0
 IsStage core cores first still log merged (Some r) fault = (fault ≡ None) × Follows core cores first still log (merged ++ r ∷ [])
 IsStage core cores first still log merged None None = EndsWhole core cores first merged
-IsStage core cores first still log merged None (Some fault) = EndsAt core cores first fault
+IsStage core cores first still log merged None (Some fault) = EndsAt core cores first merged fault
 
 -- the log of this core was merged up to these records
 pub record IsLaneAt {S : Type 0} (remaining : S → Option (List ℕ)) (failed : S → ℕ) (core cores : ℕ) (before after : S) (lane : Lane) (merged : List Record) : Type 0 where
@@ -100,3 +100,4 @@ pub record IsMerged {S : Type 0} (remaining : S → Option (List ℕ)) (failed :
   pub by_key_so_far : NoFalls lanes → done ≡ by_key merged
   pub come_before : NoFalls lanes → ComeBefore done lanes merged
   pub faulty : clean ≡ false → SomeFaulty lanes
+  pub steady : clean ≡ true → NoFalls lanes

@@ -1,6 +1,10 @@
 -- The faults of logs that have ended.
-use Rattle.std.specs.Prelude.{◌≡◌, ℕ, ◌<◌, List, Option, None, Some, Result, Ok, Err, IfErr, slice_get}
+use Rattle.std.specs.Prelude.{◌≡◌, ℕ, ◌<◌, ◌⊎◌, true, List, Option, None, Some, Result, Ok, Err, IfErr, slice_get}
 use Rattle.log_record.specs.declared.record.Record.{Record}
+use Rattle.log_record.specs.Entries.{entries}
+use Rattle.core_check.specs.CoreOrder.{is_core_fault}
+use Rattle.address_check.specs.declared.fault.AddressFault.{AddressFault}
+use Rattle.address_check.specs.AddressFaults.{least_address_fault}
 use Rattle.log_file.specs.Sets.{ReaderFailed, SpellSet, TellEach}
 use Rattle.verdict.specs.declared.answer.Verdict.{Verdict}
 use Rattle.verdict.specs.declared.answer.Verdict.TheVariants.{Yes, No}
@@ -8,8 +12,13 @@ use Rattle.verdict.specs.declared.judge_fault.JudgeFault.{JudgeFault}
 use Rattle.verdict.specs.declared.judge_fault.JudgeFault.TheVariants.{Read}
 use Rattle.verdict.specs.Judgement.{IsAnswerTo}
 use Rattle.verdict.specs.VerdictOf.{verdict_of}
+use Rattle.verdict.specs.FaultParts.{FaultParts}
+use Rattle.verdict.specs.Faults.{from_address}
+use Rattle.verdict.specs.declared.rule.Rule.TheVariants.{CoreOrder}
+use Rattle.merge_judge.specs.inner.Lanes.{NoFalls, log_at}
 use Rattle.log_file.specs.declared.fault.SetFault.{SetFault}
 use Rattle.merge_judge.specs.declared.lane.Lane.{Lane}
+use Rattle.merge_judge.specs.Begun.{BeginSet}
 
 -- none of the first n logs has a fault
 abbrev pub NoneFaulty : List Lane → ℕ → Type 0
@@ -27,11 +36,17 @@ abbrev pub IsFirstFall : List Lane → (ℕ × ℕ) → Type 0
 IsFirstFall lanes at =
     ((lane : Lane) × (slice_get lanes at.0 ≡ Some lane) × (lane.falls ≡ Some at.1)) × NoneFalls lanes at.0
 
+-- the record at this fault falls, or no log does and the fault is the least of the addresses
+abbrev pub IsFaultIn : List Lane → List (List Record) → FaultParts → Type 0
+IsFaultIn lanes merged fault =
+    ((fault.rule ≡ CoreOrder) × (is_core_fault (log_at merged fault.id.core) fault.id.index ≡ true))
+    ⊎ (NoFalls lanes × ((f : AddressFault) × (least_address_fault (entries merged) ≡ Some f) × (fault ≡ from_address f)))
+
 -- Yes comes where no log has a fault or falls, and is the verdict on the set of these records
 abbrev pub IsClean : List Lane → List (List Record) → List (List ℕ) → Result Verdict JudgeFault → Type 0
 IsClean lanes merged texts (Ok (Yes count)) =
     SpellSet texts merged × (Yes count ≡ verdict_of merged) × ((k : ℕ) (lane : Lane) → slice_get lanes k ≡ Some lane → (lane.falls ≡ None) × (lane.fault ≡ None))
-IsClean lanes merged texts (Ok (No fault)) = Unit {0}
+IsClean lanes merged texts (Ok (No fault)) = SpellSet texts merged × IsFaultIn lanes merged fault
 IsClean lanes merged texts (Err fault) = Unit {0}
 
 -- the answer to the texts that the readers told
@@ -39,5 +54,6 @@ pub record Settles {S : Type 0} (remaining : S → Option (List ℕ)) (failed : 
   pub texts : List (List ℕ)
   pub tells : TellEach remaining before texts
   pub answers : IsAnswerTo texts result
+  pub begun : BeginSet texts merged
   pub clean : IsClean lanes merged texts result
   pub failed_at : IfErr result (λ fault. (file : ℕ) → fault ≡ Read file → ReaderFailed failed before after file)

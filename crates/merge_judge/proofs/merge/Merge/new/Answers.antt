@@ -28,7 +28,7 @@ loop-core-preserved g c =
     subst (λ n. IsLaneAt g.S.ByteSource.remaining g.S.ByteSource.failed n (length c.args.readers.now) source c.new.new.source lane []) c.at.ensures c.in_ok-log.ensures.at in
     let found : c.if-clean.clean ≡ false → (loop.clean ≡ false) ⊎ IsFaulty lane =
     (λ h. elim c.if-clean.branch [ then-clean w ↦ inr (is_faulty lane w.is_none-clean.result w.is_none-clean.ensures (sym w.clean-is ∙ h)) | else-clean w ↦ inl w.if-clean.false ]) in
-    let more = opened_more g.S.ByteSource.remaining g.S.ByteSource.failed c.args.readers.now readers core loop.lanes.items loop.numbers.items loop.clean inv.opened source c.new.new.source source_is lane c.front_number.result c.if-clean.clean at c.front_number.ensures found in
+    let more = opened_more g.S.ByteSource.remaining g.S.ByteSource.failed c.args.readers.now readers core loop.lanes.items loop.numbers.items loop.clean inv.opened source c.new.new.source source_is lane c.front_number.result c.if-clean.clean at c.front_number.ensures found c.in_ok-log.ensures.steady in
     let h = c.in_ok-push-2.ensures.items in
     let h2 = c.in_ok-push.ensures.items in
     record {

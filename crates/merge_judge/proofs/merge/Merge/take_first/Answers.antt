@@ -1,6 +1,6 @@
 -- The least front is taken.
 use Rattle.std.proofs.Common.{◌≡◌, ◌++◌, ◌∷◌, [], ℕ, List, Some, length, arith, refl, sym, subst, ap, ◌∙◌, ◌⊎◌, inl, inr}
-use Rattle.std.specs.Prelude.{get_or, slice_get, slice_set, false}
+use Rattle.std.specs.Prelude.{get_or, slice_get, slice_set, false, true, None}
 use Rattle.std.proofs.lemmas.Option.{slice_get_read}
 use Rattle.log_record.specs.declared.record.Entry.{Entry}
 use Rattle.merge_judge.specs.inner.Lanes.{AllEnded, IsFaulty, IsMerged, add, entry_at, log_at}
@@ -61,8 +61,13 @@ returns g c = record {
       let entry_is : c.new-entry.result ≡ entry_at core (length (log_at merged core)) r = c.new-entry.ensures ∙ (λ i. record { id = record { core = c.at-place.ensures i; index = index_is i }; logged = r }) in
       let found : c.if-self.self ≡ false → (c.args.self.now.clean ≡ false) ⊎ IsFaulty lane_new =
       (λ h. elim c.if-self.branch [ then-self w ↦ inr (c.advance-clean.ensures.found (sym w.self-is ∙ h)) | else-self w ↦ inl w.if-self.false ]) in
+      let kept : c.if-self.self ≡ true → (c.args.self.now.clean ≡ true) × (lane.falls ≡ None → lane_new.falls ≡ None) =
+      (λ h. elim c.if-self.branch [
+        | then-self w ↦ (w.if-self.true, c.advance-clean.ensures.steady (sym w.self-is ∙ h))
+        | else-self w ↦ absurd (let a : c.args.self.now.clean ≡ true = sym w.self-is ∙ h in let b : c.args.self.now.clean ≡ false = w.if-self.false in cc)
+      ]) in
       subst (λ (x : Entry). IsMerged g.S.ByteSource.remaining g.S.ByteSource.failed before (slice_set readers core c.advance-clean.new.source) (slice_set lanes core lane_new) c.set.new.self c.if-self.self (add merged x.id.core x.logged) (done ++ x ∷ [])) (sym entry_is)
       (subst (λ (ns : List ℕ). IsMerged g.S.ByteSource.remaining g.S.ByteSource.failed before (slice_set readers core c.advance-clean.new.source) (slice_set lanes core lane_new) ns c.if-self.self (add merged core r) (done ++ entry_at core (length (log_at merged core)) r ∷ [])) (sym c.set.ensures)
       (merged_more g.S.ByteSource.remaining g.S.ByteSource.failed before readers lanes numbers c.args.self.now.clean merged done m core within least lane lane_is r c.in-Some.is source c.advance-clean.new.source source_is lane_new c.front_number.result c.if-self.self
-      c.advance-clean.ensures.advanced c.advance-clean.ensures.falls c.advance-clean.ensures.faulty c.front_number.ensures found)));
+      c.advance-clean.ensures.advanced c.advance-clean.ensures.falls c.advance-clean.ensures.faulty c.front_number.ensures found kept)));
 }

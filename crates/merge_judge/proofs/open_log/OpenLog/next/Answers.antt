@@ -34,7 +34,7 @@ returns-then-is_some-clause-next g c = λ core cores first records h.
 pub returns-in_err-count-clause-next : goal.returns-in_err-count-clause-next
 returns-in_err-count-clause-next g c = λ core cores first records h.
     let p = err_from_is_err_and c.from_residual-in_err-count.result c.from_residual-in_err-count.ensures.1 in
-    rw (p.1, p.2) (read_failed core cores first)
+    rw (p.1, p.2) (read_failed core cores first (g.S.ByteSource.remaining c.loop-logged.source) c.loop-logged.self records (c.loop-logged.invariant.follows core cores first records h))
 
 pub returns-in_err-check_end-clause-next : goal.returns-in_err-check_end-clause-next
 returns-in_err-check_end-clause-next g c = λ core cores first records h.

@@ -1,0 +1,140 @@
+-- The records whose ids are written: those that were merged before a fault was found.
+use Rattle.std.specs.Prelude.{◌≡◌, ℕ, zero, suc, ◌&&◌, Bool, true, false, List, [], ◌∷◌, ◌++◌, refl, Option, Some, None, is_none, length, map, replicate, slice_get}
+use Rattle.std.specs.Option.{option_map, option_map_or}
+use Rattle.std.proofs.Common.{sym, ◌∙◌, ap, subst, arith, append_assoc, append-nil}
+use Rattle.std.proofs.lemmas.Option.{slice_get_within}
+use Rattle.line_stamps.specs.Ordered.{sorted}
+use Rattle.line_stamps.proofs.Ordered.{least_is, one_least}
+use Rattle.log_record.specs.declared.record.Record.{Record}
+use Rattle.log_record.specs.declared.record.Entry.{Entry}
+use Rattle.log_record.specs.Entries.{entries, entry_cmp}
+use Rattle.mem_op.specs.declared.id.OpId.{OpId}
+use Rattle.core_program.specs.Least.{IsLeastWhere}
+use Rattle.core_check.specs.CoreOrder.{is_core_fault}
+use Rattle.core_check.specs.CoreFaults.{least_core_fault, order_faults}
+use Rattle.core_check.specs.FaultOrder.{core_fault_cmp}
+use Rattle.core_check.proofs.FaultFacts.{core_fault_total, tied_core_faults}
+use Rattle.core_check.proofs.OrderFaultFacts.{fault_in_log}
+use Rattle.address_check.specs.declared.fault.AddressFault.{AddressFault}
+use Rattle.address_check.specs.AddressFaults.{least_address_fault}
+use Rattle.verdict.specs.ByKey.{by_key, ids_by_key}
+use Rattle.verdict.specs.declared.answer.Verdict.TheVariants.{Yes, No}
+use Rattle.verdict.specs.Faults.{from_address}
+use Rattle.verdict.specs.VerdictOf.{verdict_of, verdict_with}
+use Rattle.merge_judge.specs.declared.lane.Lane.{Lane}
+use Rattle.merge_judge.specs.inner.Lanes.{IsMerged, add, front_list, log_at}
+use Rattle.merge_judge.specs.inner.Words.{first_along}
+use Rattle.merge_judge.proofs.Added.{add_long}
+use Rattle.merge_judge.proofs.Along.{along_is_least}
+use Rattle.merge_judge.proofs.Falls.{fall_past, never_front}
+use Rattle.merge_judge.proofs.Opening.{no_entries}
+use Rattle.merge_judge.proofs.Settled.{log_there, one, there}
+
+abbrev pub ids : List Entry → List OpId
+ids done = map (λ e. e.id) done
+
+-- the order with one more id, or without it
+abbrev pub order_where : Bool → List OpId → OpId → List OpId
+order_where true order id = order ++ id ∷ []
+order_where false order id = order
+
+-- no record of the logs falls
+abbrev pub Rises : List (List Record) → Type 0
+Rises logs = (k : ℕ) (log : List Record) → slice_get logs k ≡ Some log → (i : ℕ) → is_core_fault log i ≡ false
+
+-- where none does, and no record has a fault by its address, the verdict is Yes
+none_of_order : (logs : List (List Record)) → Rises logs → None ≡ least_core_fault logs
+none_of_order logs rises =
+    one_least core_fault_cmp core_fault_total (order_faults logs) (order_faults logs) None (least_core_fault logs)
+    (λ a b p q tied. tied_core_faults a b tied) (λ f p. p) (λ f p. p)
+    (λ f p. (let t = fault_in_log logs f p in let a = rises f.id.core t.log t.place f.id.index in let b = t.falls_there in cc))
+    (least_is core_fault_cmp core_fault_total (order_faults logs))
+
+pub yes_where : (logs : List (List Record)) → Rises logs → least_address_fault (entries logs) ≡ None → verdict_of logs ≡ Yes (length (entries logs))
+yes_where logs rises right =
+    ap (λ o. verdict_with o logs) (sym (none_of_order logs rises))
+    ∙ ap (λ o. option_map_or No (option_map from_address o) (Yes (length (entries logs)))) right
+
+-- The ids are those of these first records of the logs that were merged, and of the entries that were done. None has a fault.
+pub record IsShown (order : List OpId) (merged : List (List Record)) (done : List Entry) : Type 0 where
+  pub logs : List (List Record)
+  pub many : length logs ≡ length merged
+  pub begins : (k : ℕ) → (rest : List Record) × (log_at logs k ++ rest ≡ log_at merged k)
+  pub rises : Rises logs
+  pub right : least_address_fault (entries logs) ≡ None
+  pub order_is : order ≡ ids_by_key logs
+  pub first : (later : List Entry) × (by_key logs ++ later ≡ done)
+
+-- ---- at first
+
+nothing_rises : (n : ℕ) → Rises (replicate n [])
+nothing_rises zero k log h i = absurd cc
+nothing_rises (suc n) zero log h i = let e : [] ≡ log = cc in subst (λ rs. is_core_fault rs i ≡ false) e (fall_past [] i (omega arith))
+nothing_rises (suc n) (suc k) log h i = nothing_rises n k log h i
+
+pub shown_none : (n : ℕ) → IsShown [] (replicate n []) []
+shown_none n = record {
+  logs = replicate n [];
+  many = refl;
+  begins = λ k. ([], append-nil (log_at (replicate n []) k));
+  rises = nothing_rises n;
+  right = ap least_address_fault (no_entries 0 n);
+  order_is = sym (ap (λ es. ids (sorted entry_cmp es)) (no_entries 0 n));
+  first = ([], append-nil (by_key (replicate n [])) ∙ ap (sorted entry_cmp) (no_entries 0 n));
+}
+
+-- ---- one more record
+
+grows : (logs : List (List Record)) (core k : ℕ) (r : Record) → (more : List Record) × (log_at logs k ++ more ≡ log_at (add logs core r) k)
+grows [] core k r = ([], refl)
+grows (log ∷ logs) zero zero r = (r ∷ [], refl)
+grows (log ∷ logs) zero (suc k) r = ([], append-nil (log_at logs k))
+grows (log ∷ logs) (suc core) zero r = ([], append-nil log)
+grows (log ∷ logs) (suc core) (suc k) r = grows logs core k r
+
+shown_still : (order : List OpId) (merged : List (List Record)) (done : List Entry) (core : ℕ) (r : Record) (e : Entry) → IsShown order merged done → IsShown order (add merged core r) (done ++ e ∷ [])
+shown_still order merged done core r e h = record {
+  logs = h.logs;
+  many = h.many ∙ sym (add_long merged core r);
+  begins = λ k. (let b = h.begins k in let g = grows merged core k r in
+      (b.0 ++ g.0, sym (append_assoc (log_at h.logs k) b.0 g.0) ∙ ap (λ rs. rs ++ g.0) b.1 ∙ g.1));
+  rises = h.rises;
+  right = h.right;
+  order_is = h.order_is;
+  first = (h.first.0 ++ e ∷ [], sym (append_assoc (by_key h.logs) h.first.0 (e ∷ [])) ∙ ap (λ es. es ++ e ∷ []) h.first.1);
+}
+
+module _ {S : Type 0} (remaining : S → Option (List ℕ)) (failed : S → ℕ) (before after : List S) (lanes : List Lane) (numbers : List ℕ) where
+  shown_now : (merged : List (List Record)) (done : List Entry) (order : List OpId) → IsMerged remaining failed before after lanes numbers true merged done → None ≡ first_along [] done → order ≡ ids done → IsShown order merged done
+  shown_now merged done order m none is = record {
+    logs = merged;
+    many = refl;
+    begins = λ k. ([], append-nil (log_at merged k));
+    rises = all_rise;
+    right = sym (along_is_least merged) ∙ ap (first_along []) (sym sorted_is) ∙ sym none;
+    order_is = is ∙ ap ids sorted_is;
+    first = ([], append-nil (by_key merged) ∙ sym sorted_is);
+  }
+    where
+      sorted_is : done ≡ by_key merged
+      sorted_is = m.by_key_so_far (m.steady refl)
+
+      all_rise : Rises merged
+      all_rise k log h =
+          let w = slice_get_within merged k log h in
+          let b = there before k (let a = m.logs in omega (arith, w, a)) in
+          let a = there after k (let n = m.readers in let x = m.logs in omega (arith, w, n, x)) in
+          let l = there lanes k (let n = m.many in let x = m.logs in omega (arith, w, n, x)) in
+          let fall = (m.lane k b.0 a.0 l.0 b.1 a.1 l.1).first_fall in
+          let none_falls : IsLeastWhere (is_core_fault (log_at merged k ++ front_list l.0.front)) None =
+          subst (λ o. IsLeastWhere (is_core_fault (log_at merged k ++ front_list l.0.front)) o) (m.steady refl k l.0 l.1) fall in
+          let same : log_at merged k ≡ log = one (slice_get merged k) (log_at merged k) log (log_there merged k w) h in
+          subst (λ rs. (i : ℕ) → is_core_fault rs i ≡ false) same (never_front (log_at merged k) (front_list l.0.front) none_falls)
+
+  pub shown_more : (merged : List (List Record)) (done : List Entry) (order : List OpId) (e : Entry) (fault : Option AddressFault) (clean : Bool)
+      → IsShown order merged done → IsMerged remaining failed before after lanes numbers clean (add merged e.id.core e.logged) (done ++ e ∷ [])
+      → fault ≡ first_along [] (done ++ e ∷ []) → (fault ≡ None → clean ≡ true → order_where (is_none fault && clean) order e.id ≡ ids (done ++ e ∷ []))
+      → IsShown (order_where (is_none fault && clean) order e.id) (add merged e.id.core e.logged) (done ++ e ∷ [])
+  shown_more merged done order e None true h m first all = shown_now (add merged e.id.core e.logged) (done ++ e ∷ []) (order ++ e.id ∷ []) m first (all refl refl)
+  shown_more merged done order e None false h m first all = shown_still order merged done e.id.core e.logged e h
+  shown_more merged done order e (Some f) clean h m first all = shown_still order merged done e.id.core e.logged e h

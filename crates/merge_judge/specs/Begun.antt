@@ -1,0 +1,64 @@
+-- What a merge has written where it doesn't answer Yes.
+use Rattle.std.specs.Prelude.{◌≡◌, ℕ, ◌<◌, ◌⊎◌, List, [], ◌++◌, None, Result, Ok, Err, length, take, slice_index_or}
+use Rattle.log_record.specs.declared.format.Format.{Format}
+use Rattle.log_record.specs.declared.record.Record.{Record}
+use Rattle.log_record.specs.declared.record.Entry.{Entry}
+use Rattle.log_record.specs.Entries.{record_at}
+use Rattle.log_file.specs.Log.{IsLog, begun, text_of}
+use Rattle.log_file.specs.Sets.{SpellSet, text_at}
+use Rattle.verdict.specs.declared.answer.Verdict.{Verdict}
+use Rattle.verdict.specs.declared.answer.Verdict.TheVariants.{Yes, No}
+use Rattle.verdict.specs.declared.judge_fault.JudgeFault.TheVariants.{BadConfig, Log, OutOfMemory, Read}
+use Rattle.verdict.specs.declared.rule.Rule.TheVariants.{CoreOrder}
+use Rattle.verdict.specs.ByKey.{by_key, ids_by_key}
+use Rattle.verdict.specs.Judgement.{IsYes}
+use Rattle.verdict.specs.VerdictOf.{verdict_of}
+use Rattle.merge_judge.specs.declared.merge_fault.MergeFault.{MergeFault}
+use Rattle.merge_judge.specs.declared.merge_fault.MergeFault.TheVariants.{Judge, Write}
+use Rattle.merge_judge.specs.OrderText.{id_lines, order_text}
+
+-- the text begins as the log of this core does, with the header and the lines of these records; or there are no records
+abbrev pub BeginsLog : ℕ → ℕ → List ℕ → List Record → Type 0
+BeginsLog core cores text records =
+    (records ≡ []) ⊎ ((format : Format) × ((rest : List ℕ)
+    × IsLog format core cores records × (text ≡ text_of (begun format core cores records) ++ rest)))
+
+-- each text begins with the records of its log
+pub record BeginSet (texts : List (List ℕ)) (logs : List (List Record)) : Type 0 where
+  pub many : length logs ≡ length texts
+  pub each : (k : ℕ) → k < length texts → BeginsLog k (length texts) (text_at texts k) (slice_index_or logs k [])
+
+-- these records come first of all records of the texts, in the order of keys
+abbrev pub ComeFirst : List (List ℕ) → List (List Record) → Type 0
+ComeFirst texts logs = (whole : List (List Record)) × (SpellSet texts whole × ((later : List Entry) × (by_key whole ≡ by_key logs ++ later)))
+
+-- The record at the fault of a No is none of these. Where the rule isn't core order, they come before it by key.
+abbrev pub EndBefore : List (List ℕ) → Result Verdict MergeFault → List (List Record) → Type 0
+EndBefore texts (Ok (No fault)) logs = (record_at logs fault.id ≡ None) × ((fault.rule ≡ CoreOrder) ⊎ ComeFirst texts logs)
+EndBefore texts (Ok (Yes count)) logs = Unit {0}
+EndBefore texts (Err fault) logs = Unit {0}
+
+-- A beginning of the id lines, in the order of keys, of records with which the texts begin: the verdict on these is Yes, and
+-- they end before the fault.
+pub record BeginsOrder (texts : List (List ℕ)) (result : Result Verdict MergeFault) (written : List ℕ) : Type 0 where
+  pub logs : List (List Record)
+  pub begun : BeginSet texts logs
+  pub yes : IsYes (verdict_of logs)
+  pub before : EndBefore texts result logs
+  pub lines : (n : ℕ) × (written ≡ take n (id_lines (ids_by_key logs)))
+
+-- a beginning of the whole order text of a set on which the verdict is Yes
+abbrev pub BeginsWhole : List (List ℕ) → List ℕ → Type 0
+BeginsWhole texts written =
+    (logs : List (List Record)) × (SpellSet texts logs × (IsYes (verdict_of logs) × ((n : ℕ) × (written ≡ take n (order_text (ids_by_key logs))))))
+
+-- After a bad count nothing is written. Else ids are, up to a fault alone; where memory was refused or a write failed, that may
+-- come at the `end` line.
+abbrev pub StopsBefore : List (List ℕ) → Result Verdict MergeFault → List ℕ → Type 0
+StopsBefore texts (Ok (Yes count)) written = Unit {0}
+StopsBefore texts (Ok (No fault)) written = BeginsOrder texts (Ok (No fault)) written
+StopsBefore texts (Err (Judge (BadConfig count))) written = written ≡ []
+StopsBefore texts (Err (Judge (Log file line fault))) written = BeginsOrder texts (Err (Judge (Log file line fault))) written
+StopsBefore texts (Err (Judge (Read file))) written = BeginsOrder texts (Err (Judge (Read file))) written
+StopsBefore texts (Err (Judge OutOfMemory)) written = BeginsOrder texts (Err (Judge OutOfMemory)) written ⊎ BeginsWhole texts written
+StopsBefore texts (Err Write) written = BeginsOrder texts (Err Write) written ⊎ BeginsWhole texts written
