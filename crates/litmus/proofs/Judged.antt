@@ -2,26 +2,29 @@
 use Rattle.std.proofs.Common.{◌≡◌, ℕ, suc, ◌+◌, List, [], ◌∷◌, ◌++◌, length, map, Some, refl, sym, ap, subst, ◌∙◌, arith, length-append}
 use Rattle.std.specs.Global.{Vec}
 use Rattle.std.specs.List.{AllZip}
-use Rattle.std.specs.Prelude.{Result, Ok, Err, MatchResult}
+use Rattle.std.specs.Prelude.{Result, Ok, Err, IsErrOf, MatchResult}
 use Rattle.std.proofs.lemmas.List.{map_push}
 use Rattle.log_record.specs.declared.record.Record.{Record}
 use Rattle.log_file.specs.Devices.{Tells}
 use Rattle.log_file.specs.Log.{Spells}
 use Rattle.log_file.specs.Sets.{SpellFrom, SpellSet}
-use Rattle.log_file.proofs.Once.{one_log}
 use Rattle.core_program.specs.declared.instruction.Instruction.{Instruction}
 use Rattle.core_machine.specs.Machine.{World}
 use Rattle.core_machine.specs.Works.{log_at, logs_below}
-use Rattle.verdict.specs.Judgement.{IsRunAnswerTo, IsYes}
+use Rattle.verdict.specs.Judgement.{IsOfTexts, IsRunAnswerTo, IsYes, TellsFailures}
 use Rattle.verdict.specs.VerdictOf.{run_verdict_of}
 use Rattle.verdict.specs.declared.answer.Verdict.{Verdict}
 use Rattle.verdict.specs.declared.answer.Verdict.TheVariants.{Yes, No}
+use Rattle.verdict.specs.declared.judge_fault.Count.{Count}
+use Rattle.verdict.specs.declared.judge_fault.JudgeFault.{JudgeFault}
+use Rattle.verdict.specs.declared.judge_fault.JudgeFault.TheVariants as fault
+use Rattle.verdict.proofs.OneAnswer.{one_answer}
 use Rattle.litmus.specs.Parts.{LitmusParts}
 use Rattle.litmus.specs.Runs.{GetsYes, IsCauseOf, IsEndOf, IsJudgeCause, logs_of, not_yes, outcome_of}
 use Rattle.litmus.specs.declared.run_fault.RunCause.{RunCause}
 use Rattle.litmus.specs.declared.judging.TextSource.{TextSource}
 use Rattle.litmus.specs.inner.Ending.{word_lists}
-use Rattle.litmus.specs.inner.Judged.{IsNo}
+use Rattle.litmus.specs.inner.Judged.{IsNo, IsVerdictOn}
 
 -- ---- texts of logs
 
@@ -72,35 +75,34 @@ told (s ∷ sources) (t ∷ texts) (u ∷ ts) zip is =
     let rest : texts ≡ ts = told sources texts ts zip.1 cc in
     cc
 
--- ---- one set of logs
+-- ---- the judge's answer to texts that spell logs
 
-logs_once : (core cores : ℕ) (texts : List (List ℕ)) (a b : List (List Record)) → SpellFrom core cores texts a → SpellFrom core cores texts b → a ≡ b
-logs_once core cores [] [] [] p q = refl
-logs_once core cores [] [] (l ∷ b) p q = absurd q
-logs_once core cores [] (l ∷ a) b p q = absurd p
-logs_once core cores (t ∷ texts) [] b p q = absurd p
-logs_once core cores (t ∷ texts) (l ∷ a) [] p q = absurd q
-logs_once core cores (t ∷ texts) (l ∷ a) (m ∷ b) p q =
-    let first : l ≡ m = one_log core cores t l m p.0 q.0 in
-    let rest : a ≡ b = logs_once (core + 1) cores texts a b p.1 q.1 in
-    cc
+-- where it is the texts' alone, it is the verdict on these
+alone : (programs : List (List Instruction)) (texts : List (List ℕ)) (logs : List (List Record)) (r : Result Verdict JudgeFault) → SpellSet texts logs → IsOfTexts r
+    → IsRunAnswerTo programs texts r → r ≡ Ok (run_verdict_of programs logs)
+alone programs texts logs r spell of-texts answer =
+    one_answer (run_verdict_of programs) texts r (Ok (run_verdict_of programs logs)) of-texts tt answer (logs, spell, refl)
 
--- a verdict on the texts is that on the logs that they spell
-pub verdict_is : (programs : List (List Instruction)) (texts : List (List ℕ)) (logs : List (List Record)) (verdict : Verdict) → SpellSet texts logs
-    → IsRunAnswerTo programs texts (Ok verdict) → run_verdict_of programs logs ≡ verdict
-verdict_is programs texts logs verdict spell (others, there, is) =
-    sym (is ∙ ap (run_verdict_of programs) (logs_once 0 (length texts) texts others logs there spell))
+-- where no count is bad and no reader ever fails, it is that or lack of memory
+pub verdict_on : {S : Type 0} (programs : List (List Instruction)) (texts : List (List ℕ)) (logs : List (List Record)) (old new : List S) (r : Result Verdict JudgeFault)
+    → SpellSet texts logs → IsRunAnswerTo programs texts r → TellsFailures (λ _. 0) old new r → ((count : Count) → ¬ (IsErrOf r (fault.BadConfig count)))
+    → IsVerdictOn programs logs r
+verdict_on programs texts logs old new (Ok verdict) spell answer failures fine = let is = alone programs texts logs (Ok verdict) spell tt answer in cc
+verdict_on programs texts logs old new (Err (fault.Log file line why)) spell answer failures fine =
+    let is = alone programs texts logs (Err (fault.Log file line why)) spell tt answer in cc
+verdict_on programs texts logs old new (Err (fault.Read file)) spell answer (before, (after, old-is, new-is, failed)) fine = absurd (omega (arith, failed))
+verdict_on programs texts logs old new (Err (fault.BadConfig count)) spell answer failures fine = absurd (fine count refl)
+verdict_on programs texts logs old new (Err fault.OutOfMemory) spell answer failures fine = refl
 
 -- ---- what is told of a run
 
--- what is told of the verdict on the texts is so of the logs that they spell
-pub told_of : {A : Type 0} (t : LitmusParts) (w : World) (texts : List (List ℕ)) (v : Verdict) (r : Result A RunCause) → SpellSet texts (logs_of t w)
-    → IsRunAnswerTo t.programs texts (Ok v) → MatchResult r (λ _. IsYes v) (λ why. IsNo v why) → MatchResult r (λ _. GetsYes t w) (λ why. IsJudgeCause t w why)
-told_of t w texts (Yes count) (Ok x) spell answer is = (count, verdict_is t.programs texts (logs_of t w) (Yes count) spell answer)
-told_of t w texts (No fault) (Ok x) spell answer is = absurd is
-told_of t w texts (Yes count) (Err why) spell answer is = absurd is
-told_of t w texts (No fault) (Err why) spell answer is =
-    subst (IsJudgeCause t w) (sym is) (verdict_is t.programs texts (logs_of t w) (No fault) spell answer)
+-- what is told of the verdict is so of the logs
+pub told_of : {A : Type 0} (t : LitmusParts) (w : World) (v : Verdict) (r : Result A RunCause) → IsVerdictOn t.programs (logs_of t w) (Ok v)
+    → MatchResult r (λ _. IsYes v) (λ why. IsNo v why) → MatchResult r (λ _. GetsYes t w) (λ why. IsJudgeCause t w why)
+told_of t w (Yes count) (Ok x) answer is = (count, answer)
+told_of t w (No fault) (Ok x) answer is = absurd is
+told_of t w (Yes count) (Err why) answer is = absurd is
+told_of t w (No fault) (Err why) answer is = subst (IsJudgeCause t w) (sym is) answer
 
 -- a run that has ended has its outcome where its logs get Yes, and else a cause
 pub judged_end : (E : Type 0) (Ran : E → Type 0) (NotEnded : RunCause → Type 0) (at : E → World) (t : LitmusParts) (end : E) (r : Result (Vec ℕ) RunCause) → Ran end

@@ -1,19 +1,15 @@
 -- No run's logs get No.
-use Rattle.std.proofs.Common.{◌≡◌, ◌≤◌, ℕ, List, [], length, map, subst}
-use Rattle.std.specs.Prelude.{None, Some, Result, Ok, Err, IfErr, MatchResult}
+use Rattle.std.proofs.Common.{◌≤◌, ℕ, [], length, subst}
+use Rattle.std.specs.Prelude.{Some, Result, Ok, Err, IfErr, MatchResult}
 use Rattle.lease_rule.specs.ConfigParts.{ConfigParts}
-use Rattle.log_record.specs.Entries.{entries}
-use Rattle.core_program.specs.declared.instruction.Instruction.{Instruction}
 use Rattle.core_machine.specs.Machine.{World, Run}
 use Rattle.core_machine.specs.Opening.{opening_parts}
 use Rattle.core_machine.specs.Parts.{CoreParts, world}
-use Rattle.core_machine.specs.Works.{logs_below}
 use Rattle.core_machine.proofs.Opened.{opening_world}
 use Rattle.machine_laws.specs.Laws.{GetYesBy}
 use Rattle.machine_laws.proofs.Below.{ended_below_get_yes, whole_below_get_yes}
 use Rattle.simulation.specs.Events.{simulated_events}
 use Rattle.simulation.proofs.Ended.{simulated_ended}
-use Rattle.verdict.specs.VerdictOf.{run_verdict_of}
 use Rattle.litmus.specs.Parts.{LitmusParts}
 use Rattle.litmus.specs.Runs.{ThreadEnd, IsCauseOf, IsRunCause, IsSeededRun, IsThreadCause, IsThreadRun, IsUnsimulated, IsUnthreaded, SaysNo, left, logs_of, no_memory, not_ended, not_yes}
 use Rattle.litmus.specs.declared.run_fault.RunCause.{RunCause}
@@ -36,7 +32,6 @@ never_no Ran NotEnded at t (cause.No id rule) unended each (not_yes end ran judg
 never_no Ran NotEnded at t (cause.No id rule) unended each (no_memory e) told = cc
 never_no Ran NotEnded at t (cause.Simulation reason) unended each is told = told
 never_no Ran NotEnded at t (cause.Threads reason) unended each is told = told
-never_no Ran NotEnded at t (cause.Judge reason) unended each is told = told
 never_no Ran NotEnded at t cause.OutOfMemory unended each is told = told
 
 not_simulated : (t : LitmusParts) (g : ConfigParts) (seed : ℕ) (why : RunCause) → IsUnsimulated t g seed why → SaysNo why → ⊥

@@ -7,14 +7,13 @@ use Rattle.verdict.specs.Texts as verdict
 use Rattle.litmus.specs.declared.run_fault.CollectFault.{CollectFault}
 use Rattle.litmus.specs.declared.run_fault.CollectFault.TheVariants as fault
 use Rattle.litmus.specs.declared.run_fault.RunCause.{RunCause}
-use Rattle.litmus.specs.declared.run_fault.RunCause.TheVariants.{Simulation, Threads, No, Judge, OutOfMemory}
+use Rattle.litmus.specs.declared.run_fault.RunCause.TheVariants.{Simulation, Threads, No, OutOfMemory}
 
 -- of run k
 abbrev pub cause_text : ℕ → RunCause → List ℕ
 cause_text k (Simulation why) = simulation.fault_text why
 cause_text k (Threads why) = threads.fault_text why.core why.cause
 cause_text k (No id rule) = codes "run " ++ (decimal k ++ (codes ": " ++ verdict.fault_text (record { id = id; rule = rule })))
-cause_text k (Judge why) = verdict.judge_fault_text why
 cause_text k OutOfMemory = codes "10 OutOfMemory"
 
 abbrev pub fault_text : CollectFault → List ℕ

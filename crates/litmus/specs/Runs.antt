@@ -1,9 +1,8 @@
 -- Runs of a test: how they come to their ends, their outcomes, and what the judge says of their logs.
-use Rattle.std.specs.Prelude.{◌≡◌, ◌⊎◌, ℕ, ◌+◌, ◌%◌, ◌^◌, List, [], length, map, slice_get, Some, None, Err}
+use Rattle.std.specs.Prelude.{◌≡◌, ◌⊎◌, ℕ, ◌+◌, ◌%◌, ◌^◌, List, [], length, map, slice_get, Some, None}
 use Rattle.std.specs.Option.{option_map_or}
 use Rattle.lease_rule.specs.ConfigParts.{ConfigParts}
 use Rattle.log_record.specs.declared.record.Record.{Record}
-use Rattle.log_file.specs.Sets.{SpellSet}
 use Rattle.core_program.specs.declared.instruction.Instruction.{Instruction}
 use Rattle.core_program.specs.State.{reg}
 use Rattle.manager_slice.specs.Parts.{SliceParts}
@@ -20,7 +19,6 @@ use Rattle.machine.specs.declared.fault.RunFault.{RunFault}
 use Rattle.simulation.specs.Events.{IsSimulatedByRun}
 use Rattle.simulation.specs.Simulating.{IsSimulationFault}
 use Rattle.simulation.specs.declared.fault.SimulationFault.{SimulationFault}
-use Rattle.verdict.specs.Judgement.{IsRunAnswerTo}
 use Rattle.verdict.specs.VerdictOf.{run_verdict_of}
 use Rattle.verdict.specs.declared.answer.Verdict.TheVariants.{Yes, No}
 use Rattle.litmus.specs.Parts.{LitmusParts, ShownParts}
@@ -98,13 +96,11 @@ abbrev pub SaysNo : RunCause → Type 0
 SaysNo (cause.No id rule) = Unit {0}
 SaysNo (cause.Simulation fault) = ⊥
 SaysNo (cause.Threads fault) = ⊥
-SaysNo (cause.Judge fault) = ⊥
 SaysNo cause.OutOfMemory = ⊥
 
--- Why the logs where a run has ended don't get Yes. Lack of memory may come instead.
+-- Why the logs where a run has ended don't get Yes: they get No. Lack of memory may come instead, and no other fault of the judge.
 abbrev pub IsJudgeCause : LitmusParts → World → RunCause → Type 0
 IsJudgeCause t w (cause.No id rule) = run_verdict_of t.programs (logs_of t w) ≡ No (record { id = id; rule = rule })
-IsJudgeCause t w (cause.Judge fault) = (texts : List (List ℕ)) × SpellSet texts (logs_of t w) × IsRunAnswerTo t.programs texts (Err fault)
 IsJudgeCause t w (cause.Simulation fault) = ⊥
 IsJudgeCause t w (cause.Threads fault) = ⊥
 IsJudgeCause t w cause.OutOfMemory = Unit {0}

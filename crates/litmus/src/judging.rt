@@ -1,15 +1,17 @@
 //! The verdict on the logs of a run that has ended.
 
-ghost use Rattle.std.specs.Prelude.{◌≡◌, ◌<◌, ◌≤◌, length, map, take, IfErr, IfOk, MatchResult};
+ghost use Rattle.std.specs.Prelude.{◌≡◌, ◌<◌, ◌≤◌, List, length, map, take, IfErr, IfOk, MatchResult};
 ghost use Rattle.log_file.specs.Log.{SpellsIn};
 ghost use Rattle.log_file.specs.Sets.{SpellSet};
+ghost use Rattle.log_record.specs.declared.record.Record.{Record};
 ghost use Rattle.mem_op.specs.Limits.{operation_limit};
 ghost use Rattle.core_machine.specs.Works.{logs_below};
 ghost use Rattle.litmus.specs.Runs.{GetsYes, IsJudgeCause, outcome_of};
 ghost use Rattle.litmus.specs.declared.run_fault.RunCause.TheVariants as cause;
 ghost use Rattle.litmus.specs.inner.Ending.{word_lists};
-ghost use Rattle.litmus.specs.inner.Judged.{IsNo};
-ghost use Rattle.verdict.specs.Judgement.{IsRunAnswerTo, IsYes};
+ghost use Rattle.litmus.specs.inner.Judged.{IsNo, IsVerdictOn};
+ghost use Rattle.verdict.specs.Counts.{IsInRange};
+ghost use Rattle.verdict.specs.Judgement.{IsYes};
 
 use super::ended::{Ended, outcome_of};
 use super::run_fault::RunCause;
@@ -90,6 +92,7 @@ fn log_texts<E: Ended>(alloc: Global, end: &E, cores: usize) -> Result<Vec<Vec<u
     requires { cores ≤ 64 }
     ensures texts { IfOk result (λ texts.
         SpellSet (word_lists texts.items) (logs_below (E.at_end end.now) cores)) }
+    ensures count { IfOk result (λ texts. length texts.items ≡ cores) }
     ensures refused { IfErr result (λ cause. cause ≡ RunCause.OutOfMemory) }
 {
     let mut texts = Vec::new(alloc);
@@ -119,14 +122,18 @@ fn sources_of<'a>(alloc: Global, texts: &'a [Vec<u8>]) -> Result<Vec<TextSource<
     Ok(sources)
 }
 
-/// The verdict on the set of logs of these texts, by one worker, the calling thread.
+/// The verdict on the logs that these texts spell, by one worker, the calling thread. As no count is out
+/// of range, no text has a fault and no source fails, it is refused for lack of memory alone.
 fn judge_texts<R: Threads + Sync>(
     rt: &R,
     alloc: Global,
     programs: &ProgramSet,
     texts: &[Vec<u8>],
 ) -> Result<Verdict, JudgeFault>
-    ensures { IsRunAnswerTo programs.now.programs (word_lists texts.now) result }
+    requires in_range { IsInRange (length texts.now) }
+    requires programs { length programs.now.programs ≡ length texts.now }
+    ensures { (logs : List (List Record)) → SpellSet (word_lists texts.now) logs
+        → IsVerdictOn programs.now.programs logs result }
 {
     let mut sources = sources_of(alloc, texts)?;
     judge_run(rt, alloc, programs, sources.as_mut_slice(), 1, &OpenGate)
@@ -157,7 +164,8 @@ fn judge_end<R: Threads + Sync, E: Ended>(
     let texts = log_texts(alloc, end, programs.len())?;
     match &judge_texts(rt, alloc, programs, texts.as_slice()) {
         Ok(verdict) => check_yes(verdict),
-        Err(fault) => Err(RunCause::Judge(*fault)),
+        Err(JudgeFault::OutOfMemory) => Err(RunCause::OutOfMemory),
+        Err(_) => unreachable!(),
     }
 }
 

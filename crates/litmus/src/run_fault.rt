@@ -12,7 +12,7 @@ use std::alloc::{AllocError, AllocFailed};
 use std::fmt;
 use std::fmt::Display;
 use thiserror::Error;
-use verdict::{JudgeFault, Rule};
+use verdict::Rule;
 
 /// Why a run has no outcome that counts.
 #[derive(Clone, Copy, Debug, PartialEq, Eq)]
@@ -23,9 +23,7 @@ pub enum RunCause {
     Threads(RunFault),
     /// Its logs get No: whose record breaks a rule, and which one.
     No(OpId, Rule),
-    /// Its logs get no verdict: for lack of memory.
-    Judge(JudgeFault),
-    /// A growth was refused.
+    /// A growth was refused: in its run, or where its logs were written and judged.
     OutOfMemory,
 }
 
@@ -55,7 +53,6 @@ impl Display for CollectFault {
                 RunCause::No(id, rule) => {
                     write!(f, "run {run}: {}.{} {rule}", id.core.get(), id.index.get())
                 }
-                RunCause::Judge(fault) => write!(f, "{fault}"),
                 RunCause::OutOfMemory => f.write_str("10 OutOfMemory"),
             },
             CollectFault::OutOfMemory => f.write_str("10 OutOfMemory"),

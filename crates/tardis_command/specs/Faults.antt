@@ -12,7 +12,7 @@ use Rattle.litmus.specs.declared.fault.LitmusFault.TheVariants.{BadLitmusLine, B
 use Rattle.litmus.specs.declared.run_fault.CollectFault.{CollectFault}
 use Rattle.litmus.specs.declared.run_fault.CollectFault.TheVariants.{BadRuns, Run as RunFailed, OutOfMemory as NoTableMemory}
 use Rattle.litmus.specs.declared.run_fault.RunCause.{RunCause}
-use Rattle.litmus.specs.declared.run_fault.RunCause.TheVariants.{Simulation as RunSimulation, Threads as RunThreads, No as RunNo, Judge as RunJudge, OutOfMemory as NoRunMemory}
+use Rattle.litmus.specs.declared.run_fault.RunCause.TheVariants.{Simulation as RunSimulation, Threads as RunThreads, No as RunNo, OutOfMemory as NoRunMemory}
 use Rattle.log_file.specs.declared.device_fault.WriteFault.{WriteFault}
 use Rattle.log_file.specs.declared.device_fault.WriteFault.TheVariants.{OutOfMemory as NoTextMemory, Write as WriteFailed}
 use Rattle.machine.specs.Faults.{fault_text as run_fault_text}
@@ -74,7 +74,6 @@ abbrev pub run_cause_text : ℕ → RunCause → List ℕ
 run_cause_text k (RunNo id rule) = codes "no: " ++ cause_text k (RunNo id rule)
 run_cause_text k (RunSimulation why) = codes "refused: " ++ cause_text k (RunSimulation why)
 run_cause_text k (RunThreads why) = codes "refused: " ++ cause_text k (RunThreads why)
-run_cause_text k (RunJudge why) = codes "refused: " ++ cause_text k (RunJudge why)
 run_cause_text k NoRunMemory = codes "refused: " ++ cause_text k NoRunMemory
 
 abbrev pub collect_fault_text : CollectFault → List ℕ
@@ -126,7 +125,6 @@ abbrev pub run_cause_status : RunCause → ℕ
 run_cause_status (RunNo id rule) = 1
 run_cause_status (RunSimulation why) = 4
 run_cause_status (RunThreads why) = 4
-run_cause_status (RunJudge why) = 4
 run_cause_status NoRunMemory = 4
 
 abbrev pub collect_fault_status : CollectFault → ℕ

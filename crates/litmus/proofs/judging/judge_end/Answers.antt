@@ -1,9 +1,9 @@
 use Rattle.std.proofs.Common.{rules}
 use Rattle.std.specs.Prelude.{Ok}
 use Rattle.log_file.specs.Sets.{SpellSet}
-use Rattle.verdict.specs.Judgement.{IsRunAnswerTo}
 use Rattle.litmus.specs.Runs.{logs_of}
 use Rattle.litmus.specs.inner.Ending.{word_lists}
+use Rattle.litmus.specs.inner.Judged.{IsVerdictOn}
 use Rattle.litmus.proofs.Judged.{told_of}
 use Rattle.litmus.proofs.judging.judge_end.Goals as goal
 
@@ -11,7 +11,6 @@ pub returns-in-Ok : goal.returns-in-Ok
 returns-in-Ok g c =
     let t = c.args.test.now in
     let w = g.E.Ended.at_end c.args.end.now in
-    let texts = word_lists c.in_ok-texts.texts.items in
-    let spell : SpellSet texts (logs_of t w) = search rules in
-    let answer : IsRunAnswerTo t.programs texts (Ok c.in-Ok.verdict) = search rules in
-    told_of t w texts c.in-Ok.verdict c.check_yes.result spell answer c.check_yes.ensures
+    let spell : SpellSet (word_lists c.in_ok-texts.texts.items) (logs_of t w) = search rules in
+    let answer : IsVerdictOn t.programs (logs_of t w) (Ok c.in-Ok.verdict) = search rules in
+    told_of t w c.in-Ok.verdict c.check_yes.result answer c.check_yes.ensures
