@@ -15,7 +15,7 @@ use Rattle.audit.specs.Events.{world_of}
 use Rattle.audit.specs.Runs.{IsRun, StoppedShort}
 use Rattle.audit.specs.declared.machine_fault.Cause.TheVariants.{GaveUp, Stopped}
 use Rattle.machine.specs.Runs.{IsMachineRun}
-use Rattle.machine.specs.declared.fault.RunFault.{RunFault}
+use Rattle.audit.specs.declared.run_fault.RunFault.{RunFault}
 use Rattle.simulation.specs.Events.{IsSimulatedByRun}
 use Rattle.simulation.specs.Simulating.{IsSimulationFault}
 use Rattle.simulation.specs.declared.fault.SimulationFault.{SimulationFault}

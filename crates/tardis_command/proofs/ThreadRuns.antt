@@ -11,7 +11,7 @@ use Rattle.audit.specs.Runs.{IsRun, IsUnitLog, StoppedShort, kept_log}
 use Rattle.audit.specs.declared.machine_fault.Cause.{Cause}
 use Rattle.audit.specs.declared.machine_fault.Cause.TheVariants.{GaveUp, Stopped}
 use Rattle.machine.specs.Runs.{IsMachineRun}
-use Rattle.machine.specs.declared.fault.RunFault.{RunFault}
+use Rattle.audit.specs.declared.run_fault.RunFault.{RunFault}
 use Rattle.tardis_command.specs.Files.{Files}
 use Rattle.tardis_command.specs.Logs.{ArePut, ArePutAsFar, ArePutUpTo, IsUnwritten, performed_below}
 use Rattle.tardis_command.specs.Programmed.{AreProgramsIn, config_of, log_format}
