@@ -92,7 +92,7 @@ IsEndOf old new asked (Refused fault) = IsAnswerTo old new asked (Err fault)
 IsEndOf old new asked Unread = ⊥
 IsEndOf old new asked (Misused text) = ⊥
 
--- this holds of what the words ask for
+-- the words are a command line, and this holds of what they ask for
 abbrev pub AskFor : List (List ℕ) → (Request → Type 0) → Type 0
 AskFor words Holds = (asked : Request) × Asks words asked × Holds asked
 
@@ -220,7 +220,8 @@ IsAnswered (Refused fault) came = came ≡ Err fault
 IsAnswered Unread came = ⊥
 IsAnswered (Misused text) came = ⊥
 
--- a call with these words may end so, and leave standard output so; memory may run out before it is known what they ask for
+-- A call with these words may end so, and leave standard output so. Words that aren't a command line end in what the user is told of
+-- them, or memory runs out before it is known what they ask for.
 abbrev pub IsEnd : Files → Files → List (List ℕ) → Sink → Sink → Ending → Type 0
 IsEnd old new words out out' (Answered answer) = AskFor words (λ asked. IsDoneBy old new asked out out' (Answered answer))
 IsEnd old new words out out' (Unprinted answer) = AskFor words (λ asked. IsDoneBy old new asked out out' (Unprinted answer))

@@ -10,7 +10,7 @@ returns-in-Err-Usage-clause-ends g c =
       Misused c.as_str.result.now,
       refl,
       ends_misused _ _ words _ _ _ _
-          (subst (IsRefusalOf words) c.in-Err-Usage.field-0-is c.in-Err-Usage.ensures.request) c.tell.ensures,
+          (subst (IsRefusalOf words) c.in-Err-Usage.field-0-is c.in-Err-Usage.ensures.usage) c.tell.ensures,
     )
 
 pub returns-in-Err-OutOfMemory-clause-ends : goal.returns-in-Err-OutOfMemory-clause-ends
