@@ -12,6 +12,8 @@ mod hostile_logs;
 #[cfg(test)]
 mod logs;
 #[cfg(test)]
+mod orders;
+#[cfg(test)]
 mod program_texts;
 #[cfg(test)]
 mod rows;

@@ -1,5 +1,5 @@
 -- What a merge answers that ends before its verdict.
-use Rattle.std.specs.Prelude.{◌≡◌, ℕ, List, [], ◌++◌, refl, Option, Result, Ok, Err, map, replicate, take, ◌⊎◌}
+use Rattle.std.specs.Prelude.{◌≡◌, ℕ, List, [], ◌++◌, refl, Option, Result, Ok, Err, map, take, ◌⊎◌}
 use Rattle.std.proofs.Common.{sym, ◌∙◌, ap}
 use Rattle.log_file.specs.declared.device_fault.WriteFault.{WriteFault}
 use Rattle.log_file.specs.declared.device_fault.WriteFault.TheVariants.{OutOfMemory as NoMemory, Write as WriteFailed}
@@ -38,8 +38,8 @@ use Rattle.merge_judge.specs.inner.Merging.{HasMerged}
 use Rattle.merge_judge.specs.inner.Settling.{Settles}
 use Rattle.merge_judge.specs.inner.Writing.{IsWritten}
 use Rattle.merge_judge.proofs.MergeSoFar.{front_of, joined, lacks_end, lacks_more, lines_where}
-use Rattle.merge_judge.proofs.Shown.{IsShown, ids, order_where, shown_none}
-use Rattle.merge_judge.proofs.Stopped.{before_fault, begins_order, begun_texts, none_begun}
+use Rattle.merge_judge.proofs.Shown.{IsShown, ids, order_where}
+use Rattle.merge_judge.proofs.Stopped.{before_fault, begins_order, begun_texts, none_begins}
 use Rattle.merge_judge.proofs.WritingFacts.{appends_none}
 
 -- what ends in place of a verdict has no word of the texts but how they begin
@@ -74,9 +74,8 @@ wrote WriteFailed h = refl
 pub no_memory : {S : Type 0} (remaining : S → Option (List ℕ)) (failed : S → ℕ) (old : Option (List ℕ)) (before after : List S) → IsMergedBy remaining failed old old before after (Err (Judge OutOfMemory))
 no_memory remaining failed old before after =
     let texts = map (λ reader. told (remaining reader)) before in
-    let none = replicate (length before) [] in
     ends_early remaining failed old old before after [] (appends_none old) (lacks_end [] [] [] refl) texts (each_tells remaining before) NoMemory
-    (inl (begins_order texts (Err (Judge OutOfMemory)) [] none [] [] [] (shown_none (length before)) (none_begun remaining before) refl tt))
+    (inl (none_begins remaining before OutOfMemory))
 
 early : (f : WriteFault) (texts : List (List ℕ)) (logs : List (List Record)) → EndBefore texts (Err (from_write f)) logs
 early NoMemory texts logs = tt
@@ -84,17 +83,17 @@ early WriteFailed texts logs = tt
 
 -- a write that fails at a record
 pub look_fails : {S : Type 0} (remaining : S → Option (List ℕ)) (failed : S → ℕ) (old mid new : Option (List ℕ)) (before after : List S) (lanes : List Lane) (numbers : List ℕ) (clean : Bool) (merged : List (List Record)) (done : List Entry) (written kept kept_new : List ℕ) (order : List OpId) (on : Bool) (id : OpId) (f : WriteFault)
-    → IsMerged remaining failed before after lanes numbers clean merged done → IsShown (order_where on order id) merged done
+    → IsMerged remaining failed before after lanes numbers clean merged done → IsShown (order_where on order id) merged done lanes
     → Appends old mid written → written ++ kept ≡ id_lines order → IsWritten mid new (kept ++ line_where on id) (Err f) kept_new → IsMergedBy remaining failed old new before after (Err (from_write f))
 look_fails remaining failed old mid new before after lanes numbers clean merged done written kept kept_new order on id f m shown appends lines w =
     let all : (written ++ w.0) ++ w.1.0 ≡ id_lines (order_where on order id) = joined written kept w.0 w.1.0 (line_where on id) (id_lines order) lines w.1.2 ∙ sym (lines_where on order id) in
     let t = begun_texts remaining failed before after lanes numbers clean merged done m in
     ends_early remaining failed old new before after (written ++ w.0) (appends_more old mid new written w.0 appends w.1.1) (lacks_end (written ++ w.0) w.1.0 (order_where on order id) all) t.0 t.1.0 f
-    (inl (begins_order t.0 (Err (from_write f)) (order_where on order id) merged done (written ++ w.0) w.1.0 shown t.1.1 all (early f t.0 shown.logs)))
+    (inl (begins_order t.0 (Err (from_write f)) (order_where on order id) merged done lanes (written ++ w.0) w.1.0 shown t.1.1 all (early f t.0 shown.logs)))
 
 -- a set without a verdict, and one with a No
 module _ {S : Type 0} (remaining : S → Option (List ℕ)) (failed : S → ℕ) (old new : Option (List ℕ)) (before after : List S) (lanes : List Lane) (merged : List (List Record)) (done : List Entry) (written kept : List ℕ) (order : List OpId)
-    (shown : IsShown order merged done) (appends : Appends old new written) (lines : written ++ kept ≡ id_lines order) where
+    (shown : IsShown order merged done lanes) (appends : Appends old new written) (lines : written ++ kept ≡ id_lines order) where
   pub settled_fault : (fault : JudgeFault) → (IsBadCount fault → ⊥) → Settles remaining failed before after lanes merged (Err fault) → IsMergedBy remaining failed old new before after (Err (Judge fault))
   settled_fault fault counts s = record {
     texts = s.texts;
@@ -109,9 +108,9 @@ module _ {S : Type 0} (remaining : S → Option (List ℕ)) (failed : S → ℕ)
     where
       go : (f : JudgeFault) → (IsBadCount f → ⊥) → StopsBefore s.texts (Err (Judge f)) written
       go (BadConfig count) h = absurd (h tt)
-      go (Log file line f) h = begins_order s.texts (Err (Judge (Log file line f))) order merged done written kept shown s.begun lines tt
-      go (Read file) h = begins_order s.texts (Err (Judge (Read file))) order merged done written kept shown s.begun lines tt
-      go OutOfMemory h = inl (begins_order s.texts (Err (Judge OutOfMemory)) order merged done written kept shown s.begun lines tt)
+      go (Log file line f) h = begins_order s.texts (Err (Judge (Log file line f))) order merged done lanes written kept shown s.begun lines tt
+      go (Read file) h = begins_order s.texts (Err (Judge (Read file))) order merged done lanes written kept shown s.begun lines tt
+      go OutOfMemory h = inl (begins_order s.texts (Err (Judge OutOfMemory)) order merged done lanes written kept shown s.begun lines tt)
 
   pub settled_no : (fault : FaultParts) → (NoFalls lanes → done ≡ by_key merged) → Settles remaining failed before after lanes merged (Ok (No fault)) → IsMergedBy remaining failed old new before after (Ok (No fault))
   settled_no fault by_key_is s = record {
@@ -121,7 +120,7 @@ module _ {S : Type 0} (remaining : S → Option (List ℕ)) (failed : S → ℕ)
     written = written;
     appends = appends;
     writes = lacks_end written kept order lines;
-    stops = begins_order s.texts (Ok (No fault)) order merged done written kept shown s.begun lines (before_fault order merged done shown lanes s.texts fault by_key_is s.clean.0 s.clean.1);
+    stops = begins_order s.texts (Ok (No fault)) order merged done lanes written kept shown s.begun lines (before_fault order merged done lanes shown s.texts fault by_key_is s.clean.0 s.clean.1);
     read = tt;
   }
 

@@ -33,7 +33,7 @@ pub record MergeSoFar {S : Type 0} (remaining : S → Option (List ℕ)) (failed
   pub appends : Appends old new written
   pub order : List OpId
   pub lines : written ++ kept ≡ id_lines order
-  pub shown : IsShown order merged done
+  pub shown : IsShown order merged done merge.lanes.items
   pub all : fault ≡ None → merge.clean ≡ true → order ≡ ids done
   pub quiet : failed_now ≡ failed_before
 

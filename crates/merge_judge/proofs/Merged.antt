@@ -23,7 +23,7 @@ use Rattle.verdict.proofs.ProgramOrder.{less_index}
 use Rattle.verdict.proofs.SerialOrder.{tied_id}
 use Rattle.merge_judge.specs.declared.lane.Lane.{Lane}
 use Rattle.merge_judge.specs.inner.Matches.{IsLeastAt}
-use Rattle.merge_judge.specs.inner.Lanes.{AllEnded, ComeBefore, IsFaulty, IsFrontNumber, IsLaneAt, IsMerged, IsStage, NoFalls, SomeFaulty, add, entry_at, falls_after, front_list, log_at}
+use Rattle.merge_judge.specs.inner.Lanes.{AllEnded, ComeBefore, IsFaulty, IsFrontNumber, IsLaneAt, IsMerged, IsStage, IsTaken, NoFalls, NoFaults, SomeFaulty, add, entry_at, falls_after, front_list, log_at}
 use Rattle.merge_judge.proofs.Added.{add_here, add_long, add_other, by_key_more, entries_more}
 use Rattle.merge_judge.proofs.Falls.{fall_here_is}
 use Rattle.merge_judge.proofs.LaneFacts.{few_answered}
@@ -111,6 +111,13 @@ there (x ∷ xs) (suc n) l = there xs n (omega arith)
 one : {X : Type 0} (o : Option X) (a b : X) → o ≡ Some a → o ≡ Some b → a ≡ b
 one o a b p q = cc
 
+pub taken_there : (lanes : List Lane) (core : ℕ) (lane lane_new : Lane) (r : Record) → slice_get lanes core ≡ Some lane → lane.front ≡ Some r → IsTaken core r lanes (slice_set lanes core lane_new)
+taken_there lanes core lane lane_new r lane_is front_is = record {
+  many = length-set lanes core lane_new;
+  front = (lane, lane_is, front_is);
+  others = λ k other. set_elsewhere lanes core k lane_new other;
+}
+
 -- ---- the merge
 
 module _ {S : Type 0} (remaining : S → Option (List ℕ)) (failed : S → ℕ) (before after : List S) (lanes : List Lane) (numbers : List ℕ) (clean : Bool) (merged : List (List Record)) (done : List Entry)
@@ -160,7 +167,7 @@ module _ {S : Type 0} (remaining : S → Option (List ℕ)) (failed : S → ℕ)
         (faulty : IsFaulty lane → IsFaulty lane_new)
         (number_new : IsFrontNumber core lane_new.front n)
         (found : clean_new ≡ false → (clean ≡ false) ⊎ IsFaulty lane_new)
-        (kept : clean_new ≡ true → (clean ≡ true) × (lane.falls ≡ None → lane_new.falls ≡ None)) where
+        (kept : clean_new ≡ true → (clean ≡ true) × (lane.falls ≡ None → lane_new.falls ≡ None) × (lane.fault ≡ None → lane_new.fault ≡ None)) where
       abbrev e : Entry
       e = entry_at core (length (log_at merged core)) r
 
@@ -273,6 +280,13 @@ module _ {S : Type 0} (remaining : S → Option (List ℕ)) (failed : S → ℕ)
         | inr q ↦ m.steady (kept h).0 k l (sym (elsewhere k q) ∙ hl)
       ]
 
+      whole_new : clean_new ≡ true → NoFaults lanes_new
+      whole_new h k l hl = elim (cases_eq k core) [
+        | inl q ↦ (let l_is : lane_new ≡ l = one (slice_get lanes_new core) lane_new l here (subst (λ j. slice_get lanes_new j ≡ Some l) q hl) in
+            subst (λ (x : Lane). x.fault ≡ None) l_is ((kept h).2 (m.whole (kept h).0 core lane lane_is)))
+        | inr q ↦ m.whole (kept h).0 k l (sym (elsewhere k q) ∙ hl)
+      ]
+
       pub merged_more : IsMerged remaining failed before (slice_set after core source_new) lanes_new (slice_set numbers core n) clean_new (add merged core r) (done ++ e ∷ [])
       merged_more = record {
         readers = length-set after core source_new ∙ m.readers;
@@ -288,4 +302,5 @@ module _ {S : Type 0} (remaining : S → Option (List ℕ)) (failed : S → ℕ)
         come_before = come_before_new;
         faulty = faulty_new;
         steady = steady_new;
+        whole = whole_new;
       }

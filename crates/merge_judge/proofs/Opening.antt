@@ -8,7 +8,7 @@ use Rattle.log_record.specs.Entries.{entry_cmp, entries_from}
 use Rattle.line_stamps.specs.Ordered.{sorted}
 use Rattle.verdict.proofs.Lists.{set_here, set_elsewhere}
 use Rattle.merge_judge.specs.declared.lane.Lane.{Lane}
-use Rattle.merge_judge.specs.inner.Lanes.{IsFaulty, IsFrontNumber, IsLaneAt, IsMerged, NoFalls, SomeFaulty, log_at}
+use Rattle.merge_judge.specs.inner.Lanes.{IsFaulty, IsFrontNumber, IsLaneAt, IsMerged, NoFalls, NoFaults, SomeFaulty, log_at}
 
 -- the first record of each of the first n logs was read
 pub record Opened {S : Type 0} (remaining : S → Option (List ℕ)) (failed : S → ℕ) (before after : List S) (n : ℕ) (lanes : List Lane) (numbers : List ℕ) (clean : Bool) : Type 0 where
@@ -19,6 +19,7 @@ pub record Opened {S : Type 0} (remaining : S → Option (List ℕ)) (failed : S
   pub number : (k : ℕ) (l : Lane) → slice_get lanes k ≡ Some l → IsFrontNumber k l.front (slice_index numbers k)
   pub faulty : clean ≡ false → SomeFaulty lanes
   pub steady : NoFalls lanes
+  pub whole : clean ≡ true → NoFaults lanes
   pub rest : (k : ℕ) → n ≤ k → slice_get after k ≡ slice_get before k
 
 pub opened_none : {S : Type 0} (remaining : S → Option (List ℕ)) (failed : S → ℕ) (readers : List S) → Opened remaining failed readers readers 0 [] [] true
@@ -30,6 +31,7 @@ opened_none remaining failed readers = record {
   number = λ k l hl. absurd (let w = slice_get_within [] k l hl in omega (arith, w));
   faulty = λ h. absurd cc;
   steady = λ k l hl. absurd (let w = slice_get_within [] k l hl in omega (arith, w));
+  whole = λ h k l hl. absurd (let w = slice_get_within [] k l hl in omega (arith, w));
   rest = λ k l. refl;
 }
 
@@ -59,7 +61,8 @@ one o a b p q = cc
 -- one more
 module _ {S : Type 0} (remaining : S → Option (List ℕ)) (failed : S → ℕ) (before after : List S) (n : ℕ) (lanes : List Lane) (numbers : List ℕ) (clean : Bool) (h : Opened remaining failed before after n lanes numbers clean)
     (source source_new : S) (source_is : slice_get after n ≡ Some source) (lane : Lane) (number : ℕ) (clean_new : Bool)
-    (at : IsLaneAt remaining failed n (length before) source source_new lane []) (number_is : IsFrontNumber n lane.front number) (found : clean_new ≡ false → (clean ≡ false) ⊎ IsFaulty lane) (steady : lane.falls ≡ None) where
+    (at : IsLaneAt remaining failed n (length before) source source_new lane []) (number_is : IsFrontNumber n lane.front number) (found : clean_new ≡ false → (clean ≡ false) ⊎ IsFaulty lane) (steady : lane.falls ≡ None)
+    (kept : clean_new ≡ true → (clean ≡ true) × (lane.fault ≡ None)) where
   before_is : slice_get before n ≡ Some source
   before_is = sym (h.rest n (omega arith)) ∙ source_is
 
@@ -96,6 +99,7 @@ module _ {S : Type 0} (remaining : S → Option (List ℕ)) (failed : S → ℕ)
       | inr now ↦ (n, (lane, get_last lanes lane n h.many, now))
     ];
     steady = λ k l hl. elim (split k l hl) [ inl p ↦ h.steady k l p.1 | inr p ↦ subst (λ (x : Lane). x.falls ≡ None) p.1 steady ];
+    whole = λ e k l hl. elim (split k l hl) [ inl p ↦ h.whole (kept e).0 k l p.1 | inr p ↦ subst (λ (x : Lane). x.fault ≡ None) p.1 (kept e).1 ];
     rest = λ k l. set_elsewhere after n k source_new (λ e. omega (arith, l, e)) ∙ h.rest k (omega (arith, l));
   }
 
@@ -129,7 +133,15 @@ all_opened remaining failed before after n lanes numbers clean h all some few = 
   come_before = λ steady x p. absurd p;
   faulty = h.faulty;
   steady = λ clean. h.steady;
+  whole = h.whole;
 }
 
 pub is_faulty : (lane : Lane) (b : Bool) → is_some lane.fault ≡ not b → b ≡ false → IsFaulty lane
 is_faulty lane b e h = inr (λ none. let t : false ≡ not b = sym (ap is_some none) ∙ e in let u : false ≡ true = t ∙ ap not h in cc)
+
+is_nothing : {X : Type 0} (o : Option X) → is_some o ≡ false → o ≡ None
+is_nothing None h = refl
+is_nothing (Some x) h = absurd cc
+
+pub is_whole : (lane : Lane) (b : Bool) → is_some lane.fault ≡ not b → b ≡ true → lane.fault ≡ None
+is_whole lane b e h = is_nothing lane.fault (e ∙ ap not h)

@@ -32,8 +32,8 @@ use Rattle.verdict.specs.Judgement.{IsAnswerTo}
 use Rattle.verdict.specs.SetFaults.{from_set}
 use Rattle.merge_judge.specs.declared.lane.Lane.{Lane}
 use Rattle.merge_judge.specs.inner.Lanes.{AllEnded, IsMerged, IsStage, NoFalls, front_list, log_at}
-use Rattle.merge_judge.specs.Begun.{BeginSet, BeginsLog}
-use Rattle.merge_judge.specs.inner.Settling.{NoneFaulty, NoneFalls, Settles}
+use Rattle.merge_judge.specs.Begun.{BeginsLog}
+use Rattle.merge_judge.specs.inner.Settling.{AreBegun, NoneFaulty, NoneFalls, Settles}
 use Rattle.log_file.specs.Sets.{ReaderFailed}
 use Rattle.address_check.specs.declared.fault.AddressFault.{AddressFault}
 use Rattle.address_check.specs.AddressFaults.{least_address_fault}
@@ -143,10 +143,18 @@ module _ {S : Type 0} (remaining : S → Option (List ℕ)) (failed : S → ℕ)
   pub tells : TellEach remaining before texts
   tells = tell_each remaining before texts long (λ k b h. (is_text k b h).0)
 
-  begun : BeginSet texts merged
+  within : (k : ℕ) (l : Lane) → slice_get lanes k ≡ Some l → k < length before
+  within k l hl = let w = slice_get_within lanes k l hl in omega (arith, w, m.many)
+
+  begun : AreBegun texts lanes merged
   begun = record {
     many = m.logs ∙ sym long;
-    each = λ k w. (let b = there before k (omega (arith, w, long)) in subst (λ n. BeginsLog k n (text_at texts k) (log_at merged k)) (sym long) (is_text k b.0 b.1).2);
+    lanes_many = m.many ∙ sym long;
+    each = λ k l hl. (let b = there before k (within k l hl) in
+        subst (λ n. BeginsLog k n (text_at texts k) (log_at merged k ++ front_list l.front)) (sym long)
+        (subst (λ o. BeginsLog k (length before) (text_at texts k) (log_at merged k ++ front_list o)) (sym (ended k l hl))
+        (subst (λ rs. BeginsLog k (length before) (text_at texts k) rs) (sym (append-nil (log_at merged k))) (is_text k b.0 b.1).2)));
+    whole = λ k l hl none sound. (let b = there before k (within k l hl) in subst (λ n. Spells k n (text_at texts k) (log_at merged k)) (sym long) (((is_text k b.0 b.1).1 l hl).0 sound));
   }
 
   spelled : (k : ℕ) → k < length before → ((l : Lane) → slice_get lanes k ≡ Some l → l.fault ≡ None) → Spells k (length texts) (text_at texts k) (log_at merged k)

@@ -1,10 +1,12 @@
 -- The records whose ids are written: those that were merged before a fault was found.
-use Rattle.std.specs.Prelude.{◌≡◌, ℕ, zero, suc, ◌&&◌, Bool, true, false, List, [], ◌∷◌, ◌++◌, refl, Option, Some, None, is_none, length, map, replicate, slice_get}
+use Rattle.std.specs.Prelude.{◌<◌, ◌⊎◌, ◌≡◌, ℕ, zero, suc, ◌&&◌, Bool, true, false, List, [], ◌∷◌, ◌++◌, refl, Option, Some, None, is_none, length, map, replicate, slice_get}
 use Rattle.std.specs.Option.{option_map, option_map_or}
-use Rattle.std.proofs.Common.{sym, ◌∙◌, ap, subst, arith, append_assoc, append-nil}
+use Rattle.std.proofs.Common.{inl, inr, sym, ◌∙◌, ap, subst, arith, append_assoc, append-nil}
+use Rattle.std.specs.Ordering.{is_lt}
+use Rattle.std.proofs.lemmas.Bool.{cases_eq}
 use Rattle.std.proofs.lemmas.Option.{slice_get_within}
-use Rattle.line_stamps.specs.Ordered.{sorted}
-use Rattle.line_stamps.proofs.Ordered.{least_is, one_least}
+use Rattle.line_stamps.specs.Ordered.{In, sorted}
+use Rattle.line_stamps.proofs.Ordered.{In-from_sorted, least_is, one_least}
 use Rattle.log_record.specs.declared.record.Record.{Record}
 use Rattle.log_record.specs.declared.record.Entry.{Entry}
 use Rattle.log_record.specs.Entries.{entries, entry_cmp}
@@ -22,9 +24,9 @@ use Rattle.verdict.specs.declared.answer.Verdict.TheVariants.{Yes, No}
 use Rattle.verdict.specs.Faults.{from_address}
 use Rattle.verdict.specs.VerdictOf.{verdict_of, verdict_with}
 use Rattle.merge_judge.specs.declared.lane.Lane.{Lane}
-use Rattle.merge_judge.specs.inner.Lanes.{IsMerged, add, front_list, log_at}
+use Rattle.merge_judge.specs.inner.Lanes.{IsMerged, IsTaken, add, entry_at, front_list, log_at}
 use Rattle.merge_judge.specs.inner.Words.{first_along}
-use Rattle.merge_judge.proofs.Added.{add_long}
+use Rattle.merge_judge.proofs.Added.{add_here, add_long, add_other}
 use Rattle.merge_judge.proofs.Along.{along_is_least}
 use Rattle.merge_judge.proofs.Falls.{fall_past, never_front}
 use Rattle.merge_judge.proofs.Opening.{no_entries}
@@ -55,8 +57,18 @@ yes_where logs rises right =
     ap (λ o. verdict_with o logs) (sym (none_of_order logs rises))
     ∙ ap (λ o. option_map_or No (option_map from_address o) (Yes (length (entries logs)))) right
 
+-- After the shown records of a core its log has ended without a fault; or one more was read, which comes after all of them; or
+-- none are shown.
+abbrev pub EndsHere : List (List Record) → List (List Record) → ℕ → Lane → Type 0
+EndsHere logs merged k lane = (lane.front ≡ None) × (lane.fault ≡ None) × (log_at logs k ≡ log_at merged k)
+
+abbrev pub GoesOn : List (List Record) → List (List Record) → ℕ → Lane → Type 0
+GoesOn logs merged k lane =
+    (r : Record) × ((rest : List Record) × (log_at logs k ++ r ∷ rest ≡ log_at merged k ++ front_list lane.front)
+    × ((x : Entry) → In x (entries logs) → is_lt (entry_cmp x (entry_at k (length (log_at logs k)) r)) ≡ true))
+
 -- The ids are those of these first records of the logs that were merged, and of the entries that were done. None has a fault.
-pub record IsShown (order : List OpId) (merged : List (List Record)) (done : List Entry) : Type 0 where
+pub record IsShown (order : List OpId) (merged : List (List Record)) (done : List Entry) (lanes : List Lane) : Type 0 where
   pub logs : List (List Record)
   pub many : length logs ≡ length merged
   pub begins : (k : ℕ) → (rest : List Record) × (log_at logs k ++ rest ≡ log_at merged k)
@@ -64,6 +76,7 @@ pub record IsShown (order : List OpId) (merged : List (List Record)) (done : Lis
   pub right : least_address_fault (entries logs) ≡ None
   pub order_is : order ≡ ids_by_key logs
   pub first : (later : List Entry) × (by_key logs ++ later ≡ done)
+  pub next : (k : ℕ) (lane : Lane) → slice_get lanes k ≡ Some lane → EndsHere logs merged k lane ⊎ (GoesOn logs merged k lane ⊎ (entries logs ≡ []))
 
 -- ---- at first
 
@@ -72,8 +85,8 @@ nothing_rises zero k log h i = absurd cc
 nothing_rises (suc n) zero log h i = let e : [] ≡ log = cc in subst (λ rs. is_core_fault rs i ≡ false) e (fall_past [] i (omega arith))
 nothing_rises (suc n) (suc k) log h i = nothing_rises n k log h i
 
-pub shown_none : (n : ℕ) → IsShown [] (replicate n []) []
-shown_none n = record {
+pub shown_none : (n : ℕ) (lanes : List Lane) → IsShown [] (replicate n []) [] lanes
+shown_none n lanes = record {
   logs = replicate n [];
   many = refl;
   begins = λ k. ([], append-nil (log_at (replicate n []) k));
@@ -81,7 +94,11 @@ shown_none n = record {
   right = ap least_address_fault (no_entries 0 n);
   order_is = sym (ap (λ es. ids (sorted entry_cmp es)) (no_entries 0 n));
   first = ([], append-nil (by_key (replicate n [])) ∙ ap (sorted entry_cmp) (no_entries 0 n));
+  next = λ k lane h. inr (inr (no_entries 0 n));
 }
+
+pub none_yes : (n : ℕ) → verdict_of (replicate n []) ≡ Yes (length (entries (replicate n [])))
+none_yes n = yes_where (replicate n []) (nothing_rises n) (ap least_address_fault (no_entries 0 n))
 
 -- ---- one more record
 
@@ -92,20 +109,52 @@ grows (log ∷ logs) zero (suc k) r = ([], append-nil (log_at logs k))
 grows (log ∷ logs) (suc core) zero r = ([], append-nil log)
 grows (log ∷ logs) (suc core) (suc k) r = grows logs core k r
 
-shown_still : (order : List OpId) (merged : List (List Record)) (done : List Entry) (core : ℕ) (r : Record) (e : Entry) → IsShown order merged done → IsShown order (add merged core r) (done ++ e ∷ [])
-shown_still order merged done core r e h = record {
-  logs = h.logs;
-  many = h.many ∙ sym (add_long merged core r);
-  begins = λ k. (let b = h.begins k in let g = grows merged core k r in
-      (b.0 ++ g.0, sym (append_assoc (log_at h.logs k) b.0 g.0) ∙ ap (λ rs. rs ++ g.0) b.1 ∙ g.1));
-  rises = h.rises;
-  right = h.right;
-  order_is = h.order_is;
-  first = (h.first.0 ++ e ∷ [], sym (append_assoc (by_key h.logs) h.first.0 (e ∷ [])) ∙ ap (λ es. es ++ e ∷ []) h.first.1);
-}
+module _ (order : List OpId) (merged : List (List Record)) (done : List Entry) (e : Entry) (old new : List Lane) (taken : IsTaken e.id.core e.logged old new) (inside : e.id.core < length merged) (h : IsShown order merged done old) where
+  abbrev merged_new : List (List Record)
+  merged_new = add merged e.id.core e.logged
+
+  -- the record that was taken was a front
+  at_core : (lane : Lane) → EndsHere h.logs merged e.id.core taken.front.0 ⊎ (GoesOn h.logs merged e.id.core taken.front.0 ⊎ (entries h.logs ≡ []))
+      → EndsHere h.logs merged_new e.id.core lane ⊎ (GoesOn h.logs merged_new e.id.core lane ⊎ (entries h.logs ≡ []))
+  at_core lane (inl ends) = absurd (let a = ends.0 in let b = taken.front.2 in cc)
+  at_core lane (inr (inl (r, (rest, is, after)))) = inr (inl (
+    r,
+    (
+      rest ++ front_list lane.front,
+      sym (append_assoc (log_at h.logs e.id.core) (r ∷ rest) (front_list lane.front))
+          ∙ ap (λ rs. rs ++ front_list lane.front) (is ∙ ap (λ o. log_at merged e.id.core ++ front_list o) taken.front.2 ∙ sym (add_here merged e.id.core e.logged inside)),
+      after,
+    ),
+  ))
+  at_core lane (inr (inr none)) = inr (inr none)
+
+  elsewhere : (k : ℕ) (lane : Lane) → (k ≡ e.id.core → ⊥) → EndsHere h.logs merged k lane ⊎ (GoesOn h.logs merged k lane ⊎ (entries h.logs ≡ []))
+      → EndsHere h.logs merged_new k lane ⊎ (GoesOn h.logs merged_new k lane ⊎ (entries h.logs ≡ []))
+  elsewhere k lane other (inl ends) = inl (ends.0, ends.1, ends.2 ∙ sym (add_other merged e.id.core k e.logged other))
+  elsewhere k lane other (inr (inl (r, (rest, is, after)))) = inr (inl (r, (rest, is ∙ ap (λ rs. rs ++ front_list lane.front) (sym (add_other merged e.id.core k e.logged other)), after)))
+  elsewhere k lane other (inr (inr none)) = inr (inr none)
+
+  next_still : (k : ℕ) (lane : Lane) → slice_get new k ≡ Some lane → EndsHere h.logs merged_new k lane ⊎ (GoesOn h.logs merged_new k lane ⊎ (entries h.logs ≡ []))
+  next_still k lane hl = elim (cases_eq k e.id.core) [
+    | inl q ↦ subst (λ j. EndsHere h.logs merged_new j lane ⊎ (GoesOn h.logs merged_new j lane ⊎ (entries h.logs ≡ []))) (sym q) (at_core lane (h.next e.id.core taken.front.0 taken.front.1))
+    | inr q ↦ elsewhere k lane q (h.next k lane (sym (taken.others k q) ∙ hl))
+  ]
+
+  shown_still : IsShown order merged_new (done ++ e ∷ []) new
+  shown_still = record {
+    logs = h.logs;
+    many = h.many ∙ sym (add_long merged e.id.core e.logged);
+    begins = λ k. (let b = h.begins k in let g = grows merged e.id.core k e.logged in
+        (b.0 ++ g.0, sym (append_assoc (log_at h.logs k) b.0 g.0) ∙ ap (λ rs. rs ++ g.0) b.1 ∙ g.1));
+    rises = h.rises;
+    right = h.right;
+    order_is = h.order_is;
+    first = (h.first.0 ++ e ∷ [], sym (append_assoc (by_key h.logs) h.first.0 (e ∷ [])) ∙ ap (λ es. es ++ e ∷ []) h.first.1);
+    next = next_still;
+  }
 
 module _ {S : Type 0} (remaining : S → Option (List ℕ)) (failed : S → ℕ) (before after : List S) (lanes : List Lane) (numbers : List ℕ) where
-  shown_now : (merged : List (List Record)) (done : List Entry) (order : List OpId) → IsMerged remaining failed before after lanes numbers true merged done → None ≡ first_along [] done → order ≡ ids done → IsShown order merged done
+  shown_now : (merged : List (List Record)) (done : List Entry) (order : List OpId) → IsMerged remaining failed before after lanes numbers true merged done → None ≡ first_along [] done → order ≡ ids done → IsShown order merged done lanes
   shown_now merged done order m none is = record {
     logs = merged;
     many = refl;
@@ -114,10 +163,22 @@ module _ {S : Type 0} (remaining : S → Option (List ℕ)) (failed : S → ℕ)
     right = sym (along_is_least merged) ∙ ap (first_along []) (sym sorted_is) ∙ sym none;
     order_is = is ∙ ap ids sorted_is;
     first = ([], append-nil (by_key merged) ∙ sym sorted_is);
+    next = λ k l hl. goes_on k l hl l.front refl;
   }
     where
       sorted_is : done ≡ by_key merged
       sorted_is = m.by_key_so_far (m.steady refl)
+
+      goes_on : (k : ℕ) (l : Lane) → slice_get lanes k ≡ Some l → (o : Option Record) → l.front ≡ o → EndsHere merged merged k l ⊎ (GoesOn merged merged k l ⊎ (entries merged ≡ []))
+      goes_on k l hl None q = inl (q, m.whole refl k l hl, refl)
+      goes_on k l hl (Some r) q = inr (inl (
+        r,
+        (
+          [],
+          ap (λ o. log_at merged k ++ front_list o) (sym q),
+          λ x p. m.come_before (m.steady refl) x (subst (λ es. In x es) (sym sorted_is) (In-from_sorted entry_cmp x (entries merged) p)) k l r hl q,
+        ),
+      ))
 
       all_rise : Rises merged
       all_rise k log h =
@@ -131,10 +192,20 @@ module _ {S : Type 0} (remaining : S → Option (List ℕ)) (failed : S → ℕ)
           let same : log_at merged k ≡ log = one (slice_get merged k) (log_at merged k) log (log_there merged k w) h in
           subst (λ rs. (i : ℕ) → is_core_fault rs i ≡ false) same (never_front (log_at merged k) (front_list l.0.front) none_falls)
 
+  in_merged : (merged : List (List Record)) (done : List Entry) (e : Entry) (clean : Bool) (old : List Lane) → IsTaken e.id.core e.logged old lanes
+      → IsMerged remaining failed before after lanes numbers clean (add merged e.id.core e.logged) (done ++ e ∷ []) → e.id.core < length merged
+  in_merged merged done e clean old taken m =
+      let w = slice_get_within old e.id.core taken.front.0 taken.front.1 in
+      omega (arith, w, taken.many, m.many, m.logs, add_long merged e.id.core e.logged)
+
   pub shown_more : (merged : List (List Record)) (done : List Entry) (order : List OpId) (e : Entry) (fault : Option AddressFault) (clean : Bool)
-      → IsShown order merged done → IsMerged remaining failed before after lanes numbers clean (add merged e.id.core e.logged) (done ++ e ∷ [])
+      → (old : List Lane) → IsTaken e.id.core e.logged old lanes → IsShown order merged done old → IsMerged remaining failed before after lanes numbers clean (add merged e.id.core e.logged) (done ++ e ∷ [])
       → fault ≡ first_along [] (done ++ e ∷ []) → (fault ≡ None → clean ≡ true → order_where (is_none fault && clean) order e.id ≡ ids (done ++ e ∷ []))
-      → IsShown (order_where (is_none fault && clean) order e.id) (add merged e.id.core e.logged) (done ++ e ∷ [])
-  shown_more merged done order e None true h m first all = shown_now (add merged e.id.core e.logged) (done ++ e ∷ []) (order ++ e.id ∷ []) m first (all refl refl)
-  shown_more merged done order e None false h m first all = shown_still order merged done e.id.core e.logged e h
-  shown_more merged done order e (Some f) clean h m first all = shown_still order merged done e.id.core e.logged e h
+      → IsShown (order_where (is_none fault && clean) order e.id) (add merged e.id.core e.logged) (done ++ e ∷ []) lanes
+  shown_more merged done order e None true old taken h m first all = shown_now (add merged e.id.core e.logged) (done ++ e ∷ []) (order ++ e.id ∷ []) m first (all refl refl)
+  shown_more merged done order e None false old taken h m first all = shown_still order merged done e old lanes taken (in_merged merged done e false old taken m) h
+  shown_more merged done order e (Some f) clean old taken h m first all = shown_still order merged done e old lanes taken (in_merged merged done e clean old taken m) h
+
+-- where no front was left
+pub shown_after : (order : List OpId) (merged : List (List Record)) (done : List Entry) (old new : List Lane) → new ≡ old → IsShown order merged done old → IsShown order merged done new
+shown_after order merged done old new same h = subst (λ lanes. IsShown order merged done lanes) (sym same) h

@@ -1,6 +1,6 @@
 -- What was written where there is no Yes.
-use Rattle.std.specs.Prelude.{◌≡◌, ℕ, ◌<◌, true, false, List, [], ◌∷◌, ◌++◌, refl, Bool, Option, Some, None, Result, Ok, length, map, option_and_then, replicate, slice_get, take}
-use Rattle.std.proofs.Common.{sym, ◌∙◌, ap, subst, inl, inr, arith, append_assoc}
+use Rattle.std.specs.Prelude.{Err, ◌≡◌, ℕ, ◌<◌, true, false, List, [], ◌∷◌, ◌++◌, refl, Bool, Option, Some, None, Result, Ok, length, map, option_and_then, replicate, slice_get, take}
+use Rattle.std.proofs.Common.{sym, ◌∙◌, ap, subst, inl, inr, arith, append_assoc, append-nil}
 use Rattle.std.proofs.lemmas.List.{length-map}
 use Rattle.std.proofs.lemmas.Option.{slice_get_within}
 use Rattle.line_stamps.specs.Ordered.{In, IsLeastIn}
@@ -21,6 +21,8 @@ use Rattle.log_file.specs.Devices.{Tells}
 use Rattle.log_file.specs.Sets.{SpellSet, TellEach, text_at}
 use Rattle.verdict.specs.declared.answer.Verdict.{Verdict}
 use Rattle.merge_judge.specs.declared.merge_fault.MergeFault.{MergeFault}
+use Rattle.merge_judge.specs.declared.merge_fault.MergeFault.TheVariants.{Judge}
+use Rattle.verdict.specs.declared.judge_fault.JudgeFault.{JudgeFault}
 use Rattle.verdict.specs.declared.answer.Verdict.TheVariants.{No}
 use Rattle.verdict.specs.FaultParts.{FaultParts}
 use Rattle.verdict.specs.Faults.{from_address}
@@ -28,31 +30,47 @@ use Rattle.verdict.proofs.SerialOrder.{in_set_by_key}
 use Rattle.verdict.specs.ByKey.{by_key}
 use Rattle.verdict.specs.Judgement.{IsYes}
 use Rattle.verdict.proofs.Told.{told}
-use Rattle.merge_judge.specs.Begun.{BeginSet, BeginsLog, BeginsOrder, EndBefore}
+use Rattle.merge_judge.specs.Begun.{BeginsLog, BeginsOrder, EndBefore}
 use Rattle.merge_judge.specs.OrderText.{id_lines}
 use Rattle.merge_judge.specs.OpenedLog.{OpenedLog}
 use Rattle.merge_judge.specs.declared.lane.Lane.{Lane}
-use Rattle.merge_judge.specs.inner.Lanes.{IsMerged, IsStage, NoFalls, log_at}
-use Rattle.merge_judge.specs.inner.Settling.{IsFaultIn}
+use Rattle.merge_judge.specs.inner.Lanes.{IsMerged, IsStage, NoFalls, front_list, log_at}
+use Rattle.merge_judge.specs.inner.Settling.{AreBegun, IsFaultIn}
+use Rattle.log_file.specs.Log.{Spells}
 use Rattle.merge_judge.proofs.Along.{after_is_fault}
 use Rattle.merge_judge.proofs.Begins.{begins_front, begins_whole}
 use Rattle.merge_judge.proofs.Falls.{fall_left}
 use Rattle.merge_judge.proofs.Following.{begun_text}
 use Rattle.merge_judge.proofs.MergeSoFar.{front_of}
-use Rattle.merge_judge.proofs.Opening.{none_there, replicate_long}
+use Rattle.merge_judge.proofs.Opening.{no_entries, none_there, replicate_long}
 use Rattle.merge_judge.proofs.Settled.{gather, log_there, one, tell_each, there}
-use Rattle.merge_judge.proofs.Shown.{IsShown, yes_where}
+use Rattle.merge_judge.proofs.Shown.{IsShown, none_yes, yes_where}
 
 -- what is written of the ids that are shown
-pub begins_order : (texts : List (List ℕ)) (result : Result Verdict MergeFault) (order : List OpId) (merged : List (List Record)) (done : List Entry) (written kept : List ℕ) → (s : IsShown order merged done) → BeginSet texts merged → written ++ kept ≡ id_lines order
+pub begins_order : (texts : List (List ℕ)) (result : Result Verdict MergeFault) (order : List OpId) (merged : List (List Record)) (done : List Entry) (lanes : List Lane) (written kept : List ℕ) → (s : IsShown order merged done lanes) → AreBegun texts lanes merged → written ++ kept ≡ id_lines order
     → EndBefore texts result s.logs → BeginsOrder texts result written
-begins_order texts result order merged done written kept s begun lines before = record {
+begins_order texts result order merged done lanes written kept s begun lines before = record {
   logs = s.logs;
   begun = record {
     many = s.many ∙ begun.many;
-    each = λ k w. (let b = s.begins k in
-        begins_front k (length texts) (text_at texts k) (log_at s.logs k) b.0 (subst (λ rs. BeginsLog k (length texts) (text_at texts k) rs) (sym b.1) (begun.each k w)));
+    each = λ k w. (let b = s.begins k in let l = there lanes k (omega (arith, w, begun.lanes_many)) in
+        begins_front k (length texts) (text_at texts k) (log_at s.logs k) (b.0 ++ front_list l.0.front)
+        (subst (λ rs. BeginsLog k (length texts) (text_at texts k) rs) (ap (λ rs. rs ++ front_list l.0.front) (sym b.1) ∙ append_assoc (log_at s.logs k) b.0 (front_list l.0.front)) (begun.each k l.0 l.1)));
   };
+  next = λ k w. (let l = there lanes k (omega (arith, w, begun.lanes_many)) in elim (s.next k l.0 l.1) [
+    | inl ends ↦ inl (subst (λ rs. Spells k (length texts) (text_at texts k) rs) (sym ends.2) (begun.whole k l.0 l.1 ends.0 ends.1))
+    | inr more ↦ elim more [
+      | inl t ↦ inr (inl (
+        t.0,
+        (
+          begins_front k (length texts) (text_at texts k) (log_at s.logs k ++ t.0 ∷ []) t.1.0
+              (subst (λ rs. BeginsLog k (length texts) (text_at texts k) rs) (sym t.1.1 ∙ sym (append_assoc (log_at s.logs k) (t.0 ∷ []) t.1.0)) (begun.each k l.0 l.1)),
+          t.1.2,
+        ),
+      ))
+      | inr none ↦ inr (inr none)
+    ]
+  ]);
   yes = subst IsYes (sym (yes_where s.logs s.rises s.right)) tt;
   before = before;
   lines = (length written, sym (front_of written kept (id_lines order) lines) ∙ ap (λ ids. take (length written) (id_lines ids)) s.order_is);
@@ -60,41 +78,62 @@ begins_order texts result order merged done written kept s begun lines before = 
 
 -- ---- the texts of logs that haven't ended
 
-begun_stage : (core cores : ℕ) (first still : Option (List ℕ)) (log : OpenedLog) (merged : List Record) (front : Option Record) (fault : Option LogFault) → IsStage core cores first still log merged front fault → (text : List ℕ) × (Tells first text × BeginsLog core cores text merged)
+abbrev IsBegun : ℕ → ℕ → List ℕ → List Record → Option Record → Option LogFault → Type 0
+IsBegun core cores text merged front fault = BeginsLog core cores text (merged ++ front_list front) × (front ≡ None → fault ≡ None → Spells core cores text merged)
+
+begun_stage : (core cores : ℕ) (first still : Option (List ℕ)) (log : OpenedLog) (merged : List Record) (front : Option Record) (fault : Option LogFault) → IsStage core cores first still log merged front fault → (text : List ℕ) × (Tells first text × IsBegun core cores text merged front fault)
 begun_stage core cores first still log merged (Some r) fault h =
     let t = begun_text core cores first still log (merged ++ r ∷ []) h.1 in
-    (t.0, (t.1, begins_front core cores t.0 merged (r ∷ []) t.2))
-begun_stage core cores first still log merged None None h = (h.text, (h.tells, begins_whole core cores h.text merged h.spells))
-begun_stage core cores first still log merged None (Some f) h = (h.text, (h.tells, h.begins))
+    (t.0, (t.1, (t.2, λ none. absurd cc)))
+begun_stage core cores first still log merged None None h =
+    (h.text, (h.tells, (subst (λ rs. BeginsLog core cores h.text rs) (sym (append-nil merged)) (begins_whole core cores h.text merged h.spells), λ none sound. h.spells)))
+begun_stage core cores first still log merged None (Some f) h =
+    (h.text, (h.tells, (subst (λ rs. BeginsLog core cores h.text rs) (sym (append-nil merged)) h.begins, λ none sound. absurd cc)))
 
 pub begun_texts : {S : Type 0} (remaining : S → Option (List ℕ)) (failed : S → ℕ) (before after : List S) (lanes : List Lane) (numbers : List ℕ) (clean : Bool) (merged : List (List Record)) (done : List Entry)
-    → IsMerged remaining failed before after lanes numbers clean merged done → (texts : List (List ℕ)) × (TellEach remaining before texts × BeginSet texts merged)
+    → IsMerged remaining failed before after lanes numbers clean merged done → (texts : List (List ℕ)) × (TellEach remaining before texts × AreBegun texts lanes merged)
 begun_texts {S} remaining failed before after lanes numbers clean merged done m = (
   all.0,
   (
     tell_each remaining before all.0 all.1.0 (λ k b h. (all.1.1 k b h).0),
     record {
       many = m.logs ∙ sym all.1.0;
-      each = λ k w. (let b = there before k (omega (arith, w, all.1.0)) in subst (λ n. BeginsLog k n (text_at all.0 k) (log_at merged k)) (sym all.1.0) (all.1.1 k b.0 b.1).1);
+      lanes_many = m.many ∙ sym all.1.0;
+      each = λ k l hl. (let b = there before k (within k l hl) in subst (λ n. BeginsLog k n (text_at all.0 k) (log_at merged k ++ front_list l.front)) (sym all.1.0) ((all.1.1 k b.0 b.1).1 l hl).0);
+      whole = λ k l hl none sound. (let b = there before k (within k l hl) in subst (λ n. Spells k n (text_at all.0 k) (log_at merged k)) (sym all.1.0) (((all.1.1 k b.0 b.1).1 l hl).1 none sound));
     },
   ),
 )
   where
     IsTextOf : ℕ → S → List ℕ → Type 0
-    IsTextOf k b text = Tells (remaining b) text × BeginsLog k (length before) text (log_at merged k)
+    IsTextOf k b text = Tells (remaining b) text × ((l : Lane) → slice_get lanes k ≡ Some l → IsBegun k (length before) text (log_at merged k) l.front l.fault)
+
+    within : (k : ℕ) (l : Lane) → slice_get lanes k ≡ Some l → k < length before
+    within k l hl = let w = slice_get_within lanes k l hl in omega (arith, w, m.many)
 
     all : (texts : List (List ℕ)) × ((length texts ≡ length before) × ((k : ℕ) (b : S) → slice_get before k ≡ Some b → IsTextOf k b (text_at texts k)))
     all = gather IsTextOf before (λ k b hb.
         let w = slice_get_within before k b hb in
         let a = there after k (omega (arith, w, m.readers)) in
         let l = there lanes k (omega (arith, w, m.many)) in
-        begun_stage k (length before) (remaining b) (remaining a.0) l.0.log (log_at merged k) l.0.front l.0.fault (m.lane k b a.0 l.0 hb a.1 l.1).stage)
+        let t = begun_stage k (length before) (remaining b) (remaining a.0) l.0.log (log_at merged k) l.0.front l.0.fault (m.lane k b a.0 l.0 hb a.1 l.1).stage in
+        (t.0, (t.1.0, λ x hx. subst (λ (y : Lane). IsBegun k (length before) t.0 (log_at merged k) y.front y.fault) (one (slice_get lanes k) l.0 x l.1 hx) t.1.1)))
 
-pub none_begun : {S : Type 0} (remaining : S → Option (List ℕ)) (readers : List S) → BeginSet (map (λ reader. told (remaining reader)) readers) (replicate (length readers) [])
-none_begun remaining readers = record {
-  many = replicate_long (length readers) [] ∙ sym (length-map readers (λ reader. told (remaining reader)));
-  each = λ k w. inl (none_there (length readers) k);
-}
+-- no record of the texts
+pub none_begins : {S : Type 0} (remaining : S → Option (List ℕ)) (readers : List S) (f : JudgeFault) → BeginsOrder (map (λ reader. told (remaining reader)) readers) (Err (Judge f)) []
+none_begins remaining readers f =
+    let n = length readers in
+    record {
+      logs = replicate n [];
+      begun = record {
+        many = replicate_long n [] ∙ sym (length-map readers (λ reader. told (remaining reader)));
+        each = λ k w. inl (none_there n k);
+      };
+      next = λ k w. inr (inr (no_entries 0 n));
+      yes = subst IsYes (sym (none_yes n)) tt;
+      before = tt;
+      lines = (0, refl);
+    }
 
 -- ---- before the fault
 
@@ -111,7 +150,7 @@ nothing_there : (o : Option Record) → ((r : Record) → o ≡ Some r → ⊥) 
 nothing_there None h = refl
 nothing_there (Some r) h = absurd (h r refl)
 
-module _ (order : List OpId) (merged : List (List Record)) (done : List Entry) (s : IsShown order merged done) where
+module _ (order : List OpId) (merged : List (List Record)) (done : List Entry) (lanes : List Lane) (s : IsShown order merged done lanes) where
   -- a record that falls isn't shown
   fall_not_shown : (id : OpId) → is_core_fault (log_at merged id.core) id.index ≡ true → (r : Record) → record_at s.logs id ≡ Some r → ⊥
   fall_not_shown id fall r h =
@@ -150,9 +189,9 @@ module _ (order : List OpId) (merged : List (List Record)) (done : List Entry) (
         let same : t.0 ≡ e = (λ i. record { id = t.0.id; logged = logged i }) in
         shown_is_right e f p (subst (λ x. address_fault (entries merged) x ≡ Some f) same t.2)
 
-  pub before_fault : (lanes : List Lane) (texts : List (List ℕ)) (fault : FaultParts) → (NoFalls lanes → done ≡ by_key merged) → SpellSet texts merged → IsFaultIn lanes merged fault → EndBefore texts (Ok (No fault)) s.logs
-  before_fault lanes texts fault by_key_is spells (inl (rule, fall)) = (nothing_there (record_at s.logs fault.id) (fall_not_shown fault.id fall), inl rule)
-  before_fault lanes texts fault by_key_is spells (inr (steady, (f, least, is))) = (
+  pub before_fault : (texts : List (List ℕ)) (fault : FaultParts) → (NoFalls lanes → done ≡ by_key merged) → SpellSet texts merged → IsFaultIn lanes merged fault → EndBefore texts (Ok (No fault)) s.logs
+  before_fault texts fault by_key_is spells (inl (rule, fall)) = (nothing_there (record_at s.logs fault.id) (fall_not_shown fault.id fall), inl rule)
+  before_fault texts fault by_key_is spells (inr (steady, (f, least, is))) = (
     nothing_there (record_at s.logs fault.id) (λ r h. fault_not_shown (by_key_is steady) f least r (subst (λ x. record_at s.logs x.id ≡ Some r) is h)),
     inr (merged, (spells, (s.first.0, whole_is (by_key_is steady)))),
   )

@@ -1,10 +1,12 @@
 -- What a merge has written where it doesn't answer Yes.
-use Rattle.std.specs.Prelude.{◌≡◌, ℕ, ◌<◌, ◌⊎◌, List, [], ◌++◌, None, Result, Ok, Err, length, take, slice_index_or}
+use Rattle.std.specs.Prelude.{◌≡◌, ℕ, ◌<◌, ◌⊎◌, List, [], ◌∷◌, ◌++◌, true, None, Result, Ok, Err, length, take, slice_index_or}
 use Rattle.log_record.specs.declared.format.Format.{Format}
 use Rattle.log_record.specs.declared.record.Record.{Record}
 use Rattle.log_record.specs.declared.record.Entry.{Entry}
-use Rattle.log_record.specs.Entries.{record_at}
-use Rattle.log_file.specs.Log.{IsLog, begun, text_of}
+use Rattle.log_record.specs.Entries.{entries, entry_cmp, record_at}
+use Rattle.log_file.specs.Log.{IsLog, Spells, begun, text_of}
+use Rattle.line_stamps.specs.Ordered.{In}
+use Rattle.std.specs.Ordering.{is_lt}
 use Rattle.log_file.specs.Sets.{SpellSet, text_at}
 use Rattle.verdict.specs.declared.answer.Verdict.{Verdict}
 use Rattle.verdict.specs.declared.answer.Verdict.TheVariants.{Yes, No}
@@ -28,6 +30,15 @@ pub record BeginSet (texts : List (List ℕ)) (logs : List (List Record)) : Type
   pub many : length logs ≡ length texts
   pub each : (k : ℕ) → k < length texts → BeginsLog k (length texts) (text_at texts k) (slice_index_or logs k [])
 
+-- After the records of this core its text has no more; or it begins with them and one more, which comes after all records by
+-- key; or there are no records.
+abbrev pub EndsAfter : List (List ℕ) → List (List Record) → ℕ → Type 0
+EndsAfter texts logs core =
+    Spells core (length texts) (text_at texts core) (slice_index_or logs core [])
+    ⊎ (((next : Record) × (BeginsLog core (length texts) (text_at texts core) (slice_index_or logs core [] ++ next ∷ [])
+    × ((e : Entry) → In e (entries logs) → is_lt (entry_cmp e (record { id = record { core = core; index = length (slice_index_or logs core []) }; logged = next })) ≡ true)))
+    ⊎ (entries logs ≡ []))
+
 -- these records come first of all records of the texts, in the order of keys
 abbrev pub ComeFirst : List (List ℕ) → List (List Record) → Type 0
 ComeFirst texts logs = (whole : List (List Record)) × (SpellSet texts whole × ((later : List Entry) × (by_key whole ≡ by_key logs ++ later)))
@@ -43,6 +54,7 @@ EndBefore texts (Err fault) logs = Unit {0}
 pub record BeginsOrder (texts : List (List ℕ)) (result : Result Verdict MergeFault) (written : List ℕ) : Type 0 where
   pub logs : List (List Record)
   pub begun : BeginSet texts logs
+  pub next : (core : ℕ) → core < length texts → EndsAfter texts logs core
   pub yes : IsYes (verdict_of logs)
   pub before : EndBefore texts result logs
   pub lines : (n : ℕ) × (written ≡ take n (id_lines (ids_by_key logs)))

@@ -128,7 +128,8 @@ pub fn merge_judge<S: ByteSource, W: ByteSink>(
         × ((written : List ℕ) × Appends (W.contents order_out.old) (W.contents order_out.new) written
         × WritesOrder texts result written)) }
     // Without a Yes the ids that it took are, in the order of keys, the first of records with which the
-    // texts begin and to which the verdict is Yes; they end before the fault. After 6 it took nothing.
+    // texts begin and to which the verdict is Yes. All of these come before the next record of each text
+    // that has more, and before the fault. After 6 it took nothing.
     ensures stops { (texts : List (List ℕ)) × (TellEach S.remaining readers.old texts
         × ((written : List ℕ) × Appends (W.contents order_out.old) (W.contents order_out.new) written
         × StopsBefore texts result written)) }

@@ -82,6 +82,7 @@ impl Lane {
             (merged ++ front.now ∷ []) }
         ensures falls { self.new.falls ≡ None → self.old.falls ≡ None }
         ensures steady { result ≡ true → self.old.falls ≡ None → self.new.falls ≡ None }
+        ensures whole { result ≡ true → self.old.fault ≡ None → self.new.fault ≡ None }
         ensures faulty { IsFaulty self.old → IsFaulty self.new }
         ensures found { result ≡ false → IsFaulty self.new }
     {

@@ -3,7 +3,7 @@
 ghost use Rattle.std.specs.Prelude.{◌≡◌, ◌<◌, ◌≤◌, ◌∷◌, ◌++◌, ℕ, List, [], Some, None, IfOk, MatchOption, length, true};
 ghost use Rattle.log_record.specs.declared.record.Record.{Record};
 ghost use Rattle.log_record.specs.declared.record.Entry.{Entry};
-ghost use Rattle.merge_judge.specs.inner.Lanes.{AllEnded, IsFrontNumber, add};
+ghost use Rattle.merge_judge.specs.inner.Lanes.{AllEnded, IsFrontNumber, IsTaken, add};
 ghost use Rattle.merge_judge.specs.inner.Merging.{HasMerged, IsMerging, none_of};
 
 use super::fronts::Fronts;
@@ -82,6 +82,8 @@ impl Merge {
     pub(crate) fn take_first<S: ByteSource>(&mut self, readers: &mut [S]) -> Option<Entry>
         requires { IsMerging S.remaining S.failed readers.old self.old }
         ensures clean { self.new.clean ≡ true → self.old.clean ≡ true }
+        ensures taken { MatchOption result (self.new.lanes.items ≡ self.old.lanes.items)
+            (λ entry. IsTaken entry.id.core entry.logged self.old.lanes.items self.new.lanes.items) }
         ensures merged { (before : List S) (merged : List (List Record)) (done : List Entry)
             → HasMerged S.remaining S.failed before readers.old self.old merged done
             → MatchOption result

@@ -73,6 +73,16 @@ IsFrontNumber core (Some r) n = (n ≡ (r.ts * 4294967296 + r.rank) * 64 + core)
 abbrev pub NoFalls : List Lane → Type 0
 NoFalls lanes = (k : ℕ) (lane : Lane) → slice_get lanes k ≡ Some lane → lane.falls ≡ None
 
+-- no log has a fault that isn't one of its order
+abbrev pub NoFaults : List Lane → Type 0
+NoFaults lanes = (k : ℕ) (lane : Lane) → slice_get lanes k ≡ Some lane → lane.fault ≡ None
+
+-- the front of this core was taken, and no other log was touched
+pub record IsTaken (core : ℕ) (r : Record) (old new : List Lane) : Type 0 where
+  pub many : length new ≡ length old
+  pub front : (l : Lane) × (slice_get old core ≡ Some l) × (l.front ≡ Some r)
+  pub others : (k : ℕ) → (k ≡ core → ⊥) → slice_get new k ≡ slice_get old k
+
 -- what was done comes before each front
 abbrev pub ComeBefore : List Entry → List Lane → List (List Record) → Type 0
 ComeBefore done lanes merged =
@@ -101,3 +111,4 @@ pub record IsMerged {S : Type 0} (remaining : S → Option (List ℕ)) (failed :
   pub come_before : NoFalls lanes → ComeBefore done lanes merged
   pub faulty : clean ≡ false → SomeFaulty lanes
   pub steady : clean ≡ true → NoFalls lanes
+  pub whole : clean ≡ true → NoFaults lanes

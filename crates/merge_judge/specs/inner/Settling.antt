@@ -1,11 +1,12 @@
 -- The faults of logs that have ended.
-use Rattle.std.specs.Prelude.{◌≡◌, ℕ, ◌<◌, ◌⊎◌, true, List, Option, None, Some, Result, Ok, Err, IfErr, slice_get}
+use Rattle.std.specs.Prelude.{◌≡◌, ℕ, ◌<◌, ◌⊎◌, true, length, ◌++◌, List, Option, None, Some, Result, Ok, Err, IfErr, slice_get}
 use Rattle.log_record.specs.declared.record.Record.{Record}
 use Rattle.log_record.specs.Entries.{entries}
 use Rattle.core_check.specs.CoreOrder.{is_core_fault}
 use Rattle.address_check.specs.declared.fault.AddressFault.{AddressFault}
 use Rattle.address_check.specs.AddressFaults.{least_address_fault}
-use Rattle.log_file.specs.Sets.{ReaderFailed, SpellSet, TellEach}
+use Rattle.log_file.specs.Sets.{ReaderFailed, SpellSet, TellEach, text_at}
+use Rattle.log_file.specs.Log.{Spells}
 use Rattle.verdict.specs.declared.answer.Verdict.{Verdict}
 use Rattle.verdict.specs.declared.answer.Verdict.TheVariants.{Yes, No}
 use Rattle.verdict.specs.declared.judge_fault.JudgeFault.{JudgeFault}
@@ -15,10 +16,10 @@ use Rattle.verdict.specs.VerdictOf.{verdict_of}
 use Rattle.verdict.specs.FaultParts.{FaultParts}
 use Rattle.verdict.specs.Faults.{from_address}
 use Rattle.verdict.specs.declared.rule.Rule.TheVariants.{CoreOrder}
-use Rattle.merge_judge.specs.inner.Lanes.{NoFalls, log_at}
+use Rattle.merge_judge.specs.inner.Lanes.{NoFalls, front_list, log_at}
 use Rattle.log_file.specs.declared.fault.SetFault.{SetFault}
 use Rattle.merge_judge.specs.declared.lane.Lane.{Lane}
-use Rattle.merge_judge.specs.Begun.{BeginSet}
+use Rattle.merge_judge.specs.Begun.{BeginsLog}
 
 -- none of the first n logs has a fault
 abbrev pub NoneFaulty : List Lane → ℕ → Type 0
@@ -49,11 +50,19 @@ IsClean lanes merged texts (Ok (Yes count)) =
 IsClean lanes merged texts (Ok (No fault)) = SpellSet texts merged × IsFaultIn lanes merged fault
 IsClean lanes merged texts (Err fault) = Unit {0}
 
+-- Each text begins with the records of its log that were merged, and the front; or it spells these, where the log has ended
+-- without a fault.
+pub record AreBegun (texts : List (List ℕ)) (lanes : List Lane) (merged : List (List Record)) : Type 0 where
+  pub many : length merged ≡ length texts
+  pub lanes_many : length lanes ≡ length texts
+  pub each : (k : ℕ) (lane : Lane) → slice_get lanes k ≡ Some lane → BeginsLog k (length texts) (text_at texts k) (log_at merged k ++ front_list lane.front)
+  pub whole : (k : ℕ) (lane : Lane) → slice_get lanes k ≡ Some lane → lane.front ≡ None → lane.fault ≡ None → Spells k (length texts) (text_at texts k) (log_at merged k)
+
 -- the answer to the texts that the readers told
 pub record Settles {S : Type 0} (remaining : S → Option (List ℕ)) (failed : S → ℕ) (before after : List S) (lanes : List Lane) (merged : List (List Record)) (result : Result Verdict JudgeFault) : Type 0 where
   pub texts : List (List ℕ)
   pub tells : TellEach remaining before texts
   pub answers : IsAnswerTo texts result
-  pub begun : BeginSet texts merged
+  pub begun : AreBegun texts lanes merged
   pub clean : IsClean lanes merged texts result
   pub failed_at : IfErr result (λ fault. (file : ℕ) → fault ≡ Read file → ReaderFailed failed before after file)

@@ -13,7 +13,7 @@ use Rattle.merge_judge.specs.OrderText.{id_lines}
 use Rattle.merge_judge.proofs.Along.{first_along-push}
 use Rattle.merge_judge.proofs.Judged.{end_fails, look_fails, no_memory, settled_fault, settled_no, settled_yes, wrote}
 use Rattle.merge_judge.proofs.MergeSoFar.{all_where, few_done, joined, lines_where}
-use Rattle.merge_judge.proofs.Shown.{order_where, shown_more, shown_none}
+use Rattle.merge_judge.proofs.Shown.{order_where, shown_after, shown_more, shown_none}
 use Rattle.merge_judge.proofs.WritingFacts.{appends_none}
 use Rattle.merge_judge.proofs.judging.merged.Goals as goal
 
@@ -46,7 +46,7 @@ loop-entry-init g c = record {
   appends = appends_none (g.W.ByteSink.contents c.args.order_out.now);
   order = [];
   lines = c.in_ok-order.ensures;
-  shown = shown_none (length c.args.readers.now);
+  shown = shown_none (length c.args.readers.now) _;
   all = λ none clean. refl;
   quiet = refl;
 }
@@ -86,7 +86,7 @@ loop-entry-preserved g c =
       appends = appends_more (g.W.ByteSink.contents c.args.order_out.now) (g.W.ByteSink.contents c.loop-entry.order_out) (g.W.ByteSink.contents c.look.new.order_out) s.written w.0 s.appends w.1.1;
       order = order_where yes s.order e.id;
       lines = ap (λ xs. (s.written ++ w.0) ++ xs) (sym w.1.3) ∙ joined s.written c.loop-entry.order w.0 w.1.0 (line_where yes e.id) (id_lines s.order) s.lines w.1.2 ∙ sym (lines_where yes s.order e.id);
-      shown = shown_more g.S.ByteSource.remaining g.S.ByteSource.failed c.args.readers.now c.take_first.new.readers c.take_first.new.self.lanes.items c.take_first.new.self.fronts s.merged s.done s.order e c.look.new.fault c.take_first.new.self.clean s.shown merged first all;
+      shown = shown_more g.S.ByteSource.remaining g.S.ByteSource.failed c.args.readers.now c.take_first.new.readers c.take_first.new.self.lanes.items c.take_first.new.self.fronts s.merged s.done s.order e c.look.new.fault c.take_first.new.self.clean c.loop-entry.merge.lanes.items c.in-Some.ensures.taken s.shown merged first all;
       all = all;
       quiet = l.quiet (λ x. cc) ∙ s.quiet;
     }
@@ -101,7 +101,7 @@ returns-in_err-look-clause-exact g c =
     let merged = c.in-Some.ensures.merged c.args.readers.now s.merged s.done s.is_merged in
     let first = l.fault s.done s.holds ∙ ap (λ o. option_or o (fault_after s.done e)) s.first ∙ sym (first_along-push [] s.done e) in
     let all = all_where c.loop-entry.fault c.look.new.fault (fault_after s.done e) new.clean c.loop-entry.merge.clean s.order s.done e (l.fault s.done s.holds) c.in-Some.ensures.clean s.all in
-    let shown = shown_more g.S.ByteSource.remaining g.S.ByteSource.failed c.args.readers.now c.take_first.new.readers new.lanes.items new.fronts s.merged s.done s.order e c.look.new.fault new.clean s.shown merged first all in
+    let shown = shown_more g.S.ByteSource.remaining g.S.ByteSource.failed c.args.readers.now c.take_first.new.readers new.lanes.items new.fronts s.merged s.done s.order e c.look.new.fault new.clean c.loop-entry.merge.lanes.items c.in-Some.ensures.taken s.shown merged first all in
     rw (p.1, p.2) (look_fails g.S.ByteSource.remaining g.S.ByteSource.failed (g.W.ByteSink.contents c.args.order_out.now) (g.W.ByteSink.contents c.loop-entry.order_out) (g.W.ByteSink.contents c.look.new.order_out) c.args.readers.now c.take_first.new.readers
     new.lanes.items new.fronts new.clean (add s.merged e.id.core e.logged) (s.done ++ e ∷ []) s.written c.loop-entry.order c.look.new.order s.order (is_none c.look.new.fault && new.clean) e.id c.in_err-look.field-0.0 merged shown s.appends s.lines l.written)
 
@@ -112,7 +112,7 @@ returns-in_err-fault-clause-exact g c =
     let t = c.in_default.ensures.merged c.args.readers.now s.merged s.done s.is_merged in
     let st = c.settle.ensures.answer c.args.readers.now s.merged s.done t.1 (λ steady. s.first) s.counted in
     rw (p.1, p.2) (settled_fault g.S.ByteSource.remaining g.S.ByteSource.failed (g.W.ByteSink.contents c.args.order_out.now) (g.W.ByteSink.contents c.loop-entry.order_out) c.args.readers.now c.take_first.new.readers c.take_first.new.self.lanes.items s.merged s.done
-    s.written c.loop-entry.order s.order s.shown s.appends s.lines c.in_err-fault.field-0.0 c.in_err-fault.ensures.fault (subst (λ r. Settles g.S.ByteSource.remaining g.S.ByteSource.failed c.args.readers.now c.take_first.new.readers c.take_first.new.self.lanes.items s.merged r) c.in_err-fault.was st))
+    s.written c.loop-entry.order s.order (shown_after s.order s.merged s.done _ _ c.in_default.ensures.taken s.shown) s.appends s.lines c.in_err-fault.field-0.0 c.in_err-fault.ensures.fault (subst (λ r. Settles g.S.ByteSource.remaining g.S.ByteSource.failed c.args.readers.now c.take_first.new.readers c.take_first.new.self.lanes.items s.merged r) c.in_err-fault.was st))
 
 pub returns-in-No-clause-exact : goal.returns-in-No-clause-exact
 returns-in-No-clause-exact g c =
@@ -120,7 +120,7 @@ returns-in-No-clause-exact g c =
     let t = c.in_default.ensures.merged c.args.readers.now s.merged s.done s.is_merged in
     let st = c.settle.ensures.answer c.args.readers.now s.merged s.done t.1 (λ steady. s.first) s.counted in
     settled_no g.S.ByteSource.remaining g.S.ByteSource.failed (g.W.ByteSink.contents c.args.order_out.now) (g.W.ByteSink.contents c.loop-entry.order_out) c.args.readers.now c.take_first.new.readers c.take_first.new.self.lanes.items s.merged s.done
-    s.written c.loop-entry.order s.order s.shown s.appends s.lines c.in-No.fault t.1.by_key_so_far (subst (λ r. Settles g.S.ByteSource.remaining g.S.ByteSource.failed c.args.readers.now c.take_first.new.readers c.take_first.new.self.lanes.items s.merged r) (c.in_ok-fault.was ∙ ap (λ v. Ok v) c.in-No.is) st)
+    s.written c.loop-entry.order s.order (shown_after s.order s.merged s.done _ _ c.in_default.ensures.taken s.shown) s.appends s.lines c.in-No.fault t.1.by_key_so_far (subst (λ r. Settles g.S.ByteSource.remaining g.S.ByteSource.failed c.args.readers.now c.take_first.new.readers c.take_first.new.self.lanes.items s.merged r) (c.in_ok-fault.was ∙ ap (λ v. Ok v) c.in-No.is) st)
 
 pub returns-in_err-end-in-Yes-clause-exact : goal.returns-in_err-end-in-Yes-clause-exact
 returns-in_err-end-in-Yes-clause-exact g c =

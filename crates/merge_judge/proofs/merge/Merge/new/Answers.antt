@@ -1,11 +1,11 @@
 -- One log after another.
 use Rattle.std.proofs.Common.{◌≡◌, ◌+◌, ◌++◌, ◌∷◌, [], Some, ℕ, List, length, arith, ap, subst, sym, refl, ◌∙◌, ◌⊎◌, inl, inr}
-use Rattle.std.specs.Prelude.{get_or, slice_get, slice_set, false}
+use Rattle.std.specs.Prelude.{get_or, slice_get, slice_set, false, true, None}
 use Rattle.std.proofs.lemmas.Option.{slice_get_read}
 use Rattle.merge_judge.specs.declared.lane.Lane.{Lane}
 use Rattle.merge_judge.specs.inner.Lanes.{IsFaulty, IsLaneAt, IsMerged}
 use Rattle.merge_judge.specs.inner.Merging.{none_of}
-use Rattle.merge_judge.proofs.Opening.{Opened, all_opened, is_faulty, opened_more, opened_none}
+use Rattle.merge_judge.proofs.Opening.{Opened, all_opened, is_faulty, is_whole, opened_more, opened_none}
 use Rattle.merge_judge.proofs.merge.Merge.new.Goals as goal
 use Rattle.merge_judge.proofs.merge.Merge.new.Goals.{then-clean, else-clean}
 
@@ -28,7 +28,12 @@ loop-core-preserved g c =
     subst (λ n. IsLaneAt g.S.ByteSource.remaining g.S.ByteSource.failed n (length c.args.readers.now) source c.new.new.source lane []) c.at.ensures c.in_ok-log.ensures.at in
     let found : c.if-clean.clean ≡ false → (loop.clean ≡ false) ⊎ IsFaulty lane =
     (λ h. elim c.if-clean.branch [ then-clean w ↦ inr (is_faulty lane w.is_none-clean.result w.is_none-clean.ensures (sym w.clean-is ∙ h)) | else-clean w ↦ inl w.if-clean.false ]) in
-    let more = opened_more g.S.ByteSource.remaining g.S.ByteSource.failed c.args.readers.now readers core loop.lanes.items loop.numbers.items loop.clean inv.opened source c.new.new.source source_is lane c.front_number.result c.if-clean.clean at c.front_number.ensures found c.in_ok-log.ensures.steady in
+    let kept : c.if-clean.clean ≡ true → (loop.clean ≡ true) × (lane.fault ≡ None) =
+    (λ h. elim c.if-clean.branch [
+      | then-clean w ↦ (w.if-clean.true, is_whole lane w.is_none-clean.result w.is_none-clean.ensures (sym w.clean-is ∙ h))
+      | else-clean w ↦ absurd (let a : loop.clean ≡ true = sym w.clean-is ∙ h in let b : loop.clean ≡ false = w.if-clean.false in cc)
+    ]) in
+    let more = opened_more g.S.ByteSource.remaining g.S.ByteSource.failed c.args.readers.now readers core loop.lanes.items loop.numbers.items loop.clean inv.opened source c.new.new.source source_is lane c.front_number.result c.if-clean.clean at c.front_number.ensures found c.in_ok-log.ensures.steady kept in
     let h = c.in_ok-push-2.ensures.items in
     let h2 = c.in_ok-push.ensures.items in
     record {

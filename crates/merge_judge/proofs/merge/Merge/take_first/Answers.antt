@@ -3,14 +3,18 @@ use Rattle.std.proofs.Common.{◌≡◌, ◌++◌, ◌∷◌, [], ℕ, List, Som
 use Rattle.std.specs.Prelude.{get_or, slice_get, slice_set, false, true, None}
 use Rattle.std.proofs.lemmas.Option.{slice_get_read}
 use Rattle.log_record.specs.declared.record.Entry.{Entry}
-use Rattle.merge_judge.specs.inner.Lanes.{AllEnded, IsFaulty, IsMerged, add, entry_at, log_at}
-use Rattle.merge_judge.proofs.Merged.{all_ended, count_is, faultless, merged_more, room, set_same}
+use Rattle.merge_judge.specs.inner.Lanes.{AllEnded, IsFaulty, IsMerged, IsTaken, add, entry_at, log_at}
+use Rattle.merge_judge.proofs.Merged.{all_ended, count_is, faultless, merged_more, room, set_same, taken_there}
 use Rattle.merge_judge.proofs.merge.Merge.take_first.Goals as goal
 use Rattle.merge_judge.proofs.merge.Merge.take_first.Goals.{then-self, else-self}
 
 pub returns-in_default : goal.returns-in_default
 returns-in_default g c = record {
   clean = λ h. h;
+  taken = (let m = c.requires.1.1.1 in
+      let lanes = c.args.self.now.lanes.items in
+      let core = c.first-core.result in
+      set_same lanes core c.index_mut-lane.result.now (slice_get_read lanes (length lanes) core c.index_mut-lane.result.now refl (omega (arith, m.many, m.fronts, c.first-core.ensures.within)) c.index_mut-lane.ensures.value));
   merged = λ before merged done m. (
       let lanes = c.args.self.now.lanes.items in
       let core = c.first-core.result in
@@ -44,6 +48,17 @@ advance-clean-requires-clause-faultless g c =
 pub returns : goal.returns
 returns g c = record {
   clean = λ h. elim c.if-self.branch [ then-self w ↦ w.if-self.true | else-self w ↦ sym w.self-is ∙ h ];
+  taken = (let t = c.requires in
+      let m = t.1.1.1 in
+      let lanes = c.args.self.now.lanes.items in
+      let core = c.first-core.result in
+      let lane = c.index_mut-lane.result.now in
+      let r = c.in-Some.logged in
+      let within = c.first-core.ensures.within in
+      let lane_is : slice_get lanes core ≡ Some lane = slice_get_read lanes (length lanes) core lane refl (omega (arith, m.many, m.fronts, within)) c.index_mut-lane.ensures.value in
+      let index_is = c.at-index.ensures ∙ count_is g.S.ByteSource.remaining g.S.ByteSource.failed t.0 c.args.readers.now lanes c.args.self.now.fronts c.args.self.now.clean t.1.0 t.1.1.0 m core within c.first-core.ensures.least lane lane_is r c.in-Some.is in
+      let entry_is : c.new-entry.result ≡ entry_at core (length (log_at t.1.0 core)) r = c.new-entry.ensures ∙ (λ i. record { id = record { core = c.at-place.ensures i; index = index_is i }; logged = r }) in
+      subst (λ (x : Entry). IsTaken x.id.core x.logged lanes (slice_set lanes core c.advance-clean.new.self)) (sym entry_is) (taken_there lanes core lane c.advance-clean.new.self r lane_is c.in-Some.is));
   merged = λ before merged done m. (
       let lanes = c.args.self.now.lanes.items in
       let core = c.first-core.result in
@@ -61,9 +76,9 @@ returns g c = record {
       let entry_is : c.new-entry.result ≡ entry_at core (length (log_at merged core)) r = c.new-entry.ensures ∙ (λ i. record { id = record { core = c.at-place.ensures i; index = index_is i }; logged = r }) in
       let found : c.if-self.self ≡ false → (c.args.self.now.clean ≡ false) ⊎ IsFaulty lane_new =
       (λ h. elim c.if-self.branch [ then-self w ↦ inr (c.advance-clean.ensures.found (sym w.self-is ∙ h)) | else-self w ↦ inl w.if-self.false ]) in
-      let kept : c.if-self.self ≡ true → (c.args.self.now.clean ≡ true) × (lane.falls ≡ None → lane_new.falls ≡ None) =
+      let kept : c.if-self.self ≡ true → (c.args.self.now.clean ≡ true) × (lane.falls ≡ None → lane_new.falls ≡ None) × (lane.fault ≡ None → lane_new.fault ≡ None) =
       (λ h. elim c.if-self.branch [
-        | then-self w ↦ (w.if-self.true, c.advance-clean.ensures.steady (sym w.self-is ∙ h))
+        | then-self w ↦ (w.if-self.true, c.advance-clean.ensures.steady (sym w.self-is ∙ h), c.advance-clean.ensures.whole (sym w.self-is ∙ h))
         | else-self w ↦ absurd (let a : c.args.self.now.clean ≡ true = sym w.self-is ∙ h in let b : c.args.self.now.clean ≡ false = w.if-self.false in cc)
       ]) in
       subst (λ (x : Entry). IsMerged g.S.ByteSource.remaining g.S.ByteSource.failed before (slice_set readers core c.advance-clean.new.source) (slice_set lanes core lane_new) c.set.new.self c.if-self.self (add merged x.id.core x.logged) (done ++ x ∷ [])) (sym entry_is)
