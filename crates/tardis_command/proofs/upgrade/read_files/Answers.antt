@@ -12,8 +12,8 @@ returns-in_err-sources-clause-err g c =
     let is : c.from_residual.result ≡ Err c.in_err-sources.field-0.0 = search rules in
     rw is (unopened (g.F.Folder.told c.args.folder.now) c.args.names.now c.in_err-sources.field-0.0 c.in_err-sources.ensures.err)
 
-pub read-set-requires : goal.read-set-requires
-read-set-requires g c =
+pub read-requires : goal.read-requires
+read-requires g c =
     let are : AreSourcesOf (g.F.Folder.told c.args.folder.now) g.F.Source.ByteSource.remaining c.as_mut_slice.result.now c.args.names.now = search rules in
     let long = AllZip-long _ _ c.args.names.now are in
     let few : length c.as_mut_slice.result.now ≤ 64 = omega (arith, long, c.requires) in
