@@ -33,27 +33,19 @@ not_global argument simple =
 pub made_of : {E : Type 0} (r : Result Command E) (a b : App) → a ≡ b → IfOk r (λ made. app_of made ≡ a) → IfOk r (λ made. app_of made ≡ b)
 made_of r a b same = IfOk-weaker r (λ made. app_of made ≡ a) (λ made. app_of made ≡ b) (λ made is. is ∙ same)
 
--- a subcommand that could be made, of a command that is known
-pub adds_known : {E : Type 0} (r s : Result Command E) (on : App) (known : App) → IfOk s (λ more. app_of more ≡ known)
-    → IfOk r (λ made. IsOkAnd s (λ more. app_of made ≡ with_subcommand on (app_of more).top))
+-- a subcommand of a command line, where both are known
+pub adds_known : {E : Type 0} (r c s : Result Command E) (on known : App) → IfOk c (λ before. app_of before ≡ on) → IfOk s (λ more. app_of more ≡ known)
+    → IfOk r (λ made. IsOkAnd c (λ before. IsOkAnd s (λ more. app_of made ≡ with_subcommand (app_of before) (app_of more).top)))
     → IfOk r (λ made. app_of made ≡ with_subcommand on known.top)
-adds_known r (Ok s) on known is added = IfOk-weaker r _ _ (λ made adds. adds ∙ ap (λ (more : App). with_subcommand on more.top) is) added
-adds_known r (Err e) on known is added = IfOk-weaker r _ _ (λ made none. absurd none) added
+adds_known r (Ok c) (Ok s) on known was is added = IfOk-weaker r _ _
+    (λ made adds. adds ∙ ap (λ (before : App). with_subcommand before (app_of s).top) was ∙ ap (λ (more : App). with_subcommand on more.top) is) added
+adds_known r (Ok c) (Err e) on known was is added = IfOk-weaker r _ _ (λ made none. absurd none) added
+adds_known r (Err e) s on known was is added = IfOk-weaker r _ _ (λ made none. absurd none) added
 
--- the same, where the command line that it made is told
-pub added_known : {E : Type 0} (s : Result Command E) (made on known : App) → IfOk s (λ more. app_of more ≡ known)
-    → IsOkAnd s (λ more. made ≡ with_subcommand on (app_of more).top) → made ≡ with_subcommand on known.top
-added_known (Ok s) made on known is adds = adds ∙ ap (λ (more : App). with_subcommand on more.top) is
-added_known (Err e) made on known is adds = absurd adds
-
--- a subcommand that is known to be plain
-pub plain_known : {E : Type 0} (s : Result Command E) (known : App) → known.top.is_plain ≡ true → IfOk s (λ more. app_of more ≡ known)
-    → IfOk s (λ more. (app_of more).top.is_plain ≡ true)
-plain_known s known plain = IfOk-weaker s _ _ (λ more is. ap (λ (app : App). app.top.is_plain) is ∙ plain)
-
--- a subcommand that is there
-pub adds_made : {E : Type 0} (r s : Result Command E) (x : Command) (on : App) → s ≡ Ok x
-    → IfOk r (λ made. app_of made ≡ with_subcommand on (app_of x).top)
-    → IfOk r (λ made. IsOkAnd s (λ more. app_of made ≡ with_subcommand on (app_of more).top))
-adds_made {E} r s x on was =
-    IfOk-weaker r _ _ (λ made is. subst (λ (t : Result Command E). IsOkAnd t (λ more. app_of made ≡ with_subcommand on (app_of more).top)) (sym was) is)
+-- a subcommand of a command line, where both are there
+pub adds_made : {E : Type 0} (r c s : Result Command E) (x y : Command) → c ≡ Ok x → s ≡ Ok y
+    → IfOk r (λ made. app_of made ≡ with_subcommand (app_of x) (app_of y).top)
+    → IfOk r (λ made. IsOkAnd c (λ before. IsOkAnd s (λ more. app_of made ≡ with_subcommand (app_of before) (app_of more).top)))
+adds_made {E} r c s x y was is =
+    IfOk-weaker r _ _ (λ made adds. subst (λ (t : Result Command E). IsOkAnd t (λ before. IsOkAnd s (λ more. app_of made ≡ with_subcommand (app_of before) (app_of more).top)))
+    (sym was) (subst (λ (t : Result Command E). IsOkAnd t (λ more. app_of made ≡ with_subcommand (app_of x) (app_of more).top)) (sym is) adds))

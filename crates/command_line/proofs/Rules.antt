@@ -1,5 +1,5 @@
 -- What each setting of an argument changes of its rule, and the rules of the arguments that are made so.
-use Rattle.std.proofs.Common.{◌≡◌, ◌∙◌, ap, ℕ, true, codes, Option, Some, Bor}
+use Rattle.std.proofs.Common.{◌≡◌, ◌∙◌, ap, refl, ℕ, true, codes, Option, Some, Bor}
 use Rattle.clap.specs.Lexer.{usize_max}
 use Rattle.clap.specs.Words.{Rule, Text, new_rule, rule_of}
 use Rattle.clap.specs.declared.builder.action.ArgAction.{ArgAction}
@@ -9,6 +9,9 @@ use Rattle.clap.specs.declared.builder.range.ValueRange.{ValueRange}
 use Rattle.clap.specs.declared.builder.value_parser.ValueParser.{ValueParser}
 use Rattle.clap.specs.declared.builder.value_parser.ValueParser.TheVariants.{Unsigned}
 use Rattle.command_line.specs.Grammar as grammar
+use Rattle.command_line.specs.declared.argument.Takes.{Takes}
+use Rattle.command_line.specs.declared.argument.Takes.TheVariants as takes
+use Rattle.command_line.specs.inner.Arguments.{rule}
 
 pub long_set : (a b : Arg) (name : Bor Text) (rule : Rule) → b ≡ record a { long = Some name } → rule_of a ≡ rule
     → rule_of b ≡ record rule { long = Some name.now }
@@ -69,3 +72,11 @@ pub files_rule : (a b c d e : Arg) (text : Option (Bor Text)) → rule_of a ≡ 
     → d ≡ record c { action = Some Append } → e ≡ record d { help = text } → rule_of e ≡ grammar.files
 files_rule a b c d e text fresh required ranged many acts helped =
     help_set d e text _ helped (action_set c d Append _ acts (range_set b c _ _ ranged many (required_set a b _ required fresh)))
+
+-- each argument is a simple one
+pub simple_rule : (t : Takes) (name : Text) → (rule t name).is_simple ≡ true
+simple_rule takes.Number name = refl
+simple_rule takes.File name = refl
+simple_rule takes.Nothing name = refl
+simple_rule takes.Name name = refl
+simple_rule takes.Files name = refl

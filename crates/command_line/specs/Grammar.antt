@@ -96,9 +96,13 @@ litmus = with_rule (with_litmus_options (with_limits (new_app (codes "litmus")))
 abbrev pub with_judges : App → App
 with_judges app = with_subcommand (with_subcommand (with_subcommand app check.top) order.top) explain.top
 
--- the program with the subcommands that judge, and never called without one
+-- the program, never called without a subcommand
+abbrev pub bare : App
+bare = on_top (λ top. record top { subcommand_required = true }) (new_app (codes "tardis"))
+
+-- the program with the subcommands that judge
 abbrev pub judging : App
-judging = with_judges (on_top (λ top. record top { subcommand_required = true }) (new_app (codes "tardis")))
+judging = with_judges bare
 
 -- sim, run and litmus
 abbrev pub with_machine : App → App

@@ -1,6 +1,7 @@
 //! The command line of the program: what its words ask for.
 #![tactic(auto)]
 
+mod argument;
 mod grammar;
 mod refusal;
 mod request;

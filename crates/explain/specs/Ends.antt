@@ -1,5 +1,5 @@
 -- The least and the greatest stamp of records.
-use Rattle.std.specs.Prelude.{◌≡◌, ◌≤◌, ℕ, All, Any, List, [], Option, None, Some}
+use Rattle.std.specs.Prelude.{◌≡◌, ◌≤◌, All, Any, List, [], Option, None, Some}
 use Rattle.line_stamps.specs.declared.stamp.Stamp.{Stamp}
 use Rattle.log_record.specs.declared.record.Entry.{Entry}
 

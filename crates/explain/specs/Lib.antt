@@ -1,5 +1,4 @@
 pub mod Ends
-pub mod Escapes
 pub mod Explanations
 pub mod Kinds
 pub mod LogFaults

@@ -1,17 +1,9 @@
--- Pictures.
-use Rattle.std.specs.Prelude.{◌≡◌, ◌≤◌, ⊤, ℕ, List, ◌++◌, codes, IsSome}
+-- What is drawn.
+use Rattle.std.specs.Prelude.{◌≤◌, ⊤, ℕ, IsSome}
 use Rattle.verdict.specs.declared.answer.Verdict.{Verdict}
 use Rattle.verdict.specs.declared.answer.Verdict.TheVariants.{Yes, No}
 use Rattle.explain.specs.declared.explanation.Explanation.{Explanation}
 use Rattle.explain.specs.declared.explanation.Explanation.TheVariants.{Load, CoreOrder, Program, Summed}
-
--- what each picture begins with
-abbrev pub head : List ℕ
-head = codes "<svg "
-
--- a text that begins as each picture does
-abbrev pub IsPicture : List ℕ → Type 0
-IsPicture text = (more : List ℕ) × (text ≡ head ++ more)
 
 -- the most operations of a set that are drawn all at once
 abbrev pub most_drawn : ℕ

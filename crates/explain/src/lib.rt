@@ -1,4 +1,4 @@
-//! Why a set of logs got its verdict, in words and as a picture.
+//! Why a set of logs got its verdict.
 #![tactic(auto)]
 
 mod acts;
@@ -7,18 +7,13 @@ mod departure;
 mod explaining;
 mod explanation;
 mod fall;
-mod picture;
-mod placing;
-mod printing;
-mod scene;
-mod sentence;
 mod shown;
 mod summary;
-mod svg;
-mod table;
 mod wrong_read;
 
+pub use acts::{is_swap, kind_name, named_id};
 pub use explaining::explain;
 pub use explanation::{Departure, Due, Explanation, Fall, Summary, Use, WrongRead};
-pub use picture::draw;
-pub use printing::print;
+pub use shown::ShownId;
+pub use summary::by_key;
+pub use wrong_read::place_of;

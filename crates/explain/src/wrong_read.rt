@@ -22,7 +22,7 @@ fn has_id(entry: &Entry, id: OpId) -> bool
 }
 
 /// The place of the first record of an id.
-pub(crate) fn place_of(entries: &[Entry], id: OpId) -> Option<usize>
+pub fn place_of(entries: &[Entry], id: OpId) -> Option<usize>
     ensures found { IfSome result (λ place. (place < length entries.now)
         × (slice_get entries.now place ≡ of_id entries.now id)) }
     ensures none { IsNone result → of_id entries.now id ≡ None }

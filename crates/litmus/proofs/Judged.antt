@@ -19,11 +19,11 @@ use Rattle.verdict.specs.declared.judge_fault.Count.{Count}
 use Rattle.verdict.specs.declared.judge_fault.JudgeFault.{JudgeFault}
 use Rattle.verdict.specs.declared.judge_fault.JudgeFault.TheVariants as fault
 use Rattle.verdict.proofs.OneAnswer.{one_answer}
-use Rattle.litmus.specs.Parts.{LitmusParts}
+use Rattle.litmus_test.specs.Parts.{LitmusParts}
 use Rattle.litmus.specs.Runs.{GetsYes, IsCauseOf, IsEndOf, IsJudgeCause, logs_of, not_yes, outcome_of}
 use Rattle.litmus.specs.declared.run_fault.RunCause.{RunCause}
 use Rattle.litmus.specs.declared.judging.TextSource.{TextSource}
-use Rattle.litmus.specs.inner.Ending.{word_lists}
+use Rattle.litmus_test.specs.inner.Ending.{word_lists}
 use Rattle.litmus.specs.inner.Judged.{IsNo, IsVerdictOn}
 
 -- ---- texts of logs

@@ -1,13 +1,4 @@
 pub mod CollectedRuns
-pub mod EndingsRead
-pub mod Forbids
-pub mod ForbidsRead
-pub mod Headers
 pub mod Judged
-pub mod LastLines
-pub mod LineFaults
-pub mod Plain
-pub mod Tallied
-pub mod WordLines
-pub mod WordsRead
 pub mod NeverNo
+pub mod Tallied

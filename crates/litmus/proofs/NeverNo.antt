@@ -10,7 +10,7 @@ use Rattle.machine_laws.specs.Laws.{GetYesBy}
 use Rattle.machine_laws.proofs.Below.{ended_below_get_yes, whole_below_get_yes}
 use Rattle.simulation.specs.Events.{simulated_events}
 use Rattle.simulation.proofs.Ended.{simulated_ended}
-use Rattle.litmus.specs.Parts.{LitmusParts}
+use Rattle.litmus_test.specs.Parts.{LitmusParts}
 use Rattle.litmus.specs.Runs.{ThreadEnd, IsCauseOf, IsRunCause, IsSeededRun, IsThreadCause, IsThreadRun, IsUnsimulated, IsUnthreaded, SaysNo, left, logs_of, no_memory, not_ended, not_yes}
 use Rattle.litmus.specs.declared.run_fault.RunCause.{RunCause}
 use Rattle.litmus.specs.declared.run_fault.RunCause.TheVariants as cause

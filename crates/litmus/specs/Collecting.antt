@@ -1,31 +1,25 @@
 -- Tables of a test's runs.
-use Rattle.std.specs.Prelude.{◌≡◌, ◌⊎◌, ℕ, ◌+◌, ◌<◌, ◌≤◌, Bool, true, false, List, [], ◌∷◌, length, map, slice_get, nat_eq, Some}
-use Rattle.std.specs.Cmp.Lexicographic.{pointwise, slice_cmp}
-use Rattle.std.specs.List.{AllByRecursion, filter, list_any}
+use Rattle.std.specs.Prelude.{◌≡◌, ◌⊎◌, ℕ, ◌+◌, ◌<◌, ◌≤◌, List, [], ◌∷◌, length, map, slice_get, Some}
+use Rattle.std.specs.Cmp.Lexicographic.{slice_cmp}
+use Rattle.std.specs.List.{AllByRecursion, filter}
 use Rattle.std.specs.Ordering.{nat_cmp}
 use Rattle.std.specs.declared.cmp.Ordering.TheVariants.{Less}
 use Rattle.lease_rule.specs.ConfigParts.{ConfigParts}
 use Rattle.core_machine.specs.Machine.{World}
 use Rattle.core_machine.specs.Parts.{CoreParts, world}
-use Rattle.litmus.specs.Parts.{LitmusParts}
+use Rattle.litmus_test.specs.Outcomes.{is_forbidden, is_outcome}
+use Rattle.litmus_test.specs.Parts.{LitmusParts}
 use Rattle.litmus.specs.Runs.{ThreadEnd, GetsYes, IsRunCause, IsSeededRun, IsThreadCause, IsThreadRun, SaysNo, left, outcome_of, seed_of}
-use Rattle.litmus.specs.TableParts.{RowParts, TableParts}
+use Rattle.litmus_test.specs.TableParts.{RowParts, TableParts}
 use Rattle.litmus.specs.declared.run_fault.RunCause.{RunCause}
 use Rattle.litmus.specs.declared.run_fault.CollectFault.{CollectFault}
 use Rattle.litmus.specs.declared.run_fault.CollectFault.TheVariants.{BadRuns, Run, OutOfMemory}
 
 -- ---- outcomes and rows
 
-abbrev pub is_outcome : List ℕ → List ℕ → Bool
-is_outcome values other = pointwise nat_eq values other
-
 -- how many of these are this outcome
 abbrev pub count_of : List ℕ → List (List ℕ) → ℕ
 count_of values outcomes = length (filter (is_outcome values) outcomes)
-
--- a test forbids an outcome that it names
-abbrev pub is_forbidden : LitmusParts → List ℕ → Bool
-is_forbidden t values = list_any (is_outcome values) t.forbidden
 
 -- the row tells how many of these outcomes are its own, at least one, and whether the test forbids it
 pub record IsRowOf (t : LitmusParts) (outcomes : List (List ℕ)) (row : RowParts) : Type 0 where

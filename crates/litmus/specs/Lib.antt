@@ -1,10 +1,4 @@
-pub mod Answers
 pub mod Collecting
-pub mod FaultTexts
-pub mod Grammar
-pub mod Parts
 pub mod RunFaults
 pub mod Runs
-pub mod TableParts
-pub mod TableText
 pub mod inner

@@ -21,7 +21,7 @@ use Rattle.simulation.specs.Simulating.{IsSimulationFault}
 use Rattle.simulation.specs.declared.fault.SimulationFault.{SimulationFault}
 use Rattle.verdict.specs.VerdictOf.{run_verdict_of}
 use Rattle.verdict.specs.declared.answer.Verdict.TheVariants.{Yes, No}
-use Rattle.litmus.specs.Parts.{LitmusParts, ShownParts}
+use Rattle.litmus_test.specs.Parts.{LitmusParts, ShownParts}
 use Rattle.litmus.specs.declared.run_fault.RunCause.{RunCause}
 use Rattle.litmus.specs.declared.run_fault.RunCause.TheVariants as cause
 

@@ -6,9 +6,8 @@ ghost use Rattle.litmus.specs.declared.run_fault.CollectFault.TheVariants.{BadRu
 ghost use Rattle.litmus.specs.inner.Tallies.{IsTally};
 
 use super::run_fault::CollectFault;
-use super::table::Table;
 use super::tally::rows_of;
-use super::test::Litmus;
+use litmus_test::{Litmus, Table};
 use std::alloc::{AllocError, Global};
 use std::collections::BTreeMap;
 

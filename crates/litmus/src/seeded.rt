@@ -9,10 +9,9 @@ ghost use Rattle.litmus.specs.declared.run_fault.RunCause.TheVariants as cause;
 use super::collecting::{check_runs, table_of};
 use super::judging::judged_outcome;
 use super::run_fault::{CollectFault, RunCause};
-use super::table::Table;
 use super::tally::count_outcome;
-use super::test::Litmus;
 use lease_rule::Config;
+use litmus_test::{Litmus, Table};
 use simulation::simulate;
 use std::alloc::Global;
 use std::collections::BTreeMap;
@@ -45,7 +44,8 @@ fn run_seeded<R: Threads + Sync>(
         (λ cause. IsRunCause test.now config.now seed cause) }
     ensures yes { IfErr result (λ cause. ¬ (SaysNo cause)) }
 {
-    test.has_few();
+    // The set tells with its length that it has 64 programs at most.
+    test.programs().len();
     let machine = simulate_run(alloc, test, config, seed)?;
     judged_outcome(rt, alloc, test, &machine)
 }

@@ -4,8 +4,7 @@ ghost use Rattle.std.specs.Prelude.{◌≡◌, ◌++◌, ◌∷◌, [], ◌<◌,
 ghost use Rattle.litmus.specs.Collecting.{AreRowsOf};
 ghost use Rattle.litmus.specs.inner.Tallies.{IsTally, counted, count_in};
 
-use super::table::Row;
-use super::test::Litmus;
+use litmus_test::{Litmus, Row};
 use std::alloc::{AllocError, Global};
 use std::collections::BTreeMap;
 

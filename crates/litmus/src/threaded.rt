@@ -8,10 +8,9 @@ ghost use Rattle.litmus.specs.declared.run_fault.CollectFault.TheVariants.{BadRu
 use super::collecting::{check_runs, table_of};
 use super::judging::judged_outcome;
 use super::run_fault::{CollectFault, RunCause};
-use super::table::Table;
 use super::tally::count_outcome;
-use super::test::Litmus;
 use lease_rule::Config;
+use litmus_test::{Litmus, Table};
 use machine::{Go, Pace, RunFault, run_threads};
 use mem_op::CoreId;
 use std::alloc::Global;

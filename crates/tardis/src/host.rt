@@ -1,13 +1,13 @@
 //! The host's files, and its standard input under the name `/dev/stdin`.
 
 ghost use Rattle.std.specs.Prelude.{◌≡◌};
-ghost use Rattle.tardis.specs.Host.{failed_reads};
+ghost use Rattle.tardis.specs.Host.{failed_reads, host_files};
 
+use call_devices::Folder;
 use log_file::{ByteSource, FromRead, ReadFailed, WriteFailed};
 use std::fs;
 use std::fs::File;
 use std::io::Stdin;
-use tardis_command::Folder;
 
 /// A file, or the standard input.
 #[derive(Drop)]
@@ -41,6 +41,7 @@ impl ByteSource for HostSource {
 pub(crate) struct HostFolder<'a> {
     rt: &'a HostRuntime,
     failures: u64,
+    unopened: u64,
 }
 
 impl<'a> HostFolder<'a> {
@@ -48,24 +49,32 @@ impl<'a> HostFolder<'a> {
     pub(crate) fn new(rt: &'a HostRuntime) -> HostFolder<'a>
         ensures host { result.rt ≡ rt.entry }
         ensures failed { result.failures ≡ 0 }
+        ensures unopened { result.unopened ≡ 0 }
     {
-        HostFolder { rt, failures: 0 }
+        HostFolder {
+            rt,
+            failures: 0,
+            unopened: 0,
+        }
     }
 }
 
 impl<'a> Folder for HostFolder<'a> {
-    ghost failed = { λ folder. folder.failures };
+    ghost files = { λ folder. host_files folder.failures folder.unopened };
 
     type Source = HostSource;
 
-    fn open_file(&self, name: &str) -> Result<HostSource, ReadFailed> {
+    fn open_file(&mut self, name: &str) -> Result<HostSource, ReadFailed> {
         // Whoever may read the standard input may still be refused to open it by its name.
         if name == "/dev/stdin" {
             return Ok(HostSource::Input(FromRead::new(self.rt.stdin())));
         }
         match fs::open(self.rt, name) {
             Ok(file) => Ok(HostSource::File(FromRead::new(file))),
-            Err(_) => Err(ReadFailed),
+            Err(_) => {
+                self.unopened = self.unopened.saturating_add(1);
+                Err(ReadFailed)
+            }
         }
     }
 

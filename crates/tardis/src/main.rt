@@ -5,11 +5,15 @@ mod host;
 mod progress;
 mod words;
 
+use call_devices::Folder;
 use host::HostFolder;
-use log_file::{FromWrite, write_all};
+use log_file::{ByteSink, FromWrite, write_all};
 use progress::Progress;
+use std::alloc::Global;
 use std::process::ExitCode;
-use tardis_command::command;
+use std::sync::Wait;
+use std::thread::Threads;
+use tardis_command::{Watch, command};
 use words::{WordsFault, texts, words};
 
 /// Tells the user why the words can't be read, and answers the exit status.
@@ -18,6 +22,20 @@ fn refuse(rt: &HostRuntime, fault: WordsFault) -> u8 {
         let _ = write_all(&mut FromWrite::new(rt.stderr()), line.as_bytes());
     }
     fault.status()
+}
+
+/// Does what `command` does. It says nothing of that: the host's files and outputs tell no bytes, and with its clauses over them
+/// `main` would take many times as long to prove.
+fn serve<R: Threads + Wait + Sync, W: Watch + Sync, F: Folder, O: ByteSink, E: ByteSink>(
+    rt: &R,
+    alloc: Global,
+    words: &[&str],
+    watch: &W,
+    folder: &mut F,
+    out: &mut O,
+    err: &mut E,
+) -> u8 {
+    command(rt, alloc, words, watch, folder, out, err)
 }
 
 fn main(rt: HostRuntime) -> ExitCode {
@@ -29,7 +47,7 @@ fn main(rt: HostRuntime) -> ExitCode {
         Ok(words) => words,
         Err(fault) => return ExitCode::from(refuse(&rt, fault)),
     };
-    let status = command(
+    let status = serve(
         &rt,
         rt.alloc(),
         words.as_slice(),

@@ -16,12 +16,17 @@ use Rattle.tardis_command.specs.declared.answer.Answer.{Answer}
 use Rattle.tardis_command.specs.declared.answer.Answer.TheVariants as answer
 use Rattle.tardis_command.specs.inner.Printing.{IsUnprinted}
 use Rattle.tardis_command.specs.Endings.{Answered, Ending, EndsBy, HasFailed, IsAnswered, IsAnswerTo, IsDoneBy, IsPrintedBy, Misused, OutputAt, Refused, Sink, Takes, Unprinted, Unread, line, status_of}
-use Rattle.tardis_command.specs.Explaining.{IsExplained}
-use Rattle.tardis_command.specs.Files.{Files}
-use Rattle.tardis_command.specs.Tabling.{IsCounted}
+use Rattle.judge_commands.specs.Explaining.{IsExplained}
+use Rattle.call_devices.specs.Files.{Files, IsOnlyRead, KeepsFiles}
+use Rattle.call_devices.proofs.Files.{keeps_told}
+use Rattle.run_commands.specs.Tabling.{IsCounted}
 use Rattle.tardis_command.specs.Faults.{command_fault_text, fault_status}
 use Rattle.tardis_command.specs.declared.fault.CommandFault.{CommandFault}
-use Rattle.tardis_command.specs.declared.fault.CommandFault.TheVariants.{Judge, Config, Programs, ProgramsUnread, Schedule, ScheduleUnread, Simulation, Run, Test, TestUnread, Collect, LogUnwritten, PictureUnwritten, Output, OutOfMemory}
+use Rattle.tardis_command.specs.declared.fault.CommandFault.TheVariants.{Judging, Running, Output, OutOfMemory}
+use Rattle.judge_commands.specs.declared.fault.JudgingFault.{JudgingFault}
+use Rattle.judge_commands.specs.declared.fault.JudgingFault.TheVariants as judging
+use Rattle.run_commands.specs.declared.fault.RunningFault.{RunningFault}
+use Rattle.run_commands.specs.declared.fault.RunningFault.TheVariants as running
 
 pub kept : (contents : Option (List ℕ)) → Keeps contents contents
 kept None = tt
@@ -37,97 +42,92 @@ unless_failed old new fault Unread answered output = absurd answered
 unless_failed old new fault (Misused text) answered output = absurd answered
 
 -- standard output holds what it held, or failed, where there is no table
-uncounted : (told : List ℕ → Option (List ℕ)) (asked : Litmus) (old new : Sink) (fault : CommandFault) → IsCounted told asked old new (Err fault)
+uncounted : (told : List ℕ → Option (List ℕ)) (unread : List ℕ → Type 0) (asked : Litmus) (old new : Sink) (fault : RunningFault) → IsCounted told unread asked old new (Err fault)
     → Keeps old.contents new.contents ⊎ HasFailed old new
-uncounted told asked old new Output done = let (order, t, test, made) = done in let (table, is, written) = made in inr written.0
-uncounted told asked old new OutOfMemory done = done
-uncounted told asked old new (Judge fault) done = inl done.1
-uncounted told asked old new (Config fault) done = inl done.1
-uncounted told asked old new (Programs fault) done = inl done.1
-uncounted told asked old new ProgramsUnread done = inl done.1
-uncounted told asked old new (Schedule fault) done = inl done.1
-uncounted told asked old new ScheduleUnread done = inl done.1
-uncounted told asked old new (Simulation fault) done = inl done.1
-uncounted told asked old new (Run fault) done = inl done.1
-uncounted told asked old new (Test fault) done = inl done.1
-uncounted told asked old new TestUnread done = inl done.1
-uncounted told asked old new (Collect fault) done = inl done.1
-uncounted told asked old new (LogUnwritten file) done = inl done.1
-uncounted told asked old new PictureUnwritten done = inl done.1
+uncounted told unread asked old new running.Output done = let (order, t, test, made) = done in let (table, is, written) = made in inr written.0
+uncounted told unread asked old new running.OutOfMemory done = done
+uncounted told unread asked old new (running.Config fault) done = inl done.1
+uncounted told unread asked old new (running.Programs fault) done = absurd done
+uncounted told unread asked old new (running.Schedule fault) done = absurd done
+uncounted told unread asked old new running.ScheduleUnread done = absurd done
+uncounted told unread asked old new (running.Simulation fault) done = absurd done
+uncounted told unread asked old new (running.Run fault) done = absurd done
+uncounted told unread asked old new (running.Test fault) done = inl done.1
+uncounted told unread asked old new running.TestUnread done = inl done.1
+uncounted told unread asked old new (running.Collect fault) done = inl done.1
+uncounted told unread asked old new (running.Logs fault) done = absurd done
 
 -- standard output holds what it held, or failed, where nothing was explained
-unexplained : (before after : Files) (asked : Explain) (old new : Sink) (fault : CommandFault) → IsExplained before after asked old new (Err fault)
+unexplained : (before after : Files) (unread : List ℕ → Type 0) (asked : Explain) (old new : Sink) (fault : JudgingFault) → IsExplained before after unread asked old new (Err fault)
     → Keeps old.contents new.contents ⊎ HasFailed old new
-unexplained before after asked old new Output done = let (verdict, checked, holds) = done in inr holds.1
-unexplained before after asked old new OutOfMemory done = done
-unexplained before after asked old new PictureUnwritten done = inl done.1
-unexplained before after asked old new (Judge fault) done = inl done.1
-unexplained before after asked old new (Programs fault) done = inl done.1
-unexplained before after asked old new ProgramsUnread done = inl done.1
-unexplained before after asked old new (Config fault) done = absurd done
-unexplained before after asked old new (Schedule fault) done = absurd done
-unexplained before after asked old new ScheduleUnread done = absurd done
-unexplained before after asked old new (Simulation fault) done = absurd done
-unexplained before after asked old new (Run fault) done = absurd done
-unexplained before after asked old new (Test fault) done = absurd done
-unexplained before after asked old new TestUnread done = absurd done
-unexplained before after asked old new (Collect fault) done = absurd done
-unexplained before after asked old new (LogUnwritten file) done = absurd done
+unexplained before after unread asked old new judging.Output done = let (verdict, checked, holds) = done in inr holds.1
+unexplained before after unread asked old new judging.OutOfMemory done = done
+unexplained before after unread asked old new judging.PictureUnwritten done = inl done.1
+unexplained before after unread asked old new (judging.Judge fault) done = inl done.1
+unexplained before after unread asked old new (judging.Programs fault) done = inl done.1
+unexplained before after unread asked old new (judging.Logs fault) done = absurd done
+
+-- what holds whatever is answered
+pub whatever : (Said : Answer → Type 0) (X : Type 0) (r : Result Answer CommandFault) → X → IfOk r (λ answer. Said answer → X)
+whatever Said X (Ok answer) x = λ said. x
+whatever Said X (Err fault) x = tt
+
+-- a folder that was only read tells of each file what it told
+pub keeps_told_of : (old new : Files) (IsPut : List ℕ → Type 0) → IsOnlyRead old new → KeepsFiles old.told new.told IsPut
+keeps_told_of old new IsPut read name none = ap (λ (told : List ℕ → Option (List ℕ)). told name) (keeps_told old new read)
 
 -- lack of memory may be told in place of whatever refusal
-memory_instead : (before after : Files) (asked : Request) (out out' : Sink) (fault : CommandFault) (ending : Ending) → IsAnswered ending (Err fault)
-    → IsDoneBy before after asked out out' ending → IsDoneBy before after asked out out' (Refused OutOfMemory)
-memory_instead before after (request.Check check) out out' fault ending answered done = (tt, unless_failed out out' fault ending answered done.1)
-memory_instead before after (request.Upgrade upgrade) out out' fault ending answered done = (tt, unless_failed out out' fault ending answered done.1)
-memory_instead before after (request.Sim sim) out out' fault ending answered done = (tt, unless_failed out out' fault ending answered done.1)
-memory_instead before after (request.Run run) out out' fault ending answered done = (tt, unless_failed out out' fault ending answered done.1)
-memory_instead before after (request.Litmus litmus) out out' fault (Answered answer) answered done = cc
-memory_instead before after (request.Litmus litmus) out out' fault (Unprinted answer) answered done = absurd done
-memory_instead before after (request.Litmus litmus) out out' fault (Refused reason) answered done = uncounted before.told litmus out out' reason done
-memory_instead before after (request.Litmus litmus) out out' fault Unread answered done = absurd done
-memory_instead before after (request.Litmus litmus) out out' fault (Misused text) answered done = absurd done
-memory_instead before after (request.Explain explain) out out' fault (Answered answer) answered done = cc
-memory_instead before after (request.Explain explain) out out' fault (Unprinted answer) answered done = absurd done
-memory_instead before after (request.Explain explain) out out' fault (Refused reason) answered done = unexplained before after explain out out' reason done
-memory_instead before after (request.Explain explain) out out' fault Unread answered done = absurd done
-memory_instead before after (request.Explain explain) out out' fault (Misused text) answered done = absurd done
-memory_instead before after (request.Order order) out out' fault (Answered answer) answered done = cc
-memory_instead before after (request.Order order) out out' fault (Unprinted answer) answered done = absurd done
-memory_instead before after (request.Order order) out out' fault (Refused reason) answered done = (tt, done.1)
-memory_instead before after (request.Order order) out out' fault Unread answered done = absurd done
-memory_instead before after (request.Order order) out out' fault (Misused text) answered done = absurd done
+memory_instead : (before after : Files) (unread : List ℕ → Type 0) (asked : Request) (out out' : Sink) (fault : CommandFault) (ending : Ending) → IsAnswered ending (Err fault)
+    → IsDoneBy before after unread asked out out' ending → IsDoneBy before after unread asked out out' (Refused OutOfMemory)
+memory_instead before after unread (request.Check check) out out' fault ending answered done = (tt, unless_failed out out' fault ending answered done.1)
+memory_instead before after unread (request.Upgrade upgrade) out out' fault ending answered done = (tt, unless_failed out out' fault ending answered done.1)
+memory_instead before after unread (request.Sim sim) out out' fault ending answered done = (tt, unless_failed out out' fault ending answered done.1)
+memory_instead before after unread (request.Run run) out out' fault ending answered done = (tt, unless_failed out out' fault ending answered done.1)
+memory_instead before after unread (request.Litmus litmus) out out' fault (Answered answer) answered done = cc
+memory_instead before after unread (request.Litmus litmus) out out' fault (Unprinted answer) answered done = absurd done
+memory_instead before after unread (request.Litmus litmus) out out' fault (Refused (Running reason)) answered done = uncounted before.told unread litmus out out' reason done
+memory_instead before after unread (request.Litmus litmus) out out' fault (Refused (Judging reason)) answered done = absurd done
+memory_instead before after unread (request.Litmus litmus) out out' fault (Refused Output) answered done = absurd done
+memory_instead before after unread (request.Litmus litmus) out out' fault (Refused OutOfMemory) answered done = done
+memory_instead before after unread (request.Litmus litmus) out out' fault Unread answered done = absurd done
+memory_instead before after unread (request.Litmus litmus) out out' fault (Misused text) answered done = absurd done
+memory_instead before after unread (request.Explain explain) out out' fault (Answered answer) answered done = cc
+memory_instead before after unread (request.Explain explain) out out' fault (Unprinted answer) answered done = absurd done
+memory_instead before after unread (request.Explain explain) out out' fault (Refused (Judging reason)) answered done = unexplained before after unread explain out out' reason done
+memory_instead before after unread (request.Explain explain) out out' fault (Refused (Running reason)) answered done = absurd done
+memory_instead before after unread (request.Explain explain) out out' fault (Refused Output) answered done = absurd done
+memory_instead before after unread (request.Explain explain) out out' fault (Refused OutOfMemory) answered done = done
+memory_instead before after unread (request.Explain explain) out out' fault Unread answered done = absurd done
+memory_instead before after unread (request.Explain explain) out out' fault (Misused text) answered done = absurd done
+memory_instead before after unread (request.Order order) out out' fault (Answered answer) answered done = cc
+memory_instead before after unread (request.Order order) out out' fault (Unprinted answer) answered done = absurd done
+memory_instead before after unread (request.Order order) out out' fault (Refused (Judging reason)) answered done = (tt, done.1)
+memory_instead before after unread (request.Order order) out out' fault (Refused (Running reason)) answered done = absurd done
+memory_instead before after unread (request.Order order) out out' fault (Refused Output) answered done = absurd done
+memory_instead before after unread (request.Order order) out out' fault (Refused OutOfMemory) answered done = done
+memory_instead before after unread (request.Order order) out out' fault Unread answered done = absurd done
+memory_instead before after unread (request.Order order) out out' fault (Misused text) answered done = absurd done
 
 -- what was asked was refused before there was an answer to print
-pub refused_at_once : (before after : Files) (asked : Request) (out : Sink) (fault : CommandFault) (result : Result Answer CommandFault) → result ≡ Err fault
-    → IsAnswerTo before after asked (Err fault) → (ending : Ending) × IsAnswered ending result × IsPrintedBy before after asked out out ending
-refused_at_once before after asked out fault result is answered = (Refused fault, is, (answered, inl (kept out.contents)))
+pub refused_at_once : (before after : Files) (unread : List ℕ → Type 0) (asked : Request) (out : Sink) (fault : CommandFault) (result : Result Answer CommandFault) → result ≡ Err fault
+    → IsAnswerTo before after unread asked (Err fault) → (ending : Ending) × IsAnswered ending result × IsPrintedBy before after unread asked out out ending
+refused_at_once before after unread asked out fault result is answered = (Refused fault, is, (answered, inl (kept out.contents)))
 
-module _ (before after : Files) (asked : Request) (answer : Answer) (out out' : Sink) (answered : IsAnswerTo before after asked (Ok answer))
-    (memory : IsAnswerTo before after asked (Err OutOfMemory)) where
+module _ (before after : Files) (unread : List ℕ → Type 0) (asked : Request) (answer : Answer) (out out' : Sink) (answered : IsAnswerTo before after unread asked (Ok answer))
+    (memory : IsAnswerTo before after unread asked (Err OutOfMemory)) where
   -- an answer whose line wasn't printed
   unprinted : (fault : CommandFault) → IsUnprinted out out' (line (answer_text answer)) fault
-      → (ending : Ending) × IsAnswered ending (Err fault) × IsPrintedBy before after asked out out' ending
+      → (ending : Ending) × IsAnswered ending (Err fault) × IsPrintedBy before after unread asked out out' ending
   unprinted Output failed = (Unprinted answer, refl, (answered, failed))
   unprinted OutOfMemory same =
       (Refused OutOfMemory, refl, (memory, subst (λ (s : Sink). Keeps out.contents s.contents ⊎ HasFailed out s) (sym same) (inl (kept out.contents))))
-  unprinted (Judge reason) never = absurd never
-  unprinted (Config reason) never = absurd never
-  unprinted (Programs reason) never = absurd never
-  unprinted ProgramsUnread never = absurd never
-  unprinted (Schedule reason) never = absurd never
-  unprinted ScheduleUnread never = absurd never
-  unprinted (Simulation reason) never = absurd never
-  unprinted (Run reason) never = absurd never
-  unprinted (Test reason) never = absurd never
-  unprinted TestUnread never = absurd never
-  unprinted (Collect reason) never = absurd never
-  unprinted (LogUnwritten file) never = absurd never
-  unprinted PictureUnwritten never = absurd never
+  unprinted (Judging reason) never = absurd never
+  unprinted (Running reason) never = absurd never
 
   -- an answer that was to be printed
   pub printed : (result : Result Answer CommandFault) → IfOk result (λ same. same ≡ answer)
       → OnOk result (Appends out.contents out'.contents (line (answer_text answer))) → IfErr result (IsUnprinted out out' (line (answer_text answer)))
-      → (ending : Ending) × IsAnswered ending result × IsPrintedBy before after asked out out' ending
+      → (ending : Ending) × IsAnswered ending result × IsPrintedBy before after unread asked out out' ending
   printed (Ok same) is appends failed = (Answered answer, ap (λ (a : Answer). Ok a) is, (answered, appends))
   printed (Err fault) is appends failed = unprinted fault failed
 
@@ -141,17 +141,17 @@ pub printed_yes : (verdict : Verdict) (result : Result Answer CommandFault) (Hol
 printed_yes verdict (Ok answer) Holds is holds = λ zero. holds (yes_of verdict (sym (ap answer_status is) ∙ zero))
 printed_yes verdict (Err fault) Holds is holds = tt
 
-module _ (before after : Files) (words : List (List ℕ)) (out err : Sink) where
+module _ (before after : Files) (unread : List ℕ → Type 0) (words : List (List ℕ)) (out err : Sink) where
   pub ends_misused : (err' : Sink) (text : List ℕ) → ¬ (IsCommandLine words) → Takes err err' text
-      → EndsBy before after words out out err err' (Misused text)
+      → EndsBy before after unread words out out err err' (Misused text)
   ends_misused err' text misused takes = record { end = (misused, kept out.contents); complaint = takes }
 
   -- the call answered this status, and told of this fault
   abbrev pub EndsAt : Sink → Sink → ℕ → Type 0
-  EndsAt out' err' status = (ending : Ending) × (status ≡ status_of ending) × EndsBy before after words out out' err err' ending
+  EndsAt out' err' status = (ending : Ending) × (status ≡ status_of ending) × EndsBy before after unread words out out' err err' ending
 
   pub ends_answered : (asked : Request) (ending : Ending) (out' err' : Sink) (answer : Answer) (status : ℕ) → Asks words asked → IsAnswered ending (Ok answer)
-      → IsDoneBy before after asked out out' ending → Takes err err' (told_text answer) → status ≡ answer_status answer → EndsAt out' err' status
+      → IsDoneBy before after unread asked out out' ending → Takes err err' (told_text answer) → status ≡ answer_status answer → EndsAt out' err' status
   ends_answered asked (Answered own) out' err' answer status asks answered done takes is =
       let same : answer ≡ own = cc in (
         Answered own,
@@ -165,7 +165,7 @@ module _ (before after : Files) (words : List (List ℕ)) (out err : Sink) where
 
   -- the fault was told
   ends_told : (asked : Request) (ending : Ending) (fault : CommandFault) (out' err' : Sink) (status : ℕ) → Asks words asked
-      → IsAnswered ending (Err fault) → IsDoneBy before after asked out out' ending → Takes err err' (line (command_fault_text fault))
+      → IsAnswered ending (Err fault) → IsDoneBy before after unread asked out out' ending → Takes err err' (line (command_fault_text fault))
       → status ≡ fault_status fault → EndsAt out' err' status
   ends_told asked (Answered answer) fault out' err' status asks answered done takes same = cc
   ends_told asked (Unprinted answer) fault out' err' status asks answered done takes same =
@@ -185,13 +185,13 @@ module _ (before after : Files) (words : List (List ℕ)) (out err : Sink) where
 
   -- what was told is the fault, or lack of the memory to tell it
   pub ends_refused : (asked : Request) (ending : Ending) (fault reported : CommandFault) (out' err' : Sink) (status : ℕ) → Asks words asked
-      → IsAnswered ending (Err fault) → IsDoneBy before after asked out out' ending → (reported ≡ fault) ⊎ (reported ≡ OutOfMemory)
+      → IsAnswered ending (Err fault) → IsDoneBy before after unread asked out out' ending → (reported ≡ fault) ⊎ (reported ≡ OutOfMemory)
       → Takes err err' (line (command_fault_text reported)) → status ≡ fault_status reported → EndsAt out' err' status
   ends_refused asked ending fault reported out' err' status asks answered done (inl is) takes same =
       ends_told asked ending fault out' err' status asks answered done
       (subst (λ (f : CommandFault). Takes err err' (line (command_fault_text f))) is takes) (same ∙ ap fault_status is)
   ends_refused asked ending fault reported out' err' status asks answered done (inr is) takes same =
-      ends_told asked (Refused OutOfMemory) OutOfMemory out' err' status asks refl (memory_instead before after asked out out' fault ending answered done)
+      ends_told asked (Refused OutOfMemory) OutOfMemory out' err' status asks refl (memory_instead before after unread asked out out' fault ending answered done)
       (subst (λ (f : CommandFault). Takes err err' (line (command_fault_text f))) is takes) (same ∙ ap fault_status is)
 
   -- and there was no memory to read the words

@@ -1,10 +1,1 @@
-mod Checks
 mod Ends
-mod Explained
-mod Leaving
-mod Logs
-mod Orders
-mod Runs
-mod Tables
-mod ThreadRuns
-mod Upgrades

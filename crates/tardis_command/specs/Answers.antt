@@ -1,9 +1,10 @@
 -- The texts and the exit statuses of answers.
-use Rattle.std.specs.Prelude.{ℕ, Bool, if◌then◌else◌, List, [], ◌∷◌, ◌++◌, codes}
+use Rattle.std.specs.Prelude.{ℕ, Bool, if◌then◌else◌, List, [], ◌++◌, codes}
 use Rattle.std.specs.Fmt.{decimal}
 use Rattle.verdict.specs.Texts.{verdict_text}
 use Rattle.verdict.specs.declared.answer.Verdict.{Verdict}
 use Rattle.verdict.specs.declared.answer.Verdict.TheVariants.{Yes, No}
+use Rattle.call_devices.specs.Sinks.{line}
 use Rattle.tardis_command.specs.declared.answer.Answer.{Answer}
 use Rattle.tardis_command.specs.declared.answer.Answer.TheVariants.{Judged, Ordered, Explained, Counted, Done}
 
@@ -13,10 +14,6 @@ answer_text (Ordered verdict) = verdict_text verdict
 answer_text (Explained verdict) = verdict_text verdict
 answer_text (Counted forbidden) = []
 answer_text (Done operations) = codes "done: " ++ (decimal operations ++ codes " operations")
-
--- a text and its line feed
-abbrev pub line : List ℕ → List ℕ
-line text = text ++ 10 ∷ []
 
 -- what standard error is told of an answer: the verdict, where the order is what goes to standard output
 abbrev pub told_text : Answer → List ℕ

@@ -8,23 +8,25 @@ use Rattle.command_line.specs.declared.request.Order.{Order as AskedOrder}
 use Rattle.command_line.specs.declared.request.Request.{Request}
 use Rattle.command_line.specs.declared.request.Request.TheVariants.{Check, Order, Explain, Upgrade, Sim, Run, Litmus}
 use Rattle.tardis_command.specs.Answers.{answer_status, answer_text, told_text}
-use Rattle.tardis_command.specs.Checking.{FilesAreConsistent, FilesRunFlat, IsChecked, TextsAreConsistent}
-use Rattle.tardis_command.specs.Explaining.{IsExplained, IsPictureName}
-use Rattle.tardis_command.specs.Files.{Files}
+use Rattle.judge_commands.specs.Checking.{FilesAreConsistent, FilesRunFlat, IsChecked, TextsAreConsistent}
+use Rattle.judge_commands.specs.Explaining.{IsExplained, IsPictureName}
+use Rattle.call_devices.specs.Files.{Files}
 use Rattle.tardis_command.specs.Faults.{command_fault_text, fault_status}
-use Rattle.tardis_command.specs.Leaving.{LeavesYes}
-use Rattle.tardis_command.specs.Logs.{log_name}
-use Rattle.tardis_command.specs.Ordering.{IsOrdered, TakesOrder}
-use Rattle.tardis_command.specs.Running.{IsThreadRun}
-use Rattle.tardis_command.specs.Simulating.{IsRun}
-use Rattle.tardis_command.specs.Tabling.{IsCounted}
-use Rattle.tardis_command.specs.Upgrading.{IsUpgraded}
+use Rattle.run_commands.specs.Leaving.{LeavesYes}
+use Rattle.call_devices.specs.Logs.{log_name}
+use Rattle.judge_commands.specs.Ordering.{IsOrdered, TakesOrder}
+use Rattle.run_commands.specs.Running.{IsThreadRun}
+use Rattle.run_commands.specs.Simulating.{IsRun}
+use Rattle.run_commands.specs.Tabling.{IsCounted}
+use Rattle.judge_commands.specs.Upgrading.{IsUpgraded}
 use Rattle.tardis_command.specs.declared.answer.Answer.{Answer}
 use Rattle.tardis_command.specs.declared.answer.Answer.TheVariants.{Judged, Ordered, Explained, Counted, Done}
 use Rattle.tardis_command.specs.declared.fault.CommandFault.{CommandFault}
-use Rattle.tardis_command.specs.declared.fault.CommandFault.TheVariants.{OutOfMemory, Output}
-pub use Rattle.tardis_command.specs.Answers.{line}
-pub use Rattle.tardis_command.specs.Sinks.{HasFailed, Sink, Takes, TakesBeginning, sink_of}
+use Rattle.tardis_command.specs.declared.fault.CommandFault.TheVariants.{Judging, Running, Output, OutOfMemory}
+use Rattle.judge_commands.specs.declared.fault.JudgingFault.TheVariants.{OutOfMemory as NoJudgingMemory}
+use Rattle.run_commands.specs.declared.fault.RunningFault.TheVariants.{OutOfMemory as NoRunningMemory}
+pub use Rattle.call_devices.specs.Files.{KeepsFiles}
+pub use Rattle.call_devices.specs.Sinks.{HasFailed, Sink, Takes, TakesBeginning, line, sink_of}
 
 -- by an answer, by one that couldn't be printed, by a refusal, without the memory to read the words, or with what the user is
 -- told of words that aren't a command line
@@ -53,44 +55,57 @@ complaint_of (Misused text) = text
 
 -- ---- why
 
--- This may be the answer to what was asked, or why there is none; the folder was `old` before and is `new` after. An order, an
+-- This may be the answer to what was asked, or why there is none; the folder was `old` before and is `new` after, and `unread` holds of
+-- the name of a file that couldn't be opened or read. An order, an
 -- explanation and a table have no answer apart from what standard output took of them.
-abbrev pub IsAnswerTo : Files → Files → Request → Result Answer CommandFault → Type 0
-IsAnswerTo old new (Check asked) (Ok (Judged verdict)) = IsChecked old.told asked (Ok verdict)
-IsAnswerTo old new (Check asked) (Ok (Ordered verdict)) = ⊥
-IsAnswerTo old new (Check asked) (Ok (Explained verdict)) = ⊥
-IsAnswerTo old new (Check asked) (Ok (Counted forbidden)) = ⊥
-IsAnswerTo old new (Check asked) (Ok (Done count)) = ⊥
-IsAnswerTo old new (Check asked) (Err fault) = IsChecked old.told asked (Err fault)
-IsAnswerTo old new (Order asked) answer = ⊥
-IsAnswerTo old new (Explain asked) answer = ⊥
-IsAnswerTo old new (Litmus asked) answer = ⊥
-IsAnswerTo old new (Upgrade asked) (Ok (Judged verdict)) = ⊥
-IsAnswerTo old new (Upgrade asked) (Ok (Ordered verdict)) = ⊥
-IsAnswerTo old new (Upgrade asked) (Ok (Explained verdict)) = ⊥
-IsAnswerTo old new (Upgrade asked) (Ok (Counted forbidden)) = ⊥
-IsAnswerTo old new (Upgrade asked) (Ok (Done count)) = IsUpgraded old new asked (Ok count)
-IsAnswerTo old new (Upgrade asked) (Err fault) = IsUpgraded old new asked (Err fault)
-IsAnswerTo old new (Sim asked) (Ok (Judged verdict)) = ⊥
-IsAnswerTo old new (Sim asked) (Ok (Ordered verdict)) = ⊥
-IsAnswerTo old new (Sim asked) (Ok (Explained verdict)) = ⊥
-IsAnswerTo old new (Sim asked) (Ok (Counted forbidden)) = ⊥
-IsAnswerTo old new (Sim asked) (Ok (Done count)) = IsRun old new asked (Ok count)
-IsAnswerTo old new (Sim asked) (Err fault) = IsRun old new asked (Err fault)
-IsAnswerTo old new (Run asked) (Ok (Judged verdict)) = ⊥
-IsAnswerTo old new (Run asked) (Ok (Ordered verdict)) = ⊥
-IsAnswerTo old new (Run asked) (Ok (Explained verdict)) = ⊥
-IsAnswerTo old new (Run asked) (Ok (Counted forbidden)) = ⊥
-IsAnswerTo old new (Run asked) (Ok (Done count)) = IsThreadRun old new asked (Ok count)
-IsAnswerTo old new (Run asked) (Err fault) = IsThreadRun old new asked (Err fault)
+abbrev pub IsAnswerTo : Files → Files → (List ℕ → Type 0) → Request → Result Answer CommandFault → Type 0
+IsAnswerTo old new unread (Check asked) (Ok (Judged verdict)) = IsChecked old.told unread asked (Ok verdict)
+IsAnswerTo old new unread (Check asked) (Ok (Ordered verdict)) = ⊥
+IsAnswerTo old new unread (Check asked) (Ok (Explained verdict)) = ⊥
+IsAnswerTo old new unread (Check asked) (Ok (Counted forbidden)) = ⊥
+IsAnswerTo old new unread (Check asked) (Ok (Done count)) = ⊥
+IsAnswerTo old new unread (Check asked) (Err (Judging fault)) = IsChecked old.told unread asked (Err fault)
+IsAnswerTo old new unread (Check asked) (Err (Running fault)) = ⊥
+IsAnswerTo old new unread (Check asked) (Err Output) = ⊥
+IsAnswerTo old new unread (Check asked) (Err OutOfMemory) = ⊤
+IsAnswerTo old new unread (Order asked) answer = ⊥
+IsAnswerTo old new unread (Explain asked) answer = ⊥
+IsAnswerTo old new unread (Litmus asked) answer = ⊥
+IsAnswerTo old new unread (Upgrade asked) (Ok (Judged verdict)) = ⊥
+IsAnswerTo old new unread (Upgrade asked) (Ok (Ordered verdict)) = ⊥
+IsAnswerTo old new unread (Upgrade asked) (Ok (Explained verdict)) = ⊥
+IsAnswerTo old new unread (Upgrade asked) (Ok (Counted forbidden)) = ⊥
+IsAnswerTo old new unread (Upgrade asked) (Ok (Done count)) = IsUpgraded old new unread asked (Ok count)
+IsAnswerTo old new unread (Upgrade asked) (Err (Judging fault)) = IsUpgraded old new unread asked (Err fault)
+IsAnswerTo old new unread (Upgrade asked) (Err (Running fault)) = ⊥
+IsAnswerTo old new unread (Upgrade asked) (Err Output) = ⊥
+IsAnswerTo old new unread (Upgrade asked) (Err OutOfMemory) = ⊤
+IsAnswerTo old new unread (Sim asked) (Ok (Judged verdict)) = ⊥
+IsAnswerTo old new unread (Sim asked) (Ok (Ordered verdict)) = ⊥
+IsAnswerTo old new unread (Sim asked) (Ok (Explained verdict)) = ⊥
+IsAnswerTo old new unread (Sim asked) (Ok (Counted forbidden)) = ⊥
+IsAnswerTo old new unread (Sim asked) (Ok (Done count)) = IsRun old new unread asked (Ok count)
+IsAnswerTo old new unread (Sim asked) (Err (Running fault)) = IsRun old new unread asked (Err fault)
+IsAnswerTo old new unread (Sim asked) (Err (Judging fault)) = ⊥
+IsAnswerTo old new unread (Sim asked) (Err Output) = ⊥
+IsAnswerTo old new unread (Sim asked) (Err OutOfMemory) = ⊤
+IsAnswerTo old new unread (Run asked) (Ok (Judged verdict)) = ⊥
+IsAnswerTo old new unread (Run asked) (Ok (Ordered verdict)) = ⊥
+IsAnswerTo old new unread (Run asked) (Ok (Explained verdict)) = ⊥
+IsAnswerTo old new unread (Run asked) (Ok (Counted forbidden)) = ⊥
+IsAnswerTo old new unread (Run asked) (Ok (Done count)) = IsThreadRun old new unread asked (Ok count)
+IsAnswerTo old new unread (Run asked) (Err (Running fault)) = IsThreadRun old new unread asked (Err fault)
+IsAnswerTo old new unread (Run asked) (Err (Judging fault)) = ⊥
+IsAnswerTo old new unread (Run asked) (Err Output) = ⊥
+IsAnswerTo old new unread (Run asked) (Err OutOfMemory) = ⊤
 
 -- what was asked may end so
-abbrev pub IsEndOf : Files → Files → Request → Ending → Type 0
-IsEndOf old new asked (Answered answer) = IsAnswerTo old new asked (Ok answer)
-IsEndOf old new asked (Unprinted answer) = IsAnswerTo old new asked (Ok answer)
-IsEndOf old new asked (Refused fault) = IsAnswerTo old new asked (Err fault)
-IsEndOf old new asked Unread = ⊥
-IsEndOf old new asked (Misused text) = ⊥
+abbrev pub IsEndOf : Files → Files → (List ℕ → Type 0) → Request → Ending → Type 0
+IsEndOf old new unread asked (Answered answer) = IsAnswerTo old new unread asked (Ok answer)
+IsEndOf old new unread asked (Unprinted answer) = IsAnswerTo old new unread asked (Ok answer)
+IsEndOf old new unread asked (Refused fault) = IsAnswerTo old new unread asked (Err fault)
+IsEndOf old new unread asked Unread = ⊥
+IsEndOf old new unread asked (Misused text) = ⊥
 
 -- the words are a command line, and this holds of what they ask for
 abbrev pub AskFor : List (List ℕ) → (Request → Type 0) → Type 0
@@ -146,10 +161,6 @@ IsPutName (Upgrade asked) name = (c : ℕ) × (c < 64) × (name ≡ log_name ask
 IsPutName (Sim asked) name = (c : ℕ) × (c < 64) × (name ≡ log_name asked.out.now c)
 IsPutName (Run asked) name = (c : ℕ) × (c < 64) × (name ≡ log_name asked.out.now c)
 
--- what the folder tells of other names is what it told
-abbrev pub KeepsFiles : (List ℕ → Option (List ℕ)) → (List ℕ → Option (List ℕ)) → (List ℕ → Type 0) → Type 0
-KeepsFiles told told' IsPut = (name : List ℕ) → ¬ (IsPut name) → told' name ≡ told name
-
 -- ---- standard output
 
 -- standard output takes the line of an answer, or fails after a beginning of it, or holds what it held
@@ -161,56 +172,65 @@ OutputAt old new Unread = Keeps old.contents new.contents
 OutputAt old new (Misused text) = Keeps old.contents new.contents
 
 -- what was asked ended so, and then its answer was printed
-abbrev pub IsPrintedBy : Files → Files → Request → Sink → Sink → Ending → Type 0
-IsPrintedBy old new asked out out' ending = IsEndOf old new asked ending × OutputAt out out' ending
+abbrev pub IsPrintedBy : Files → Files → (List ℕ → Type 0) → Request → Sink → Sink → Ending → Type 0
+IsPrintedBy old new unread asked out out' ending = IsEndOf old new unread asked ending × OutputAt out out' ending
 
 -- an order ended so, which went to standard output as it was made
-abbrev pub IsWrittenBy : (List ℕ → Option (List ℕ)) → AskedOrder → Sink → Sink → Ending → Type 0
-IsWrittenBy told asked out out' (Answered (Ordered verdict)) = IsOrdered told asked out out' (Ok verdict)
-IsWrittenBy told asked out out' (Answered (Judged verdict)) = ⊥
-IsWrittenBy told asked out out' (Answered (Explained verdict)) = ⊥
-IsWrittenBy told asked out out' (Answered (Counted forbidden)) = ⊥
-IsWrittenBy told asked out out' (Answered (Done count)) = ⊥
-IsWrittenBy told asked out out' (Unprinted answer) = ⊥
-IsWrittenBy told asked out out' (Refused fault) = IsOrdered told asked out out' (Err fault)
-IsWrittenBy told asked out out' Unread = ⊥
-IsWrittenBy told asked out out' (Misused text) = ⊥
+abbrev pub IsWrittenBy : (List ℕ → Option (List ℕ)) → (List ℕ → Type 0) → AskedOrder → Sink → Sink → Ending → Type 0
+IsWrittenBy told unread asked out out' (Answered (Ordered verdict)) = IsOrdered told unread asked out out' (Ok verdict)
+IsWrittenBy told unread asked out out' (Answered (Judged verdict)) = ⊥
+IsWrittenBy told unread asked out out' (Answered (Explained verdict)) = ⊥
+IsWrittenBy told unread asked out out' (Answered (Counted forbidden)) = ⊥
+IsWrittenBy told unread asked out out' (Answered (Done count)) = ⊥
+IsWrittenBy told unread asked out out' (Unprinted answer) = ⊥
+IsWrittenBy told unread asked out out' (Refused (Judging fault)) = IsOrdered told unread asked out out' (Err fault)
+IsWrittenBy told unread asked out out' (Refused (Running fault)) = ⊥
+IsWrittenBy told unread asked out out' (Refused Output) = ⊥
+IsWrittenBy told unread asked out out' (Refused OutOfMemory) = IsOrdered told unread asked out out' (Err NoJudgingMemory)
+IsWrittenBy told unread asked out out' Unread = ⊥
+IsWrittenBy told unread asked out out' (Misused text) = ⊥
 
 -- an explanation ended so, which went to standard output and into a picture
-abbrev pub IsExplainedBy : Files → Files → AskedExplain → Sink → Sink → Ending → Type 0
-IsExplainedBy old new asked out out' (Answered (Explained verdict)) = IsExplained old new asked out out' (Ok verdict)
-IsExplainedBy old new asked out out' (Answered (Judged verdict)) = ⊥
-IsExplainedBy old new asked out out' (Answered (Ordered verdict)) = ⊥
-IsExplainedBy old new asked out out' (Answered (Counted forbidden)) = ⊥
-IsExplainedBy old new asked out out' (Answered (Done count)) = ⊥
-IsExplainedBy old new asked out out' (Unprinted answer) = ⊥
-IsExplainedBy old new asked out out' (Refused fault) = IsExplained old new asked out out' (Err fault)
-IsExplainedBy old new asked out out' Unread = ⊥
-IsExplainedBy old new asked out out' (Misused text) = ⊥
+abbrev pub IsExplainedBy : Files → Files → (List ℕ → Type 0) → AskedExplain → Sink → Sink → Ending → Type 0
+IsExplainedBy old new unread asked out out' (Answered (Explained verdict)) = IsExplained old new unread asked out out' (Ok verdict)
+IsExplainedBy old new unread asked out out' (Answered (Judged verdict)) = ⊥
+IsExplainedBy old new unread asked out out' (Answered (Ordered verdict)) = ⊥
+IsExplainedBy old new unread asked out out' (Answered (Counted forbidden)) = ⊥
+IsExplainedBy old new unread asked out out' (Answered (Done count)) = ⊥
+IsExplainedBy old new unread asked out out' (Unprinted answer) = ⊥
+IsExplainedBy old new unread asked out out' (Refused (Judging fault)) = IsExplained old new unread asked out out' (Err fault)
+IsExplainedBy old new unread asked out out' (Refused (Running fault)) = ⊥
+IsExplainedBy old new unread asked out out' (Refused Output) = ⊥
+IsExplainedBy old new unread asked out out' (Refused OutOfMemory) = IsExplained old new unread asked out out' (Err NoJudgingMemory)
+IsExplainedBy old new unread asked out out' Unread = ⊥
+IsExplainedBy old new unread asked out out' (Misused text) = ⊥
 
 -- the counting of outcomes ended so, whose table went to standard output
-abbrev pub IsCountedBy : (List ℕ → Option (List ℕ)) → AskedLitmus → Sink → Sink → Ending → Type 0
-IsCountedBy told asked out out' (Answered (Counted forbidden)) = IsCounted told asked out out' (Ok forbidden)
-IsCountedBy told asked out out' (Answered (Judged verdict)) = ⊥
-IsCountedBy told asked out out' (Answered (Ordered verdict)) = ⊥
-IsCountedBy told asked out out' (Answered (Explained verdict)) = ⊥
-IsCountedBy told asked out out' (Answered (Done count)) = ⊥
-IsCountedBy told asked out out' (Unprinted answer) = ⊥
-IsCountedBy told asked out out' (Refused fault) = IsCounted told asked out out' (Err fault)
-IsCountedBy told asked out out' Unread = ⊥
-IsCountedBy told asked out out' (Misused text) = ⊥
+abbrev pub IsCountedBy : (List ℕ → Option (List ℕ)) → (List ℕ → Type 0) → AskedLitmus → Sink → Sink → Ending → Type 0
+IsCountedBy told unread asked out out' (Answered (Counted forbidden)) = IsCounted told unread asked out out' (Ok forbidden)
+IsCountedBy told unread asked out out' (Answered (Judged verdict)) = ⊥
+IsCountedBy told unread asked out out' (Answered (Ordered verdict)) = ⊥
+IsCountedBy told unread asked out out' (Answered (Explained verdict)) = ⊥
+IsCountedBy told unread asked out out' (Answered (Done count)) = ⊥
+IsCountedBy told unread asked out out' (Unprinted answer) = ⊥
+IsCountedBy told unread asked out out' (Refused (Running fault)) = IsCounted told unread asked out out' (Err fault)
+IsCountedBy told unread asked out out' (Refused (Judging fault)) = ⊥
+IsCountedBy told unread asked out out' (Refused Output) = ⊥
+IsCountedBy told unread asked out out' (Refused OutOfMemory) = IsCounted told unread asked out out' (Err NoRunningMemory)
+IsCountedBy told unread asked out out' Unread = ⊥
+IsCountedBy told unread asked out out' (Misused text) = ⊥
 
 -- ---- all of it
 
 -- what was asked ended so, and left standard output so
-abbrev pub IsDoneBy : Files → Files → Request → Sink → Sink → Ending → Type 0
-IsDoneBy old new (Check asked) out out' ending = IsPrintedBy old new (Check asked) out out' ending
-IsDoneBy old new (Order asked) out out' ending = IsWrittenBy old.told asked out out' ending
-IsDoneBy old new (Explain asked) out out' ending = IsExplainedBy old new asked out out' ending
-IsDoneBy old new (Upgrade asked) out out' ending = IsPrintedBy old new (Upgrade asked) out out' ending
-IsDoneBy old new (Sim asked) out out' ending = IsPrintedBy old new (Sim asked) out out' ending
-IsDoneBy old new (Run asked) out out' ending = IsPrintedBy old new (Run asked) out out' ending
-IsDoneBy old new (Litmus asked) out out' ending = IsCountedBy old.told asked out out' ending
+abbrev pub IsDoneBy : Files → Files → (List ℕ → Type 0) → Request → Sink → Sink → Ending → Type 0
+IsDoneBy old new unread (Check asked) out out' ending = IsPrintedBy old new unread (Check asked) out out' ending
+IsDoneBy old new unread (Order asked) out out' ending = IsWrittenBy old.told unread asked out out' ending
+IsDoneBy old new unread (Explain asked) out out' ending = IsExplainedBy old new unread asked out out' ending
+IsDoneBy old new unread (Upgrade asked) out out' ending = IsPrintedBy old new unread (Upgrade asked) out out' ending
+IsDoneBy old new unread (Sim asked) out out' ending = IsPrintedBy old new unread (Sim asked) out out' ending
+IsDoneBy old new unread (Run asked) out out' ending = IsPrintedBy old new unread (Run asked) out out' ending
+IsDoneBy old new unread (Litmus asked) out out' ending = IsCountedBy old.told unread asked out out' ending
 
 -- how an ending is answered: by the answer, or by a fault
 abbrev pub IsAnswered : Ending → Result Answer CommandFault → Type 0
@@ -222,14 +242,14 @@ IsAnswered (Misused text) came = ⊥
 
 -- A call with these words may end so, and leave standard output so. Words that aren't a command line end in what the user is told of
 -- them, or memory runs out before it is known what they ask for.
-abbrev pub IsEnd : Files → Files → List (List ℕ) → Sink → Sink → Ending → Type 0
-IsEnd old new words out out' (Answered answer) = AskFor words (λ asked. IsDoneBy old new asked out out' (Answered answer))
-IsEnd old new words out out' (Unprinted answer) = AskFor words (λ asked. IsDoneBy old new asked out out' (Unprinted answer))
-IsEnd old new words out out' (Refused fault) = AskFor words (λ asked. IsDoneBy old new asked out out' (Refused fault))
-IsEnd old new words out out' Unread = Keeps out.contents out'.contents
-IsEnd old new words out out' (Misused text) = (¬ (IsCommandLine words)) × Keeps out.contents out'.contents
+abbrev pub IsEnd : Files → Files → (List ℕ → Type 0) → List (List ℕ) → Sink → Sink → Ending → Type 0
+IsEnd old new unread words out out' (Answered answer) = AskFor words (λ asked. IsDoneBy old new unread asked out out' (Answered answer))
+IsEnd old new unread words out out' (Unprinted answer) = AskFor words (λ asked. IsDoneBy old new unread asked out out' (Unprinted answer))
+IsEnd old new unread words out out' (Refused fault) = AskFor words (λ asked. IsDoneBy old new unread asked out out' (Refused fault))
+IsEnd old new unread words out out' Unread = Keeps out.contents out'.contents
+IsEnd old new unread words out out' (Misused text) = (¬ (IsCommandLine words)) × Keeps out.contents out'.contents
 
 -- a call with these words ended so, and left the folder, standard output and standard error so
-pub record EndsBy (old new : Files) (words : List (List ℕ)) (out out' err err' : Sink) (ending : Ending) : Type 0 where
-  pub end : IsEnd old new words out out' ending
+pub record EndsBy (old new : Files) (unread : List ℕ → Type 0) (words : List (List ℕ)) (out out' err err' : Sink) (ending : Ending) : Type 0 where
+  pub end : IsEnd old new unread words out out' ending
   pub complaint : Takes err err' (complaint_of ending)

@@ -1,16 +1,4 @@
 pub mod Answers
-pub mod Checking
 pub mod Endings
-pub mod Explaining
 pub mod Faults
-pub mod Files
-pub mod Leaving
-pub mod Logs
-pub mod Ordering
-pub mod Programmed
-pub mod Running
-pub mod Simulating
-pub mod Sinks
-pub mod Tabling
-pub mod Upgrading
 pub mod inner

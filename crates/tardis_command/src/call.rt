@@ -1,25 +1,19 @@
 //! One call of the program.
 
 ghost use Rattle.std.specs.Prelude.{◌≡◌, IfOk};
+ghost use Rattle.call_devices.specs.Files.{IsUnread};
 ghost use Rattle.command_line.specs.Asking.{texts};
 ghost use Rattle.tardis_command.specs.Answers.{answer_status};
 ghost use Rattle.tardis_command.specs.Endings as endings;
-ghost use Rattle.tardis_command.specs.Files.{files_of};
 
 use super::answer::Answer;
-use super::check::check;
 use super::fault::CommandFault;
-use super::folder::Folder;
-use super::order::order;
 use super::output::{print_answer, refuse, tell, tell_answer};
-use super::run::run;
-use super::sim::sim;
-use super::table::count_outcomes;
-use super::telling::explain;
-use super::upgrade::upgrade;
-use super::watch::Watch;
+use call_devices::Folder;
 use command_line::{Refusal, Request, read};
+use judge_commands::{check, explain, order, upgrade};
 use log_file::ByteSink;
+use run_commands::{Watch, count_outcomes, run, sim};
 use std::alloc::Global;
 use std::sync::Wait;
 use std::thread::Threads;
@@ -43,23 +37,24 @@ pub fn command<R: Threads + Wait + Sync, W: Watch + Sync, F: Folder, O: ByteSink
     err: &mut E,
 ) -> u8
     ensures ends { (ending : endings.Ending) × (result ≡ endings.status_of ending)
-        × endings.EndsBy (files_of F.told F.failed folder.old)
-        (files_of F.told F.failed folder.new) (texts words.entry.now)
+        × endings.EndsBy (F.files folder.old) (F.files folder.new)
+        (IsUnread F.Source.remaining F.Source.failed
+        (F.files folder.old) (F.files folder.new)) (texts words.entry.now)
         (endings.sink_of O.contents O.failed out.old)
         (endings.sink_of O.contents O.failed out.new)
         (endings.sink_of E.contents E.failed err.old)
         (endings.sink_of E.contents E.failed err.new) ending }
-    ensures files { endings.KeepsFiles (F.told folder.old) (F.told folder.new)
+    ensures files { endings.KeepsFiles (F.files folder.old).told (F.files folder.new).told
         (λ name. endings.AskFor (texts words.entry.now) (λ asked. endings.IsPutName asked name)) }
     ensures sound { result ≡ 0 → endings.AskFor (texts words.entry.now)
-        (endings.AreConsistent (F.told folder.old)) }
+        (endings.AreConsistent (F.files folder.old).told) }
     ensures order { result ≡ 0 → endings.AskFor (texts words.entry.now)
-        (endings.AreOrdered (F.told folder.old) (endings.sink_of O.contents O.failed out.old)
+        (endings.AreOrdered (F.files folder.old).told (endings.sink_of O.contents O.failed out.old)
         (endings.sink_of O.contents O.failed out.new)) }
     ensures flat { result ≡ 0 → endings.AskFor (texts words.entry.now)
-        (endings.RunFlat (F.told folder.old)) }
+        (endings.RunFlat (F.files folder.old).told) }
     ensures yes { result ≡ 0 → endings.AskFor (texts words.entry.now)
-        (endings.LeaveYes (F.told folder.old) (F.told folder.new)) }
+        (endings.LeaveYes (F.files folder.old).told (F.files folder.new).told) }
 {
     let request = match read(alloc, words) {
         Ok(request) => request,
@@ -87,21 +82,22 @@ fn perform<R: Threads + Wait + Sync, W: Watch + Sync, F: Folder, O: ByteSink>(
     out: &mut O,
 ) -> Result<Answer, CommandFault>
     ensures exact { (ending : endings.Ending) × endings.IsAnswered ending result
-        × endings.IsDoneBy (files_of F.told F.failed folder.old)
-        (files_of F.told F.failed folder.new) request.now
+        × endings.IsDoneBy (F.files folder.old) (F.files folder.new)
+        (IsUnread F.Source.remaining F.Source.failed
+        (F.files folder.old) (F.files folder.new)) request.now
         (endings.sink_of O.contents O.failed out.old)
         (endings.sink_of O.contents O.failed out.new) ending }
-    ensures files { endings.KeepsFiles (F.told folder.old) (F.told folder.new)
+    ensures files { endings.KeepsFiles (F.files folder.old).told (F.files folder.new).told
         (endings.IsPutName request.now) }
     ensures sound { IfOk result (λ answer. answer_status answer ≡ 0
-        → endings.AreConsistent (F.told folder.old) request.now) }
+        → endings.AreConsistent (F.files folder.old).told request.now) }
     ensures order { IfOk result (λ answer. answer_status answer ≡ 0
-        → endings.AreOrdered (F.told folder.old) (endings.sink_of O.contents O.failed out.old)
+        → endings.AreOrdered (F.files folder.old).told (endings.sink_of O.contents O.failed out.old)
         (endings.sink_of O.contents O.failed out.new) request.now) }
     ensures flat { IfOk result (λ answer. answer_status answer ≡ 0
-        → endings.RunFlat (F.told folder.old) request.now) }
+        → endings.RunFlat (F.files folder.old).told request.now) }
     ensures yes { IfOk result (λ answer. answer_status answer ≡ 0
-        → endings.LeaveYes (F.told folder.old) (F.told folder.new) request.now) }
+        → endings.LeaveYes (F.files folder.old).told (F.files folder.new).told request.now) }
 {
     match request {
         Request::Check(asked) => {

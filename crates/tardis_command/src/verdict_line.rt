@@ -2,7 +2,7 @@
 
 ghost use Rattle.std.specs.Prelude.{◌≡◌, ◌≤◌, length};
 ghost use Rattle.verdict.specs.Texts.{rule_text, verdict_text};
-ghost use Rattle.tardis_command.specs.Answers.{line};
+ghost use Rattle.call_devices.specs.Sinks.{line};
 
 use arrayvec::ArrayString;
 use itoa::Buffer;

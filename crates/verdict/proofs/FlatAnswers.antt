@@ -22,8 +22,8 @@ use Rattle.log_record.specs.Entries.{entry_cmp, operation_by, operation_of, oper
 use Rattle.log_record.proofs.EntryFacts.{record_of_entry, same_record, operation_at-operations_of}
 use Rattle.address_check.specs.AddressFaults.{is_store, is_earlier_store, right_store, value_from, broken_rule, fault_by, act_fault, address_fault}
 use Rattle.address_check.proofs.Totals.{entry_total}
+use Rattle.flat_replay.proofs.Flat.{IsAnsweredBehind, flat_each}
 use Rattle.verdict.specs.ByKey.{by_key, ids_by_key}
-use Rattle.verdict.proofs.Flat.{IsAnsweredBehind, flat_each}
 use Rattle.verdict.proofs.SerialOrder.{tied_id, by_key-ascends, in_set_by_key}
 
 -- no load or swap of the set has a fault of source or value

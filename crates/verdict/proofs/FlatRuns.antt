@@ -16,16 +16,18 @@ use Rattle.core_program.specs.declared.instruction.Instruction.{Instruction}
 use Rattle.core_program.specs.State.{State, start}
 use Rattle.core_program.specs.Meaning.{Path}
 use Rattle.core_program.specs.Conforming.{Conforms}
-use Rattle.verdict.specs.FlatMachine.{Flat, flat_start, FlatRun, starts, performs, IsAnsweredBy, after, performed_by, HasEnded, IsWhole, RunsFlat}
-use Rattle.verdict.proofs.Flat.{after_is, flat_at_middle}
+use Rattle.flat_replay.specs.Accesses.{own_operations}
+use Rattle.flat_replay.specs.Memory.{IsAnsweredBy, after}
+use Rattle.flat_replay.proofs.Flat.{after_is, flat_at_middle}
+use Rattle.flat_replay.proofs.Turns.{indices, InTurn, number_of, at_core, index_below, in_turn}
+use Rattle.verdict.specs.FlatMachine.{Flat, flat_start, FlatRun, starts, performs, performed_by, HasEnded, IsWhole, RunsFlat}
 use Rattle.verdict.proofs.Lists.{set_here, set_elsewhere}
 use Rattle.verdict.proofs.Paths.{Halves, halves}
-use Rattle.verdict.proofs.Turns.{indices, InTurn, of_core, number_of, at_core, index_below, in_turn}
 
 -- ---- the operations of an order
 
 abbrev op_of : List (List Operation) → OpId → Operation
-op_of cores id = get_or (of_core cores id.core) id.index (Stored 0 0)
+op_of cores id = get_or (own_operations cores id.core) id.index (Stored 0 0)
 
 -- the operations of ids, each with its core
 abbrev pairs : List (List Operation) → List OpId → List (ℕ × Operation)
@@ -38,21 +40,21 @@ operations_are : (cores : List (List Operation)) (ids : List OpId) → ((id : Op
 operations_are cores [] there = refl
 operations_are cores (id ∷ ids) there =
     ap (λ ops. op_of cores id ∷ ops) (operations_are cores ids (λ x p. there x (inr p)))
-    ∙ ap (λ o. cons_option o (filter_map (operation_at cores) ids)) (sym (at_core cores id ∙ slice_get-get_or (of_core cores id.core) id.index (Stored 0 0) (there id (inl refl))))
+    ∙ ap (λ o. cons_option o (filter_map (operation_at cores) ids)) (sym (at_core cores id ∙ slice_get-get_or (own_operations cores id.core) id.index (Stored 0 0) (there id (inl refl))))
 
-by_indices : (cores : List (List Operation)) (core : ℕ) (ids : List OpId) → performed_by core (pairs cores ids) ≡ map (λ i. get_or (of_core cores core) i (Stored 0 0)) (indices core ids)
+by_indices : (cores : List (List Operation)) (core : ℕ) (ids : List OpId) → performed_by core (pairs cores ids) ≡ map (λ i. get_or (own_operations cores core) i (Stored 0 0)) (indices core ids)
 by_indices cores core [] = refl
 by_indices cores core (id ∷ ids) = let later = by_indices cores core ids in grind (arith, nat_tests)
 
 -- ids in turn have just the operations of each core
-of_each : (cores : List (List Operation)) (order : List OpId) → InTurn (number_of cores) order → (core : ℕ) → performed_by core (pairs cores order) ≡ of_core cores core
+of_each : (cores : List (List Operation)) (order : List OpId) → InTurn (number_of cores) order → (core : ℕ) → performed_by core (pairs cores order) ≡ own_operations cores core
 of_each cores order turn core =
-    let at = λ (i : ℕ). get_or (of_core cores core) i (Stored 0 0) in
-    by_indices cores core order ∙ ap (map at) (turn core) ∙ sym (fill_by_all at (of_core cores core) (number_of cores core) (Stored 0 0) refl (λ k l. refl))
+    let at = λ (i : ℕ). get_or (own_operations cores core) i (Stored 0 0) in
+    by_indices cores core order ∙ ap (map at) (turn core) ∙ sym (fill_by_all at (own_operations cores core) (number_of cores core) (Stored 0 0) refl (λ k l. refl))
 
 -- ---- the programs
 
-each_conforms : (programs : List (List Instruction)) (cores : List (List Operation)) (core : ℕ) → AllZip Conforms programs cores → core < length programs → Conforms (get_or programs core []) (of_core cores core)
+each_conforms : (programs : List (List Instruction)) (cores : List (List Operation)) (core : ℕ) → AllZip Conforms programs cores → core < length programs → Conforms (get_or programs core []) (own_operations cores core)
 each_conforms [] cores core h l = absurd (omega arith)
 each_conforms (p ∷ ps) [] core h l = absurd h
 each_conforms (p ∷ ps) (ops ∷ cores) zero h l = h.0

@@ -1,15 +1,12 @@
 pub mod Bridge
 pub mod CoreFacts
 pub mod EntryLogs
-pub mod Flat
 pub mod FlatAnswers
 pub mod FlatRuns
 pub mod Lists
 pub mod OneAnswer
 pub mod Paths
 pub mod ProgramOrder
-pub mod Replaying
 pub mod SerialOrder
 pub mod Soundness
 pub mod Told
-pub mod Turns

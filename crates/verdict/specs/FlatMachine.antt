@@ -1,7 +1,8 @@
 -- The flat machine: one memory of words, all 0 at first, and each core's program at its start.
 use Rattle.std.specs.Prelude.{◌≡◌, ℕ, ◌==◌, if◌then◌else◌, List, [], ◌∷◌, ◌++◌, Some, None, slice_get, slice_set, map, unwrap_or, length}
 use Rattle.std.specs.List.{filter_map}
-use Rattle.mem_op.specs.Consistency.{Operation, Loaded, Stored, Swapped}
+use Rattle.mem_op.specs.Consistency.{Operation}
+use Rattle.flat_replay.specs.Memory.{IsAnsweredBy, after}
 use Rattle.core_program.specs.declared.instruction.Instruction.{Instruction}
 use Rattle.core_program.specs.State.{State, start}
 use Rattle.core_program.specs.Meaning.{Path}
@@ -13,18 +14,6 @@ pub record Flat : Type 0 where
 
 abbrev pub flat_start : List (List Instruction) → Flat
 flat_start programs = record { memory = λ addr. 0; states = map (λ program. start) programs }
-
--- a load answers the word of its address, and so does a swap by what it reads
-abbrev pub IsAnsweredBy : (ℕ → ℕ) → Operation → Type 0
-IsAnsweredBy memory (Loaded addr value) = value ≡ memory addr
-IsAnsweredBy memory (Stored addr value) = Unit {0}
-IsAnsweredBy memory (Swapped addr read stored) = read ≡ memory addr
-
--- a store writes the word of its address, and so does a swap
-abbrev pub after : Operation → (ℕ → ℕ) → ℕ → ℕ
-after (Loaded a value) memory addr = memory addr
-after (Stored a value) memory addr = if a == addr then value else memory addr
-after (Swapped a read stored) memory addr = if a == addr then stored else memory addr
 
 -- `FlatRun programs run done flat`: each core of the run, in its order, performs its next memory instruction;
 -- `done` has each operation with its core.

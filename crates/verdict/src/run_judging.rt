@@ -62,7 +62,8 @@ pub fn judge_run<R: Threads + Sync, S: ByteSource, G: Gate + Sync>(
     ensures flat { (texts : List (List ℕ)) × TellEach S.remaining readers.old texts
         × IfOk result (λ verdict. IsYes verdict → SpellFlatRun programs.now.programs texts) }
 {
-    let _cores = programs.len();
+    // The set tells with its length that its programs are programs.
+    programs.len();
     match examine(rt, alloc, Some(programs), readers, workers, gate) {
         Ok(examined) => Ok(examined.verdict),
         Err(fault) => Err(fault),

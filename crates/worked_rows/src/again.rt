@@ -5,10 +5,9 @@ ghost use Rattle.std.specs.Prelude.{◌<◌};
 use super::call::{Done, Outputs, SOUND, call};
 use super::compare::{Expected, compare};
 use super::fault::RowsFault;
-use super::file::{File, find};
-use super::shelf::Given;
 use super::words::{have, have_word, other_call, texts_of};
 use log_file::Step;
+use memory_folder::{File, Given, find};
 use std::alloc::Global;
 use std::sync::Wait;
 use std::thread::Threads;
@@ -205,11 +204,11 @@ impl<'a, R: Threads + Wait + Sync + Print> Again<'a, R> {
         let mut names = Vec::new(alloc);
         let mut files = Vec::new(alloc);
         if let Some(file) = find(self.given.files, programs) {
-            files.push(file.copy(alloc)?)?;
+            files.push(copied(alloc, file)?)?;
         }
         for file in &done.put {
             names.push(String::from_str(alloc, file.name.as_str())?)?;
-            files.push(file.copy(alloc)?)?;
+            files.push(copied(alloc, file)?)?;
         }
         let names = texts_of(alloc, names.as_slice())?;
         let mut words = Vec::new(alloc);
@@ -333,6 +332,11 @@ fn told_of_beginning(alloc: Global, file: usize, beginning: &[u8]) -> Result<Str
     Ok(format!(in alloc; "refused: file {file} line {line}: 26 Truncated\n")?)
 }
 
+/// A file of the same name and bytes.
+fn copied(alloc: Global, file: &File) -> Result<File, RowsFault> {
+    Ok(File::new(alloc, file.name.as_str(), file.bytes.as_slice())?)
+}
+
 /// The files, one of them cut off after so many bytes.
 fn with_beginning(
     alloc: Global,
@@ -342,7 +346,7 @@ fn with_beginning(
 ) -> Result<Vec<File>, RowsFault> {
     let mut all = Vec::new(alloc);
     for file in files {
-        let mut copy = file.copy(alloc)?;
+        let mut copy = copied(alloc, file)?;
         if copy.name.as_str() == name {
             copy.bytes.truncate(length);
         }

@@ -1,10 +1,15 @@
 //! One call of the program.
 
+ghost use Rattle.std.specs.Prelude.{◌≡◌, [], IfOk};
+ghost use Rattle.command_line.specs.Asking.{texts};
+ghost use Rattle.memory_folder.specs.Files.{told_of};
+ghost use Rattle.memory_folder.specs.Held.{files_held};
+ghost use Rattle.tardis_command.specs.Endings.{AreConsistent, AskFor};
+
 use super::fault::{RowsFault, text_of};
-use super::file::File;
-use super::shelf::{Given, Shelf};
 use super::watch::Counting;
 use log_file::{MemSink, Step};
+use memory_folder::{File, Given, MemoryFolder};
 use std::alloc::Global;
 use std::sync::Wait;
 use std::thread::Threads;
@@ -38,6 +43,23 @@ pub(crate) struct Done {
     pub(crate) seen: (u64, u64),
 }
 
+/// Calls the program over a folder in memory. Where a verdict was asked for and the answer is 0, the files of the folder
+/// spell a set of logs whose operations are sequentially consistent.
+fn call_over<R: Threads + Wait + Sync>(
+    rt: &R,
+    alloc: Global,
+    words: &[&str],
+    watch: &Counting,
+    folder: &mut MemoryFolder<'_>,
+    out: &mut MemSink<'_>,
+    err: &mut MemSink<'_>,
+) -> u8
+    ensures sound { result ≡ 0 → AskFor (texts words.entry.now)
+        (AreConsistent (files_held folder.old).told) }
+{
+    command(rt, alloc, words, watch, folder, out, err)
+}
+
 /// Calls the program.
 pub(crate) fn call<R: Threads + Wait + Sync>(
     rt: &R,
@@ -45,12 +67,15 @@ pub(crate) fn call<R: Threads + Wait + Sync>(
     words: &[&str],
     given: Given<'_>,
     outputs: Outputs<'_>,
-) -> Result<Done, RowsFault> {
-    let mut folder = Shelf::new(alloc, given);
+) -> Result<Done, RowsFault>
+    ensures sound { IfOk result (λ done. done.status ≡ 0 → AskFor (texts words.entry.now)
+        (AreConsistent (told_of given.entry.files.now []))) }
+{
+    let mut folder = MemoryFolder::new(alloc, given);
     let mut out = MemSink::new(alloc, outputs.writes);
     let mut err = MemSink::new(alloc, outputs.complaints);
     let watch = Counting::new();
-    let status = command(rt, alloc, words, &watch, &mut folder, &mut out, &mut err);
+    let status = call_over(rt, alloc, words, &watch, &mut folder, &mut out, &mut err);
     Ok(Done {
         status,
         printed: text_of(Vec::from_slice(alloc, out.bytes())?)?,

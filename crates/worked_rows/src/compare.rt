@@ -2,7 +2,7 @@
 
 use super::call::Done;
 use super::fault::RowsFault;
-use super::file::File;
+use memory_folder::File;
 
 /// What a call should do.
 #[derive(Clone, Copy)]

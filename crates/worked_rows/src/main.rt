@@ -7,11 +7,9 @@ mod again;
 mod call;
 mod compare;
 mod fault;
-mod file;
 mod lines;
 mod replay;
 mod row;
-mod shelf;
 mod watch;
 mod words;
 

@@ -1,8 +1,8 @@
 //! A row, as far as it is read.
 
 use super::fault::{RowsFault, text_of};
-use super::file::File;
 use super::lines::Line;
+use memory_folder::File;
 use std::alloc::Global;
 
 /// How many files a folder takes where nothing is said of it.
@@ -59,7 +59,7 @@ impl Row {
     /// Begins a file.
     fn begin(&mut self, name: &str) -> Result<(), RowsFault> {
         self.begun = self.files.len();
-        self.files.push(File::new(self.alloc, name)?)?;
+        self.files.push(File::new(self.alloc, name, &[])?)?;
         Ok(())
     }
 
@@ -68,7 +68,7 @@ impl Row {
         self.begun = self.files.len();
         for number in 0..count {
             let name = format!(in self.alloc; "{number}")?;
-            self.files.push(File::new(self.alloc, name.as_str())?)?;
+            self.files.push(File::new(self.alloc, name.as_str(), &[])?)?;
         }
         Ok(())
     }
@@ -107,7 +107,7 @@ impl Row {
     /// Puts so many lines to the end of the files.
     fn write_lines(&mut self, count: u64, text: &str) -> Result<(), RowsFault> {
         for number in 0..count {
-            let mut line = File::new(self.alloc, "")?;
+            let mut line = File::new(self.alloc, "", &[])?;
             write_numbered(self.alloc, &mut line, text, number)?;
             line.bytes.push(b'\n')?;
             let line = text_of(line.bytes)?;
@@ -151,7 +151,7 @@ impl Row {
             Line::Told(text) => write!(self.call()?.told, "{text}\n")?,
             Line::Status(status) => self.call()?.status = status,
             Line::Put(name) => {
-                let file = File::new(self.alloc, name)?;
+                let file = File::new(self.alloc, name, &[])?;
                 self.call()?.put.push(file)?;
             }
         }

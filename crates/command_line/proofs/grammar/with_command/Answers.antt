@@ -8,5 +8,5 @@ use Rattle.command_line.proofs.grammar.with_command.Goals as goal
 pub returns : goal.returns
 returns c =
     let plain = IfOk-at_ok (λ (more : Command). (app_of more).top.is_plain ≡ true) c.in_ok-subcommand.was c.requires in
-    adds_made c.subcommand.result c.args.subcommand c.in_ok-subcommand.field-0 (app_of c.args.command) c.in_ok-subcommand.was
+    adds_made c.subcommand.result c.args.command c.args.subcommand c.in_ok-command.field-0 c.in_ok-subcommand.field-0 c.in_ok-command.was c.in_ok-subcommand.was
     (IfOk-weaker c.subcommand.result _ _ (λ made added. added.shape (no_globals c.in_ok-subcommand.field-0 plain)) c.subcommand.ensures)

@@ -1,15 +1,7 @@
-use Rattle.std.proofs.Common.{◌∙◌, ap}
-use Rattle.std.specs.Prelude.{codes}
-use Rattle.clap.specs.Words.{App, with_rule}
-use Rattle.command_line.specs.Grammar.{number_option}
+use Rattle.std.proofs.Common.{refl}
 use Rattle.command_line.proofs.Local.{made_of}
 use Rattle.command_line.proofs.grammar.with_limits.Goals as goal
 
 pub returns : goal.returns
-returns c =
-    let one = c.in_ok-command.ensures in
-    let two = c.in_ok-command-2.ensures ∙ ap (λ (app : App). with_rule app (number_option (codes "lease"))) one in
-    let three = c.in_ok-command-3.ensures ∙ ap (λ (app : App). with_rule app (number_option (codes "period"))) two in
-    let four = c.in_ok-command-4.ensures ∙ ap (λ (app : App). with_rule app (number_option (codes "cache"))) three in
-    let five = c.in_ok-command-5.ensures ∙ ap (λ (app : App). with_rule app (number_option (codes "slice-lines"))) four in
-    made_of c.with_number-6.result _ _ (ap (λ (app : App). with_rule app (number_option (codes "inbox"))) five) c.with_number-6.ensures
+returns c = made_of c.with_arguments.result _ _
+    (rw (c.number.ensures, c.number-2.ensures, c.number-3.ensures, c.number-4.ensures, c.number-5.ensures, c.number-6.ensures) refl) c.with_arguments.ensures

@@ -1,5 +1,5 @@
 -- What stands at an id among the entries of its log, by the state that the records before it lead to.
-use Rattle.std.proofs.Common.{rules, ◌≡◌, ◌∙◌, ◌+◌, ap, refl, subst, sym, map, take, slice_get}
+use Rattle.std.proofs.Common.{rules, ◌≡◌, ◌∙◌, ◌+◌, ap, refl, sym, map, take, slice_get}
 use Rattle.std.specs.Prelude.{IfSome}
 use Rattle.std.specs.List.{take-map}
 use Rattle.core_program.specs.Answers.{line_in_set}

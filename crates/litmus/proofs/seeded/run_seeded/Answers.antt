@@ -1,4 +1,5 @@
-use Rattle.std.proofs.Common.{rules, ◌≡◌, Err}
+use Rattle.std.proofs.Common.{rules, ◌≡◌, ◌≤◌, Err, List, length, subst}
+use Rattle.core_program.specs.declared.instruction.Instruction.{Instruction}
 use Rattle.core_machine.specs.Parts.{CoreParts, world}
 use Rattle.litmus.specs.Runs.{IsSeededEnd, IsSeededRun, IsUnsimulated}
 use Rattle.litmus.proofs.Judged.{judged_end}
@@ -8,7 +9,8 @@ use Rattle.litmus.proofs.seeded.run_seeded.Goals as goal
 pub returns-in_err-machine-clause-yes : goal.returns-in_err-machine-clause-yes
 returns-in_err-machine-clause-yes g c =
     let is : c.from_residual.result ≡ Err c.in_err-machine.field-0.0 = search rules in
-    rw is (seeded_cause_is_no_no c.args.test.now c.args.config.now c.args.seed c.has_few.ensures c.in_err-machine.field-0.0 c.in_err-machine.ensures)
+    let few = subst (λ (ps : List (List Instruction)). length ps ≤ 64) c.programs.ensures.programs c.len.ensures.in_range.1 in
+    rw is (seeded_cause_is_no_no c.args.test.now c.args.config.now c.args.seed few c.in_err-machine.field-0.0 c.in_err-machine.ensures)
 
 pub returns-clause-run : goal.returns-clause-run
 returns-clause-run g c =
@@ -19,6 +21,7 @@ returns-clause-run g c =
 pub returns-clause-yes : goal.returns-clause-yes
 returns-clause-yes g c =
     let t = c.args.test.now in
-    seeded_never_no t c.args.config.now c.args.seed c.has_few.ensures c.judged_outcome.result (λ o. IsSeededEnd t c.args.config.now c.args.seed o.items)
+    let few = subst (λ (ps : List (List Instruction)). length ps ≤ 64) c.programs.ensures.programs c.len.ensures.in_range.1 in
+    seeded_never_no t c.args.config.now c.args.seed few c.judged_outcome.result (λ o. IsSeededEnd t c.args.config.now c.args.seed o.items)
     (judged_end CoreParts (IsSeededRun t c.args.config.now c.args.seed) (IsUnsimulated t c.args.config.now c.args.seed) world t c.in_ok-machine.machine
     c.judged_outcome.result c.in_ok-machine.ensures c.judged_outcome.ensures)

@@ -9,19 +9,19 @@ returns-in-Err-Usage-clause-ends g c =
     let words = texts c.args.words.now in (
       Misused c.as_str.result.now,
       refl,
-      ends_misused _ _ words _ _ _ _
+      ends_misused _ _ _ words _ _ _ _
           (subst (IsRefusalOf words) c.in-Err-Usage.field-0-is c.in-Err-Usage.ensures.usage) c.tell.ensures,
     )
 
 pub returns-in-Err-OutOfMemory-clause-ends : goal.returns-in-Err-OutOfMemory-clause-ends
 returns-in-Err-OutOfMemory-clause-ends g c =
     let (told, which, takes, status) = c.refuse.ensures in
-    ends_unread _ _ _ _ _ told _ _ which takes status
+    ends_unread _ _ _ _ _ _ told _ _ which takes status
 
 pub returns-in-Ok-perform-clause-ends : goal.returns-in-Ok-perform-clause-ends
 returns-in-Ok-perform-clause-ends g c =
     let (ending, answered, done) = c.in-Ok-perform.ensures.exact in
-    ends_answered _ _ _ _ _ c.in-Ok.request ending _ _ c.in-Ok-perform.answer _ c.in-Ok.ensures.request answered done c.tell_answer.ensures.told c.tell_answer.ensures.status
+    ends_answered _ _ _ _ _ _ c.in-Ok.request ending _ _ c.in-Ok-perform.answer _ c.in-Ok.ensures.request answered done c.tell_answer.ensures.told c.tell_answer.ensures.status
 
 pub returns-in-Ok-perform-clause-sound : goal.returns-in-Ok-perform-clause-sound
 returns-in-Ok-perform-clause-sound g c zero =
@@ -43,7 +43,7 @@ pub returns-clause-ends : goal.returns-clause-ends
 returns-clause-ends g c =
     let (told, which, takes, status) = c.refuse-in-Err.ensures in
     let (ending, answered, done) = c.in-Err.ensures.exact in
-    ends_refused _ _ _ _ _ c.in-Ok.request ending c.in-Err.fault told _ _ _ c.in-Ok.ensures.request answered done which takes status
+    ends_refused _ _ _ _ _ _ c.in-Ok.request ending c.in-Err.fault told _ _ _ c.in-Ok.ensures.request answered done which takes status
 
 pub returns-in-Ok-perform-clause-files : goal.returns-in-Ok-perform-clause-files
 returns-in-Ok-perform-clause-files g c name none =

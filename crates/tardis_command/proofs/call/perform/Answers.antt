@@ -1,41 +1,46 @@
 use Rattle.std.proofs.Common.{rules, ◌≡◌, refl, Ok, Err}
 use Rattle.command_line.specs.declared.request.Request.TheVariants as request
 use Rattle.tardis_command.specs.Answers.{answer_status}
-use Rattle.tardis_command.proofs.Leaving.{run_leaves, sim_leaves, whatever}
-use Rattle.tardis_command.proofs.Ends.{printed, printed_yes, refused_at_once}
+use Rattle.run_commands.proofs.Leaving.{run_leaves, sim_leaves}
+use Rattle.tardis_command.proofs.Ends.{keeps_told_of, printed, printed_yes, refused_at_once, whatever}
 use Rattle.tardis_command.specs.Endings.{Answered, Refused, sink_of}
-use Rattle.tardis_command.specs.Files.{files_of}
+use Rattle.call_devices.specs.Files.{IsUnread}
 use Rattle.tardis_command.specs.declared.answer.Answer.TheVariants.{Judged, Ordered, Explained, Counted, Done}
+use Rattle.tardis_command.specs.declared.fault.CommandFault.TheVariants.{Judging, Running}
 use Rattle.tardis_command.proofs.call.perform.Goals as goal
 
 pub returns-in_err-verdict-in-Check-clause-exact : goal.returns-in_err-verdict-in-Check-clause-exact
 returns-in_err-verdict-in-Check-clause-exact g c =
-    let files = files_of g.F.Folder.told g.F.Folder.failed in
-    let is : c.from_residual.result ≡ Err c.in_err-verdict-in-Check.field-0.0 = search rules in
-    rw c.in-Check.is (refused_at_once (files c.args.folder.now) (files c.args.folder.now) (request.Check c.in-Check.asked) _ c.in_err-verdict-in-Check.field-0.0 _ is c.in_err-verdict-in-Check.ensures.exact)
+    let files = g.F.Folder.files in
+    let unread = IsUnread g.F.Source.ByteSource.remaining g.F.Source.ByteSource.failed in
+    let is : c.from_residual.result ≡ Err (Judging c.in_err-verdict-in-Check.field-0.0) = search rules in
+    rw c.in-Check.is (refused_at_once (files c.args.folder.now) (files c.check.new.folder) (unread (files c.args.folder.now) (files c.check.new.folder)) (request.Check c.in-Check.asked) _ (Judging c.in_err-verdict-in-Check.field-0.0) _ is c.in_err-verdict-in-Check.ensures.exact)
 
 pub returns-in_err-order-in-Order-clause-exact : goal.returns-in_err-order-in-Order-clause-exact
 returns-in_err-order-in-Order-clause-exact g c =
-    let is : c.from_residual-in_err-order-in-Order.result ≡ Err c.in_err-order-in-Order.field-0.0 = search rules in
-    rw c.in-Order.is (Refused c.in_err-order-in-Order.field-0.0, is, c.in_err-order-in-Order.ensures.exact)
+    let is : c.from_residual-in_err-order-in-Order.result ≡ Err (Judging c.in_err-order-in-Order.field-0.0) = search rules in
+    rw c.in-Order.is (Refused (Judging c.in_err-order-in-Order.field-0.0), is, c.in_err-order-in-Order.ensures.exact)
 
 pub returns-in_err-operations-in-Sim-clause-exact : goal.returns-in_err-operations-in-Sim-clause-exact
 returns-in_err-operations-in-Sim-clause-exact g c =
-    let files = files_of g.F.Folder.told g.F.Folder.failed in
-    let is : c.from_residual-in_err-operations-in-Sim.result ≡ Err c.in_err-operations-in-Sim.field-0.0 = search rules in
-    rw c.in-Sim.is (refused_at_once (files c.args.folder.now) (files c.sim.new.folder) (request.Sim c.in-Sim.asked) _ c.in_err-operations-in-Sim.field-0.0 _ is c.in_err-operations-in-Sim.ensures.exact)
+    let files = g.F.Folder.files in
+    let unread = IsUnread g.F.Source.ByteSource.remaining g.F.Source.ByteSource.failed in
+    let is : c.from_residual-in_err-operations-in-Sim.result ≡ Err (Running c.in_err-operations-in-Sim.field-0.0) = search rules in
+    rw c.in-Sim.is (refused_at_once (files c.args.folder.now) (files c.sim.new.folder) (unread (files c.args.folder.now) (files c.sim.new.folder)) (request.Sim c.in-Sim.asked) _ (Running c.in_err-operations-in-Sim.field-0.0) _ is c.in_err-operations-in-Sim.ensures.exact)
 
 pub returns-in_err-operations-in-Run-clause-exact : goal.returns-in_err-operations-in-Run-clause-exact
 returns-in_err-operations-in-Run-clause-exact g c =
-    let files = files_of g.F.Folder.told g.F.Folder.failed in
-    let is : c.from_residual-in_err-operations-in-Run.result ≡ Err c.in_err-operations-in-Run.field-0.0 = search rules in
-    rw c.in-Run.is (refused_at_once (files c.args.folder.now) (files c.run.new.folder) (request.Run c.in-Run.asked) _ c.in_err-operations-in-Run.field-0.0 _ is c.in_err-operations-in-Run.ensures.exact)
+    let files = g.F.Folder.files in
+    let unread = IsUnread g.F.Source.ByteSource.remaining g.F.Source.ByteSource.failed in
+    let is : c.from_residual-in_err-operations-in-Run.result ≡ Err (Running c.in_err-operations-in-Run.field-0.0) = search rules in
+    rw c.in-Run.is (refused_at_once (files c.args.folder.now) (files c.run.new.folder) (unread (files c.args.folder.now) (files c.run.new.folder)) (request.Run c.in-Run.asked) _ (Running c.in_err-operations-in-Run.field-0.0) _ is c.in_err-operations-in-Run.ensures.exact)
 
 pub returns-in_ok-verdict-in-Check-clause-exact : goal.returns-in_ok-verdict-in-Check-clause-exact
 returns-in_ok-verdict-in-Check-clause-exact g c =
-    let files = files_of g.F.Folder.told g.F.Folder.failed in
+    let files = g.F.Folder.files in
+    let unread = IsUnread g.F.Source.ByteSource.remaining g.F.Source.ByteSource.failed in
     let sink = sink_of g.O.ByteSink.contents g.O.ByteSink.failed in
-    rw c.in-Check.is (printed (files c.args.folder.now) (files c.args.folder.now) (request.Check c.in-Check.asked) (Judged c.in_ok-verdict-in-Check.verdict) (sink c.args.out.now) (sink c.print_answer.new.out)
+    rw c.in-Check.is (printed (files c.args.folder.now) (files c.check.new.folder) (unread (files c.args.folder.now) (files c.check.new.folder)) (request.Check c.in-Check.asked) (Judged c.in_ok-verdict-in-Check.verdict) (sink c.args.out.now) (sink c.print_answer.new.out)
     c.in_ok-verdict-in-Check.ensures.exact tt c.print_answer.result c.print_answer.ensures.ok c.print_answer.ensures.printed c.print_answer.ensures.err)
 
 pub returns-in_ok-verdict-in-Check-clause-sound : goal.returns-in_ok-verdict-in-Check-clause-sound
@@ -51,43 +56,47 @@ returns-in_ok-order-in-Order-clause-exact g c = rw c.in-Order.is (Answered (Orde
 
 pub returns-in_ok-operations-in-Sim-clause-exact : goal.returns-in_ok-operations-in-Sim-clause-exact
 returns-in_ok-operations-in-Sim-clause-exact g c =
-    let files = files_of g.F.Folder.told g.F.Folder.failed in
+    let files = g.F.Folder.files in
+    let unread = IsUnread g.F.Source.ByteSource.remaining g.F.Source.ByteSource.failed in
     let sink = sink_of g.O.ByteSink.contents g.O.ByteSink.failed in
-    rw c.in-Sim.is (printed (files c.args.folder.now) (files c.sim.new.folder) (request.Sim c.in-Sim.asked) (Done c.in_ok-operations-in-Sim.operations) (sink c.args.out.now) (sink c.print_answer-in-Sim.new.out)
+    rw c.in-Sim.is (printed (files c.args.folder.now) (files c.sim.new.folder) (unread (files c.args.folder.now) (files c.sim.new.folder)) (request.Sim c.in-Sim.asked) (Done c.in_ok-operations-in-Sim.operations) (sink c.args.out.now) (sink c.print_answer-in-Sim.new.out)
     c.in_ok-operations-in-Sim.ensures.exact tt c.print_answer-in-Sim.result c.print_answer-in-Sim.ensures.ok c.print_answer-in-Sim.ensures.printed c.print_answer-in-Sim.ensures.err)
 
 pub returns-in_ok-operations-in-Run-clause-exact : goal.returns-in_ok-operations-in-Run-clause-exact
 returns-in_ok-operations-in-Run-clause-exact g c =
-    let files = files_of g.F.Folder.told g.F.Folder.failed in
+    let files = g.F.Folder.files in
+    let unread = IsUnread g.F.Source.ByteSource.remaining g.F.Source.ByteSource.failed in
     let sink = sink_of g.O.ByteSink.contents g.O.ByteSink.failed in
-    rw c.in-Run.is (printed (files c.args.folder.now) (files c.run.new.folder) (request.Run c.in-Run.asked) (Done c.in_ok-operations-in-Run.operations) (sink c.args.out.now) (sink c.print_answer-in-Run.new.out)
+    rw c.in-Run.is (printed (files c.args.folder.now) (files c.run.new.folder) (unread (files c.args.folder.now) (files c.run.new.folder)) (request.Run c.in-Run.asked) (Done c.in_ok-operations-in-Run.operations) (sink c.args.out.now) (sink c.print_answer-in-Run.new.out)
     c.in_ok-operations-in-Run.ensures.exact tt c.print_answer-in-Run.result c.print_answer-in-Run.ensures.ok c.print_answer-in-Run.ensures.printed c.print_answer-in-Run.ensures.err)
 
 pub returns-in_err-count_outcomes-in-Litmus-clause-exact : goal.returns-in_err-count_outcomes-in-Litmus-clause-exact
 returns-in_err-count_outcomes-in-Litmus-clause-exact g c =
-    let is : c.from_residual-in_err-count_outcomes-in-Litmus.result ≡ Err c.in_err-count_outcomes-in-Litmus.field-0.0 = search rules in
-    rw c.in-Litmus.is (Refused c.in_err-count_outcomes-in-Litmus.field-0.0, is, c.in_err-count_outcomes-in-Litmus.ensures)
+    let is : c.from_residual-in_err-count_outcomes-in-Litmus.result ≡ Err (Running c.in_err-count_outcomes-in-Litmus.field-0.0) = search rules in
+    rw c.in-Litmus.is (Refused (Running c.in_err-count_outcomes-in-Litmus.field-0.0), is, c.in_err-count_outcomes-in-Litmus.ensures.exact)
 
 pub returns-in_ok-count_outcomes-in-Litmus-clause-exact : goal.returns-in_ok-count_outcomes-in-Litmus-clause-exact
 returns-in_ok-count_outcomes-in-Litmus-clause-exact g c =
-    rw c.in-Litmus.is (Answered (Counted c.in_ok-count_outcomes-in-Litmus.field-0), refl, c.in_ok-count_outcomes-in-Litmus.ensures)
+    rw c.in-Litmus.is (Answered (Counted c.in_ok-count_outcomes-in-Litmus.field-0), refl, c.in_ok-count_outcomes-in-Litmus.ensures.exact)
 
 pub returns-in_ok-operations-in-Sim-clause-yes : goal.returns-in_ok-operations-in-Sim-clause-yes
 returns-in_ok-operations-in-Sim-clause-yes g c =
-    let files = files_of g.F.Folder.told g.F.Folder.failed in
+    let files = g.F.Folder.files in
+    let unread = IsUnread g.F.Source.ByteSource.remaining g.F.Source.ByteSource.failed in
     rw c.in-Sim.is (whatever (λ answer. answer_status answer ≡ 0) _ c.print_answer-in-Sim.result
-    (sim_leaves (files c.args.folder.now) (files c.sim.new.folder) c.in-Sim.asked c.in_ok-operations-in-Sim.operations c.in_ok-operations-in-Sim.ensures.exact))
+    (sim_leaves (files c.args.folder.now) (files c.sim.new.folder) (unread (files c.args.folder.now) (files c.sim.new.folder)) c.in-Sim.asked c.in_ok-operations-in-Sim.operations c.in_ok-operations-in-Sim.ensures.exact))
 
 pub returns-in_ok-operations-in-Run-clause-yes : goal.returns-in_ok-operations-in-Run-clause-yes
 returns-in_ok-operations-in-Run-clause-yes g c =
-    let files = files_of g.F.Folder.told g.F.Folder.failed in
+    let files = g.F.Folder.files in
+    let unread = IsUnread g.F.Source.ByteSource.remaining g.F.Source.ByteSource.failed in
     rw c.in-Run.is (whatever (λ answer. answer_status answer ≡ 0) _ c.print_answer-in-Run.result
-    (run_leaves (files c.args.folder.now) (files c.run.new.folder) c.in-Run.asked c.in_ok-operations-in-Run.operations c.in_ok-operations-in-Run.ensures.exact))
+    (run_leaves (files c.args.folder.now) (files c.run.new.folder) (unread (files c.args.folder.now) (files c.run.new.folder)) c.in-Run.asked c.in_ok-operations-in-Run.operations c.in_ok-operations-in-Run.ensures.exact))
 
 pub returns-in_err-explain-in-Explain-clause-exact : goal.returns-in_err-explain-in-Explain-clause-exact
 returns-in_err-explain-in-Explain-clause-exact g c =
-    let is : c.from_residual-in_err-explain-in-Explain.result ≡ Err c.in_err-explain-in-Explain.field-0.0 = search rules in
-    rw c.in-Explain.is (Refused c.in_err-explain-in-Explain.field-0.0, is, c.in_err-explain-in-Explain.ensures.exact)
+    let is : c.from_residual-in_err-explain-in-Explain.result ≡ Err (Judging c.in_err-explain-in-Explain.field-0.0) = search rules in
+    rw c.in-Explain.is (Refused (Judging c.in_err-explain-in-Explain.field-0.0), is, c.in_err-explain-in-Explain.ensures.exact)
 
 pub returns-in_ok-explain-in-Explain-clause-exact : goal.returns-in_ok-explain-in-Explain-clause-exact
 returns-in_ok-explain-in-Explain-clause-exact g c =
@@ -95,13 +104,33 @@ returns-in_ok-explain-in-Explain-clause-exact g c =
 
 pub returns-in_err-operations-in-Upgrade-clause-exact : goal.returns-in_err-operations-in-Upgrade-clause-exact
 returns-in_err-operations-in-Upgrade-clause-exact g c =
-    let files = files_of g.F.Folder.told g.F.Folder.failed in
-    let is : c.from_residual-in_err-operations-in-Upgrade.result ≡ Err c.in_err-operations-in-Upgrade.field-0.0 = search rules in
-    rw c.in-Upgrade.is (refused_at_once (files c.args.folder.now) (files c.upgrade.new.folder) (request.Upgrade c.in-Upgrade.asked) _ c.in_err-operations-in-Upgrade.field-0.0 _ is c.in_err-operations-in-Upgrade.ensures.exact)
+    let files = g.F.Folder.files in
+    let unread = IsUnread g.F.Source.ByteSource.remaining g.F.Source.ByteSource.failed in
+    let is : c.from_residual-in_err-operations-in-Upgrade.result ≡ Err (Judging c.in_err-operations-in-Upgrade.field-0.0) = search rules in
+    rw c.in-Upgrade.is (refused_at_once (files c.args.folder.now) (files c.upgrade.new.folder) (unread (files c.args.folder.now) (files c.upgrade.new.folder)) (request.Upgrade c.in-Upgrade.asked) _ (Judging c.in_err-operations-in-Upgrade.field-0.0) _ is c.in_err-operations-in-Upgrade.ensures.exact)
 
 pub returns-in_ok-operations-in-Upgrade-clause-exact : goal.returns-in_ok-operations-in-Upgrade-clause-exact
 returns-in_ok-operations-in-Upgrade-clause-exact g c =
-    let files = files_of g.F.Folder.told g.F.Folder.failed in
+    let files = g.F.Folder.files in
+    let unread = IsUnread g.F.Source.ByteSource.remaining g.F.Source.ByteSource.failed in
     let sink = sink_of g.O.ByteSink.contents g.O.ByteSink.failed in
-    rw c.in-Upgrade.is (printed (files c.args.folder.now) (files c.upgrade.new.folder) (request.Upgrade c.in-Upgrade.asked) (Done c.in_ok-operations-in-Upgrade.operations) (sink c.args.out.now) (sink c.print_answer-in-Upgrade.new.out)
+    rw c.in-Upgrade.is (printed (files c.args.folder.now) (files c.upgrade.new.folder) (unread (files c.args.folder.now) (files c.upgrade.new.folder)) (request.Upgrade c.in-Upgrade.asked) (Done c.in_ok-operations-in-Upgrade.operations) (sink c.args.out.now) (sink c.print_answer-in-Upgrade.new.out)
     c.in_ok-operations-in-Upgrade.ensures.exact tt c.print_answer-in-Upgrade.result c.print_answer-in-Upgrade.ensures.ok c.print_answer-in-Upgrade.ensures.printed c.print_answer-in-Upgrade.ensures.err)
+
+pub returns-in_err-verdict-in-Check-clause-files : goal.returns-in_err-verdict-in-Check-clause-files
+returns-in_err-verdict-in-Check-clause-files g c = keeps_told_of _ _ _ c.in_err-verdict-in-Check.ensures.read
+
+pub returns-in_ok-verdict-in-Check-clause-files : goal.returns-in_ok-verdict-in-Check-clause-files
+returns-in_ok-verdict-in-Check-clause-files g c = keeps_told_of _ _ _ c.in_ok-verdict-in-Check.ensures.read
+
+pub returns-in_err-order-in-Order-clause-files : goal.returns-in_err-order-in-Order-clause-files
+returns-in_err-order-in-Order-clause-files g c = keeps_told_of _ _ _ c.in_err-order-in-Order.ensures.read
+
+pub returns-in_ok-order-in-Order-clause-files : goal.returns-in_ok-order-in-Order-clause-files
+returns-in_ok-order-in-Order-clause-files g c = keeps_told_of _ _ _ c.in_ok-order-in-Order.ensures.read
+
+pub returns-in_err-count_outcomes-in-Litmus-clause-files : goal.returns-in_err-count_outcomes-in-Litmus-clause-files
+returns-in_err-count_outcomes-in-Litmus-clause-files g c = keeps_told_of _ _ _ c.in_err-count_outcomes-in-Litmus.ensures.read
+
+pub returns-in_ok-count_outcomes-in-Litmus-clause-files : goal.returns-in_ok-count_outcomes-in-Litmus-clause-files
+returns-in_ok-count_outcomes-in-Litmus-clause-files g c = keeps_told_of _ _ _ c.in_ok-count_outcomes-in-Litmus.ensures.read

@@ -1,0 +1,2 @@
+pub mod Files
+mod Logs

@@ -1,0 +1,6 @@
+pub mod FaultTexts
+pub mod Files
+pub mod Logs
+pub mod Programs
+pub mod Sinks
+pub mod inner

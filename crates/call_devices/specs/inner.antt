@@ -1,0 +1,3 @@
+-- Definitions that serve private contracts alone.
+pub mod Putting
+pub mod Texts

@@ -1,0 +1,226 @@
+//! The picture of an explanation.
+
+ghost use Rattle.std.specs.Prelude.{◌↔◌, IfOk, IfSome, IsSome};
+ghost use Rattle.explain.specs.Pictures.{IsDrawn};
+ghost use Rattle.explanation_picture.specs.Pictures.{IsPicture};
+
+use super::placing::Placing;
+use super::scene::{Scene, scene_of};
+use super::svg::{Svg, TextStyle};
+use explain::{Explanation, ShownId, kind_name, place_of};
+use log_record::Entry;
+use mem_op::{CoreId, OpId};
+use std::alloc::{AllocError, Global};
+
+/// The picture of an explanation, in SVG: a column for each core, downward the operations in the order of their keys,
+/// with an arrow from each to the loads and swaps that name it. None where there is too much to be drawn.
+pub fn draw(
+    alloc: Global,
+    title: &str,
+    explanation: &Explanation,
+) -> Result<Option<Vec<u8>>, AllocError>
+    ensures picture { IfOk result (λ drawn. IfSome drawn (λ svg. IsPicture svg.items)) }
+    ensures drawn { IfOk result (λ drawn. IsSome drawn ↔ IsDrawn explanation.now) }
+{
+    let Some(scene) = scene_of(alloc, explanation)? else {
+        return Ok(None);
+    };
+    Ok(Some(paint(alloc, title, &scene)?))
+}
+
+/// The picture of a scene.
+fn paint(alloc: Global, title: &str, scene: &Scene) -> Result<Vec<u8>, AllocError>
+    ensures { IfOk result (λ svg. IsPicture svg.items) }
+{
+    let notes = notes(alloc, scene.rows.as_slice())?;
+    let texts = texts(alloc, scene)?;
+    let canvas = Canvas {
+        alloc,
+        scene,
+        cores: scene.cores(alloc)?,
+        placing: Placing::new(longest(notes.as_slice()), longest(texts.as_slice())),
+    };
+    canvas.paint(title, notes.as_slice(), texts.as_slice())
+}
+
+/// What is told at the side of each row: its stamp and rank.
+fn notes(alloc: Global, rows: &[Entry]) -> Result<Vec<String>, AllocError> {
+    let mut notes = Vec::new(alloc);
+    for row in rows {
+        let key = row.key();
+        notes.push(format!(in alloc; "stamp {}, rank {}", key.ts.get(), key.rank.get())?)?;
+    }
+    Ok(notes)
+}
+
+/// The texts of the boxes, of which what is due is the last.
+fn texts(alloc: Global, scene: &Scene) -> Result<Vec<String>, AllocError> {
+    let mut texts = Vec::new(alloc);
+    for row in scene.rows.iter() {
+        texts.push(box_text(alloc, row)?)?;
+    }
+    if let Some((_, due)) = &scene.due {
+        texts.push(due.clone()?)?;
+    }
+    Ok(texts)
+}
+
+/// The text of an operation's box.
+fn box_text(alloc: Global, row: &Entry) -> Result<String, AllocError> {
+    format!(in alloc; "{}: {}", ShownId(row.id()), row.logged())
+}
+
+/// How many letters the longest text has.
+fn longest(texts: &[String]) -> usize {
+    let mut longest = 0;
+    for text in texts {
+        longest = text.len().max(longest);
+    }
+    longest
+}
+
+/// A picture that is painted.
+#[derive(Drop)]
+struct Canvas<'a> {
+    alloc: Global,
+    scene: &'a Scene,
+    cores: Vec<CoreId>,
+    placing: Placing,
+}
+
+impl<'a> Canvas<'a> {
+    /// The picture, with these notes and these texts of its boxes.
+    fn paint(&self, title: &str, notes: &[String], texts: &[String]) -> Result<Vec<u8>, AllocError>
+        ensures { IfOk result (λ svg. IsPicture svg.items) }
+    {
+        let (width, height) = self.placing.size(self.cores.len(), texts.len());
+        let mut svg = Svg::new(self.alloc, width, height, title)?;
+        self.parts(&mut svg, notes, texts)?;
+        svg.finish()
+    }
+
+    /// The parts of the picture.
+    fn parts(&self, svg: &mut Svg, notes: &[String], texts: &[String]) -> Result<(), AllocError> {
+        if self.scene.has_swap() {
+            svg.swap_style()?;
+        }
+        self.heads(svg)?;
+        self.notes(svg, notes)?;
+        self.arrows(svg)?;
+        self.right_arrow(svg)?;
+        self.boxes(svg, texts)?;
+        self.due(svg)
+    }
+
+    /// The column of a core.
+    fn column(&self, core: CoreId) -> usize {
+        self.cores
+            .iter()
+            .position(|other| *other == core)
+            .unwrap_or(0)
+    }
+
+    /// The column and the row of an operation.
+    fn place(&self, id: OpId) -> Option<(usize, usize)> {
+        let row = place_of(self.scene.rows.as_slice(), id)?;
+        Some((self.column(id.core), row))
+    }
+
+    /// The names of the columns.
+    fn heads(&self, svg: &mut Svg) -> Result<(), AllocError> {
+        for (column, core) in self.cores.iter().enumerate() {
+            let head = format!(in self.alloc; "core {}", core.get())?;
+            svg.text(TextStyle::Note, self.placing.head(column), head.as_str())?;
+        }
+        Ok(())
+    }
+
+    /// The notes at the side.
+    fn notes(&self, svg: &mut Svg, notes: &[String]) -> Result<(), AllocError> {
+        for (row, note) in notes.iter().enumerate() {
+            svg.text(TextStyle::Note, self.placing.note(row), note.as_str())?;
+        }
+        Ok(())
+    }
+
+    /// An arrow to each load and each swap from the operation that it names.
+    fn arrows(&self, svg: &mut Svg) -> Result<(), AllocError> {
+        for (row, entry) in self.scene.rows.iter().enumerate() {
+            if let Some(source) = self.scene.source_row(entry) {
+                self.source_arrow(svg, source, (self.column(entry.id().core), row))?;
+            }
+        }
+        Ok(())
+    }
+
+    /// An arrow from the operation of a row.
+    fn source_arrow(
+        &self,
+        svg: &mut Svg,
+        source: usize,
+        to: (usize, usize),
+    ) -> Result<(), AllocError> {
+        let Some(entry) = self.scene.rows.get(source) else {
+            return Ok(());
+        };
+        let from = (self.column(entry.id().core), source);
+        svg.arrow(false, self.placing.arrow(from, to, true))
+    }
+
+    /// The arrow from the operation that breaks a rule to the one that it should name.
+    fn right_arrow(&self, svg: &mut Svg) -> Result<(), AllocError> {
+        let (Some(faulty), Some(wanted)) = (self.scene.faulty, self.scene.wanted) else {
+            return Ok(());
+        };
+        let (Some(from), Some(to)) = (self.place(faulty), self.place(wanted)) else {
+            return Ok(());
+        };
+        svg.arrow(true, self.placing.arrow(from, to, false))
+    }
+
+    /// The boxes of the operations.
+    fn boxes(&self, svg: &mut Svg, texts: &[String]) -> Result<(), AllocError> {
+        for (row, entry) in self.scene.rows.iter().enumerate() {
+            let class = if self.scene.faulty == Some(entry.id()) {
+                "wrong"
+            } else {
+                kind_name(entry)
+            };
+            let text = texts.get(row).map_or("", |text| text.as_str());
+            let at = (self.column(entry.id().core), row);
+            self.one_box(svg, class, at, TextStyle::Box, text)?;
+        }
+        Ok(())
+    }
+
+    /// A box with its text.
+    fn one_box(
+        &self,
+        svg: &mut Svg,
+        class: &str,
+        at: (usize, usize),
+        style: TextStyle,
+        text: &str,
+    ) -> Result<(), AllocError> {
+        let (column, row) = at;
+        let placing = &self.placing;
+        svg.frame(
+            class,
+            placing.corner(column, row),
+            placing.wide,
+            placing.high(),
+        )?;
+        svg.text(style, placing.inside(column, row), text)
+    }
+
+    /// The box of what was due.
+    fn due(&self, svg: &mut Svg) -> Result<(), AllocError> {
+        match &self.scene.due {
+            None => Ok(()),
+            Some((core, text)) => {
+                let at = (self.column(*core), self.scene.rows.len());
+                self.one_box(svg, "due", at, TextStyle::Red, text.as_str())
+            }
+        }
+    }
+}

@@ -1,0 +1,98 @@
+-- The pass over an order that counts on for each core and keeps one memory.
+use Rattle.std.specs.Prelude.{◌≡◌, ◌↔◌, ℕ, zero, suc, ◌+◌, ◌<◌, List, [], ◌∷◌, ◌++◌, refl, None, Some, slice_index, slice_set, length, map, take, drop}
+use Rattle.std.specs.List.{filter_map, cons_option, range_with_len}
+use Rattle.std.proofs.Common.{sym, ◌∙◌, ap, subst, inl, get_or}
+use Rattle.std.proofs.lemmas.Grind.{same_number_lists}
+use Rattle.std.proofs.lemmas.List.{length-map, take-append-drop, drop_more}
+use Rattle.std.proofs.lemmas.List.Elements.{filter_map-append}
+use Rattle.std.proofs.lemmas.List.FromFn.{length-range_with_len}
+use Rattle.std.proofs.lemmas.Option.{none-some, slice_get-get_or}
+use Rattle.mem_op.specs.declared.id.OpId.{OpId}
+use Rattle.mem_op.specs.Consistency.{Operation, Loaded, Stored, Swapped, operation_at, last_value, GivesFlatAnswers, IsSequentialOrder}
+use Rattle.line_stamps.proofs.Ordered.{In-append_right}
+use Rattle.flat_replay.specs.Accesses.{own_operations}
+use Rattle.flat_replay.specs.Memory.{IsAnsweredBy, after}
+use Rattle.flat_replay.proofs.Flat.{after_is, flat_at_middle, flat_push}
+use Rattle.flat_replay.proofs.Turns.{InTurn, number_of, at_core, index_below, in_turn, from_turn, is_next, in_turn-more}
+
+abbrev pub done : List (List Operation) → List OpId → List Operation
+done cores ids = filter_map (operation_at cores) ids
+
+-- after these ids: for each core which index comes next, and the memory
+pub record Replayed (cores : List (List Operation)) (ids : List OpId) (next : List ℕ) (memory : ℕ → ℕ) : Type 0 where
+  pub turn : InTurn (slice_index next) ids
+  pub flat : GivesFlatAnswers (done cores ids)
+  pub words : (addr : ℕ) → memory addr ≡ last_value addr (done cores ids)
+
+done-append : (cores : List (List Operation)) (before : List OpId) (id : OpId) (rest : List OpId) (y : Operation) → Some y ≡ operation_at cores id
+    → done cores (before ++ id ∷ rest) ≡ done cores before ++ y ∷ done cores rest
+done-append cores before id rest y there =
+    filter_map-append (operation_at cores) before (id ∷ rest) ∙ ap (λ o. done cores before ++ cons_option o (done cores rest)) (sym there)
+
+-- an operation finds the same in memories that are alike
+answered : (y : Operation) (m n : ℕ → ℕ) → ((addr : ℕ) → m addr ≡ n addr) → IsAnsweredBy m y → IsAnsweredBy n y
+answered (Loaded a v) m n same h = h ∙ same a
+answered (Stored a v) m n same h = tt
+answered (Swapped a r v) m n same h = h ∙ same a
+
+-- before any id
+pub replayed-none : (cores : List (List Operation)) (next : List ℕ) (memory : ℕ → ℕ) → ((k : ℕ) → slice_index next k ≡ 0) → ((addr : ℕ) → memory addr ≡ 0)
+    → Replayed cores [] next memory
+replayed-none cores next memory none zeros = record {
+  turn = λ core. rw (none core) refl;
+  flat = record { loads = λ k addr value e. absurd (none-some _ e); swaps = λ k addr read stored e. absurd (none-some _ e) };
+  words = zeros;
+}
+
+-- an id that is its core's next, and whose operation finds what it may
+pub replayed-more : (cores : List (List Operation)) (ids : List OpId) (next : List ℕ) (m n : ℕ → ℕ) (id : OpId) (y : Operation) → Replayed cores ids next m
+    → Some y ≡ operation_at cores id → id.core < length next → id.index ≡ slice_index next id.core → IsAnsweredBy m y
+    → ((addr : ℕ) → n addr ≡ after y m addr) → Replayed cores (ids ++ id ∷ []) (slice_set next id.core (id.index + 1)) n
+replayed-more cores ids next m n id y h there within is_next answers left = record {
+  turn = in_turn-more next ids id h.turn within is_next;
+  flat = subst GivesFlatAnswers (sym pushed) (flat_push (done cores ids) y h.flat (answered y m (λ addr. last_value addr (done cores ids)) h.words answers));
+  words = λ addr. left addr ∙ after_is y m (done cores ids) addr (h.words addr) ∙ ap (last_value addr) (sym pushed);
+}
+  where
+    pushed : done cores (ids ++ id ∷ []) ≡ done cores ids ++ y ∷ []
+    pushed = done-append cores ids id [] y there
+
+-- what the next id of a sequential order is
+pub record IsNext (cores : List (List Operation)) (next : List ℕ) (memory : ℕ → ℕ) (id : OpId) : Type 0 where
+  pub there : None ≡ operation_at cores id → ⊥
+  pub in_turn : id.index ≡ slice_index next id.core
+  pub answers : (y : Operation) → Some y ≡ operation_at cores id → IsAnsweredBy memory y
+
+pub replayed-next : (cores : List (List Operation)) (order : List OpId) (k : ℕ) (next : List ℕ) (memory : ℕ → ℕ) (id : OpId)
+    → Replayed cores (take k order) next memory → k < length order → id ≡ get_or order k id → IsSequentialOrder cores order → IsNext cores next memory id
+replayed-next cores order k next memory id h l at sequential =
+    by_split (take k order) (drop (k + 1) order) h
+    (subst (IsSequentialOrder cores) (sym (take-append-drop k order) ∙ ap (λ ids. take k order ++ ids) (drop_more order k id l ∙ ap (λ x. x ∷ drop (k + 1) order) (sym at))) sequential)
+  where
+    by_split : (before rest : List OpId) → Replayed cores before next memory → IsSequentialOrder cores (before ++ id ∷ rest) → IsNext cores next memory id
+    by_split before rest h s =
+        let turn = in_turn cores (before ++ id ∷ rest) s.serial s.program in
+        let below = index_below (number_of cores) (before ++ id ∷ rest) id turn (In-append_right id before (id ∷ rest) (inl refl)) in
+        record {
+          there = λ none. none-some (get_or (own_operations cores id.core) id.index (Stored 0 0))
+              (none ∙ at_core cores id ∙ slice_get-get_or (own_operations cores id.core) id.index (Stored 0 0) below);
+          in_turn = is_next (number_of cores) (slice_index next) before rest id turn h.turn;
+          answers = λ y there. answered y (λ addr. last_value addr (done cores before)) memory (λ addr. sym (h.words addr))
+              (flat_at_middle (done cores before) y (done cores rest) (subst GivesFlatAnswers (done-append cores before id rest y there) s.flat));
+        }
+
+-- an order is sequential where at its end all operations of each core are done
+pub replayed-all : (cores : List (List Operation)) (order : List OpId) (next : List ℕ) (memory : ℕ → ℕ) → Replayed cores order next memory
+    → length next ≡ length cores → (next ≡ map length cores) ↔ IsSequentialOrder cores order
+replayed-all cores order next memory h many = (
+  λ all. (let s = from_turn cores order (λ core. h.turn core ∙ ap (λ (ns : List ℕ). range_with_len 0 (slice_index ns core)) all ∙ ap (range_with_len 0) (number_is cores core)) in
+      record { serial = s.0; program = s.1; flat = h.flat }),
+  λ s. same_number_lists next (map length cores) (many ∙ sym (length-map cores length)) (λ core l.
+      sym (length-range_with_len 0 (slice_index next core)) ∙ ap length (sym (h.turn core) ∙ in_turn cores order s.serial s.program core)
+      ∙ length-range_with_len 0 (number_of cores core) ∙ sym (number_is cores core)),
+)
+  where
+    number_is : (cores : List (List Operation)) (core : ℕ) → slice_index (map length cores) core ≡ number_of cores core
+    number_is [] core = refl
+    number_is (operations ∷ cores) zero = refl
+    number_is (operations ∷ cores) (suc core) = number_is cores core

@@ -1,0 +1,3 @@
+pub mod Accesses
+pub mod Memory
+pub mod inner

@@ -1,0 +1,62 @@
+-- What explaining comes to, from what its parts answer.
+use Rattle.std.proofs.Common.{◌≡◌, ap, subst, refl, ℕ, List, length, Option, None, Some, Result, Ok, Err, vec_len, option_copied}
+use Rattle.std.specs.Prelude.{IfOk, IsErrOf, option_map}
+use Rattle.std.specs.Borrow.{Bor}
+use Rattle.command_line.specs.declared.request.Check.{Check}
+use Rattle.log_record.specs.declared.record.Record.{Record}
+use Rattle.core_program.specs.SetParts.{SetParts}
+use Rattle.core_program.specs.declared.instruction.Instruction.{Instruction}
+use Rattle.log_file.specs.Sets.{ReaderFailed}
+use Rattle.verdict.specs.CoreFaultsOf.{given}
+use Rattle.verdict.specs.Counts.{IsInRange, IsOutOfRange}
+use Rattle.verdict.specs.Bases.{IsExaminationOf, IsExaminedBy, verdict_in}
+use Rattle.verdict.specs.Judgement.{SpellFlatRunBy, TellsFailures}
+use Rattle.verdict.specs.VerdictOf.{run_verdict_of, verdict_of}
+use Rattle.verdict.specs.declared.answer.Verdict.{Verdict}
+use Rattle.verdict.specs.declared.basis.Examined.{Examined}
+use Rattle.verdict.specs.declared.judge_fault.Count.TheVariants.{Files as FileCount, Workers, Programs as ProgramCount}
+use Rattle.verdict.specs.declared.judge_fault.JudgeFault.{JudgeFault}
+use Rattle.verdict.specs.declared.judge_fault.JudgeFault.TheVariants.{BadConfig, Read}
+use Rattle.judge_commands.specs.Checking.{AreInRange, AreNotAsMany, AreTextsOf, FilesRunFlatBy, IsAnswerAgainst, IsCheckedAgainst, IsUnreadAt}
+use Rattle.judge_commands.proofs.Checks.{checked}
+
+-- the programs that a reference leads to are those that were read
+pub given_is : (lent : Option (Bor SetParts)) (set : Option SetParts) → option_copied lent ≡ set → given lent ≡ option_map (λ s. s.programs) set
+given_is None set is = ap (λ (o : Option SetParts). option_map (λ s. s.programs) o) is
+given_is (Some lent) set is = ap (λ (o : Option SetParts). option_map (λ s. s.programs) o) is
+
+-- the verdict on the files against these programs
+pub checked_against : (told : List ℕ → Option (List ℕ)) (unread : List ℕ → Type 0) (programs : Option (List (List Instruction))) (asked : Check) (answer : Result Verdict JudgeFault) (texts : List (List ℕ))
+    → AreInRange asked → AreTextsOf told asked.files.items texts → IsAnswerAgainst programs texts answer → length texts ≡ vec_len asked.files
+    → (IsErrOf answer (BadConfig FileCount) → IsOutOfRange (vec_len asked.files))
+    → (IsErrOf answer (BadConfig Workers) → IsInRange (vec_len asked.files) × IsOutOfRange asked.workers)
+    → (IsErrOf answer (BadConfig ProgramCount) → AreNotAsMany (vec_len asked.files) programs)
+    → ((file : ℕ) → answer ≡ Err (Read file) → IsUnreadAt unread asked.files.items file) → IsCheckedAgainst told unread programs asked answer
+checked_against told unread None asked answer texts range tell answers many files workers counted reads =
+    checked told unread None asked verdict_of answer texts (λ a h. h) range tell answers many files workers counted reads
+checked_against told unread (Some programs) asked answer texts range tell answers many files workers counted reads =
+    checked told unread (Some programs) asked (run_verdict_of programs) answer texts (λ a h. h) range tell answers many files workers counted reads
+
+-- a fault of the verdict is one of the examination
+pub err_in : (result : Result Examined JudgeFault) (fault : JudgeFault) → IsErrOf (verdict_in result) fault → IsErrOf result fault
+err_in (Ok examined) fault is = cc
+err_in (Err found) fault is = let same : found ≡ fault = cc in subst (λ (f : JudgeFault). IsErrOf {T = Examined} (Err found) f) same refl
+
+-- and a failed read is that of a reader
+pub reader_failed_in : {S : Type 0} (failed : S → ℕ) (sources later : List S) (result : Result Examined JudgeFault) (file : ℕ) → TellsFailures failed sources later result
+    → verdict_in result ≡ Err (Read file) → ReaderFailed failed sources later file
+reader_failed_in failed sources later (Ok examined) file tells is = cc
+reader_failed_in failed sources later (Err found) file tells is =
+    let same : found ≡ Read file = cc in subst (λ (f : JudgeFault). TellsFailures {T = Examined} failed sources later (Err f)) same tells
+
+-- the texts of the files spell a run of these programs
+pub flat_by : (told : List ℕ → Option (List ℕ)) (asked : Check) (programs : Option (List (List Instruction))) (texts : List (List ℕ)) → AreTextsOf told asked.files.items texts
+    → SpellFlatRunBy programs texts → FilesRunFlatBy told asked programs
+flat_by told asked None texts tell runs = tt
+flat_by told asked (Some programs) texts tell runs = (texts, tell, runs)
+
+-- what is examined is some set
+pub some_set : (programs : Option (List (List Instruction))) (texts : List (List ℕ)) (result : Result Examined JudgeFault) → IsExaminedBy programs texts result
+    → IfOk result (λ examined. (logs : List (List Record)) × IsExaminationOf programs logs examined)
+some_set programs texts (Ok examined) by = (by.0, by.2)
+some_set programs texts (Err fault) by = tt

@@ -1,0 +1,4 @@
+mod Checks
+mod Explained
+mod Orders
+mod Upgrades

@@ -1,0 +1,66 @@
+-- What the explaining of files answers, what standard output took of it and which picture was put. The folder and the sink were `old`
+-- before and are `new` after.
+use Rattle.std.specs.Prelude.{◌≡◌, ◌≢◌, ◌⊎◌, ℕ, List, ◌++◌, Option, None, Some, Result, Ok, Err}
+use Rattle.std.specs.Borrow.{Bor}
+use Rattle.std.specs.Io.KnownBytes.{Appends, Keeps}
+use Rattle.command_line.specs.declared.request.Check.{Check}
+use Rattle.command_line.specs.declared.request.Explain.{Explain}
+use Rattle.explain.specs.Pictures.{HasPicture}
+use Rattle.explanation_picture.specs.Pictures.{IsPicture}
+use Rattle.log_file.specs.Devices.{Failed, Tells}
+use Rattle.verdict.specs.Texts.{verdict_text}
+use Rattle.verdict.specs.declared.answer.Verdict.{Verdict}
+use Rattle.call_devices.specs.Sinks.{line}
+use Rattle.judge_commands.specs.Checking.{IsChecked}
+use Rattle.call_devices.specs.Files.{Files}
+use Rattle.call_devices.specs.Sinks.{HasFailed, Sink, TakesBeginning}
+use Rattle.judge_commands.specs.declared.fault.JudgingFault.{JudgingFault}
+use Rattle.judge_commands.specs.declared.fault.JudgingFault.TheVariants.{Judge, Programs, Logs, PictureUnwritten, Output, OutOfMemory}
+
+-- the name that a picture goes to, where one was given
+abbrev pub IsPictureName : Option (Bor (List ℕ)) → List ℕ → Type 0
+IsPictureName None name = ⊥
+IsPictureName (Some given) name = name ≡ given.now
+
+-- the line of a verdict, and then what there is to tell of it
+abbrev pub BeginsWithVerdict : Verdict → List ℕ → Type 0
+BeginsWithVerdict verdict text = (more : List ℕ) × (text ≡ line (verdict_text verdict) ++ more)
+
+-- a picture was put under this name, and nothing else
+pub record PutsPicture (old new : Files) (name : List ℕ) : Type 0 where
+  pub svg : List ℕ
+  pub is_picture : IsPicture svg
+  pub told : Tells (new.told name) svg
+  pub others : (other : List ℕ) → other ≢ name → new.told other ≡ old.told other
+  pub quiet : new.failed ≡ old.failed
+
+-- it was put under the name that was given, where this verdict has a picture; nothing was, where no name was given or it has none
+abbrev pub PutsPictureAt : Verdict → Files → Files → Option (Bor (List ℕ)) → Type 0
+PutsPictureAt verdict old new None = new ≡ old
+PutsPictureAt verdict old new (Some name) = (HasPicture verdict × PutsPicture old new name.now) ⊎ ((HasPicture verdict → ⊥) × (new ≡ old))
+
+-- this verdict has a picture, whose put under the name that was given failed, and nothing else was put
+abbrev pub FailsPictureAt : Verdict → Files → Files → Option (Bor (List ℕ)) → Type 0
+FailsPictureAt verdict old new None = ⊥
+FailsPictureAt verdict old new (Some name) =
+    HasPicture verdict × Failed old.failed new.failed × ((other : List ℕ) → other ≢ name.now → new.told other ≡ old.told other)
+
+-- there was a verdict to explain
+abbrev pub Judged : Files → (List ℕ → Type 0) → Check → (Verdict → Type 0) → Type 0
+Judged old unread asked Holds = (verdict : Verdict) × IsChecked old.told unread asked (Ok verdict) × Holds verdict
+
+-- The verdict on the files, whose line standard output took first, or why there is none. A picture is put before anything is printed;
+-- lack of memory may be told in place of another refusal.
+abbrev pub IsExplained : Files → Files → (List ℕ → Type 0) → Explain → Sink → Sink → Result Verdict JudgingFault → Type 0
+IsExplained old new unread asked out out' (Ok verdict) =
+    IsChecked old.told unread asked.check (Ok verdict) × PutsPictureAt verdict old new asked.picture
+    × (text : List ℕ) × BeginsWithVerdict verdict text × Appends out.contents out'.contents text
+IsExplained old new unread asked out out' (Err Output) =
+    Judged old unread asked.check (λ verdict. PutsPictureAt verdict old new asked.picture × HasFailed out out'
+    × (text : List ℕ) × BeginsWithVerdict verdict text × TakesBeginning out out' text)
+IsExplained old new unread asked out out' (Err PictureUnwritten) =
+    Judged old unread asked.check (λ verdict. FailsPictureAt verdict old new asked.picture) × Keeps out.contents out'.contents
+IsExplained old new unread asked out out' (Err OutOfMemory) = Keeps out.contents out'.contents ⊎ HasFailed out out'
+IsExplained old new unread asked out out' (Err (Judge fault)) = IsChecked old.told unread asked.check (Err (Judge fault)) × Keeps out.contents out'.contents
+IsExplained old new unread asked out out' (Err (Programs fault)) = IsChecked old.told unread asked.check (Err (Programs fault)) × Keeps out.contents out'.contents
+IsExplained old new unread asked out out' (Err (Logs fault)) = ⊥

@@ -1,0 +1,6 @@
+pub mod Checking
+pub mod Explaining
+pub mod Faults
+pub mod Ordering
+pub mod Upgrading
+pub mod inner

@@ -1,0 +1,15 @@
+//! The commands that judge logs in files: `check`, `order`, `explain` and `upgrade`.
+#![tactic(auto)]
+
+mod check_files;
+mod fault;
+mod gate;
+mod order_files;
+mod telling;
+mod upgrade_files;
+
+pub use check_files::check;
+pub use fault::JudgingFault;
+pub use order_files::order;
+pub use telling::explain;
+pub use upgrade_files::upgrade;

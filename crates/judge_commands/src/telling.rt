@@ -1,0 +1,238 @@
+//! The verdict on the logs of a set, and why it is so.
+
+ghost use Rattle.std.specs.Prelude.{◌≡◌, ◌↔◌, ◌++◌, List, IfErr, IfOk, IfSome, IsSome, IsTrue, OnOk, MatchResult, option_map, string_bytes};
+ghost use Rattle.core_program.specs.SetParts.{SetParts};
+ghost use Rattle.explain.specs.Pictures.{HasPicture};
+ghost use Rattle.explanation_picture.specs.Pictures.{IsPicture};
+ghost use Rattle.log_record.specs.declared.record.Record.{Record};
+ghost use Rattle.verdict.specs.CoreFaultsOf.{given};
+ghost use Rattle.verdict.specs.Bases.{IsExaminationOf, verdict_in};
+ghost use Rattle.verdict.specs.Judgement.{IsYes};
+ghost use Rattle.judge_commands.specs.Checking as checking;
+ghost use Rattle.judge_commands.specs.Explaining as explaining;
+ghost use Rattle.call_devices.specs.Files.{IsOnlyRead, IsUnread, KeepsFiles};
+ghost use Rattle.call_devices.specs.Sinks.{sink_of};
+
+use super::check_files::open_all;
+use super::fault::JudgingFault;
+use super::gate::OpenGate;
+use call_devices::{Folder, ProgramsFault, read_programs};
+use command_line::{Check, Explain};
+use core_program::ProgramSet;
+use explain::{Explanation, explain as explained};
+use explanation_picture::draw;
+use explanation_text::print;
+use log_file::{ByteSink, write_all};
+use std::alloc::{AllocError, Global};
+use std::thread::Threads;
+use verdict::{Examined, JudgeFault, Verdict, check_counts, examine};
+
+/// What is told where a picture is asked for and the set is too large for one.
+const NO_PICTURE: &str = "picture        none, of more than 200 operations\n";
+
+/// What is told of a verdict.
+#[derive(Drop)]
+struct Told {
+    verdict: Verdict,
+    text: String,
+    picture: Option<Vec<u8>>,
+}
+
+/// Judges the logs in files of the folder as `check` does, puts a picture of why where one is asked for, and prints the
+/// verdict's line and what there is to tell of it. The verdict, or why there is none; 29 of the picture or of standard output.
+pub fn explain<R: Threads + Sync, F: Folder, O: ByteSink>(
+    rt: &R,
+    alloc: Global,
+    folder: &mut F,
+    asked: &Explain<'_>,
+    out: &mut O,
+) -> Result<Verdict, JudgingFault>
+    ensures exact { explaining.IsExplained (F.files folder.old) (F.files folder.new)
+        (IsUnread F.Source.remaining F.Source.failed
+        (F.files folder.old) (F.files folder.new)) asked.now
+        (sink_of O.contents O.failed out.old)
+        (sink_of O.contents O.failed out.new) result }
+    ensures files { KeepsFiles (F.files folder.old).told (F.files folder.new).told
+        (explaining.IsPictureName asked.now.picture) }
+    ensures sound { IfOk result (λ verdict. IsYes verdict
+        → checking.FilesAreConsistent (F.files folder.old).told asked.now.check) }
+    ensures flat { IfOk result (λ verdict. IsYes verdict
+        → checking.FilesRunFlat (F.files folder.old).told asked.now.check) }
+{
+    let told = tell(rt, alloc, folder, &asked.check, asked.picture.is_some())?;
+    put_picture(folder, asked.picture, &told)?;
+    write_all(out, told.text.as_bytes())?;
+    Ok(told.verdict)
+}
+
+/// Puts a picture under a name, where there is a name and a picture.
+fn put_picture<F: Folder>(
+    folder: &mut F,
+    name: Option<&str>,
+    told: &Told,
+) -> Result<(), JudgingFault>
+    requires picture { IfSome told.now.picture (λ svg. IsPicture svg.items) }
+    requires drawn { IsSome name → IsSome told.now.picture ↔ HasPicture told.now.verdict }
+    ensures ok { OnOk result (explaining.PutsPictureAt told.now.verdict
+        (F.files folder.old) (F.files folder.new) name.entry) }
+    ensures err { IfErr result (λ fault. (fault ≡ JudgingFault.PictureUnwritten)
+        × explaining.FailsPictureAt told.now.verdict (F.files folder.old) (F.files folder.new) name.entry) }
+    ensures files { KeepsFiles (F.files folder.old).told (F.files folder.new).told
+        (explaining.IsPictureName name.entry) }
+{
+    match (name, &told.picture) {
+        (Some(name), Some(svg)) => match folder.put(name, svg.as_slice()) {
+            Ok(()) => Ok(()),
+            Err(_) => Err(JudgingFault::PictureUnwritten),
+        },
+        _ => Ok(()),
+    }
+}
+
+/// What there is to tell of the logs in files of the folder, or why there is no verdict.
+fn tell<R: Threads + Sync, F: Folder>(
+    rt: &R,
+    alloc: Global,
+    folder: &mut F,
+    asked: &Check<'_>,
+    is_drawn: bool,
+) -> Result<Told, JudgingFault>
+    ensures exact { MatchResult result
+        (λ told. checking.IsChecked (F.files folder.old).told
+        (IsUnread F.Source.remaining F.Source.failed
+        (F.files folder.old) (F.files folder.new))
+        asked.now (Ok told.verdict))
+        (λ fault. checking.IsChecked (F.files folder.old).told
+        (IsUnread F.Source.remaining F.Source.failed
+        (F.files folder.old) (F.files folder.new))
+        asked.now (Err fault)) }
+    ensures quiet { OnOk result (F.files folder.new ≡ F.files folder.old) }
+    ensures read { IsOnlyRead (F.files folder.old) (F.files folder.new) }
+    ensures text { IfOk result (λ told.
+        explaining.BeginsWithVerdict told.verdict (string_bytes told.text)) }
+    ensures picture { IfOk result (λ told. IfSome told.picture (λ svg. IsPicture svg.items)) }
+    ensures drawn { IsTrue is_drawn → IfOk result (λ told. IsSome told.picture ↔ HasPicture told.verdict) }
+    ensures sound { IfOk result (λ told. IsYes told.verdict
+        → checking.FilesAreConsistent (F.files folder.old).told asked.now) }
+    ensures flat { IfOk result (λ told. IsYes told.verdict
+        → checking.FilesRunFlat (F.files folder.old).told asked.now) }
+{
+    check_counts(asked.files.len(), asked.workers as usize)?;
+    let programs = read_given(alloc, folder, asked.program)?;
+    let examined = examine_files(rt, alloc, folder, asked, programs.as_ref())?;
+    let told = words(
+        alloc,
+        &examined,
+        programs.as_ref(),
+        asked.files.len(),
+        is_drawn,
+    )?;
+    Ok(told)
+}
+
+/// The programs in a file of the folder, where its name is given.
+fn read_given<F: Folder>(
+    alloc: Global,
+    folder: &mut F,
+    name: Option<&str>,
+) -> Result<Option<ProgramSet>, ProgramsFault>
+    ensures ok { IfOk result (λ programs. checking.AreProgramsOf (F.files folder.old).told name.entry
+        (option_map (λ set. set.programs) programs)) }
+    ensures quiet { OnOk result (F.files folder.new ≡ F.files folder.old) }
+    ensures err { IfErr result (checking.IsUnprogrammedBy (F.files folder.old).told
+        (IsUnread F.Source.remaining F.Source.failed
+        (F.files folder.old) (F.files folder.new)) name.entry) }
+    ensures read { IsOnlyRead (F.files folder.old) (F.files folder.new) }
+{
+    match name {
+        None => Ok(None),
+        Some(name) => match read_programs(alloc, folder, name) {
+            Ok(programs) => Ok(Some(programs)),
+            Err(fault) => Err(fault),
+        },
+    }
+}
+
+/// The verdict on the logs in files of the folder, against these programs where they are given, with what it stands on.
+fn examine_files<R: Threads + Sync, F: Folder>(
+    rt: &R,
+    alloc: Global,
+    folder: &mut F,
+    asked: &Check<'_>,
+    programs: Option<&ProgramSet>,
+) -> Result<Examined, JudgeFault>
+    requires { checking.AreInRange asked.now }
+    ensures exact { checking.IsCheckedAgainst (F.files folder.old).told
+        (IsUnread F.Source.remaining F.Source.failed
+        (F.files folder.old) (F.files folder.new))
+        (given programs.entry) asked.now (verdict_in result) }
+    ensures quiet { OnOk result (F.files folder.new ≡ F.files folder.old) }
+    ensures read { IsOnlyRead (F.files folder.old) (F.files folder.new) }
+    ensures examined { IfOk result (λ examined. (logs : List (List Record))
+        × IsExaminationOf (given programs.entry) logs examined) }
+    ensures sound { IfOk result (λ examined. IsYes examined.verdict
+        → checking.FilesAreConsistent (F.files folder.old).told asked.now) }
+    ensures flat { IfOk result (λ examined. IsYes examined.verdict
+        → checking.FilesRunFlatBy (F.files folder.old).told asked.now (given programs.entry)) }
+{
+    let mut sources = open_all(alloc, folder, asked.files.as_slice())?;
+    let workers = asked.workers as usize;
+    examine(
+        rt,
+        alloc,
+        programs,
+        sources.as_mut_slice(),
+        workers,
+        &OpenGate,
+    )
+}
+
+/// The text of a verdict and of what there is to tell of it, and a picture where it is to be drawn and can be.
+fn words(
+    alloc: Global,
+    examined: &Examined,
+    programs: Option<&ProgramSet>,
+    cores: usize,
+    is_drawn: bool,
+) -> Result<Told, AllocError>
+    requires { (logs : List (List Record)) × IsExaminationOf (given programs) logs examined.now }
+    ensures verdict { IfOk result (λ told. told.verdict ≡ examined.now.verdict) }
+    ensures text { IfOk result (λ told.
+        explaining.BeginsWithVerdict told.verdict (string_bytes told.text)) }
+    ensures picture { IfOk result (λ told. IfSome told.picture (λ svg. IsPicture svg.items)) }
+    ensures drawn { IsTrue is_drawn → IfOk result (λ told. IsSome told.picture ↔ HasPicture told.verdict) }
+{
+    let verdict = examined.verdict;
+    let line = format!(in alloc; "{verdict}\n")?;
+    let Some(why) = explained(alloc, examined, programs, cores)? else {
+        unreachable!()
+    };
+    let picture = if is_drawn {
+        draw(alloc, line.as_str().trim_end(), &why)?
+    } else {
+        None
+    };
+    let more = more_text(alloc, &why, is_drawn && picture.is_none())?;
+    Ok(Told {
+        verdict,
+        text: joined(line, more.as_str())?,
+        picture,
+    })
+}
+
+/// What there is to tell after the line of a verdict, and whether a picture that was asked for is left out.
+fn more_text(alloc: Global, why: &Explanation, is_left_out: bool) -> Result<String, AllocError> {
+    let mut text = print(alloc, why)?;
+    if is_left_out {
+        text.push_str(NO_PICTURE)?;
+    }
+    Ok(text)
+}
+
+/// A text with more after it.
+fn joined(mut text: String, more: &str) -> Result<String, AllocError>
+    ensures { IfOk result (λ whole. string_bytes whole ≡ string_bytes text ++ more.now) }
+{
+    text.push_str(more)?;
+    Ok(text)
+}

@@ -1,0 +1,9 @@
+pub mod EndingsRead
+pub mod Forbids
+pub mod ForbidsRead
+pub mod Headers
+pub mod LastLines
+pub mod LineFaults
+pub mod Plain
+pub mod WordLines
+pub mod WordsRead

@@ -1,0 +1,12 @@
+-- The lines so far are those of the rows so far.
+use Rattle.std.proofs.Common.{◌≡◌, ◌++◌, take, Some}
+use Rattle.std.specs.List.{flat_map}
+use Rattle.litmus_test.specs.TableText.{cells_line, header_cells, row_line}
+use Rattle.litmus_test.specs.inner.Writing.{IsFresh, written}
+use Rattle.litmus_test.proofs.table_text.print_table.Given as goal
+
+abbrev pub invariant-loop-row : goal.invariant-loop-row
+invariant-loop-row l = record {
+  fresh : IsFresh l.writer;
+  text : written l.writer ≡ Some (cells_line (header_cells l.table.shown) ++ flat_map row_line (take l.row-index l.table.rows));
+}

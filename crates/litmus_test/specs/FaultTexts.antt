@@ -1,0 +1,22 @@
+-- The texts of faults, and which of a program's is which.
+use Rattle.std.specs.Prelude.{ℕ, List, ◌++◌, codes}
+use Rattle.std.specs.Fmt.{decimal}
+use Rattle.core_program.specs.declared.fault.ProgramFault.{ProgramFault}
+use Rattle.core_program.specs.declared.fault.ProgramFault.TheVariants as program
+use Rattle.litmus_test.specs.declared.fault.LitmusFault.{LitmusFault}
+use Rattle.litmus_test.specs.declared.fault.LitmusFault.TheVariants.{BadLitmusLine, BadLine, TooLong, SkipPastEnd, OutOfMemory}
+
+-- the line where there is one, a number and a name
+abbrev pub fault_text : LitmusFault → List ℕ
+fault_text (BadLitmusLine line) = codes "line " ++ (decimal line ++ codes ": 41 BadLitmusLine")
+fault_text (BadLine line) = codes "line " ++ (decimal line ++ codes ": 7 BadLine")
+fault_text (TooLong line) = codes "line " ++ (decimal line ++ codes ": 8 TooLong")
+fault_text (SkipPastEnd line) = codes "line " ++ (decimal line ++ codes ": 9 SkipPastEnd")
+fault_text OutOfMemory = codes "10 OutOfMemory"
+
+-- a fault in a program of the test
+abbrev pub from_program : ProgramFault → LitmusFault
+from_program (program.BadLine line) = BadLine line
+from_program (program.TooLong line) = TooLong line
+from_program (program.SkipPastEnd line) = SkipPastEnd line
+from_program program.OutOfMemory = OutOfMemory

@@ -1,0 +1,5 @@
+-- Definitions that serve private contracts alone.
+pub mod Ending
+pub mod Reading
+pub mod Whole
+pub mod Writing

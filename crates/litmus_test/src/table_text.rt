@@ -1,0 +1,119 @@
+//! Tables as comma-separated values.
+
+ghost use Rattle.std.specs.Prelude.{◌≡◌, ◌≤◌, ℕ, List, ◌∷◌, ◌++◌, [], length, string_bytes, take, IfErr, IfOk, IsErrOf, OnOk};
+ghost use Rattle.std.specs.Io.KnownBytes.{Appends};
+ghost use Rattle.csv.specs.Records.{fields_of};
+ghost use Rattle.decimal_text.specs.Numbers.{numeral};
+ghost use Rattle.litmus_test.specs.Grammar.{shown_text};
+ghost use Rattle.litmus_test.specs.TableText.{cells_line, header_cells, row_cells, table_text};
+ghost use Rattle.litmus_test.specs.inner.Writing.{IsFresh, IsPlainRow, written};
+ghost use Rattle.log_file.specs.Devices.{Failed};
+
+use super::table::{Row, Table};
+use super::test::Shown;
+use csv::{StringRecord, Terminator, Writer, WriterBuilder};
+use decimal_text::print_number;
+use log_file::{ByteSink, WriteFault, write_all};
+use std::alloc::{AllocError, Global};
+
+/// Adds a number's cell.
+fn push_number(alloc: Global, cells: &mut StringRecord, number: u64) -> Result<(), AllocError>
+    ensures { OnOk result (fields_of cells.new ≡ fields_of cells.old ++ numeral number ∷ []) }
+{
+    let text = print_number(alloc, number)?;
+    cells.push_field(text.as_str())?;
+    Ok(())
+}
+
+/// The name of a register of a core, as tests have it.
+#[tactic(auto, using(decimal_text::proofs::Printing::numeral_decimal), unfolding(crate::specs::Grammar::shown_text))]
+fn print_shown(alloc: Global, shown: &Shown) -> Result<String, AllocError>
+    ensures { IfOk result (λ text. string_bytes text ≡ shown_text shown.now) }
+{
+    let core = shown.core.get();
+    let register = shown.register.get();
+    format!(in alloc; "{core}.r{register}")
+}
+
+/// The cells of the first line.
+fn header_cells(alloc: Global, shown: &[Shown]) -> Result<StringRecord, AllocError>
+    ensures { IfOk result (λ cells. fields_of cells ≡ header_cells shown.now) }
+{
+    let mut cells = StringRecord::new(alloc);
+    for one in shown {
+        let text = print_shown(alloc, one)?;
+        cells.push_field(text.as_str())?;
+    }
+    cells.push_field("count")?;
+    cells.push_field("forbidden")?;
+    Ok(cells)
+}
+
+/// The cells of a row.
+fn row_cells(alloc: Global, row: &Row) -> Result<StringRecord, AllocError>
+    ensures { IfOk result (λ cells. fields_of cells ≡ row_cells row.now) }
+{
+    let mut cells = StringRecord::new(alloc);
+    for value in &row.values {
+        push_number(alloc, &mut cells, *value)?;
+    }
+    push_number(alloc, &mut cells, row.count)?;
+    cells.push_field(if row.forbidden { "yes" } else { "no" })?;
+    Ok(cells)
+}
+
+/// Writes a line of these cells.
+fn write_line(writer: &mut Writer<Vec<u8>>, cells: &StringRecord) -> Result<(), WriteFault>
+    requires { IsPlainRow (fields_of cells.now) }
+    ensures text { OnOk result (IsFresh writer.old
+        → Appends (written writer.old) (written writer.new) (cells_line (fields_of cells.now))) }
+    ensures fresh { OnOk result (IsFresh writer.old → IsFresh writer.new) }
+    ensures refused { IfErr result (λ fault. fault ≡ WriteFault.OutOfMemory) }
+{
+    match writer.write_byte_record(cells.as_byte_record()) {
+        Ok(()) => Ok(()),
+        Err(_) => Err(WriteFault::OutOfMemory),
+    }
+}
+
+/// The text of a table.
+fn print_table(alloc: Global, table: &Table) -> Result<Vec<u8>, WriteFault>
+    ensures text { IfOk result (λ text. text.items ≡ table_text table.now) }
+    ensures refused { IfErr result (λ fault. fault ≡ WriteFault.OutOfMemory) }
+{
+    let mut writer = WriterBuilder::new()
+        .terminator(Terminator::Any(b'\n'))
+        .from_writer(Vec::new(alloc));
+    write_line(&mut writer, &header_cells(alloc, table.shown())?)?;
+    for row in table.rows() {
+        write_line(&mut writer, &row_cells(alloc, row)?)?;
+    }
+    match writer.into_inner() {
+        Ok(text) => Ok(text),
+        Err(_) => Err(WriteFault::OutOfMemory),
+    }
+}
+
+/// Writes a table as comma-separated values: a line of the shown registers, `count` and `forbidden`,
+/// and then a line for each row. Its text is made first: 10 where memory ran out. 29 comes where a
+/// write failed; what the sink took by then is a beginning of the text.
+pub fn write_table<W: ByteSink>(
+    alloc: Global,
+    sink: &mut W,
+    table: &Table,
+) -> Result<(), WriteFault>
+    ensures written { OnOk result
+        (Appends (W.contents sink.old) (W.contents sink.new) (table_text table.now)) }
+    ensures begun { (n : ℕ) × (n ≤ length (table_text table.now))
+        × Appends (W.contents sink.old) (W.contents sink.new) (take n (table_text table.now)) }
+    // A failed write is answered only where the sink failed in this call.
+    ensures failed { IsErrOf result WriteFault.Write →
+        Failed (W.failed sink.old) (W.failed sink.new) }
+    // Where there was no memory for the text, nothing was written.
+    ensures unmade { IsErrOf result WriteFault.OutOfMemory → sink.new ≡ sink.old }
+    // And no failed write is passed over.
+    ensures quiet { ¬ IsErrOf result WriteFault.Write → W.failed sink.new ≡ W.failed sink.old }
+{
+    let text = print_table(alloc, table)?;
+    Ok(write_all(sink, text.as_slice())?)
+}

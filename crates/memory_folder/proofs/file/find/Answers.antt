@@ -1,0 +1,15 @@
+use Rattle.std.proofs.Common.{◌≡◌, ap, sym, ◌∙◌, rules, Option, Some, None, List, ℕ, ◌++◌, ◌∷◌, [], get_or, take, subst, option_map, string_bytes, true, false}
+use Rattle.std.specs.Borrow.{Bor}
+use Rattle.memory_folder.specs.declared.file.File.{File}
+use Rattle.memory_folder.specs.Files.{told_in}
+use Rattle.memory_folder.proofs.Told.{named, next_named, next_other, other_named}
+use Rattle.memory_folder.proofs.file.find.Goals as goal
+use Rattle.memory_folder.proofs.file.find.Goals.{then-eq, else-eq}
+
+pub loop-file-preserved : goal.loop-file-preserved
+loop-file-preserved c =
+    let files = c.args.files.now in
+    elim c.if-eq.branch [
+      | then-eq w ↦ next_named files c.loop-file.file-index c.file-item.result c.args.name.now c.loop-file-test.true c.file-item.is (search rules) c.if-eq.found (search rules)
+      | else-eq w ↦ next_other files c.loop-file.file-index c.file-item.result c.args.name.now c.loop-file-test.true c.file-item.is (search rules) c.loop-file.found c.if-eq.found c.loop-file.invariant (search rules)
+    ]

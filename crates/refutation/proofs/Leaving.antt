@@ -1,0 +1,123 @@
+-- The cases that steps leave, step by step.
+use Rattle.std.specs.Prelude.{◌≡◌, ℕ, ◌+◌, ◌<◌, ◌≤◌, List, [], ◌∷◌, ◌++◌, refl, Bool, true, false, not, IsTrue, Option, None, Some, is_some, MatchOption, length, take, drop}
+use Rattle.std.proofs.Common.{sym, ◌∙◌, ap, subst, arith, get_or}
+use Rattle.std.proofs.lemmas.List.{take_more, drop_more, take_all, take-append-drop, length-drop, nil_from_length}
+use Rattle.mem_op.specs.declared.id.OpId.{OpId}
+use Rattle.mem_op.specs.Consistency.{Operation}
+use Rattle.refutation.specs.declared.step.Step.{Step}
+use Rattle.refutation.specs.declared.step.Step.TheVariants.{Read, Order, FromRead, WriteOrder, Cycle}
+use Rattle.refutation.specs.declared.fact.Fact.{Fact}
+use Rattle.refutation.specs.declared.fact.Fact.TheVariants.{Before, Source}
+use Rattle.refutation.specs.declared.step.Point.TheVariants.{At}
+use Rattle.refutation.specs.declared.step.Range.{Range}
+use Rattle.refutation.specs.Rules.{Gives, IsFromRead, IsWriteOrder}
+use Rattle.refutation.specs.Refuting.{split, Leave, IsRefutation, IsStuck, IsFirstWrong}
+
+-- ---- steps joined
+
+-- a step more
+pub leave-push : (cores : List (List Operation)) (cases : List (List Fact)) (steps : List Step) (facts : List Fact) (others : List (List Fact)) (step : Step) (given : List Fact)
+    → Leave cores cases steps (facts ∷ others) → Gives cores facts step given → Leave cores cases (steps ++ step ∷ []) (split facts given ++ others)
+leave-push cores [] [] facts others step given none gives = absurd cc
+leave-push cores (first ∷ waiting) [] facts others step given same gives =
+    let a : first ≡ facts = cc in
+    let b : waiting ≡ others = cc in
+    (given, subst (λ (fs : List Fact). Gives cores fs step given) (sym a) gives, ap (λ (fs : List Fact). split fs given ++ waiting) a ∙ ap (λ (cs : List (List Fact)). split facts given ++ cs) b)
+leave-push cores [] (s ∷ steps) facts others step given wrong gives = absurd wrong
+leave-push cores (first ∷ waiting) (s ∷ steps) facts others step given leave gives =
+    (leave.0, leave.1, leave-push cores (split first leave.0 ++ waiting) steps facts others step given leave.2 gives)
+
+-- ---- a step gives its cases only
+
+from_read-once : (cores : List (List Operation)) (facts : List Fact) (source : ℕ) (write : OpId) (path : List ℕ) (g h : List Fact) → IsFromRead cores facts source write path g → IsFromRead cores facts source write path h → g ≡ h
+from_read-once cores facts source write path g h a b =
+    let known : Source a.read a.range ≡ Source b.read b.range = (let p = a.known in let q = b.known in cc) in
+    let read : a.read ≡ b.read = cc in
+    a.gives ∙ ap (λ (r : OpId). Before (At r) (At write) ∷ []) read ∙ sym b.gives
+
+write_order-once : (cores : List (List Operation)) (facts : List Fact) (source : ℕ) (write : OpId) (path : List ℕ) (g h : List Fact) → IsWriteOrder cores facts source write path g → IsWriteOrder cores facts source write path h → g ≡ h
+write_order-once cores facts source write path g h a b =
+    let known : Source a.read a.range ≡ Source b.read b.range = (let p = a.known in let q = b.known in cc) in
+    let range : a.range ≡ b.range = cc in
+    a.gives ∙ ap (λ (r : Range). Before (At write) r.last ∷ []) range ∙ sym b.gives
+
+gives-once : (cores : List (List Operation)) (facts : List Fact) (step : Step) (g h : List Fact) → Gives cores facts step g → Gives cores facts step h → g ≡ h
+gives-once cores facts (Read read ranges) g h a b = a.1 ∙ sym b.1
+gives-once cores facts (Order one other) g h a b = a.1 ∙ sym b.1
+gives-once cores facts (FromRead source write path) g h a b = from_read-once cores facts source write path g h a b
+gives-once cores facts (WriteOrder source write path) g h a b = write_order-once cores facts source write path g h a b
+gives-once cores facts (Cycle path) g h a b = a.1 ∙ sym b.1
+
+-- so steps leave one list of cases, from which those that come later go on
+leave-rest : (cores : List (List Operation)) (cases : List (List Fact)) (steps more : List Step) (left end : List (List Fact)) → Leave cores cases steps left → Leave cores cases (steps ++ more) end → Leave cores left more end
+leave-rest cores cases [] more left end same leave = subst (λ (cs : List (List Fact)). Leave cores cs more end) same leave
+leave-rest cores [] (s ∷ steps) more left end wrong leave = absurd wrong
+leave-rest cores (first ∷ waiting) (s ∷ steps) more left end a b =
+    let same = gives-once cores first s a.0 b.0 a.1 b.1 in
+    leave-rest cores (split first a.0 ++ waiting) steps more left end a.2 (subst (λ (g : List Fact). Leave cores (split first g ++ waiting) (steps ++ more) end) (sym same) b.2)
+
+stuck-not : (cores : List (List Operation)) (left : List (List Fact)) (steps : List Step) → IsStuck cores left steps → Leave cores left steps [] → ⊥
+stuck-not cores [] [] stuck leave = stuck
+stuck-not cores [] (s ∷ steps) stuck leave = leave
+stuck-not cores (first ∷ waiting) [] stuck leave = cc
+stuck-not cores (first ∷ waiting) (s ∷ steps) stuck leave = stuck leave.0 leave.1
+
+-- what goes wrong somewhere is no refutation
+pub wrong-none : (cores : List (List Operation)) (steps : List Step) (place : ℕ) → IsFirstWrong cores steps place → IsRefutation cores steps → ⊥
+wrong-none cores steps place wrong is =
+    let both = subst (λ (all : List Step). Leave cores ([] ∷ []) all []) (sym (take-append-drop place steps)) is in
+    stuck-not cores wrong.left (drop place steps) wrong.stuck (leave-rest cores ([] ∷ []) (take place steps) (drop place steps) wrong.left [] wrong.right both)
+
+-- ---- where the steps are gone through one by one
+
+module _ (cores : List (List Operation)) (steps : List Step) (place : ℕ) (facts : List Fact) (others : List (List Fact)) (step : Step) (within : place < length steps) (is : step ≡ get_or steps place step) (right : Leave cores ([] ∷ []) (take place steps) (facts ∷ others)) where
+  -- a step that isn't right
+  pub wrong-here : ((given : List Fact) → Gives cores facts step given → ⊥) → IsFirstWrong cores steps place
+  wrong-here none = record {
+    within = omega arith;
+    left = facts ∷ others;
+    right = right;
+    stuck = subst (λ (rest : List Step). IsStuck cores (facts ∷ others) rest) (ap (λ (s : Step). s ∷ drop (place + 1) steps) is ∙ sym (drop_more steps place step within)) none;
+  }
+
+  -- one that is
+  pub right-next : (given : List Fact) → Gives cores facts step given → Leave cores ([] ∷ []) (take (place + 1) steps) (split facts given ++ others)
+  right-next given gives =
+      subst (λ (s : List Step). Leave cores ([] ∷ []) s (split facts given ++ others))
+      (ap (λ (s : Step). take place steps ++ s ∷ []) is ∙ sym (take_more steps place step within))
+      (leave-push cores ([] ∷ []) (take place steps) facts others step given right gives)
+
+-- no case is left
+pub whole-now : (cores : List (List Operation)) (steps : List Step) (place : ℕ) → length steps ≤ place → Leave cores ([] ∷ []) (take place steps) [] → IsRefutation cores steps
+whole-now cores steps place l right = subst (λ (s : List Step). Leave cores ([] ∷ []) s []) (take_all place steps l) right
+
+-- no case is left, and a step is
+pub too-many : (cores : List (List Operation)) (steps : List Step) (place : ℕ) → place < length steps → Leave cores ([] ∷ []) (take place steps) [] → IsFirstWrong cores steps place
+too-many cores steps place l right = record { within = omega arith; left = []; right = right; stuck = some (drop place steps) (λ e. (let n = length-drop place steps in let m = ap length e in omega arith)) }
+  where
+    some : (rest : List Step) → (rest ≡ [] → ⊥) → IsStuck cores [] rest
+    some [] not = not refl
+    some (s ∷ rest) not = tt
+
+-- no step is left, and a case is
+pub not-enough : (cores : List (List Operation)) (steps : List Step) (place : ℕ) (facts : List Fact) (others : List (List Fact)) → place ≡ length steps → Leave cores ([] ∷ []) (take place steps) (facts ∷ others) → IsFirstWrong cores steps (length steps)
+not-enough cores steps place facts others same right = record {
+  within = omega arith;
+  left = facts ∷ others;
+  right = subst (λ n. Leave cores ([] ∷ []) (take n steps) (facts ∷ others)) same right;
+  stuck = subst (λ (rest : List Step). IsStuck cores (facts ∷ others) rest) (sym (nil_from_length (drop (length steps) steps) (let n = length-drop (length steps) steps in omega arith))) tt;
+}
+
+-- no case is left: the answer is the next step, if there is one
+pub answer-after : (cores : List (List Operation)) (steps : List Step) (next : ℕ) (answer : Option ℕ) → Leave cores ([] ∷ []) (take next steps) [] → MatchOption answer (length steps ≤ next) (λ place. (place ≡ next) × (next < length steps))
+    → MatchOption answer (IsRefutation cores steps) (λ place. IsFirstWrong cores steps place)
+answer-after cores steps next None right told = whole-now cores steps next told right
+answer-after cores steps next (Some place) right told = subst (IsFirstWrong cores steps) (sym told.0) (too-many cores steps next told.1 right)
+
+-- the answer, as a test
+pub exact-from : (cores : List (List Operation)) (steps : List Step) (answer : Option ℕ) (refuted : Bool) → not refuted ≡ is_some answer → MatchOption answer (IsRefutation cores steps) (λ place. IsFirstWrong cores steps place)
+    → (IsTrue refuted → IsRefutation cores steps) × (IsRefutation cores steps → IsTrue refuted)
+exact-from cores steps None true e told = (λ t. told, λ is. refl)
+exact-from cores steps None false e told = absurd cc
+exact-from cores steps (Some place) true e told = absurd cc
+exact-from cores steps (Some place) false e told = (λ t. absurd cc, λ is. absurd (wrong-none cores steps place told is))

@@ -1,0 +1,15 @@
+pub mod Chains
+pub mod Completeness
+pub mod Covered
+pub mod Fronts
+pub mod Leaving
+pub mod Lines
+pub mod OneText
+pub mod Parts
+pub mod Paths
+pub mod Sound
+pub mod StepLines
+pub mod Times
+pub mod Timings
+pub mod Waitings
+pub mod Words

@@ -1,0 +1,179 @@
+-- A text is that of one refutation, and has one first bad line.
+use Rattle.std.proofs.Common.{◌≡◌, ℕ, ◌<◌, ◌^◌, List, [], ◌∷◌, ◌++◌, length, Option, None, refl, sym, ap, subst, ◌∙◌, arith, inl, inr, append-nil}
+use Rattle.std.specs.Prelude.{codes}
+use Rattle.std.specs.List.{AllByRecursion}
+use Rattle.std.proofs.lemmas.List.{append_cancel_left}
+use Rattle.decimal_text.specs.Numbers.{numeral}
+use Rattle.decimal_text.specs.Reading.{after}
+use Rattle.decimal_text.proofs.Reading.{some_is}
+use Rattle.mem_op.specs.declared.id.OpId.{OpId}
+use Rattle.refutation.specs.declared.fault.CertificateFault.{CertificateFault}
+use Rattle.refutation.specs.declared.fault.CertificateFault.TheVariants.{BadCertificate, OutOfMemory}
+use Rattle.refutation.specs.declared.step.Range.{Range}
+use Rattle.refutation.specs.declared.step.Step.{Step}
+use Rattle.refutation.specs.declared.step.Step.TheVariants.{Read, Order, FromRead, WriteOrder, Cycle}
+use Rattle.refutation.specs.Grammar.{spaced, id_text, range_text, reason_text, name_text, fields_text, step_text, steps_text, header_line, end_line, IdFits, RangeFits, PathFits, Fits, EachFits}
+use Rattle.refutation.specs.Texts.{Spells, NoStepInFront, Begins, EndsBadly, IsFirstMisshapen, IsFault}
+use Rattle.refutation.specs.TextLaws.{SpelledIsRead, AtMostOneFault}
+use Rattle.refutation.specs.inner.Reading.{id_at, named_at, source_at, fact_at, range_at}
+use Rattle.refutation.proofs.Lines.{line_once, step_no_lf, text_cons}
+use Rattle.refutation.proofs.Parts.{id_again, named_again, source_again, facts_are_words, ranges_are_words}
+use Rattle.refutation.proofs.StepLines.{first_of, name_of, name_first, other_name}
+use Rattle.refutation.proofs.Words.{HasWords, all_words}
+
+-- ---- a step's line is that of one step
+
+words-once : {A : Type 0} (word : A → List ℕ) (WordFits : A → Type 0) (read : List ℕ → Option (A × List ℕ)) → HasWords word WordFits read → read [] ≡ None → (xs ys : List A) → AllByRecursion WordFits xs → AllByRecursion WordFits ys → spaced word xs ≡ spaced word ys → xs ≡ ys
+words-once word WordFits read has none xs ys p q e =
+    (all_words word WordFits read has (spaced word xs) [] xs ys (record { each = p; text_is = sym (append-nil (spaced word xs)); ends = λ some. refl }) none q e).1
+
+path-once : (p q : List ℕ) → PathFits p → PathFits q → spaced numeral p ≡ spaced numeral q → p ≡ q
+unfolding fact_at after
+path-once p q f g e = words-once numeral (λ n. n < 2 ^ 64) fact_at facts_are_words refl p q f g e
+
+ranges-once : (p q : List Range) → AllByRecursion RangeFits p → AllByRecursion RangeFits q → spaced range_text p ≡ spaced range_text q → p ≡ q
+unfolding range_at after
+ranges-once p q f g e = words-once range_text RangeFits range_at ranges_are_words refl p q f g e
+
+named-once : (a b : OpId) (xs ys : List ℕ) → IdFits a → IdFits b → id_text a ++ (codes " :" ++ xs) ≡ id_text b ++ (codes " :" ++ ys) → (a ≡ b) × (xs ≡ ys)
+named-once a b xs ys p q e =
+    let same : (a, xs) ≡ (b, ys) = some_is (a, xs) (b, ys) (sym (named_again a xs p) ∙ ap named_at e ∙ named_again b ys q) in
+    (ap (λ (z : OpId × List ℕ). z.0) same, ap (λ (z : OpId × List ℕ). z.1) same)
+
+record SameReason (s t : ℕ) (v w : OpId) (p q : List ℕ) : Type 0 where
+  source : s ≡ t
+  write : v ≡ w
+  path : p ≡ q
+
+reason-once : (s t : ℕ) (v w : OpId) (p q : List ℕ) → (s < 2 ^ 64) × IdFits v × PathFits p → (t < 2 ^ 64) × IdFits w × PathFits q → reason_text s v p ≡ reason_text t w q → SameReason s t v w p q
+unfolding reason_text
+reason-once s t v w p q f g e =
+    let xs = id_text v ++ (codes " :" ++ spaced numeral p) in
+    let ys = id_text w ++ (codes " :" ++ spaced numeral q) in
+    let same : (s, xs) ≡ (t, ys) = some_is (s, xs) (t, ys) (sym (source_again s xs f.0) ∙ ap source_at e ∙ source_again t ys g.0) in
+    let rest = named-once v w (spaced numeral p) (spaced numeral q) f.1 g.1 (ap (λ (z : ℕ × List ℕ). z.1) same) in
+    record { source = ap (λ (z : ℕ × List ℕ). z.0) same; write = rest.0; path = path-once p q f.2 g.2 rest.1 }
+
+order-once : (a b c d : OpId) → IdFits a → IdFits b → IdFits c → IdFits d → id_text a ++ 32 ∷ id_text b ≡ id_text c ++ 32 ∷ id_text d → (a ≡ c) × (b ≡ d)
+order-once a b c d p q r s e =
+    let first : (a, 32 ∷ id_text b) ≡ (c, 32 ∷ id_text d) = some_is (a, 32 ∷ id_text b) (c, 32 ∷ id_text d) (sym (id_again a (32 ∷ id_text b) p refl) ∙ ap id_at e ∙ id_again c (32 ∷ id_text d) r refl) in
+    let both : 32 ∷ id_text b ≡ 32 ∷ id_text d = ap (λ (z : OpId × List ℕ). z.1) first in
+    let behind : id_text b ≡ id_text d = cc in
+    let second : (b, []) ≡ (d, []) = some_is (b, []) (d, []) (sym (id_again b [] q tt) ∙ ap (λ (xs : List ℕ). id_at (xs ++ [])) behind ∙ id_again d [] s tt) in
+    (ap (λ (z : OpId × List ℕ). z.0) first, ap (λ (z : OpId × List ℕ). z.0) second)
+
+fields-once : (a b : Step) → Fits a → Fits b → name_text a ≡ name_text b → fields_text a ≡ fields_text b → a ≡ b
+unfolding fields_text
+fields-once (Read read ranges) (Read read2 ranges2) p q name e =
+    let same = named-once read read2 (spaced range_text ranges) (spaced range_text ranges2) p.0 q.0 e in
+    let id : read ≡ read2 = same.0 in
+    let rest : ranges ≡ ranges2 = ranges-once ranges ranges2 p.1 q.1 same.1 in
+    λ i. Read (id i) (rest i)
+fields-once (Read read ranges) (Order one2 other2) p q name e = absurd (other_name (codes "read ") (codes "order ") (λ wrong. omega (arith, wrong)) name)
+fields-once (Read read ranges) (FromRead source2 write2 path2) p q name e = absurd (other_name (codes "read ") (codes "from-read ") (λ wrong. omega (arith, wrong)) name)
+fields-once (Read read ranges) (WriteOrder source2 write2 path2) p q name e = absurd (other_name (codes "read ") (codes "write-order ") (λ wrong. omega (arith, wrong)) name)
+fields-once (Read read ranges) (Cycle path2) p q name e = absurd (other_name (codes "read ") (codes "cycle :") (λ wrong. omega (arith, wrong)) name)
+fields-once (Order one other) (Read read2 ranges2) p q name e = absurd (other_name (codes "order ") (codes "read ") (λ wrong. omega (arith, wrong)) name)
+fields-once (Order one other) (Order one2 other2) p q name e =
+    let same = order-once one other one2 other2 p.0 p.1 q.0 q.1 e in
+    λ i. Order (same.0 i) (same.1 i)
+fields-once (Order one other) (FromRead source2 write2 path2) p q name e = absurd (other_name (codes "order ") (codes "from-read ") (λ wrong. omega (arith, wrong)) name)
+fields-once (Order one other) (WriteOrder source2 write2 path2) p q name e = absurd (other_name (codes "order ") (codes "write-order ") (λ wrong. omega (arith, wrong)) name)
+fields-once (Order one other) (Cycle path2) p q name e = absurd (other_name (codes "order ") (codes "cycle :") (λ wrong. omega (arith, wrong)) name)
+fields-once (FromRead source write path) (Read read2 ranges2) p q name e = absurd (other_name (codes "from-read ") (codes "read ") (λ wrong. omega (arith, wrong)) name)
+fields-once (FromRead source write path) (Order one2 other2) p q name e = absurd (other_name (codes "from-read ") (codes "order ") (λ wrong. omega (arith, wrong)) name)
+fields-once (FromRead source write path) (FromRead source2 write2 path2) p q name e =
+    let same = reason-once source source2 write write2 path path2 p q e in
+    λ i. FromRead (same.source i) (same.write i) (same.path i)
+fields-once (FromRead source write path) (WriteOrder source2 write2 path2) p q name e = absurd (other_name (codes "from-read ") (codes "write-order ") (λ wrong. omega (arith, wrong)) name)
+fields-once (FromRead source write path) (Cycle path2) p q name e = absurd (other_name (codes "from-read ") (codes "cycle :") (λ wrong. omega (arith, wrong)) name)
+fields-once (WriteOrder source write path) (Read read2 ranges2) p q name e = absurd (other_name (codes "write-order ") (codes "read ") (λ wrong. omega (arith, wrong)) name)
+fields-once (WriteOrder source write path) (Order one2 other2) p q name e = absurd (other_name (codes "write-order ") (codes "order ") (λ wrong. omega (arith, wrong)) name)
+fields-once (WriteOrder source write path) (FromRead source2 write2 path2) p q name e = absurd (other_name (codes "write-order ") (codes "from-read ") (λ wrong. omega (arith, wrong)) name)
+fields-once (WriteOrder source write path) (WriteOrder source2 write2 path2) p q name e =
+    let same = reason-once source source2 write write2 path path2 p q e in
+    λ i. WriteOrder (same.source i) (same.write i) (same.path i)
+fields-once (WriteOrder source write path) (Cycle path2) p q name e = absurd (other_name (codes "write-order ") (codes "cycle :") (λ wrong. omega (arith, wrong)) name)
+fields-once (Cycle path) (Read read2 ranges2) p q name e = absurd (other_name (codes "cycle :") (codes "read ") (λ wrong. omega (arith, wrong)) name)
+fields-once (Cycle path) (Order one2 other2) p q name e = absurd (other_name (codes "cycle :") (codes "order ") (λ wrong. omega (arith, wrong)) name)
+fields-once (Cycle path) (FromRead source2 write2 path2) p q name e = absurd (other_name (codes "cycle :") (codes "from-read ") (λ wrong. omega (arith, wrong)) name)
+fields-once (Cycle path) (WriteOrder source2 write2 path2) p q name e = absurd (other_name (codes "cycle :") (codes "write-order ") (λ wrong. omega (arith, wrong)) name)
+fields-once (Cycle path) (Cycle path2) p q name e = ap (λ (xs : List ℕ). Cycle xs) (path-once path path2 p q e)
+
+step-once : (a b : Step) → Fits a → Fits b → step_text a ≡ step_text b → a ≡ b
+step-once a b p q e =
+    let name : name_text a ≡ name_text b = sym (name_first a (fields_text a)) ∙ ap (λ (xs : List ℕ). name_of (first_of xs)) e ∙ name_first b (fields_text b) in
+    fields-once a b p q name (append_cancel_left (name_text a) (fields_text a) (fields_text b) (e ∙ ap (λ (xs : List ℕ). xs ++ fields_text b) (sym name)))
+
+-- ---- all steps that come before bytes do so in one way
+
+cut-once : (p q : List Step) (xs ys : List ℕ) → EachFits p → EachFits q → NoStepInFront xs → NoStepInFront ys → steps_text p ++ xs ≡ steps_text q ++ ys → (p ≡ q) × (xs ≡ ys)
+cut-once [] [] xs ys f g none-p none-q e = (refl, e)
+cut-once [] (d ∷ q) xs ys f g none-p none-q e = absurd (none-p d (steps_text q ++ ys) (g.0, e ∙ text_cons d q ys))
+cut-once (c ∷ p) [] xs ys f g none-p none-q e = absurd (none-q c (steps_text p ++ xs) (f.0, sym e ∙ text_cons c p xs))
+cut-once (c ∷ p) (d ∷ q) xs ys f g none-p none-q e =
+    let first = line_once (step_text c) (step_text d) (steps_text p ++ xs) (steps_text q ++ ys) (step_no_lf c) (step_no_lf d) (sym (text_cons c p xs) ∙ e ∙ text_cons d q ys) in
+    let same : c ≡ d = step-once c d f.0 g.0 first.0 in
+    let more = cut-once p q xs ys f.1 g.1 none-p none-q first.1 in
+    let rest : p ≡ q = more.0 in
+    (cc, more.1)
+
+-- the `end` line is no step's
+end-no_step : (count : ℕ) (more : List ℕ) → NoStepInFront (end_line count ++ more)
+end-no_step count more step rest there = other step (ap (λ (xs : List ℕ). first_of xs) there.1)
+  where
+    other : (s : Step) → 101 ≡ first_of (step_text s ++ 10 ∷ rest) → ⊥
+    other (Read read ranges) e = omega arith
+    other (Order one second) e = omega arith
+    other (FromRead source write path) e = omega arith
+    other (WriteOrder source write path) e = omega arith
+    other (Cycle path) e = omega arith
+
+spelled-no_step : (steps : List Step) → NoStepInFront (end_line (length steps))
+spelled-no_step steps = subst NoStepInFront (append-nil (end_line (length steps))) (end-no_step (length steps) [])
+
+-- what begins with the header does so in one way
+begun-once : (bytes : List ℕ) (p q : List Step) (xs ys : List ℕ) → Begins bytes p xs → Begins bytes q ys → (p ≡ q) × (xs ≡ ys)
+begun-once bytes p q xs ys a b =
+    cut-once p q xs ys a.each_fits b.each_fits a.none_in_front b.none_in_front (append_cancel_left header_line (steps_text p ++ xs) (steps_text q ++ ys) (sym a.text ∙ b.text))
+
+spelled-begun : (bytes : List ℕ) (steps : List Step) → Spells bytes steps → Begins bytes steps (end_line (length steps))
+spelled-begun bytes steps spells = record { each_fits = spells.0; text = spells.1; none_in_front = spelled-no_step steps }
+
+-- it doesn't end badly
+ends-well : (count line : ℕ) → EndsBadly (end_line count) count line → ⊥
+ends-well count line (inl none) = none.1 [] (sym (append-nil (end_line count)))
+ends-well count line (inr more) = more.1.1 (sym (append_cancel_left (end_line count) [] more.1.0 (append-nil (end_line count) ∙ more.1.2)))
+
+-- where it ends badly is told once
+ends-once : (rest : List ℕ) (count j k : ℕ) → EndsBadly rest count j → EndsBadly rest count k → j ≡ k
+ends-once rest count j k (inl a) (inl b) = a.0 ∙ sym b.0
+ends-once rest count j k (inl a) (inr b) = absurd (a.1 b.1.0 b.1.2)
+ends-once rest count j k (inr a) (inl b) = absurd (b.1 a.1.0 a.1.2)
+ends-once rest count j k (inr a) (inr b) = a.0 ∙ sym b.0
+
+no-fault : (bytes : List ℕ) (steps : List Step) (fault : CertificateFault) → Spells bytes steps → IsFault bytes fault → fault ≡ OutOfMemory
+no-fault bytes steps OutOfMemory spells bad = refl
+no-fault bytes steps (BadCertificate line) spells (inl lacks) = absurd (lacks.1 (steps_text steps ++ end_line (length steps)) spells.1)
+no-fault bytes steps (BadCertificate line) spells (inr begun) =
+    let same = begun-once bytes begun.0 steps begun.1 (end_line (length steps)) begun.2 (spelled-begun bytes steps spells) in
+    absurd (ends-well (length steps) line (subst (λ (xs : List ℕ). EndsBadly xs (length steps) line) same.1 (subst (λ (p : List Step). EndsBadly begun.1 (length p) line) same.0 begun.3)))
+
+pub spelled : SpelledIsRead
+spelled = record {
+  one_refutation = λ bytes p q a b. (begun-once bytes p q (end_line (length p)) (end_line (length q)) (spelled-begun bytes p a) (spelled-begun bytes q b)).0;
+  no_fault = no-fault;
+}
+
+first-once : (bytes : List ℕ) (j k : ℕ) → IsFirstMisshapen bytes j → IsFirstMisshapen bytes k → j ≡ k
+first-once bytes j k (inl a) (inl b) = a.0 ∙ sym b.0
+first-once bytes j k (inl a) (inr b) = absurd (a.1 (steps_text b.0 ++ b.1) b.2.text)
+first-once bytes j k (inr a) (inl b) = absurd (b.1 (steps_text a.0 ++ a.1) a.2.text)
+first-once bytes j k (inr a) (inr b) =
+    let same = begun-once bytes a.0 b.0 a.1 b.1 a.2 b.2 in
+    ends-once b.1 (length b.0) j k (subst (λ (xs : List ℕ). EndsBadly xs (length b.0) j) same.1 (subst (λ (p : List Step). EndsBadly a.1 (length p) j) same.0 a.3)) b.3
+
+pub at_most_one : AtMostOneFault
+at_most_one bytes (BadCertificate j) (BadCertificate k) a b f g = ap (λ (n : ℕ). BadCertificate n) (first-once bytes j k a b)
+at_most_one bytes OutOfMemory other a b f g = absurd (f refl)
+at_most_one bytes (BadCertificate j) OutOfMemory a b f g = absurd (g refl)

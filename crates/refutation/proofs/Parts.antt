@@ -1,0 +1,266 @@
+-- The parts of a step's line: what is read is the text that stands there, and that text is read again.
+use Rattle.std.proofs.Common.{◌≡◌, ℕ, ◌<◌, ◌^◌, Bool, true, false, if◌then◌else◌, List, [], ◌∷◌, ◌++◌, Option, Some, None, is_some, refl, sym, ap, subst, ◌∙◌, inl, inr, append_assoc, append-nil}
+use Rattle.std.specs.Prelude.{codes}
+use Rattle.std.proofs.lemmas.Bool.{cases_Bool, cases_eq, cond_below, cond-true, cond-false, ltb-true, ne_eqb, and_parts, eqb-true, eq-eqb}
+use Rattle.std.proofs.Math.Dec.{ltb}
+use Rattle.decimal_text.specs.Numbers.{numeral}
+use Rattle.decimal_text.specs.Reading.{◌>>=◌, after, field_at, number_at, is_digit}
+use Rattle.decimal_text.proofs.Numbers.{AreDigits, NoDigit, guard_some, after_takes, after_again, number_takes, number_again, numeral_digits, numeral_some}
+use Rattle.decimal_text.proofs.Reading.{bind_some, some_is, field_takes, field_again}
+use Rattle.mem_op.specs.declared.id.OpId.{OpId}
+use Rattle.mem_op.specs.Limits.{operation_limit}
+use Rattle.refutation.specs.declared.step.Point.{Point}
+use Rattle.refutation.specs.declared.step.Point.TheVariants.{Init, At}
+use Rattle.refutation.specs.declared.step.Range.{Range}
+use Rattle.refutation.specs.Grammar.{id_text, point_text, is_same_point, range_text, IdFits, PointFits, RangeFits}
+use Rattle.refutation.specs.inner.Reading.{ends_word, at_end, below, id_at, as_point, point_at, last_at, range_at, fact_at, named_at, source_at}
+use Rattle.refutation.proofs.Words.{at_end_is, ends_no_digit, HasWords}
+
+-- ---- numbers in range
+
+below_is : (limit n m : ℕ) → below limit n ≡ Some m → (n ≡ m) × (m < limit)
+below_is limit n m e =
+    let g = guard_some (ltb n limit) n m e in
+    (g.1, subst (λ (k : ℕ). k < limit) g.1 (ltb-true n limit g.0))
+
+below_again : (limit n : ℕ) → n < limit → below limit n ≡ Some n
+below_again limit n lt = sym (cond_below n limit (Some n) None lt)
+
+-- ---- ids
+
+id_joined : (core index c i : ℕ) (bytes rest behind : List ℕ) → core ≡ c → index ≡ i → bytes ≡ numeral core ++ 46 ∷ behind → behind ≡ numeral index ++ rest → bytes ≡ (numeral c ++ 46 ∷ numeral i) ++ rest
+id_joined core index c i bytes rest behind e f first second =
+    first ∙ ap (λ (r : List ℕ). numeral core ++ 46 ∷ r) second ∙ sym (append_assoc (numeral core) (46 ∷ numeral index) rest)
+    ∙ ap (λ (n : ℕ). (numeral n ++ 46 ∷ numeral index) ++ rest) e ∙ ap (λ (n : ℕ). (numeral c ++ 46 ∷ numeral n) ++ rest) f
+
+pub id_takes : (bytes : List ℕ) (x : OpId × List ℕ) → id_at bytes ≡ Some x → IdFits x.0 × (bytes ≡ id_text x.0 ++ x.1)
+unfolding id_at id_text
+id_takes bytes x e =
+    let core = bind_some (field_at 46 bytes) _ x e in
+    let index = bind_some (number_at core.0.1) _ x core.2 in
+    let c = bind_some (below 64 core.0.0) _ x index.2 in
+    let i = bind_some (below operation_limit index.0.0) _ x c.2 in
+    let found : OpId × List ℕ = (record { core = c.0; index = i.0 }, index.0.1) in
+    let g = below_is 64 core.0.0 c.0 c.1 in
+    let h = below_is operation_limit index.0.0 i.0 i.1 in
+    let all = id_joined core.0.0 index.0.0 c.0 i.0 bytes index.0.1 core.0.1 g.0 h.0 (field_takes 46 bytes core.0 core.1) (number_takes core.0.1 index.0 index.1) in
+    subst (λ (y : OpId × List ℕ). IdFits y.0 × (bytes ≡ id_text y.0 ++ y.1)) {x = found} (some_is found x i.2) ((g.1, h.1), all)
+
+pub id_again : (id : OpId) (rest : List ℕ) → IdFits id → NoDigit rest → id_at (id_text id ++ rest) ≡ Some (id, rest)
+unfolding id_at id_text
+id_again id rest fits none =
+    rw (
+      append_assoc (numeral id.core) (46 ∷ numeral id.index) rest,
+      field_again 46 id.core (numeral id.index ++ rest) refl,
+      number_again id.index rest none,
+      below_again 64 id.core fits.0,
+      below_again operation_limit id.index fits.1,
+    ) refl
+
+-- ---- points
+
+pub point_takes : (bytes : List ℕ) (x : Point × List ℕ) → point_at bytes ≡ Some x → PointFits x.0 × (bytes ≡ point_text x.0 ++ x.1)
+unfolding point_at
+point_takes bytes x e =
+    let initial : Option (Point × List ℕ) = after (codes "init") bytes >>= λ rest. Some (Init, rest) in
+    elim (cases_Bool (is_some (after (codes "init") bytes))) [
+      | inl same ↦
+          let b = bind_some (after (codes "init") bytes) (λ rest. Some (Init, rest)) x (sym (cond-true (is_some (after (codes "init") bytes)) initial (id_at bytes >>= as_point) same) ∙ e) in
+          subst (λ (y : Point × List ℕ). PointFits y.0 × (bytes ≡ point_text y.0 ++ y.1)) {x = (Init, b.0)} (some_is (Init, b.0) x b.2) (tt, after_takes (codes "init") bytes b.0 b.1)
+      | inr other ↦
+          let b = bind_some (id_at bytes) as_point x (sym (cond-false (is_some (after (codes "init") bytes)) initial (id_at bytes >>= as_point) other) ∙ e) in
+          let t = id_takes bytes b.0 b.1 in
+          subst (λ (y : Point × List ℕ). PointFits y.0 × (bytes ≡ point_text y.0 ++ y.1)) {x = (At b.0.0, b.0.1)} (some_is (At b.0.0, b.0.1) x b.2) (t.0, t.1)
+    ]
+
+-- digits don't begin the word
+not_init : (ds rest : List ℕ) → AreDigits ds → (ds ≡ [] → ⊥) → after (codes "init") (ds ++ rest) ≡ None
+unfolding after
+not_init [] rest all some = absurd (some refl)
+not_init (d ∷ ds) rest all some =
+    elim (cases_eq d 105) [
+      | inl same ↦ let wrong : is_digit 105 ≡ true = subst (λ (b : ℕ). is_digit b ≡ true) same all.0 in absurd cc
+      | inr other ↦ rw (ne_eqb d 105 other) refl
+    ]
+
+id_not_init : (id : OpId) (rest : List ℕ) → after (codes "init") (id_text id ++ rest) ≡ None
+unfolding id_text
+id_not_init id rest =
+    rw (append_assoc (numeral id.core) (46 ∷ numeral id.index) rest) (not_init (numeral id.core) (46 ∷ (numeral id.index ++ rest)) (numeral_digits id.core) (numeral_some id.core))
+
+pub point_again : (p : Point) (rest : List ℕ) → PointFits p → NoDigit rest → point_at (point_text p ++ rest) ≡ Some (p, rest)
+unfolding point_at
+point_again Init rest fits none = rw (after_again (codes "init") rest) refl
+point_again (At id) rest fits none = rw (id_not_init id rest, id_again id rest fits none) refl
+
+-- ---- ranges
+
+-- what comes after the first point of a range
+abbrev more_text : Range → List ℕ
+more_text range = if is_same_point range.first range.last then [] else codes ".." ++ point_text range.last
+
+same_point : (p q : Point) → is_same_point p q ≡ true → p ≡ q
+same_point Init Init e = refl
+same_point Init (At b) e = absurd cc
+same_point (At a) Init e = absurd cc
+same_point (At a) (At b) e =
+    let parts = and_parts _ _ e in
+    let core = eqb-true a.core b.core parts.0 in
+    let index = eqb-true a.index b.index parts.1 in
+    λ i. At (record { core = core i; index = index i })
+
+same_self : (p : Point) → is_same_point p p ≡ true
+same_self Init = refl
+same_self (At a) = rw (eq-eqb a.core a.core refl, eq-eqb a.index a.index refl) refl
+
+-- a test that has to fail
+unless_some : {A : Type 0} (b : Bool) (o : Option A) (x : A) → (if b then None else o) ≡ Some x → (b ≡ false) × (o ≡ Some x)
+unless_some true o x e = absurd cc
+unless_some false o x e = (refl, e)
+
+-- what a range from one point to another is
+record IsLast (first : Point) (bytes : List ℕ) (range : Range) (rest : List ℕ) : Type 0 where
+  fits : PointFits range.last
+  from : range.first ≡ first
+  apart : is_same_point first range.last ≡ false
+  text : bytes ≡ point_text range.last ++ rest
+  ends : ends_word rest ≡ true
+
+last_takes : (first : Point) (bytes : List ℕ) (x : Range × List ℕ) → last_at first bytes ≡ Some x → IsLast first bytes x.0 x.1
+unfolding last_at
+last_takes first bytes x e =
+    let last = bind_some (point_at bytes) _ x e in
+    let test = unless_some (is_same_point first last.0.0) (at_end (record { first = first; last = last.0.0 }) last.0.1) x last.2 in
+    let end = at_end_is (record { first = first; last = last.0.0 }) last.0.1 x test.1 in
+    let point = point_takes bytes last.0 last.1 in
+    let is : IsLast first bytes (record { first = first; last = last.0.0 }) last.0.1 = record { fits = point.0; from = refl; apart = test.0; text = point.1; ends = end.1 } in
+    subst (λ (y : Range × List ℕ). IsLast first bytes y.0 y.1) end.0 is
+
+-- the bytes are a space, this range, and a rest at which a word ends
+abbrev IsRangeRead : List ℕ → Range × List ℕ → Type 0
+IsRangeRead bytes x = RangeFits x.0 × (bytes ≡ 32 ∷ (range_text x.0 ++ x.1)) × (ends_word x.1 ≡ true)
+
+two_joined : (first : Point) (range : Range) (bytes r1 r2 rest : List ℕ) → bytes ≡ 32 ∷ (point_text first ++ r1) → r1 ≡ codes ".." ++ r2 → IsLast first r2 range rest → bytes ≡ 32 ∷ (range_text range ++ rest)
+unfolding range_text
+two_joined first range bytes r1 r2 rest e f last =
+    let apart : is_same_point range.first range.last ≡ false = ap (λ (p : Point). is_same_point p range.last) last.from ∙ last.apart in
+    let text : range_text range ≡ point_text first ++ (codes ".." ++ point_text range.last) =
+    ap (λ (b : Bool). point_text range.first ++ (if b then [] else codes ".." ++ point_text range.last)) apart ∙ ap (λ (p : Point). point_text p ++ (codes ".." ++ point_text range.last)) last.from in
+    e ∙ ap (λ (r : List ℕ). 32 ∷ (point_text first ++ r)) (f ∙ ap (λ (r : List ℕ). codes ".." ++ r) last.text)
+    ∙ ap (λ (r : List ℕ). 32 ∷ r) (sym (append_assoc (point_text first) (codes ".." ++ point_text range.last) rest)) ∙ ap (λ (r : List ℕ). 32 ∷ (r ++ rest)) (sym text)
+
+one_text : (p : Point) → range_text (record { first = p; last = p }) ≡ point_text p
+unfolding range_text
+one_text p = ap (λ (b : Bool). point_text p ++ (if b then [] else codes ".." ++ point_text p)) (same_self p) ∙ append-nil (point_text p)
+
+range_takes : (bytes : List ℕ) (x : Range × List ℕ) → range_at bytes ≡ Some x → IsRangeRead bytes x
+unfolding range_at
+range_takes bytes x e =
+    let first = bind_some (after (codes " ") bytes >>= point_at) _ x e in
+    let space = bind_some (after (codes " ") bytes) point_at first.0 first.1 in
+    let point = point_takes space.0 first.0 space.2 in
+    let front : bytes ≡ 32 ∷ (point_text first.0.0 ++ first.0.1) = after_takes (codes " ") bytes space.0 space.1 ∙ ap (λ (r : List ℕ). 32 ∷ r) point.1 in
+    let dots = after (codes "..") first.0.1 in
+    let alone : Option (Range × List ℕ) = at_end (record { first = first.0.0; last = first.0.0 }) first.0.1 in
+    elim (cases_Bool (is_some dots)) [
+      | inl two ↦
+          let b = bind_some dots (last_at first.0.0) x (sym (cond-true (is_some dots) (dots >>= last_at first.0.0) alone two) ∙ first.2) in
+          let last = last_takes first.0.0 b.0 x b.2 in
+          ((subst PointFits (sym last.from) point.0, last.fits), two_joined first.0.0 x.0 bytes first.0.1 b.0 x.1 front (after_takes (codes "..") first.0.1 b.0 b.1) last, last.ends)
+      | inr one ↦
+          let end = at_end_is (record { first = first.0.0; last = first.0.0 }) first.0.1 x (sym (cond-false (is_some dots) (dots >>= last_at first.0.0) alone one) ∙ first.2) in
+          let is : IsRangeRead bytes (record { first = first.0.0; last = first.0.0 }, first.0.1) = ((point.0, point.0), front ∙ ap (λ (r : List ℕ). 32 ∷ (r ++ first.0.1)) (sym (one_text first.0.0)), end.1) in
+          subst (IsRangeRead bytes) end.0 is
+    ]
+
+-- no word ends at dots
+ends_no_dots : (rest : List ℕ) → ends_word rest ≡ true → after (codes "..") rest ≡ None
+unfolding after
+ends_no_dots [] e = refl
+ends_no_dots (b ∷ bs) e = let is : b ≡ 32 = eqb-true b 32 e in rw is refl
+
+alone_again : (p : Point) (rest : List ℕ) → PointFits p → ends_word rest ≡ true → range_at (32 ∷ (point_text p ++ rest)) ≡ Some (record { first = p; last = p }, rest)
+unfolding range_at
+alone_again p rest fits ends =
+    rw (after_again (codes " ") (point_text p ++ rest), point_again p rest fits (ends_no_digit rest ends), ends_no_dots rest ends, ends) refl
+
+two_again : (range : Range) (rest : List ℕ) → RangeFits range → is_same_point range.first range.last ≡ false → ends_word rest ≡ true
+    → range_at (32 ∷ (point_text range.first ++ (codes ".." ++ (point_text range.last ++ rest)))) ≡ Some (range, rest)
+unfolding range_at last_at
+two_again range rest fits apart ends =
+    rw (
+      after_again (codes " ") (point_text range.first ++ (codes ".." ++ (point_text range.last ++ rest))),
+      point_again range.first (codes ".." ++ (point_text range.last ++ rest)) fits.0 refl,
+      after_again (codes "..") (point_text range.last ++ rest),
+      point_again range.last rest fits.1 (ends_no_digit rest ends),
+      apart,
+      ends,
+    ) refl
+
+range_again : (range : Range) (rest : List ℕ) → RangeFits range → ends_word rest ≡ true → range_at (32 ∷ (range_text range ++ rest)) ≡ Some (range, rest)
+unfolding range_text
+range_again range rest fits ends = go (is_same_point range.first range.last) refl
+  where
+    go : (b : Bool) → is_same_point range.first range.last ≡ b → range_at (32 ∷ (range_text range ++ rest)) ≡ Some (range, rest)
+    go true same =
+        let is : range.last ≡ range.first = sym (same_point range.first range.last same) in
+        let whole : record { first = range.first; last = range.first } ≡ range = ap (λ (p : Point). record { first = range.first; last = p }) (sym is) in
+        let text : range_text range ≡ point_text range.first = ap (λ (r : Range). range_text r) (sym whole) ∙ one_text range.first in
+        ap (λ (t : List ℕ). range_at (32 ∷ (t ++ rest))) text ∙ alone_again range.first rest fits.0 ends ∙ ap (λ (r : Range). Some (r, rest)) whole
+    go false apart =
+        let text : range_text range ≡ point_text range.first ++ (codes ".." ++ point_text range.last) =
+        ap (λ (b : Bool). point_text range.first ++ (if b then [] else codes ".." ++ point_text range.last)) apart in
+        ap (λ (t : List ℕ). range_at (32 ∷ (t ++ rest))) text ∙ ap (λ (t : List ℕ). range_at (32 ∷ t)) (append_assoc (point_text range.first) (codes ".." ++ point_text range.last) rest) ∙ two_again range rest fits apart ends
+
+pub ranges_are_words : HasWords range_text RangeFits range_at
+ranges_are_words = record { takes = λ bytes x rest e. range_takes bytes (x, rest) e; again = range_again }
+
+-- ---- the numbers of facts
+
+fact_takes : (bytes : List ℕ) (x : ℕ × List ℕ) → fact_at bytes ≡ Some x → (x.0 < 2 ^ 64) × (bytes ≡ 32 ∷ (numeral x.0 ++ x.1)) × (ends_word x.1 ≡ true)
+unfolding fact_at
+fact_takes bytes x e =
+    let n = bind_some (after (codes " ") bytes >>= number_at) _ x e in
+    let space = bind_some (after (codes " ") bytes) number_at n.0 n.1 in
+    let number = bind_some (below (2 ^ 64) n.0.0) _ x n.2 in
+    let g = below_is (2 ^ 64) n.0.0 number.0 number.1 in
+    let end = at_end_is number.0 n.0.1 x number.2 in
+    let text : bytes ≡ 32 ∷ (numeral number.0 ++ n.0.1) =
+    after_takes (codes " ") bytes space.0 space.1 ∙ ap (λ (r : List ℕ). 32 ∷ r) (number_takes space.0 n.0 space.2) ∙ ap (λ (k : ℕ). 32 ∷ (numeral k ++ n.0.1)) g.0 in
+    subst (λ (y : ℕ × List ℕ). (y.0 < 2 ^ 64) × (bytes ≡ 32 ∷ (numeral y.0 ++ y.1)) × (ends_word y.1 ≡ true)) end.0 (g.1, text, end.1)
+
+fact_again : (n : ℕ) (rest : List ℕ) → n < 2 ^ 64 → ends_word rest ≡ true → fact_at (32 ∷ (numeral n ++ rest)) ≡ Some (n, rest)
+unfolding fact_at
+fact_again n rest lt ends =
+    rw (after_again (codes " ") (numeral n ++ rest), number_again n rest (ends_no_digit rest ends), below_again (2 ^ 64) n lt, ends) refl
+
+pub facts_are_words : HasWords numeral (λ n. n < 2 ^ 64) fact_at
+facts_are_words = record { takes = λ bytes x rest e. fact_takes bytes (x, rest) e; again = fact_again }
+
+-- ---- what comes before a list
+
+pub named_takes : (bytes : List ℕ) (x : OpId × List ℕ) → named_at bytes ≡ Some x → IdFits x.0 × (bytes ≡ id_text x.0 ++ (codes " :" ++ x.1))
+unfolding named_at
+named_takes bytes x e =
+    let id = bind_some (id_at bytes) _ x e in
+    let rest = bind_some (after (codes " :") id.0.1) _ x id.2 in
+    let t = id_takes bytes id.0 id.1 in
+    let text : bytes ≡ id_text id.0.0 ++ (codes " :" ++ rest.0) = t.1 ∙ ap (λ (r : List ℕ). id_text id.0.0 ++ r) (after_takes (codes " :") id.0.1 rest.0 rest.1) in
+    subst (λ (y : OpId × List ℕ). IdFits y.0 × (bytes ≡ id_text y.0 ++ (codes " :" ++ y.1))) {x = (id.0.0, rest.0)} (some_is (id.0.0, rest.0) x rest.2) (t.0, text)
+
+pub named_again : (id : OpId) (rest : List ℕ) → IdFits id → named_at (id_text id ++ (codes " :" ++ rest)) ≡ Some (id, rest)
+unfolding named_at
+named_again id rest fits = rw (id_again id (codes " :" ++ rest) fits refl, after_again (codes " :") rest) refl
+
+pub source_takes : (bytes : List ℕ) (x : ℕ × List ℕ) → source_at bytes ≡ Some x → (x.0 < 2 ^ 64) × (bytes ≡ numeral x.0 ++ 32 ∷ x.1)
+unfolding source_at
+source_takes bytes x e =
+    let n = bind_some (field_at 32 bytes) _ x e in
+    let number = bind_some (below (2 ^ 64) n.0.0) _ x n.2 in
+    let g = below_is (2 ^ 64) n.0.0 number.0 number.1 in
+    let text : bytes ≡ numeral number.0 ++ 32 ∷ n.0.1 = field_takes 32 bytes n.0 n.1 ∙ ap (λ (k : ℕ). numeral k ++ 32 ∷ n.0.1) g.0 in
+    subst (λ (y : ℕ × List ℕ). (y.0 < 2 ^ 64) × (bytes ≡ numeral y.0 ++ 32 ∷ y.1)) {x = (number.0, n.0.1)} (some_is (number.0, n.0.1) x number.2) (g.1, text)
+
+pub source_again : (n : ℕ) (rest : List ℕ) → n < 2 ^ 64 → source_at (numeral n ++ 32 ∷ rest) ≡ Some (n, rest)
+unfolding source_at
+source_again n rest lt = rw (field_again 32 n rest refl, below_again (2 ^ 64) n lt) refl

@@ -1,0 +1,79 @@
+-- Paths, step by step.
+use Rattle.std.specs.Prelude.{◌≡◌, ℕ, suc, ◌+◌, ◌<◌, ◌≤◌, ◌==◌, nat_le, true, List, [], ◌∷◌, refl, Option, Some, None, slice_get, take, drop, length, ◌-◌}
+use Rattle.std.proofs.Common.{sym, ◌∙◌, subst, arith, get_or}
+use Rattle.std.proofs.lemmas.Bool.{and_parts, and_from, eqb-true, eq-eqb, leb-true, le-leb}
+use Rattle.std.proofs.lemmas.List.{drop_more, take_all}
+use Rattle.refutation.specs.declared.step.Point.{Point}
+use Rattle.refutation.specs.declared.step.Point.TheVariants.{Init, At}
+use Rattle.refutation.specs.declared.fact.Fact.{Fact}
+use Rattle.refutation.specs.Facts.{is_up_to, earlier_of, later_of, Leads, IsCycle}
+
+-- a path with a fact in front
+pub leads-cons : (facts : List Fact) (from to : Point) (number : ℕ) (path : List ℕ) (fact : Fact) → slice_get facts number ≡ Some fact → is_up_to from (earlier_of fact) ≡ true → Leads facts (later_of fact) path to → Leads facts from (number ∷ path) to
+leads-cons facts from to number path fact at up more = rw at (up, more)
+
+pub leads-uncons : (facts : List Fact) (from to : Point) (number : ℕ) (path : List ℕ) (fact : Fact) → slice_get facts number ≡ Some fact → Leads facts from (number ∷ path) to → (is_up_to from (earlier_of fact) ≡ true) × Leads facts (later_of fact) path to
+leads-uncons facts from to number path fact at leads = rw at at leads
+
+pub leads-none : (facts : List Fact) (from to : Point) (number : ℕ) (path : List ℕ) → slice_get facts number ≡ None → Leads facts from (number ∷ path) to → ⊥
+leads-none facts from to number path at leads = rw at at leads
+
+-- the rest of a path
+pub leads-at : (facts : List Fact) (from to : Point) (path : List ℕ) (i : ℕ) → i < length path → Leads facts from (drop i path) to → Leads facts from (get_or path i 0 ∷ drop (i + 1) path) to
+leads-at facts from to path i l leads = subst (λ p. Leads facts from p to) (drop_more path i 0 l) leads
+
+pub leads-from : (facts : List Fact) (from to : Point) (path : List ℕ) (i : ℕ) → i < length path → Leads facts from (get_or path i 0 ∷ drop (i + 1) path) to → Leads facts from (drop i path) to
+leads-from facts from to path i l leads = subst (λ p. Leads facts from p to) (sym (drop_more path i 0 l)) leads
+
+-- ---- program order
+
+pub up_to-trans : (p q r : Point) → is_up_to p q ≡ true → is_up_to q r ≡ true → is_up_to p r ≡ true
+up_to-trans Init q r a b = refl
+up_to-trans (At p) Init r a b = absurd cc
+up_to-trans (At p) (At q) Init a b = absurd cc
+up_to-trans (At p) (At q) (At r) a b =
+    let s = and_parts (p.core == q.core) (nat_le p.index q.index) a in
+    let t = and_parts (q.core == r.core) (nat_le q.index r.index) b in
+    let core = eqb-true p.core q.core s.0 ∙ eqb-true q.core r.core t.0 in
+    let low = leb-true p.index q.index s.1 in
+    let high = leb-true q.index r.index t.1 in
+    and_from (p.core == r.core) (nat_le p.index r.index) (eq-eqb p.core r.core core) (le-leb p.index r.index (omega arith))
+
+pub up_to-refl : (p : Point) → is_up_to p p ≡ true
+up_to-refl Init = refl
+up_to-refl (At p) = and_from (p.core == p.core) (nat_le p.index p.index) (eq-eqb p.core p.core refl) (le-leb p.index p.index (omega arith))
+
+-- what leads to a point leads to those after it in program order
+pub leads-up : (facts : List Fact) (from : Point) (path : List ℕ) (to later : Point) → Leads facts from path to → is_up_to to later ≡ true → Leads facts from path later
+leads-up facts from [] to later leads up = up_to-trans from to later leads up
+leads-up facts from (number ∷ path) to later leads up = go (slice_get facts number) refl (λ q more. leads-up facts q path to later more up)
+  where
+    go : (o : Option Fact) → slice_get facts number ≡ o → ((q : Point) → Leads facts q path to → Leads facts q path later) → Leads facts from (number ∷ path) later
+    go None at rest = absurd (leads-none facts from to number path at leads)
+    go (Some fact) at rest =
+        let parts = leads-uncons facts from to number path fact at leads in
+        leads-cons facts from later number path fact at parts.0 (rest (later_of fact) parts.1)
+
+-- ---- cycles
+
+pub cycle-from : (facts : List Fact) (number : ℕ) (path : List ℕ) (fact : Fact) → slice_get facts number ≡ Some fact → Leads facts (later_of fact) path (earlier_of fact) → IsCycle facts (number ∷ path)
+cycle-from facts number path fact at back = record {
+  start = earlier_of fact;
+  some = λ e. cc;
+  back = leads-cons facts (earlier_of fact) (earlier_of fact) number path fact at (up_to-refl (earlier_of fact)) back;
+}
+
+pub cycle-to : (facts : List Fact) (number : ℕ) (path : List ℕ) (fact : Fact) → slice_get facts number ≡ Some fact → IsCycle facts (number ∷ path) → Leads facts (later_of fact) path (earlier_of fact)
+cycle-to facts number path fact at cycle =
+    let parts = leads-uncons facts cycle.start cycle.start number path fact at cycle.back in
+    leads-up facts (later_of fact) path cycle.start (earlier_of fact) parts.1 parts.0
+
+-- the path in parts, as the code takes it
+pub is_cycle-exact : (facts : List Fact) (path : List ℕ) (fact : Fact) → 1 ≤ length path → slice_get facts (get_or path 0 0) ≡ Some fact
+    → (Leads facts (later_of fact) (take (length path - 1) (drop 1 path)) (earlier_of fact) → IsCycle facts path) × (IsCycle facts path → Leads facts (later_of fact) (take (length path - 1) (drop 1 path)) (earlier_of fact))
+is_cycle-exact facts [] fact some at = absurd (omega arith)
+is_cycle-exact facts (number ∷ path) fact some at =
+    let all : take (suc (length path) - 1) path ≡ path = take_all (suc (length path) - 1) path (omega arith) in (
+      λ back. cycle-from facts number path fact at (subst (λ p. Leads facts (later_of fact) p (earlier_of fact)) all back),
+      λ cycle. subst (λ p. Leads facts (later_of fact) p (earlier_of fact)) (sym all) (cycle-to facts number path fact at cycle),
+    )

@@ -1,0 +1,5 @@
+use Rattle.refutation.proofs.Completeness.{is-complete}
+use Rattle.refutation.proofs.laws.complete.Goals as goal
+
+pub returns : goal.returns
+returns c = is-complete

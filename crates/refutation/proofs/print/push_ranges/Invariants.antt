@@ -1,0 +1,7 @@
+use Rattle.std.proofs.Common.{◌≡◌, ◌++◌, take}
+use Rattle.std.specs.Prelude.{string_bytes}
+use Rattle.refutation.specs.Grammar.{range_text, spaced}
+use Rattle.refutation.proofs.print.push_ranges.Given as goal
+
+abbrev pub invariant-loop-range : goal.invariant-loop-range
+invariant-loop-range l = string_bytes l.text ≡ string_bytes l.initial.text ++ spaced range_text (take l.range-index l.ranges)

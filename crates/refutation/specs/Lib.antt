@@ -1,0 +1,10 @@
+pub mod Answers
+pub mod Facts
+pub mod FaultTexts
+pub mod Grammar
+pub mod Laws
+pub mod Refuting
+pub mod Rules
+pub mod TextLaws
+pub mod Texts
+pub mod inner

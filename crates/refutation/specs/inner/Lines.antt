@@ -1,0 +1,18 @@
+-- Lines without their line feeds, and what is read of a text.
+use Rattle.std.specs.Prelude.{◌≡◌, ℕ, ◌==◌, false, All, ◌⊎◌, List, length, Option, Some, None}
+use Rattle.refutation.specs.declared.text.Front.{Front}
+use Rattle.refutation.specs.Grammar.{end_line}
+use Rattle.refutation.specs.Texts.{Begins, EndsBadly, LacksHeader}
+
+-- it has no line feed
+abbrev pub IsOneLine : List ℕ → Type 0
+IsOneLine line = All (λ b. (b == 10) ≡ false) line
+
+-- how the text goes on after the lines of so many steps
+abbrev pub TellsEnd : List ℕ → ℕ → Option ℕ → Type 0
+TellsEnd rest count None = rest ≡ end_line count
+TellsEnd rest count (Some line) = EndsBadly rest count line
+
+-- the steps at the front of a text, and the first line that isn't of the shape
+abbrev pub TellsText : List ℕ → Front → Type 0
+TellsText bytes read = ((read.bad_line ≡ Some 1) × LacksHeader bytes 1) ⊎ ((rest : List ℕ) × Begins bytes read.steps.items rest × TellsEnd rest (length read.steps.items) read.bad_line)

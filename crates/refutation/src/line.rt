@@ -1,0 +1,161 @@
+//! Reads the line of a step.
+
+ghost use Rattle.std.specs.Prelude.{◌≡◌, ◌<◌, ◌^◌, codes, IfOk};
+ghost use Rattle.decimal_text.specs.Numbers.{numeral};
+ghost use Rattle.refutation.specs.Grammar.{range_text, RangeFits};
+ghost use Rattle.refutation.specs.inner.Telling.{TellsWords, TellsReason, TellsStep, TellsLine};
+
+use super::reading::{fact, id, named, range, source};
+use super::step::{Path, Ranges, Step};
+use decimal_text::after_text;
+use mem_op::OpId;
+use std::alloc::{AllocError, Global};
+
+/// The ranges that the bytes are, each with a space before it; None where they aren't such.
+fn read_ranges(alloc: Global, bytes: &[u8]) -> Result<Option<Ranges>, AllocError>
+    ensures { IfOk result (TellsWords range_text RangeFits bytes.now) }
+{
+    let mut ranges = Vec::new(alloc);
+    let mut rest = bytes;
+    while let Some((found, behind)) = range(rest) {
+        ranges.push(found)?;
+        rest = behind;
+    }
+    if rest.is_empty() {
+        Ok(Some(Ranges::new(ranges)))
+    } else {
+        Ok(None)
+    }
+}
+
+/// The path whose numbers the bytes are, each with a space before it; None where they aren't such.
+fn read_path(alloc: Global, bytes: &[u8]) -> Result<Option<Path>, AllocError>
+    ensures { IfOk result (TellsWords numeral (λ number. number < 2 ^ 64) bytes.now) }
+{
+    let mut facts = Vec::new(alloc);
+    let mut rest = bytes;
+    while let Some((number, behind)) = fact(rest) {
+        facts.push(number as usize)?;
+        rest = behind;
+    }
+    if rest.is_empty() {
+        Ok(Some(Path::new(facts)))
+    } else {
+        Ok(None)
+    }
+}
+
+/// What a step of from-read or of write-order names.
+#[derive(Drop)]
+struct Reason {
+    source: usize,
+    write: OpId,
+    path: Path,
+}
+
+/// The number of a fact, the write and the path that the bytes are; None where they aren't such.
+fn read_reason(alloc: Global, bytes: &[u8]) -> Result<Option<Reason>, AllocError>
+    ensures { IfOk result (TellsReason bytes.now) }
+{
+    let Some((source, rest)) = source(bytes) else {
+        return Ok(None);
+    };
+    let Some((write, rest)) = named(rest) else {
+        return Ok(None);
+    };
+    match read_path(alloc, rest)? {
+        Some(path) => Ok(Some(Reason {
+            source: source as usize,
+            write,
+            path,
+        })),
+        None => Ok(None),
+    }
+}
+
+/// The step whose fields these are, of those that split by a read's source.
+fn read_read(alloc: Global, fields: &[u8]) -> Result<Option<Step>, AllocError>
+    ensures { IfOk result (TellsStep (codes "read ") fields.now) }
+{
+    let Some((read, rest)) = named(fields) else {
+        return Ok(None);
+    };
+    match read_ranges(alloc, rest)? {
+        Some(ranges) => Ok(Some(Step::Read { read, ranges })),
+        None => Ok(None),
+    }
+}
+
+/// The step whose fields these are, of those that split by an order.
+fn read_order(fields: &[u8]) -> Option<Step>
+    ensures { TellsStep (codes "order ") fields.now result }
+{
+    let Some((one, rest)) = id(fields) else {
+        return None;
+    };
+    let Some((other, rest)) = id(after_text(b" ", rest)?) else {
+        return None;
+    };
+    if rest.is_empty() {
+        Some(Step::Order { one, other })
+    } else {
+        None
+    }
+}
+
+/// The step whose fields these are, of those of from-read.
+fn read_from_read(alloc: Global, fields: &[u8]) -> Result<Option<Step>, AllocError>
+    ensures { IfOk result (TellsStep (codes "from-read ") fields.now) }
+{
+    match read_reason(alloc, fields)? {
+        Some(reason) => Ok(Some(Step::FromRead {
+            source: reason.source,
+            write: reason.write,
+            path: reason.path,
+        })),
+        None => Ok(None),
+    }
+}
+
+/// The step whose fields these are, of those of write-order.
+fn read_write_order(alloc: Global, fields: &[u8]) -> Result<Option<Step>, AllocError>
+    ensures { IfOk result (TellsStep (codes "write-order ") fields.now) }
+{
+    match read_reason(alloc, fields)? {
+        Some(reason) => Ok(Some(Step::WriteOrder {
+            source: reason.source,
+            write: reason.write,
+            path: reason.path,
+        })),
+        None => Ok(None),
+    }
+}
+
+/// The step whose fields these are, of those that close a case by a cycle.
+fn read_cycle(alloc: Global, fields: &[u8]) -> Result<Option<Step>, AllocError>
+    ensures { IfOk result (TellsStep (codes "cycle :") fields.now) }
+{
+    match read_path(alloc, fields)? {
+        Some(path) => Ok(Some(Step::Cycle { path })),
+        None => Ok(None),
+    }
+}
+
+/// The step whose line this is, without its line feed; None where it isn't a step's.
+pub(crate) fn read_step(alloc: Global, line: &[u8]) -> Result<Option<Step>, AllocError>
+    ensures { IfOk result (TellsLine line.now) }
+{
+    if let Some(fields) = after_text(b"read ", line) {
+        read_read(alloc, fields)
+    } else if let Some(fields) = after_text(b"order ", line) {
+        Ok(read_order(fields))
+    } else if let Some(fields) = after_text(b"from-read ", line) {
+        read_from_read(alloc, fields)
+    } else if let Some(fields) = after_text(b"write-order ", line) {
+        read_write_order(alloc, fields)
+    } else if let Some(fields) = after_text(b"cycle :", line) {
+        read_cycle(alloc, fields)
+    } else {
+        Ok(None)
+    }
+}

@@ -1,0 +1,170 @@
+//! The text of a refutation, printed.
+
+ghost use Rattle.std.specs.Prelude.{◌≡◌, ◌++◌, ◌∷◌, [], IfOk, OnOk, Some, length, string_bytes};
+ghost use Rattle.decimal_text.specs.Numbers.{numeral};
+ghost use Rattle.refutation.specs.Grammar.{end_line, point_text, range_text, reason_text, refutation_text, spaced, step_text};
+
+use super::reading::is_same;
+use super::step::{Path, Point, Range, Ranges, Refutation, Step};
+use mem_op::OpId;
+use std::alloc::{AllocError, Global};
+use std::fmt;
+
+impl fmt::Display for Point {
+    ghost output = { λ p. Some (point_text p) };
+
+    #[tactic(auto, using(decimal_text::proofs::Printing::numeral_decimal), unfolding(crate::specs::Grammar::id_text))]
+    fn fmt<W: fmt::Write>(&self, f: &mut fmt::Formatter<W>) -> fmt::Result {
+        match self {
+            Point::Init => f.write_str("init"),
+            Point::At(id) => {
+                let core = id.core.get();
+                let index = id.index.get();
+                write!(f, "{core}.{index}")
+            }
+        }
+    }
+}
+
+impl fmt::Display for Range {
+    ghost output = { λ r. Some (range_text r) };
+
+    #[tactic(auto, unfolding(crate::specs::Grammar::range_text))]
+    fn fmt<W: fmt::Write>(&self, f: &mut fmt::Formatter<W>) -> fmt::Result {
+        let first = self.first;
+        let last = self.last;
+        if is_same(&first, &last) {
+            write!(f, "{first}")
+        } else {
+            write!(f, "{first}..{last}")
+        }
+    }
+}
+
+/// Puts ranges behind a text.
+fn push_ranges(text: &mut String, ranges: &[Range]) -> Result<(), AllocError>
+    ensures { OnOk result (string_bytes text.new ≡ string_bytes text.old ++ spaced range_text ranges.now) }
+{
+    for range in ranges {
+        write!(text, " {range}")?;
+    }
+    Ok(())
+}
+
+/// Puts the numbers of a path behind a text.
+fn push_path(text: &mut String, path: &[usize]) -> Result<(), AllocError>
+    ensures { OnOk result (string_bytes text.new ≡ string_bytes text.old ++ spaced numeral path.now) }
+{
+    for number in path {
+        push_number(text, *number)?;
+    }
+    Ok(())
+}
+
+/// Puts a number behind a text.
+#[tactic(auto, using(decimal_text::proofs::Printing::numeral_decimal))]
+fn push_number(text: &mut String, number: usize) -> Result<(), AllocError>
+    ensures { OnOk result (string_bytes text.new ≡ string_bytes text.old ++ 32 ∷ numeral number) }
+{
+    write!(text, " {number}")
+}
+
+/// Puts the number of a fact and a space behind a text.
+#[tactic(auto, using(decimal_text::proofs::Printing::numeral_decimal))]
+fn push_source(text: &mut String, source: usize) -> Result<(), AllocError>
+    ensures { OnOk result (string_bytes text.new ≡ string_bytes text.old ++ (numeral source ++ 32 ∷ [])) }
+{
+    write!(text, "{source} ")
+}
+
+/// Puts the number of a fact, a write and a path behind a text.
+#[tactic(auto, unfolding(crate::specs::Grammar::reason_text))]
+fn push_reason(
+    text: &mut String,
+    source: usize,
+    write: &OpId,
+    path: &Path,
+) -> Result<(), AllocError>
+    ensures { OnOk result (string_bytes text.new ≡ string_bytes text.old ++ reason_text source write.now path.now) }
+{
+    push_source(text, source)?;
+    let write = Point::At(*write);
+    write!(text, "{write} :")?;
+    push_path(text, path.as_slice())
+}
+
+/// Puts a read and its ranges behind a text.
+#[tactic(auto, unfolding(crate::specs::Grammar::fields_text))]
+fn push_read(text: &mut String, read: &OpId, ranges: &Ranges) -> Result<(), AllocError>
+    ensures { OnOk result (string_bytes text.new ≡ string_bytes text.old ++ step_text (Step.Read read.now ranges.now)) }
+{
+    let read = Point::At(*read);
+    write!(text, "read {read} :")?;
+    push_ranges(text, ranges.as_slice())
+}
+
+/// Puts a step behind a text.
+#[tactic(auto, unfolding(crate::specs::Grammar::fields_text))]
+fn push_step(text: &mut String, step: &Step) -> Result<(), AllocError>
+    ensures { OnOk result (string_bytes text.new ≡ string_bytes text.old ++ step_text step.now) }
+{
+    match step {
+        Step::Read { read, ranges } => push_read(text, read, ranges),
+        Step::Order { one, other } => {
+            let (one, other) = (Point::At(*one), Point::At(*other));
+            write!(text, "order {one} {other}")
+        }
+        Step::FromRead {
+            source,
+            write,
+            path,
+        } => {
+            text.push_str("from-read ")?;
+            push_reason(text, *source, write, path)
+        }
+        Step::WriteOrder {
+            source,
+            write,
+            path,
+        } => {
+            text.push_str("write-order ")?;
+            push_reason(text, *source, write, path)
+        }
+        Step::Cycle { path } => {
+            text.push_str("cycle :")?;
+            push_path(text, path.as_slice())
+        }
+    }
+}
+
+/// Puts the line of a step behind a text.
+fn push_line(text: &mut String, step: &Step) -> Result<(), AllocError>
+    ensures { OnOk result (string_bytes text.new ≡ string_bytes text.old ++ (step_text step.now ++ 10 ∷ [])) }
+{
+    push_step(text, step)?;
+    text.push_str("\n")?;
+    Ok(())
+}
+
+/// Puts the last line behind a text.
+#[tactic(auto, using(decimal_text::proofs::Printing::numeral_decimal))]
+fn push_end(text: &mut String, count: usize) -> Result<(), AllocError>
+    ensures { OnOk result (string_bytes text.new ≡ string_bytes text.old ++ end_line count) }
+{
+    writeln!(text, "end {count}")
+}
+
+impl Refutation {
+    /// Its text. Err where memory was refused.
+    pub fn print(&self, alloc: Global) -> Result<String, AllocError>
+        ensures { IfOk result (λ text. string_bytes text ≡ refutation_text self.now) }
+    {
+        let mut text = String::new(alloc);
+        text.push_str("tardis-refutation 1\n")?;
+        for step in self.steps() {
+            push_line(&mut text, step)?;
+        }
+        push_end(&mut text, self.steps().len())?;
+        Ok(text)
+    }
+}

@@ -1,0 +1,54 @@
+//! The check of a refutation.
+
+ghost use Rattle.std.specs.Prelude.{◌≡◌, ◌<◌, ◌≤◌, ◌^◌, ◌↔◌, IsTrue, IfOk, IfSome, MatchOption};
+ghost use Rattle.mem_op.specs.Consistency.{IsConsistent};
+ghost use Rattle.refutation.specs.Refuting.{IsRefutation, IsFirstWrong};
+
+use super::cases::Cases;
+use super::rules::given;
+use super::step::Refutation;
+use std::alloc::{AllocError, Global};
+use trace::Trace;
+
+/// The first of so many steps that comes after the last case was closed, if there is one.
+fn step_too_many(next: usize, count: usize) -> Option<usize>
+    ensures { MatchOption result (count ≤ next) (λ place. (place ≡ next) × (next < count)) }
+{
+    if next < count { Some(next) } else { None }
+}
+
+/// The place of the first step that isn't right or comes after the last case was closed; the number of steps where
+/// cases are left after the last; None where the steps are a refutation of the trace. Whoever made them isn't trusted.
+/// Err where memory was refused.
+pub fn first_wrong_step(
+    alloc: Global,
+    trace: &Trace,
+    refutation: &Refutation,
+) -> Result<Option<usize>, AllocError>
+    ensures first { IfOk result (λ wrong. MatchOption wrong
+        (IsRefutation trace.now refutation.now)
+        (λ place. IsFirstWrong trace.now refutation.now place)) }
+    ensures in_range { IfOk result (λ wrong. IfSome wrong (λ place. place < 2 ^ 63)) }
+{
+    let steps = refutation.steps();
+    let mut cases = Cases::new(alloc);
+    for (place, step) in steps.iter().enumerate() {
+        let Some(given) = given(alloc, trace, cases.facts(), step)? else {
+            return Ok(Some(place));
+        };
+        let Some(left) = cases.split(given)? else {
+            return Ok(step_too_many(place + 1, steps.len()));
+        };
+        cases = left;
+    }
+    Ok(Some(steps.len()))
+}
+
+/// Whether the steps are a refutation of the trace. Then it isn't consistent. Whoever made the steps isn't trusted. Err
+/// where memory was refused.
+pub fn refutes(alloc: Global, trace: &Trace, refutation: &Refutation) -> Result<bool, AllocError>
+    ensures exact { IfOk result (λ refuted. IsTrue refuted ↔ IsRefutation trace.now refutation.now) }
+    ensures sound { IfOk result (λ refuted. IsTrue refuted → ¬ IsConsistent trace.now) }
+{
+    Ok(first_wrong_step(alloc, trace, refutation)?.is_none())
+}

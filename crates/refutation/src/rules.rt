@@ -1,0 +1,185 @@
+//! The rules: the cases that a step gives.
+
+ghost use Rattle.std.specs.Prelude.{◌≡◌, ◌↔◌, IsTrue, [], ◌∷◌, IfOk, map};
+ghost use Rattle.refutation.specs.declared.fact.Fact.TheVariants.{Before, Source};
+ghost use Rattle.refutation.specs.declared.step.Point.TheVariants.{At};
+ghost use Rattle.refutation.specs.Rules.{Gives, AreTwo, HasItsSourceIn, IsOtherWrite, IsFromRead, IsWriteOrder};
+ghost use Rattle.refutation.specs.inner.Answers.{TellsGiven, TellsOne, TellsReading, IsCaseOf};
+
+use super::covering::{Reading, cover};
+use super::fact::{Fact, Known, fact_at};
+use super::path::{is_cycle, leads};
+use super::step::{Point, Range, Step};
+use mem_op::OpId;
+use std::alloc::{AllocError, Global};
+use trace::Trace;
+
+/// The load or swap of an id.
+fn reading(trace: &Trace, id: &OpId) -> Option<Reading>
+    ensures { TellsReading trace.now id.now result }
+{
+    let access = trace.operation(id)?;
+    let value = access.read()?;
+    Some(Reading {
+        id: *id,
+        addr: access.addr(),
+        value,
+    })
+}
+
+/// That a read's source lies in a range, for each of these ranges.
+fn sources(alloc: Global, read: &OpId, ranges: &[Range]) -> Result<Vec<Known>, AllocError>
+    ensures { IfOk result (λ facts. facts.items ≡ map (λ range. Source read.now range) ranges.now) }
+{
+    let mut facts = Vec::new(alloc);
+    for range in ranges {
+        facts.push(Known::source(*read, *range))?;
+    }
+    Ok(facts)
+}
+
+/// The cases of a split by a read's source. None where it may lie outside of the ranges.
+fn by_source(
+    alloc: Global,
+    trace: &Trace,
+    read: &OpId,
+    ranges: &[Range],
+) -> Result<Option<Vec<Known>>, AllocError>
+    ensures { IfOk result (TellsGiven (λ given.
+        HasItsSourceIn trace.now read.now ranges.now × (given ≡ map (λ range. Source read.now range) ranges.now))) }
+{
+    match reading(trace, read) {
+        Some(found) if cover(trace, &found, ranges) => Ok(Some(sources(alloc, read, ranges)?)),
+        _ => Ok(None),
+    }
+}
+
+/// Whether two ids are those of two operations.
+fn are_two(trace: &Trace, one: &OpId, other: &OpId) -> bool
+    ensures { IsTrue result ↔ AreTwo trace.now one.now other.now }
+{
+    one != other && trace.operation(one).is_some() && trace.operation(other).is_some()
+}
+
+/// The cases of a split by the order of two operations. None where they aren't two.
+fn by_order(
+    alloc: Global,
+    trace: &Trace,
+    one: &OpId,
+    other: &OpId,
+) -> Result<Option<Vec<Known>>, AllocError>
+    ensures { IfOk result (TellsGiven (λ given. AreTwo trace.now one.now other.now
+        × (given ≡ Before (At one.now) (At other.now) ∷ Before (At other.now) (At one.now) ∷ []))) }
+{
+    if !are_two(trace, one, other) {
+        return Ok(None);
+    }
+    let mut facts = Vec::new(alloc);
+    facts.push(Known::before(Point::At(*one), Point::At(*other)))?;
+    facts.push(Known::before(Point::At(*other), Point::At(*one)))?;
+    Ok(Some(facts))
+}
+
+/// Whether an operation writes the address of a read, and is neither the read nor the last point of its source.
+fn is_other_write(trace: &Trace, read: &OpId, last: &Point, write: &OpId) -> bool
+    ensures { IsTrue result ↔ IsOtherWrite trace.now read.now last.now write.now }
+{
+    let (Some(reading), Some(writing)) = (trace.operation(read), trace.operation(write)) else {
+        return false;
+    };
+    writing.is_store_to(reading.addr()) && write != read && *last != Point::At(*write)
+}
+
+/// That a read is before a write, to which the path leads from the last point of the read's source.
+fn from_read(
+    trace: &Trace,
+    facts: &[Known],
+    source: usize,
+    write: &OpId,
+    path: &[usize],
+) -> Option<Known>
+    ensures { TellsOne (IsFromRead trace.now facts.now source write.now path.now) result }
+{
+    let Fact::Source(read, range) = fact_at(facts, source)?.get() else {
+        return None;
+    };
+    let at = Point::At(*write);
+    if is_other_write(trace, &read, &range.last, write) && leads(facts, &range.last, path, &at) {
+        Some(Known::before(Point::At(read), at))
+    } else {
+        None
+    }
+}
+
+/// That a write, from which the path leads to a read, is before the last point of the read's source.
+fn write_order(
+    trace: &Trace,
+    facts: &[Known],
+    source: usize,
+    write: &OpId,
+    path: &[usize],
+) -> Option<Known>
+    ensures { TellsOne (IsWriteOrder trace.now facts.now source write.now path.now) result }
+{
+    let Fact::Source(read, range) = fact_at(facts, source)?.get() else {
+        return None;
+    };
+    let at = Point::At(*write);
+    if is_other_write(trace, &read, &range.last, write)
+        && leads(facts, &at, path, &Point::At(read))
+    {
+        Some(Known::before(at, range.last))
+    } else {
+        None
+    }
+}
+
+/// The one case of a fact that follows.
+fn one_case(alloc: Global, fact: Option<Known>) -> Result<Option<Vec<Known>>, AllocError>
+    ensures { IfOk result (λ facts. IsCaseOf fact facts) }
+{
+    let Some(fact) = fact else {
+        return Ok(None);
+    };
+    let mut facts = Vec::new(alloc);
+    facts.push(fact)?;
+    Ok(Some(facts))
+}
+
+/// The facts of the cases that a step gives, where these are in force. None where the step isn't right.
+pub(crate) fn given(
+    alloc: Global,
+    trace: &Trace,
+    facts: &[Known],
+    step: &Step,
+) -> Result<Option<Vec<Known>>, AllocError>
+    ensures { IfOk result (TellsGiven (Gives trace.now facts.now step.now)) }
+{
+    match step {
+        Step::Read { read, ranges } => by_source(alloc, trace, read, ranges.as_slice()),
+        Step::Order { one, other } => by_order(alloc, trace, one, other),
+        Step::FromRead {
+            source,
+            write,
+            path,
+        } => one_case(
+            alloc,
+            from_read(trace, facts, *source, write, path.as_slice()),
+        ),
+        Step::WriteOrder {
+            source,
+            write,
+            path,
+        } => one_case(
+            alloc,
+            write_order(trace, facts, *source, write, path.as_slice()),
+        ),
+        Step::Cycle { path } => {
+            if is_cycle(facts, path.as_slice()) {
+                Ok(Some(Vec::new(alloc)))
+            } else {
+                Ok(None)
+            }
+        }
+    }
+}

@@ -1,0 +1,4 @@
+pub mod Leaving
+mod Runs
+mod Tables
+mod ThreadRuns

@@ -1,0 +1,6 @@
+pub mod Faults
+pub mod Leaving
+pub mod Programmed
+pub mod Running
+pub mod Simulating
+pub mod Tabling

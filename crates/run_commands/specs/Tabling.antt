@@ -1,0 +1,113 @@
+-- What the counting of a litmus test's outcomes answers, and what standard output took of their table. The sink was `old` before and
+-- is `new` after.
+use Rattle.std.specs.Prelude.{◌≡◌, ◌<◌, ◌≤◌, ◌⊎◌, ⊤, ℕ, Bool, true, false, List, Option, None, Some, Result, Ok, Err}
+use Rattle.std.specs.Io.KnownBytes.{Appends, Keeps}
+use Rattle.std.specs.List.{AllByRecursion, list_any}
+use Rattle.command_line.specs.declared.request.Litmus.{Litmus}
+use Rattle.core_program.specs.Shape.{IsProgram}
+use Rattle.lease_rule.specs.Ranges.{first_bad}
+use Rattle.litmus_test.specs.Answers.{IsFault, Spells}
+use Rattle.lease_rule.specs.ConfigParts.{ConfigParts}
+use Rattle.litmus.specs.Collecting.{IsBadRunCount, IsCollectFault, IsRunCount, IsSeededTable, IsThreadFault, IsThreadTable}
+use Rattle.litmus_test.specs.Parts.{LitmusParts}
+use Rattle.litmus_test.specs.TableParts.{TableParts}
+use Rattle.litmus_test.specs.TableText.{table_text}
+use Rattle.litmus.specs.declared.run_fault.CollectFault.{CollectFault}
+use Rattle.litmus.specs.declared.run_fault.CollectFault.TheVariants.{BadRuns, Run as RunFailed, OutOfMemory as NoTableMemory}
+use Rattle.log_file.specs.Devices.{Tells}
+use Rattle.run_commands.specs.Programmed.{config_of}
+use Rattle.call_devices.specs.Sinks.{HasFailed, Sink, TakesBeginning}
+use Rattle.run_commands.specs.declared.fault.RunningFault.{RunningFault}
+use Rattle.run_commands.specs.declared.fault.RunningFault.TheVariants.{Config, Programs, Schedule, ScheduleUnread, Simulation, Run, Test, TestUnread, Collect, Logs, Output, OutOfMemory}
+
+-- ---- what was asked for
+
+-- this is the test in the file of this name
+abbrev pub IsTestIn : (List ℕ → Option (List ℕ)) → List ℕ → LitmusParts → Type 0
+IsTestIn told name t = (text : List ℕ) × Tells (told name) text × Spells text t × AllByRecursion IsProgram t.programs
+
+-- why there is no test: the text of its file, or it can't be read, or memory ran out
+abbrev pub IsUntested : (List ℕ → Option (List ℕ)) → (List ℕ → Type 0) → List ℕ → RunningFault → Type 0
+IsUntested told unread name (Test fault) = (text : List ℕ) × Tells (told name) text × IsFault text fault
+IsUntested told unread name TestUnread = unread name
+IsUntested told unread name OutOfMemory = ⊤
+IsUntested told unread name (Config fault) = ⊥
+IsUntested told unread name (Programs fault) = ⊥
+IsUntested told unread name (Logs fault) = ⊥
+IsUntested told unread name (Schedule fault) = ⊥
+IsUntested told unread name ScheduleUnread = ⊥
+IsUntested told unread name (Simulation fault) = ⊥
+IsUntested told unread name (Run fault) = ⊥
+IsUntested told unread name (Collect fault) = ⊥
+IsUntested told unread name Output = ⊥
+
+-- the numbers of the machine and the number of runs are in range
+pub record IsInOrder (asked : Litmus) : Type 0 where
+  pub config : first_bad (config_of asked.limits) ≡ None
+  pub runs : IsRunCount asked.runs
+
+-- and something holds of the test
+abbrev pub Tested : (List ℕ → Option (List ℕ)) → Litmus → (LitmusParts → Type 0) → Type 0
+Tested told asked Holds = IsInOrder asked × (t : LitmusParts) × IsTestIn told asked.test.now t × Holds t
+
+-- ---- its table
+
+-- a table of runs by threads, or of runs by a seed
+abbrev pub IsTableBy : Bool → LitmusParts → ConfigParts → ℕ → ℕ → TableParts → Type 0
+IsTableBy true t g runs seed table = IsThreadTable t g runs table
+IsTableBy false t g runs seed table = IsSeededTable t g runs seed table
+
+-- and why there is none
+abbrev pub IsFaultBy : Bool → LitmusParts → ConfigParts → ℕ → ℕ → CollectFault → Type 0
+IsFaultBy true t g runs seed fault = IsThreadFault t g runs fault
+IsFaultBy false t g runs seed fault = IsCollectFault t g runs seed fault
+
+-- something holds of the table of its runs
+abbrev pub Tabled : (List ℕ → Option (List ℕ)) → Litmus → (TableParts → Type 0) → Type 0
+Tabled told asked Holds =
+    Tested told asked (λ t. (table : TableParts)
+    × IsTableBy asked.threads t (config_of asked.limits) asked.runs asked.seed table × Holds table)
+
+-- an outcome of the table is forbidden
+abbrev pub has_forbidden : TableParts → Bool
+has_forbidden table = list_any (λ row. row.forbidden) table.rows
+
+-- Why there is no table: the configuration is looked at first, then the number of runs, then the test. `unread` holds of the name of a file
+-- that can't be opened or read.
+abbrev pub IsUntabled : (List ℕ → Option (List ℕ)) → (List ℕ → Type 0) → Litmus → RunningFault → Type 0
+IsUntabled told unread asked (Config fault) = first_bad (config_of asked.limits) ≡ Some fault
+IsUntabled told unread asked (Collect BadRuns) = (first_bad (config_of asked.limits) ≡ None) × IsBadRunCount asked.runs
+IsUntabled told unread asked (Collect (RunFailed k cause)) =
+    Tested told asked (λ t. IsFaultBy asked.threads t (config_of asked.limits) asked.runs asked.seed (RunFailed k cause))
+IsUntabled told unread asked (Collect NoTableMemory) = ⊥
+IsUntabled told unread asked (Test fault) = IsInOrder asked × IsUntested told unread asked.test.now (Test fault)
+IsUntabled told unread asked TestUnread = IsInOrder asked × unread asked.test.now
+IsUntabled told unread asked OutOfMemory = ⊤
+IsUntabled told unread asked (Programs fault) = ⊥
+IsUntabled told unread asked (Logs fault) = ⊥
+IsUntabled told unread asked (Schedule fault) = ⊥
+IsUntabled told unread asked ScheduleUnread = ⊥
+IsUntabled told unread asked (Simulation fault) = ⊥
+IsUntabled told unread asked (Run fault) = ⊥
+IsUntabled told unread asked Output = ⊥
+
+-- ---- its text
+
+-- Whether an outcome of the table is forbidden, whose text the sink took; or why there is none. Where the sink failed, it took a
+-- beginning of the text, and else it holds what it held;
+-- lack of the memory to tell of it may be told in place of 29.
+abbrev pub IsCounted : (List ℕ → Option (List ℕ)) → (List ℕ → Type 0) → Litmus → Sink → Sink → Result Bool RunningFault → Type 0
+IsCounted told unread asked old new (Ok forbidden) =
+    Tabled told asked (λ table. (forbidden ≡ has_forbidden table) × Appends old.contents new.contents (table_text table))
+IsCounted told unread asked old new (Err Output) = Tabled told asked (λ table. HasFailed old new × TakesBeginning old new (table_text table))
+IsCounted told unread asked old new (Err (Config fault)) = IsUntabled told unread asked (Config fault) × Keeps old.contents new.contents
+IsCounted told unread asked old new (Err (Programs fault)) = ⊥
+IsCounted told unread asked old new (Err (Schedule fault)) = ⊥
+IsCounted told unread asked old new (Err ScheduleUnread) = ⊥
+IsCounted told unread asked old new (Err (Simulation fault)) = ⊥
+IsCounted told unread asked old new (Err (Run fault)) = ⊥
+IsCounted told unread asked old new (Err (Logs fault)) = ⊥
+IsCounted told unread asked old new (Err (Test fault)) = IsUntabled told unread asked (Test fault) × Keeps old.contents new.contents
+IsCounted told unread asked old new (Err TestUnread) = IsUntabled told unread asked TestUnread × Keeps old.contents new.contents
+IsCounted told unread asked old new (Err (Collect fault)) = IsUntabled told unread asked (Collect fault) × Keeps old.contents new.contents
+IsCounted told unread asked old new (Err OutOfMemory) = Keeps old.contents new.contents ⊎ HasFailed old new

@@ -1,0 +1,159 @@
+//! All that is known of the orders that a trace can have.
+
+use super::candidates::{Candidates, number};
+use super::clocks::Clocks;
+use super::core_set::CoreSet;
+use super::facts::{Facts, Rule};
+use super::operations::{Operation, Operations};
+use super::stop::{Conflict, Place, START, Stop, at};
+use super::stores::{Stores, last_below};
+use std::alloc::Global;
+use std::collections::VecDeque;
+use trace::Access;
+
+/// An operation whose clock rose for some cores.
+#[derive(Clone, Copy)]
+pub(crate) struct Risen {
+    pub(crate) place: Place,
+    pub(crate) cores: CoreSet,
+}
+
+/// What is known of each order that keeps program order and in which each read has its word.
+#[derive(Drop)]
+pub(crate) struct Knowledge {
+    pub(crate) alloc: Global,
+    pub(crate) operations: Operations,
+    pub(crate) candidates: Candidates,
+    pub(crate) stores: Stores,
+    pub(crate) clocks: Clocks,
+    pub(crate) facts: Facts,
+    /// Of each core the place at which its operations that have not come in begin.
+    pub(crate) entered: Vec<Place>,
+    /// The reads that came in with more than one candidate.
+    pub(crate) open: Vec<Place>,
+    /// The operations whose clocks rose, and for which nothing was concluded from that yet.
+    pub(crate) risen: VecDeque<Risen>,
+    /// How many steps the search may still make.
+    pub(crate) left: u64,
+}
+
+impl Knowledge {
+    /// Nothing is known, and no operation has come in. The search may make so many steps.
+    pub(crate) fn new(alloc: Global, cores: &[Vec<Access>], left: u64) -> Result<Knowledge, Stop> {
+        let (operations, candidates) = number(alloc, cores)?;
+        Ok(Knowledge {
+            alloc,
+            stores: Stores::new(alloc, &operations, candidates.words)?,
+            clocks: Clocks::new(alloc, &operations)?,
+            facts: Facts::new(alloc, operations.len())?,
+            entered: operations.starts().to_vec(alloc)?,
+            open: Vec::new(alloc),
+            risen: VecDeque::new(alloc),
+            left,
+            operations,
+            candidates,
+        })
+    }
+
+    /// Makes steps of the search, which gives up where not so many are left.
+    pub(crate) fn spend(&mut self, steps: u64) -> Result<(), Stop> {
+        self.left = self.left.checked_sub(steps).ok_or(Stop::GivenUp)?;
+        Ok(())
+    }
+
+    /// Whether an operation has come in.
+    pub(crate) fn has_entered(&self, place: Place) -> Result<bool, Stop> {
+        Ok(place < at(&self.entered, self.operations.core(place)?)?)
+    }
+
+    /// Whether one place is another, or is known to be before it.
+    pub(crate) fn is_before(&self, earlier: Place, later: Place) -> Result<bool, Stop> {
+        if earlier == START {
+            return Ok(true);
+        }
+        let core = self.operations.core(earlier)?;
+        Ok(later != START && self.clocks.entry(later, core)? > earlier)
+    }
+
+    /// The last store of a core to the address of an operation at a place that is known to be before it.
+    pub(crate) fn last_store(
+        &self,
+        place: Place,
+        operation: &Operation,
+        core: u32,
+    ) -> Result<Option<Place>, Stop> {
+        let bound = if core == u32::from(operation.core) {
+            place
+        } else {
+            self.clocks.entry(place, core)?
+        };
+        let active = self.stores.active(self.stores.slot(operation.word, core))?;
+        Ok(last_below(active, bound))
+    }
+
+    /// Whether a read can have its word from a store, or from the start.
+    pub(crate) fn can_read(
+        &self,
+        read: Place,
+        operation: &Operation,
+        store: Place,
+    ) -> Result<bool, Stop> {
+        match self.facts.source(read)? {
+            Some(source) => Ok(source == store),
+            None if store == START => Ok(operation.reads_zero),
+            None => Ok(
+                self.candidates
+                    .of(operation.class)?
+                    .binary_search(&store)
+                    .is_ok(),
+            ),
+        }
+    }
+
+    /// Adds that one operation is before another, and gives the number of this fact.
+    pub(crate) fn add(
+        &mut self,
+        earlier: Place,
+        later: Place,
+        basis: u32,
+        rule: Rule,
+    ) -> Result<u32, Stop> {
+        let number = self.facts.push(earlier, later, basis, rule)?;
+        if earlier != START {
+            self.flow(earlier, later, number)?;
+        }
+        Ok(number)
+    }
+
+    /// What is before one operation is before another, by a fact. The case is closed where the second is before the
+    /// first.
+    pub(crate) fn flow(&mut self, earlier: Place, later: Place, fact: u32) -> Result<(), Stop> {
+        if self.is_before(later, earlier)? {
+            return Err(Stop::Closed(Conflict::Cycle(fact)));
+        }
+        let cores = self.clocks.join(earlier, later)?;
+        if cores.is_empty() {
+            return Ok(());
+        }
+        self.note(later, cores)
+    }
+
+    /// Notes that the clock of an operation rose for some cores.
+    pub(crate) fn note(&mut self, place: Place, cores: CoreSet) -> Result<(), Stop> {
+        if let Some(last) = self.risen.back_mut()
+            && last.place == place
+        {
+            last.cores.extend(cores);
+            return Ok(());
+        }
+        self.risen.push_back(Risen { place, cores })?;
+        Ok(())
+    }
+
+    /// Takes back what was found since the trail of the clocks and the facts were as long as this.
+    pub(crate) fn undo(&mut self, trail: usize, facts: u32) -> Result<(), Stop> {
+        self.risen.clear();
+        self.clocks.undo(trail)?;
+        self.facts.undo(facts)
+    }
+}

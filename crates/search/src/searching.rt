@@ -1,0 +1,57 @@
+//! The search. What it finds is shown to be right before it is answered.
+
+ghost use Rattle.std.specs.Prelude.{IfOk};
+ghost use Rattle.refutation.specs.Answers.{IsRight};
+
+use super::numbering::{id, refutation};
+use super::operations::Operations;
+use super::shrinking::shrink;
+use super::splits::{Outcome, Search};
+use super::stop::{Place, Stop};
+use mem_op::OpId;
+use refutation::{Answer, confirm};
+use std::alloc::{AllocError, Global};
+use trace::Trace;
+
+/// Whether a trace is consistent, with what shows it: an order, or a refutation. Undecided where neither was found in
+/// so many steps. The answer depends on the trace and the budget alone. Err where memory was refused.
+pub fn search(alloc: Global, trace: &Trace, budget: u64) -> Result<Answer, AllocError>
+    ensures right { IfOk result (IsRight trace.now) }
+{
+    confirm(alloc, trace, guess(alloc, trace, budget)?)
+}
+
+/// What the search finds, which nobody has confirmed.
+fn guess(alloc: Global, trace: &Trace, budget: u64) -> Result<Answer, AllocError> {
+    match find(alloc, trace, budget) {
+        Ok(found) => Ok(found),
+        Err(Stop::Refused) => Err(AllocError),
+        Err(_) => Ok(Answer::Undecided),
+    }
+}
+
+/// An order, or a refutation. The search may give up.
+fn find(alloc: Global, trace: &Trace, budget: u64) -> Result<Answer, Stop> {
+    let mut search = Search::new(alloc, trace.cores(), budget)?;
+    match search.run()? {
+        Outcome::Order(places) => {
+            let operations = search.into_operations();
+            Ok(Answer::Order(ids(alloc, &operations, &places)?))
+        }
+        Outcome::Proof(reversed) => {
+            let small = shrink(trace.cores(), &mut search.known, reversed)?;
+            let operations = search.into_operations();
+            let (lines, places) = (&small.reversed, &small.places);
+            Ok(Answer::Refutation(refutation(alloc, &operations, lines, places)?))
+        }
+    }
+}
+
+/// The ids of the operations at some places.
+fn ids(alloc: Global, operations: &Operations, places: &[Place]) -> Result<Vec<OpId>, Stop> {
+    let mut ids = Vec::new(alloc);
+    for place in places {
+        ids.push(id(operations, *place)?)?;
+    }
+    Ok(ids)
+}

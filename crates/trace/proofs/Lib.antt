@@ -1,0 +1,11 @@
+pub mod Feeding
+pub mod Growth
+pub mod LineTexts
+pub mod Numerals
+pub mod OneFault
+pub mod OneTrace
+pub mod Parts
+pub mod Printed
+pub mod PrintedLines
+pub mod PrintedTrace
+pub mod Saying

@@ -1,0 +1,4 @@
+-- Definitions that serve private contracts alone.
+pub mod Reading
+pub mod Taking
+pub mod Widening

@@ -1,0 +1,23 @@
+//! Laws of the texts of traces. Each function does nothing: its contract is the law.
+
+ghost use Rattle.trace.specs.Laws.{AtMostOneFault, PrintedIsSpelled, SpelledIsRead, SpellsOne};
+
+/// Bytes are the text of one trace at most: the one that `Trace::parse` gives.
+pub fn spells_one()
+    ensures { SpellsOne }
+{}
+
+/// A trace's text has no fault: `Trace::parse` gives the trace, and refuses it for lack of memory alone.
+pub fn spelled_is_read()
+    ensures { SpelledIsRead }
+{}
+
+/// Bytes that aren't a trace's text have one first fault.
+pub fn one_fault()
+    ensures { AtMostOneFault }
+{}
+
+/// What `Trace::print` writes of a trace spells that trace, so that `Trace::parse` gives it back.
+pub fn printed_is_spelled()
+    ensures { PrintedIsSpelled }
+{}

@@ -1,0 +1,19 @@
+//! What cores did to memory, without times: traces.
+#![tactic(auto)]
+
+mod fault;
+mod laws;
+mod line;
+mod logs;
+mod numeral;
+mod print;
+mod reader;
+mod refusal;
+mod trace;
+
+pub use fault::TraceFault;
+pub use flat_replay::{Access, Address, Operations, replays};
+pub use laws::{one_fault, printed_is_spelled, spelled_is_read, spells_one};
+pub use reader::TraceReader;
+pub use refusal::Refusal;
+pub use trace::Trace;
