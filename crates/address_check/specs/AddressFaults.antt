@@ -33,24 +33,36 @@ latest es = least_of (flip_args entry_cmp) es
 abbrev pub right_store : List Entry → Entry → Option Entry
 right_store es load = latest (filter (is_earlier_store load) es)
 
--- whether a source names this store, or `Init` where there isn't one
-abbrev pub is_source : Source → Option Entry → Bool
-is_source Init None = true
-is_source Init (Some e) = false
-is_source (From id) None = false
-is_source (From id) (Some e) = is_same_id id e.id
+-- where a word comes from that this store wrote, or none did
+abbrev pub source_from : Option Entry → Source
+source_from None = Init
+source_from (Some e) = From e.id
 
 -- the value of a store, or the initial 0 where there is none
 abbrev pub value_from : Option Entry → ℕ
 value_from None = 0
 value_from (Some e) = e.logged.value
 
--- what a load with this source and value breaks, where this is its right store
-abbrev pub broken_rule : Source → ℕ → Option Entry → Option AddressRule
-broken_rule source value right =
-    if is_source source right
-    then (if value == value_from right then None else Some WrongValue)
+abbrev pub is_same_source : Source → Source → Bool
+is_same_source Init Init = true
+is_same_source Init (From id) = false
+is_same_source (From id) Init = false
+is_same_source (From id) (From other) = is_same_id id other
+
+-- whether a source names this store, or `Init` where there isn't one
+abbrev pub is_source : Source → Option Entry → Bool
+is_source source right = is_same_source source (source_from right)
+
+-- what a load with this source and value breaks, where the word of its address comes from there and has that value
+abbrev pub broken_by : Source → ℕ → Source → ℕ → Option AddressRule
+broken_by source value from word =
+    if is_same_source source from
+    then (if value == word then None else Some WrongValue)
     else Some WrongSource
+
+-- what it breaks, where this is its right store
+abbrev pub broken_rule : Source → ℕ → Option Entry → Option AddressRule
+broken_rule source value right = broken_by source value (source_from right) (value_from right)
 
 -- the fault of an entry that breaks a rule
 abbrev pub fault_by : Entry → Option AddressRule → Option AddressFault

@@ -2,7 +2,7 @@
 
 ghost use Rattle.std.specs.Prelude.{◌≡◌, option_copied};
 ghost use Rattle.log_record.specs.declared.record.Entry.{Entry};
-ghost use Rattle.address_check.specs.AddressFaults.{is_store, least_address_fault, fault_by, broken_rule, act_fault};
+ghost use Rattle.address_check.specs.AddressFaults.{is_store, least_address_fault, fault_by, broken_by, broken_rule, act_fault};
 ghost use Rattle.address_check.specs.Groups.{AscendsByPlace, IsGroup};
 ghost use Rattle.address_check.specs.LastStores.{at_its_address};
 
@@ -28,23 +28,33 @@ pub fn is_store(entry: &Entry) -> bool
     writes(&entry.act())
 }
 
+/// The rule that a read of a word breaks, with this source, where the word of its address is this one and
+/// comes from `from`.
+pub fn broken_by(source: &Source, read: Word, from: &Source, word: Word) -> Option<AddressRule>
+    ensures { result ≡ broken_by source.now read from.now word }
+{
+    let named = match (source, from) {
+        (Source::Init, Source::Init) => true,
+        (Source::Store(id), Source::Store(other)) => *id == *other,
+        _ => false,
+    };
+    if !named {
+        Some(AddressRule::Source)
+    } else if read != word {
+        Some(AddressRule::Value)
+    } else {
+        None
+    }
+}
+
 /// The rule that a read of a word breaks, with this source, where this is the store that it should have
 /// read.
 fn broken_rule(source: &Source, read: Word, right: Option<&Entry>) -> Option<AddressRule>
     ensures { result ≡ broken_rule source.now read (option_copied right.entry) }
 {
-    let value = right.map_or(0, |store| store.value());
-    let named = match (source, right) {
-        (Source::Init, None) => true,
-        (Source::Store(id), Some(store)) => *id == store.id(),
-        _ => false,
-    };
-    if !named {
-        Some(AddressRule::Source)
-    } else if read != value {
-        Some(AddressRule::Value)
-    } else {
-        None
+    match right {
+        Some(store) => broken_by(source, read, &Source::Store(store.id()), store.value()),
+        None => broken_by(source, read, &Source::Init, 0),
     }
 }
 

@@ -13,7 +13,7 @@ mod workers;
 
 pub use fault::{AddressFault, AddressRule};
 pub use gate::{Gate, Phase};
-pub use group::{group_fault, is_store};
+pub use group::{broken_by, group_fault, is_store};
 pub use index::AddressIndex;
 pub use local_check::{LocalCheck, lesser_fault};
 pub use span::AddrSpan;

@@ -1,5 +1,6 @@
 //! Where cores and slices don't agree.
 
+use fault_names::FaultName;
 use std::fmt;
 use std::fmt::Display;
 use thiserror::Error;
@@ -24,8 +25,11 @@ impl Display for AuditFault {
     fn fmt<W: fmt::Write>(&self, f: &mut fmt::Formatter<W>) -> fmt::Result {
         write!(
             f,
-            "core {} slice {} place {}: 33 Audit",
-            self.core, self.slice, self.place
+            "core {} slice {} place {}: {}",
+            self.core,
+            self.slice,
+            self.place,
+            FaultName::Audit
         )
     }
 }

@@ -2,6 +2,7 @@
 //! order of all their entries.
 #![tactic(auto)]
 
+mod accepting;
 mod auditing;
 mod fault;
 mod fronts;
@@ -10,11 +11,10 @@ mod lists;
 mod machine_fault;
 mod merging;
 mod pairs;
-mod run_fault;
-mod settling;
+mod threads_fault;
 
+pub use accepting::accept_run;
 pub use auditing::audit;
 pub use fault::AuditFault;
 pub use machine_fault::{Cause, MachineFault, RunEnd};
-pub use run_fault::RunFault;
-pub use settling::settle;
+pub use threads_fault::ThreadsFault;

@@ -12,10 +12,10 @@ use manager_slice::{HistoryEntry, ManagerSlice};
 use mem_op::Addr;
 
 /// As many cores as there may be.
-pub(crate) const CORES: usize = 64;
+pub(crate) const MAX_CORES: usize = 64;
 
 /// As many slices as there may be.
-pub(crate) const SLICES: usize = 16;
+pub(crate) const MAX_SLICES: usize = 16;
 
 /// The slice of an address, of so many slices.
 pub(crate) fn slice_of(count: usize, addr: Addr) -> usize

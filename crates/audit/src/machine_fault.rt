@@ -4,7 +4,7 @@ ghost use Rattle.std.specs.Prelude.{◌≡◌, ◌⊎◌, []};
 ghost use Rattle.audit.specs.Runs.{IsUnitLog, kept_log};
 
 use super::fault::AuditFault;
-use super::run_fault::RunFault;
+use super::threads_fault::ThreadsFault;
 use core_unit::{CoreUnit, UnitFault};
 use log_record::Record;
 use manager_slice::{ManagerSlice, SliceFault};
@@ -86,6 +86,6 @@ impl Display for MachineFault {
     ghost output = { λ fault. Some (fault_text fault.core fault.cause) };
 
     fn fmt<W: fmt::Write>(&self, f: &mut fmt::Formatter<W>) -> fmt::Result {
-        write!(f, "{}", RunFault::of(self))
+        write!(f, "{}", ThreadsFault::of(self))
     }
 }

@@ -8,7 +8,9 @@ ghost use Rattle.audit.specs.inner.Fronts.{FrontsFit, Merging, Reached, Small, S
 
 use super::fault::AuditFault;
 use super::fronts::{core_on, move_slice};
-use super::lists::{CORES, SLICES, entry_at, entry_count, entry_there, history_at, slice_of};
+use super::lists::{
+    MAX_CORES, MAX_SLICES, entry_at, entry_count, entry_there, history_at, slice_of,
+};
 use super::pairs::is_of_slice;
 use core_unit::{CoreEntry, CoreUnit};
 use manager_slice::ManagerSlice;
@@ -19,10 +21,10 @@ fn lengths(units: &[CoreUnit], slices: &[ManagerSlice])
     requires slices { length slices.now ≤ 16 }
     ensures { Small (transcripts units.now) (histories slices.now) }
 {
-    for core in 0..CORES {
+    for core in 0..MAX_CORES {
         let _ = entry_count(units, core);
     }
-    for slice in 0..SLICES {
+    for slice in 0..MAX_SLICES {
         let _ = history_at(slices, slice).len();
     }
 }
@@ -34,7 +36,7 @@ fn next_due(due: &[usize]) -> Option<usize>
         ((s : ℕ) → s < 16 → slice_index due.now s ≡ 0)
         (λ s. (s < 16) × (slice_index due.now s ≢ 0)) }
 {
-    for slice in 0..SLICES {
+    for slice in 0..MAX_SLICES {
         if due[slice] != 0 {
             return Some(slice);
         }
@@ -54,7 +56,7 @@ fn cores_on(units: &[CoreUnit], slices: &[ManagerSlice], cores: &mut [usize], fr
     ensures fit { FrontsFit (transcripts units.now) (histories slices.now) cores.new fronts.now }
     ensures alone { (c : ℕ) → goes_alone (transcript_of (transcripts units.now) c) (slice_index cores.new c) ≡ false }
 {
-    for core in 0..CORES {
+    for core in 0..MAX_CORES {
         core_on(units, slices, cores, fronts, core);
     }
 }
@@ -96,7 +98,7 @@ pub(crate) fn core_left(units: &[CoreUnit], cores: &[usize]) -> Option<usize>
         (λ c. (c < 64) × (slice_index cores.now c < length (transcript_of (transcripts units.now) c))
         × ((d : ℕ) → d < c → length (transcript_of (transcripts units.now) d) ≤ slice_index cores.now d)) }
 {
-    for core in 0..CORES {
+    for core in 0..MAX_CORES {
         if cores[core] < entry_count(units, core) {
             return Some(core);
         }
@@ -111,7 +113,7 @@ pub(crate) fn slice_left(slices: &[ManagerSlice], fronts: &[usize]) -> Option<us
         ((s : ℕ) → s < 16 → length (history_of (histories slices.now) s) ≤ slice_index fronts.now s)
         (λ s. (s < 16) × (slice_index fronts.now s < length (history_of (histories slices.now) s))) }
 {
-    for slice in 0..SLICES {
+    for slice in 0..MAX_SLICES {
         if fronts[slice] < history_at(slices, slice).len() {
             return Some(slice);
         }

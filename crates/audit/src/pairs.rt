@@ -6,7 +6,9 @@ ghost use Rattle.audit.specs.Pairs.{PairAgrees, Agrees, IsFirstDifference, gots,
 ghost use Rattle.audit.specs.inner.Words.{got_in, served_in, IsNextServed};
 
 use super::fault::AuditFault;
-use super::lists::{CORES, entry_count, entry_there, history_at, is_same, served_entry, slice_of};
+use super::lists::{
+    MAX_CORES, entry_count, entry_there, history_at, is_same, served_entry, slice_of,
+};
 use core_unit::{CoreEntry, CoreUnit};
 use manager_slice::{HistoryEntry, ManagerSlice};
 
@@ -127,7 +129,7 @@ pub(crate) fn pairs_fault(units: &[CoreUnit], slices: &[ManagerSlice]) -> Option
         (Agrees (transcripts units.now) (histories slices.now))
         (λ f. IsFirstDifference (transcripts units.now) (histories slices.now) f.core f.slice f.place) }
 {
-    for core in 0..CORES {
+    for core in 0..MAX_CORES {
         if let Some(fault) = core_fault(units, slices, core) {
             return Some(fault);
         }

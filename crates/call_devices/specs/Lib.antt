@@ -1,4 +1,4 @@
-pub mod FaultTexts
+pub mod CallFaults
 pub mod Files
 pub mod Logs
 pub mod Programs

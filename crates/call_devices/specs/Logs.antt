@@ -6,8 +6,8 @@ use Rattle.log_file.specs.Log.{SpellsIn}
 use Rattle.log_record.specs.declared.format.Format.{Format}
 use Rattle.log_record.specs.declared.record.Record.{Record}
 use Rattle.call_devices.specs.Files.{Files}
-use Rattle.call_devices.specs.declared.logs_fault.LogsFault.{LogsFault}
-use Rattle.call_devices.specs.declared.logs_fault.LogsFault.TheVariants.{Unwritten, OutOfMemory}
+use Rattle.call_devices.specs.declared.call_fault.CallFault.{CallFault}
+use Rattle.call_devices.specs.declared.call_fault.CallFault.TheVariants.{LogUnwritten, OutOfMemory}
 
 -- the name of core c's log: that of the logs, a dot and the core's number
 abbrev pub log_name : List ℕ → ℕ → List ℕ
@@ -59,6 +59,7 @@ performed_below made zero = 0
 performed_below made (suc c) = performed_below made c + length (made c)
 
 -- a core's log can't be written, of whose number this holds, or memory ran out
-abbrev pub IsUnwritten : (ℕ → Type 0) → LogsFault → Type 0
-IsUnwritten Holds (Unwritten file) = Holds file
+abbrev pub IsUnwritten : (ℕ → Type 0) → CallFault → Type 0
+IsUnwritten Holds (LogUnwritten file) = Holds file
 IsUnwritten Holds OutOfMemory = ⊤
+IsUnwritten Holds other = ⊥

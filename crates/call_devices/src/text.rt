@@ -6,8 +6,8 @@ ghost use Rattle.call_devices.specs.Files.{IsOnlyRead, IsUnread};
 ghost use Rattle.call_devices.specs.Programs.{AreProgramsIn, IsUnprogrammed};
 ghost use Rattle.call_devices.specs.inner.Texts.{IsNoText};
 
+use super::call_fault::CallFault;
 use super::folder::Folder;
-use super::programs_fault::ProgramsFault;
 use core_program::ProgramSet;
 use log_file::{ReadFault, read_all};
 use std::alloc::Global;
@@ -32,7 +32,7 @@ pub fn read_programs<F: Folder>(
     alloc: Global,
     folder: &mut F,
     name: &str,
-) -> Result<ProgramSet, ProgramsFault>
+) -> Result<ProgramSet, CallFault>
     ensures ok { IfOk result (AreProgramsIn (F.files folder.old).told name.now) }
     ensures quiet { OnOk result (F.files folder.new ≡ F.files folder.old) }
     ensures err { IfErr result (IsUnprogrammed (F.files folder.old).told
@@ -42,11 +42,8 @@ pub fn read_programs<F: Folder>(
 {
     let text = match read_text(alloc, folder, name) {
         Ok(text) => text,
-        Err(ReadFault::Read) => return Err(ProgramsFault::Unread),
-        Err(ReadFault::OutOfMemory) => return Err(ProgramsFault::OutOfMemory),
+        Err(ReadFault::Read) => return Err(CallFault::ProgramsUnread),
+        Err(ReadFault::OutOfMemory) => return Err(CallFault::OutOfMemory),
     };
-    match ProgramSet::parse(alloc, text.as_slice()) {
-        Ok(programs) => Ok(programs),
-        Err(fault) => Err(ProgramsFault::Text(fault)),
-    }
+    Ok(ProgramSet::parse(alloc, text.as_slice())?)
 }

@@ -8,8 +8,8 @@ ghost use Rattle.log_file.specs.Log.{SpellsIn};
 ghost use Rattle.call_devices.specs.Logs as logs;
 ghost use Rattle.call_devices.specs.inner.Putting.{IsUnput};
 
+use super::call_fault::CallFault;
 use super::folder::Folder;
-use super::logs_fault::LogsFault;
 use log_file::{MemSink, write_log};
 use log_record::{Format, Record};
 use mem_op::CoreId;
@@ -35,7 +35,7 @@ pub fn write_logs<F: Folder, L: LogsOfCores>(
     format: Format,
     of: &L,
     cores: usize,
-) -> Result<u64, LogsFault>
+) -> Result<u64, CallFault>
     requires { cores ≤ 64 }
     ensures ok { IfOk result (λ count.
         count ≡ logs.performed_below (L.made of.now) cores) }
@@ -67,7 +67,7 @@ fn write_log_of<F: Folder>(
     core: CoreId,
     cores: usize,
     records: &[Record],
-) -> Result<(), LogsFault>
+) -> Result<(), CallFault>
     requires core { core < cores }
     requires cores { cores ≤ 64 }
     requires few { length records.now ≤ operation_limit }
@@ -80,15 +80,15 @@ fn write_log_of<F: Folder>(
         (F.files folder.new) core) }
 {
     let Ok(name) = format!(in alloc; "{out}.{}", core.get()) else {
-        return Err(LogsFault::OutOfMemory);
+        return Err(CallFault::OutOfMemory);
     };
     let mut text = MemSink::new(alloc, &[]);
     if write_log(alloc, &mut text, format, core, cores as u64, records).is_err() {
-        return Err(LogsFault::OutOfMemory);
+        return Err(CallFault::OutOfMemory);
     }
     match folder.put(name.as_str(), text.bytes()) {
         Ok(()) => Ok(()),
-        Err(_) => Err(LogsFault::Unwritten {
+        Err(_) => Err(CallFault::LogUnwritten {
             file: core.get() as usize,
         }),
     }

@@ -1,14 +1,14 @@
 -- What the reading of the words gives, by the cases of its parts.
-use Rattle.std.proofs.Common.{◌≡◌, ◌∙◌, ap, subst, refl, ℕ, List, [], Option, None, Some, Result, Ok, Err, Bor, inl, inr, option_map}
+use Rattle.std.proofs.Common.{◌≡◌, ◌∙◌, ◌⊎◌, ap, codes, subst, refl, ℕ, List, [], Option, None, Some, Result, Ok, Err, Bor, inl, inr, option_map}
 use Rattle.std.specs.Prelude.{unwrap_or}
 use Rattle.std.specs.Str.Parse.{ParsesUnsigned}
 use Rattle.clap.specs.Faults.{fault_of}
 use Rattle.clap.specs.Kinds.{Kinds, HasKind, IsAmong}
 use Rattle.clap.specs.Matches.{ReadsOne}
-use Rattle.clap.specs.Words.{Text, kind_of}
+use Rattle.clap.specs.Words.{Row, Text, kind_of, subcommand_of}
 use Rattle.clap.specs.declared.error.Error.{Error}
 use Rattle.clap.specs.declared.error.kind.ErrorKind.TheVariants as kind
-use Rattle.command_line.specs.Asking.{IsNumber, IsNumberOf, IsRefusalOf, texts}
+use Rattle.command_line.specs.Asking.{IsNumber, IsNumberOf, IsRefusalOf, IsStrayIn, texts}
 use Rattle.command_line.specs.Grammar.{tardis}
 use Rattle.command_line.specs.declared.refusal.Refusal.{Refusal}
 use Rattle.command_line.specs.declared.refusal.Refusal.TheVariants.{Usage, OutOfMemory}
@@ -20,7 +20,13 @@ refused words kinds error OutOfMemory is has memory = tt
 refused words kinds error (Usage text) is (inl out) memory =
     let bad : Usage text ≡ OutOfMemory = memory out in
     cc
-refused words kinds error (Usage text) is (inr among) memory = λ none. subst (IsAmong (kind_of error)) (is ∙ none) among
+refused words kinds error (Usage text) is (inr among) memory = inl (λ none. subst (IsAmong (kind_of error)) (is ∙ none) among)
+
+-- files that are too many were given
+pub stray : (words : List Text) (named : Text × List Row) (r : Refusal) → subcommand_of tardis words ≡ Some named
+    → (named.0 ≡ codes "search") ⊎ (named.0 ≡ codes "confirm") → IsStrayIn named.1 r → IsRefusalOf words r
+stray words named (Usage text) is which files = inr (named, is, which, files)
+stray words named OutOfMemory is which files = tt
 
 -- the text of a number, read
 pub numbered : {E : Type 0} (gives : List ℕ → Result ℕ E → Type 0) → ((t : List ℕ) (x : Result ℕ E) → gives t x → ParsesUnsigned 64 10 t x)

@@ -1,5 +1,5 @@
 -- What the words of a command line ask for, and when they ask for nothing.
-use Rattle.std.specs.Prelude.{◌≡◌, ◌<◌, ◌^◌, ⊤, ℕ, Bool, true, false, List, [], Option, Some, None, map, option_map, unwrap_or, codes}
+use Rattle.std.specs.Prelude.{◌≡◌, ◌≢◌, ◌<◌, ◌^◌, ◌⊎◌, ⊤, ℕ, Bool, true, false, List, [], ◌∷◌, Option, Some, None, map, option_map, unwrap_or, codes}
 use Rattle.std.specs.Borrow.{Bor}
 use Rattle.std.specs.Str.Parse.{IsNumeral, digits_value, without_leading_plus}
 use Rattle.clap.specs.Faults.{fault_of}
@@ -8,6 +8,7 @@ use Rattle.command_line.specs.Grammar.{tardis}
 use Rattle.command_line.specs.declared.refusal.Refusal.{Refusal}
 use Rattle.command_line.specs.declared.refusal.Refusal.TheVariants.{Usage, OutOfMemory}
 use Rattle.command_line.specs.declared.request.Check.{Check}
+use Rattle.command_line.specs.declared.request.Confirm.{Confirm}
 use Rattle.command_line.specs.declared.request.Explain.{Explain}
 use Rattle.command_line.specs.declared.request.Limits.{Limits}
 use Rattle.command_line.specs.declared.request.Litmus.{Litmus}
@@ -15,7 +16,10 @@ use Rattle.command_line.specs.declared.request.Order.{Order}
 use Rattle.command_line.specs.declared.request.Request.{Request}
 use Rattle.command_line.specs.declared.request.Request.TheVariants as request
 use Rattle.command_line.specs.declared.request.Run.{Run}
+use Rattle.command_line.specs.declared.request.Search.{Search}
 use Rattle.command_line.specs.declared.request.Sim.{Sim}
+use Rattle.command_line.specs.declared.request.TraceFiles.{TraceFiles}
+use Rattle.command_line.specs.declared.request.TraceFiles.TheVariants.{One, Logs}
 use Rattle.command_line.specs.declared.request.Upgrade.{Upgrade}
 
 -- the texts of words
@@ -98,6 +102,36 @@ pub record IsLitmus (rows : List Row) (litmus : Litmus) : Type 0 where
   pub threads : IsFlag (one_of (codes "threads") rows) litmus.threads
   pub test : litmus.test.now ≡ unwrap_or (first_of (codes "TEST") rows) []
 
+-- the files that were given
+abbrev pub files_given : List Row → List Text
+files_given rows = unwrap_or (all_of (codes "FILE") rows) []
+
+-- these files are those of logs, or the only one is that of a trace
+abbrev pub IsTraceOf : Bool → List Text → TraceFiles → Type 0
+IsTraceOf are_logs files (One name) = (are_logs ≡ false) × (files ≡ name.now ∷ [])
+IsTraceOf are_logs files (Logs names) = (are_logs ≡ true) × (texts names.items ≡ files)
+
+-- the same of these files with that of a certificate, where the first word names the trace, or else the certificate of logs
+abbrev pub IsCertifiedBy : Bool → Text → List Text → Text → TraceFiles → Type 0
+IsCertifiedBy are_logs first files certificate (One name) = (are_logs ≡ false) × (name.now ≡ first) × (files ≡ certificate ∷ [])
+IsCertifiedBy are_logs first files certificate (Logs names) = (are_logs ≡ true) × (certificate ≡ first) × (texts names.items ≡ files)
+
+-- a search of the trace, with the budget and the files for what it finds that were given
+pub record IsSearch (rows : List Row) (search : Search) : Type 0 where
+  pub are_logs : Bool
+  pub logs : IsFlag (one_of (codes "logs") rows) are_logs
+  pub trace : IsTraceOf are_logs (files_given rows) search.trace
+  pub budget : IsNumberOf (one_of (codes "budget") rows) search.budget
+  pub order : text_of search.order ≡ first_of (codes "order") rows
+  pub refutation : text_of search.refutation ≡ first_of (codes "refutation") rows
+  pub picture : text_of search.picture ≡ first_of (codes "svg") rows
+
+-- a look at the certificate of the trace that were given
+pub record IsConfirm (rows : List Row) (confirm : Confirm) : Type 0 where
+  pub are_logs : Bool
+  pub logs : IsFlag (one_of (codes "logs") rows) are_logs
+  pub names : IsCertifiedBy are_logs (unwrap_or (first_of (codes "TRACE") rows) []) (files_given rows) confirm.certificate.now confirm.trace
+
 -- the request is that of the subcommand of this name, by these arguments
 abbrev pub IsAskedBy : Text × List Row → Request → Type 0
 IsAskedBy named (request.Check check) = (named.0 ≡ codes "check") × IsCheck named.1 check
@@ -107,6 +141,8 @@ IsAskedBy named (request.Upgrade upgrade) = (named.0 ≡ codes "upgrade") × IsU
 IsAskedBy named (request.Sim sim) = (named.0 ≡ codes "sim") × IsSim named.1 sim
 IsAskedBy named (request.Run run) = (named.0 ≡ codes "run") × IsThreaded named.1 run
 IsAskedBy named (request.Litmus litmus) = (named.0 ≡ codes "litmus") × IsLitmus named.1 litmus
+IsAskedBy named (request.Search search) = (named.0 ≡ codes "search") × IsSearch named.1 search
+IsAskedBy named (request.Confirm confirm) = (named.0 ≡ codes "confirm") × IsConfirm named.1 confirm
 
 -- the words are a command line of the program: none is unknown, missing or one too many, and each option has what it takes
 abbrev pub IsCommandLine : List Text → Type 0
@@ -117,7 +153,30 @@ abbrev pub Asks : List Text → Request → Type 0
 Asks words asked =
     IsCommandLine words × ((named : Text × List Row) × (subcommand_of tardis words ≡ Some named) × IsAskedBy named asked)
 
--- only words that aren't a command line of the program are refused for their usage
+-- these aren't logs, and they aren't one file
+abbrev pub AreStray : Bool → List Text → Type 0
+AreStray are_logs files = (are_logs ≡ false) × ((name : Text) → files ≢ name ∷ [])
+
+-- only files that are too many are refused for their usage
+abbrev pub IsStrayOf : Bool → List Text → Refusal → Type 0
+IsStrayOf are_logs files (Usage text) = AreStray are_logs files
+IsStrayOf are_logs files OutOfMemory = ⊤
+
+-- the files that were given aren't logs, and they aren't one
+abbrev pub HasStrayFiles : List Row → Type 0
+HasStrayFiles rows = (are_logs : Bool) × IsFlag (one_of (codes "logs") rows) are_logs × AreStray are_logs (files_given rows)
+
+abbrev pub IsStrayIn : List Row → Refusal → Type 0
+IsStrayIn rows (Usage text) = HasStrayFiles rows
+IsStrayIn rows OutOfMemory = ⊤
+
+-- the words give more files than one to a search or to a look at a certificate, without `--logs`
+abbrev pub LackLogs : List Text → Type 0
+LackLogs words =
+    (named : Text × List Row) × (subcommand_of tardis words ≡ Some named) × ((named.0 ≡ codes "search") ⊎ (named.0 ≡ codes "confirm"))
+    × HasStrayFiles named.1
+
+-- only words that aren't a command line of the program, or lack `--logs`, are refused for their usage
 abbrev pub IsRefusalOf : List Text → Refusal → Type 0
-IsRefusalOf words (Usage text) = ¬ (IsCommandLine words)
+IsRefusalOf words (Usage text) = ¬ (IsCommandLine words) ⊎ LackLogs words
 IsRefusalOf words OutOfMemory = ⊤

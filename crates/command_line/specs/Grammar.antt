@@ -92,6 +92,18 @@ with_litmus_options app = with_rule (with_number (with_number app (codes "runs")
 abbrev pub litmus : App
 litmus = with_rule (with_litmus_options (with_limits (new_app (codes "litmus")))) (name (codes "TEST"))
 
+-- [--order F] [--refutation F] [--svg F]
+abbrev pub with_search_outputs : App → App
+with_search_outputs app = with_rule (with_rule (with_rule app (file_option (codes "order"))) (file_option (codes "refutation"))) (file_option (codes "svg"))
+
+-- tardis search [--logs] [--budget N] [--order F] [--refutation F] [--svg F] FILE..
+abbrev pub search : App
+search = with_rule (with_search_outputs (with_number (with_rule (new_app (codes "search")) (flag (codes "logs"))) (codes "budget"))) files
+
+-- tardis confirm [--logs] TRACE FILE..
+abbrev pub confirm : App
+confirm = with_rule (with_rule (with_rule (new_app (codes "confirm")) (flag (codes "logs"))) (name (codes "TRACE"))) files
+
 -- check, order and explain
 abbrev pub with_judges : App → App
 with_judges app = with_subcommand (with_subcommand (with_subcommand app check.top) order.top) explain.top
@@ -112,6 +124,10 @@ with_machine app = with_subcommand (with_subcommand (with_subcommand app sim.top
 abbrev pub with_logs : App → App
 with_logs app = with_subcommand app upgrade.top
 
+-- search and confirm
+abbrev pub with_traces : App → App
+with_traces app = with_subcommand (with_subcommand app search.top) confirm.top
+
 -- the program
 abbrev pub tardis : App
-tardis = with_logs (with_machine judging)
+tardis = with_traces (with_logs (with_machine judging))

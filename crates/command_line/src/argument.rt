@@ -77,13 +77,13 @@ impl<'a> Argument<'a> {
     }
 
     /// The files, one or more.
-    pub(crate) fn files() -> Argument<'a>
+    pub(crate) fn files(help: &'a str) -> Argument<'a>
         ensures { rule_of result ≡ grammar.files }
     {
         Argument {
             takes: Takes::Files,
             name: "FILE",
-            help: "The logs, that of core 0 first",
+            help,
         }
     }
 }

@@ -14,7 +14,9 @@ pub(crate) fn tardis<'a>(alloc: Global) -> Result<Command<'a>, AllocError>
     ensures app { IfOk result (λ command. app_of command ≡ grammar.tardis) }
     ensures local { IfOk result (λ command. (fields_of command).has_globals ≡ false) }
 {
-    with_command(running(alloc), upgrade(alloc))
+    let command = with_command(running(alloc), upgrade(alloc));
+    let command = with_command(command, search(alloc));
+    with_command(command, confirm(alloc))
 }
 
 /// The command line, with the subcommands that judge alone.
@@ -55,7 +57,7 @@ fn check<'a>(alloc: Global) -> Result<Command<'a>, AllocError>
     let arguments = [
         Argument::number("workers", "How many workers judge at once [default: 1]"),
         Argument::file("program", "The programs whose logs these have to be"),
-        Argument::files(),
+        Argument::files(LOGS_HELP),
     ];
     with_arguments(alloc, command, &arguments)
 }
@@ -70,7 +72,7 @@ fn order<'a>(alloc: Global) -> Result<Command<'a>, AllocError>
         "Judges logs, and writes the order by which they are sequentially consistent",
         "Example: tardis order log.0 log.1",
     );
-    with_arguments(alloc, command, &[Argument::files()])
+    with_arguments(alloc, command, &[Argument::files(LOGS_HELP)])
 }
 
 /// The subcommand that judges a set of logs and tells why.
@@ -89,7 +91,7 @@ fn explain<'a>(alloc: Global) -> Result<Command<'a>, AllocError>
             "svg",
             "The file that a picture of it goes to [default: none]",
         ),
-        Argument::files(),
+        Argument::files(LOGS_HELP),
     ];
     with_arguments(alloc, command, &arguments)
 }
@@ -151,7 +153,7 @@ fn upgrade<'a>(alloc: Global) -> Result<Command<'a>, AllocError>
             "OUT",
             "What the names of the new logs begin with: new for new.0, new.1 and so on",
         ),
-        Argument::files(),
+        Argument::files(LOGS_HELP),
     ];
     with_arguments(alloc, command, &arguments)
 }
@@ -180,6 +182,57 @@ fn litmus<'a>(alloc: Global) -> Result<Command<'a>, AllocError>
     ];
     with_arguments(alloc, with_limits(alloc, command)?, &arguments)
 }
+
+/// The subcommand that searches an order of a trace.
+fn search<'a>(alloc: Global) -> Result<Command<'a>, AllocError>
+    ensures { IfOk result (λ command. app_of command ≡ grammar.search) }
+{
+    let command = named(
+        alloc,
+        "search",
+        "Tells whether a trace, which has no times, is sequentially consistent",
+        "Examples: tardis search trace\n          tardis search --logs log.0 log.1",
+    );
+    let arguments = [
+        Argument::flag("logs", "Reads logs, and leaves their times out"),
+        Argument::number(
+            "budget",
+            "How many steps the search may make [default: 100000000, and 100 for each operation]",
+        ),
+        Argument::file("order", "The file that an order goes to [default: none]"),
+        Argument::file(
+            "refutation",
+            "The file that a refutation goes to [default: none]",
+        ),
+        Argument::file(
+            "svg",
+            "The file that a picture of a refutation goes to [default: none]",
+        ),
+        Argument::files("The trace; with --logs the logs, that of core 0 first"),
+    ];
+    with_arguments(alloc, command, &arguments)
+}
+
+/// The subcommand that looks at a certificate of a trace.
+fn confirm<'a>(alloc: Global) -> Result<Command<'a>, AllocError>
+    ensures { IfOk result (λ command. app_of command ≡ grammar.confirm) }
+{
+    let command = named(
+        alloc,
+        "confirm",
+        "Tells whether a trace is sequentially consistent, by an order or a refutation alone",
+        "Examples: tardis confirm trace certificate\n          tardis confirm --logs certificate log.0 log.1",
+    );
+    let arguments = [
+        Argument::flag("logs", "Reads logs, and leaves their times out"),
+        Argument::name("TRACE", "The trace; with --logs the certificate"),
+        Argument::files("The certificate; with --logs the logs, that of core 0 first"),
+    ];
+    with_arguments(alloc, command, &arguments)
+}
+
+/// What the help says of the logs of a set.
+const LOGS_HELP: &str = "The logs, that of core 0 first";
 
 /// What the help says of the file of the programs.
 const PROGRAMS_HELP: &str = "The file of the programs";

@@ -8,5 +8,7 @@ mod request;
 mod words;
 
 pub use refusal::Refusal;
-pub use request::{Check, Explain, Limits, Litmus, Order, Request, Run, Sim, Upgrade};
+pub use request::{
+    Check, Confirm, Explain, Limits, Litmus, Order, Request, Run, Search, Sim, TraceFiles, Upgrade,
+};
 pub use words::read;

@@ -1,5 +1,6 @@
 //! Why a command line asks for nothing.
 
+use fault_names::FaultName;
 use std::alloc::AllocError;
 use std::fmt;
 use std::fmt::Display;
@@ -35,7 +36,7 @@ impl Display for Refusal {
     fn fmt<W: fmt::Write>(&self, f: &mut fmt::Formatter<W>) -> fmt::Result {
         match self {
             Refusal::Usage(text) => f.write_str(text.as_str()),
-            Refusal::OutOfMemory => f.write_str("10 OutOfMemory"),
+            Refusal::OutOfMemory => write!(f, "{}", FaultName::OutOfMemory),
         }
     }
 }

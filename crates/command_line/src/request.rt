@@ -17,6 +17,10 @@ pub enum Request<'a> {
     Run(Run<'a>),
     /// The outcomes of a litmus test.
     Litmus(Litmus<'a>),
+    /// Whether a trace is consistent, by a search.
+    Search(Search<'a>),
+    /// Whether a trace is consistent, by a certificate alone.
+    Confirm(Confirm<'a>),
 }
 
 /// Asks for the verdict on a set of logs.
@@ -94,6 +98,39 @@ pub struct Litmus<'a> {
     pub threads: bool,
     /// The name of the file of the test.
     pub test: &'a str,
+}
+
+/// The files that a trace is in.
+#[derive(Debug, Drop)]
+pub enum TraceFiles<'a> {
+    /// The trace itself, in the file of this name.
+    One(&'a str),
+    /// The logs of a set, whose trace it is, in the files of these names, that of core 0 first.
+    Logs(Vec<&'a str>),
+}
+
+/// Asks whether a trace is consistent, by a search for an order or a refutation.
+#[derive(Debug, Drop)]
+pub struct Search<'a> {
+    /// How many steps the search may make, where that is given.
+    pub budget: Option<u64>,
+    /// The name of the file that an order goes to, where one is given.
+    pub order: Option<&'a str>,
+    /// The name of the file that a refutation goes to, where one is given.
+    pub refutation: Option<&'a str>,
+    /// The name of the file that a picture of a refutation goes to, where one is given.
+    pub picture: Option<&'a str>,
+    /// Where the trace is.
+    pub trace: TraceFiles<'a>,
+}
+
+/// Asks whether a trace is consistent, by a certificate alone.
+#[derive(Debug, Drop)]
+pub struct Confirm<'a> {
+    /// The name of the file of the certificate: an order or a refutation.
+    pub certificate: &'a str,
+    /// Where the trace is.
+    pub trace: TraceFiles<'a>,
 }
 
 /// The numbers of the machine.

@@ -1,6 +1,6 @@
 //! Reads the words of a command line.
 
-ghost use Rattle.std.specs.Prelude.{◌≡◌, IfErr, IfOk, IsTrue, [], codes, unwrap_or};
+ghost use Rattle.std.specs.Prelude.{◌≡◌, ◌∷◌, IfErr, IfOk, IsTrue, [], codes, false, unwrap_or};
 ghost use Rattle.clap.specs.Words.{all_of, first_of, found_of, kind_of, one_of, rows_of};
 ghost use Rattle.clap.specs.declared.error.kind.ErrorKind.TheVariants as kind;
 ghost use Rattle.command_line.specs.Asking as asking;
@@ -8,7 +8,9 @@ ghost use Rattle.command_line.specs.inner.Numbers.{HasNumbers, takes_number};
 
 use super::grammar::tardis;
 use super::refusal::Refusal;
-use super::request::{Check, Explain, Limits, Litmus, Order, Request, Run, Sim, Upgrade};
+use super::request::{
+    Check, Confirm, Explain, Limits, Litmus, Order, Request, Run, Search, Sim, TraceFiles, Upgrade,
+};
 use clap::error::ErrorKind;
 use clap::{ArgMatches, Error};
 use std::alloc::{AllocError, Global};
@@ -43,6 +45,12 @@ pub fn read<'a>(alloc: Global, words: &'a [&'a str]) -> Result<Request<'a>, Refu
     }
     if name == "upgrade" {
         return Ok(Request::Upgrade(upgrade_of(alloc, asked)?));
+    }
+    if name == "search" {
+        return Ok(Request::Search(search_of(alloc, asked)?));
+    }
+    if name == "confirm" {
+        return Ok(Request::Confirm(confirm_of(alloc, asked)?));
     }
     Ok(Request::Check(check_of(alloc, asked)?))
 }
@@ -91,6 +99,75 @@ fn upgrade_of<'a>(alloc: Global, matches: &ArgMatches<'a>) -> Result<Upgrade<'a>
         files: files_of(alloc, matches)?,
     })
 }
+
+/// What the words after `search` ask for, or why they ask for nothing.
+fn search_of<'a>(alloc: Global, matches: &ArgMatches<'a>) -> Result<Search<'a>, Refusal>
+    requires { HasNumbers (rows_of (found_of matches.now)) }
+    ensures search { IfOk result (asking.IsSearch (rows_of (found_of matches.now))) }
+    ensures usage { IfErr result (asking.IsStrayIn (rows_of (found_of matches.now))) }
+{
+    let files = files_of(alloc, matches)?;
+    let trace = trace_of(alloc, flag_of(matches, "logs"), files)?;
+    Ok(Search {
+        budget: number_of(matches, "budget"),
+        order: name_of(matches, "order"),
+        refutation: name_of(matches, "refutation"),
+        picture: name_of(matches, "svg"),
+        trace,
+    })
+}
+
+/// What the words after `confirm` ask for, or why they ask for nothing.
+fn confirm_of<'a>(alloc: Global, matches: &ArgMatches<'a>) -> Result<Confirm<'a>, Refusal>
+    ensures confirm { IfOk result (asking.IsConfirm (rows_of (found_of matches.now))) }
+    ensures usage { IfErr result (asking.IsStrayIn (rows_of (found_of matches.now))) }
+{
+    let first = word_of(matches, "TRACE");
+    let files = files_of(alloc, matches)?;
+    if flag_of(matches, "logs") {
+        return Ok(Confirm {
+            certificate: first,
+            trace: TraceFiles::Logs(files),
+        });
+    }
+    Ok(Confirm {
+        certificate: only(alloc, files.as_slice())?,
+        trace: TraceFiles::One(first),
+    })
+}
+
+/// The files as those of logs, or the only one as that of a trace.
+fn trace_of<'a>(
+    alloc: Global,
+    are_logs: bool,
+    files: Vec<&'a str>,
+) -> Result<TraceFiles<'a>, Refusal>
+    ensures trace { IfOk result (asking.IsTraceOf are_logs (asking.texts files.entry.items)) }
+    ensures usage { IfErr result (asking.IsStrayOf are_logs (asking.texts files.entry.items)) }
+{
+    if are_logs {
+        return Ok(TraceFiles::Logs(files));
+    }
+    Ok(TraceFiles::One(only(alloc, files.as_slice())?))
+}
+
+/// The name of the only file, or the refusal of others.
+fn only<'a>(alloc: Global, files: &[&'a str]) -> Result<&'a str, Refusal>
+    ensures one { IfOk result (λ name. asking.texts files.now ≡ name.now ∷ []) }
+    ensures usage { IfErr result (asking.IsStrayOf false (asking.texts files.now)) }
+{
+    match files {
+        [name] => Ok(name),
+        _ => match format!(in alloc; "{STRAY_FILE}") {
+            Ok(text) => Err(Refusal::Usage(text)),
+            Err(_) => Err(Refusal::OutOfMemory),
+        },
+    }
+}
+
+/// What the user is told of several files where one is read.
+const STRAY_FILE: &str =
+    "error: more files than one are read as logs only, with '--logs'\n\nFor more information, try '--help'.\n";
 
 /// What the words after `sim` ask for.
 fn sim_of<'a>(matches: &ArgMatches<'a>) -> Sim<'a>

@@ -11,9 +11,9 @@ use Rattle.core_unit.specs.declared.outcome.Outcome.TheVariants as outcome
 use Rattle.core_machine.specs.Machine.{World, CoreLeads, Leads, by_core, no_effect, core_event, bars, bars_at, is_barred, with_core}
 use Rattle.core_machine.specs.Parts.{CoreParts, world, IsPlaced}
 use Rattle.core_machine.specs.SeatParts.{SeatParts}
-use Rattle.core_machine.specs.Seats.{SeatGoes, SeatMeets, SeatOutcome, seat_outcome, seen}
+use Rattle.core_machine.specs.Seats.{SeatLeads, SeatOutcomeLeads, SeatOutcome, seat_outcome, seen}
 use Rattle.core_machine.specs.Seats as seat
-use Rattle.core_machine.specs.Steps.{Meets, MachineGoes, alone, core_outcome, with_seat}
+use Rattle.core_machine.specs.Steps.{OutcomeLeads, MachineLeads, alone, core_outcome, with_seat}
 use Rattle.core_machine.specs.declared.event.Event.{Event}
 use Rattle.core_machine.specs.declared.event.Event.TheVariants as event
 use Rattle.core_machine.specs.declared.fault.CoreFault.{CoreFault}
@@ -52,8 +52,8 @@ module _ (p : CoreParts) (c : ℕ) where
 
   module _ (e : Event) (own : core_event e ≡ Some c) where
     -- a core that isn't there
-    pub goes_nowhere : slice_get p.seats c ≡ None → MachineGoes e p (Ok outcome.NoEffect) p
-    goes_nowhere none =
+    pub leads_nowhere : slice_get p.seats c ≡ None → MachineLeads e p (Ok outcome.NoEffect) p
+    leads_nowhere none =
         let b : is_barred p.config (world p) e ≡ true = barred_at p.config (world p) e c own ∙ ap (bars_at e) (none_in_map seen p.seats c none) in
         record { leads = no_effect e b; barred = (λ q. b, λ q. refl); refused = tt; config = refl }
 
@@ -83,26 +83,26 @@ module _ (p : CoreParts) (c : ℕ) where
       count = k.count;
     }
 
-    pub alone_ok : (e : Event) (o : Outcome) (t : SeatParts) → SeatMeets (seat_outcome e s) (Ok o) s t → Meets (alone p c e) (Ok o) p (with_seat p c t)
+    pub alone_ok : (e : Event) (o : Outcome) (t : SeatParts) → SeatOutcomeLeads (seat_outcome e s) (Ok o) s t → OutcomeLeads (alone p c e) (Ok o) p (with_seat p c t)
     alone_ok e o t met = rw there (by_outcome (seat_outcome e s) met)
       where
-        by_outcome : (x : SeatOutcome) → SeatMeets x (Ok o) s t → Meets (core_outcome p c x) (Ok o) p (with_seat p c t)
+        by_outcome : (x : SeatOutcome) → SeatOutcomeLeads x (Ok o) s t → OutcomeLeads (core_outcome p c x) (Ok o) p (with_seat p c t)
         by_outcome (seat.Refuses f) m = let q = m.0 in absurd (cc)
         by_outcome (seat.Answers y u) m = ((let q = m.0 in let same : o ≡ y = cc in ap (λ z. Ok z) same), ap (with_seat p c) m.1)
         by_outcome (seat.Steps y u) m = (m.0, ap (with_seat p c) m.1)
 
-    pub alone_err : (e : Event) (f : UnitFault) (t : SeatParts) → SeatMeets (seat_outcome e s) (Err f) s t → Meets (alone p c e) (Err (Unit f)) p (with_seat p c t)
+    pub alone_err : (e : Event) (f : UnitFault) (t : SeatParts) → SeatOutcomeLeads (seat_outcome e s) (Err f) s t → OutcomeLeads (alone p c e) (Err (Unit f)) p (with_seat p c t)
     alone_err e f t met = rw there (by_outcome (seat_outcome e s) met)
       where
-        by_outcome : (x : SeatOutcome) → SeatMeets x (Err f) s t → Meets (core_outcome p c x) (Err (Unit f)) p (with_seat p c t)
+        by_outcome : (x : SeatOutcome) → SeatOutcomeLeads x (Err f) s t → OutcomeLeads (core_outcome p c x) (Err (Unit f)) p (with_seat p c t)
         by_outcome (seat.Refuses y) m = ((let q = m.0 in let same : f ≡ y = cc in ap (λ z. Err (Unit z)) same), ap (with_seat p c) m.1 ∙ back)
         by_outcome (seat.Answers y u) m = let q = m.0 in absurd (cc)
         by_outcome (seat.Steps y u) m = (ap (λ z. Unit z) m.0, ap (with_seat p c) m.1 ∙ back)
 
-    same_after : (e : Event) (f : UnitFault) (t : SeatParts) → SeatMeets (seat_outcome e s) (Err f) s t → t ≡ s
+    same_after : (e : Event) (f : UnitFault) (t : SeatParts) → SeatOutcomeLeads (seat_outcome e s) (Err f) s t → t ≡ s
     same_after e f t met = by_outcome (seat_outcome e s) met
       where
-        by_outcome : (x : SeatOutcome) → SeatMeets x (Err f) s t → t ≡ s
+        by_outcome : (x : SeatOutcome) → SeatOutcomeLeads x (Err f) s t → t ≡ s
         by_outcome (seat.Refuses y) m = m.1
         by_outcome (seat.Answers y u) m = let q = m.0 in absurd (cc)
         by_outcome (seat.Steps y u) m = m.1
@@ -117,28 +117,28 @@ module _ (p : CoreParts) (c : ℕ) where
           let at_config = subst (λ (g : ConfigParts). CoreLeads g c (seen s) e o (seen t)) config_is at_core in
           subst (λ (w : World). Leads p.config (world p) e o w) (sym (world_with t)) (by_core c e o (seen s) (seen t) (found_in_map seen p.seats c s there) at_config)
 
-      pub goes_ok : (o : Outcome) (t : SeatParts) → SeatGoes e s (Ok o) t → MachineGoes e p (Ok o) (with_seat p c t)
-      goes_ok o t goes = record {
+      pub leads_ok : (o : Outcome) (t : SeatParts) → SeatLeads e s (Ok o) t → MachineLeads e p (Ok o) (with_seat p c t)
+      leads_ok o t led = record {
         leads = elim (has_effect o) [
           | inl none ↦
-              let at = goes.barred (ap (λ x. Ok x) none) in
+              let at = led.barred (ap (λ x. Ok x) none) in
               let to_itself = no_effect e (barred_is ∙ at.0) in
               let in_place = subst (λ (q : CoreParts). Leads p.config (world p) e outcome.NoEffect (world q)) (sym (ap (with_seat p c) at.1 ∙ back)) to_itself in
               subst (λ (x : Outcome). Leads p.config (world p) e x (world (with_seat p c t))) (sym none) in_place
-          | inr some ↦ leads_on o t (goes.leads o refl some)
+          | inr some ↦ leads_on o t (led.leads o refl some)
         ];
         barred = (
-          λ is. barred_is ∙ (goes.barred (let same : o ≡ outcome.NoEffect = cc in ap (λ x. Ok x) same)).0,
-          λ b. let same : o ≡ outcome.NoEffect = (let q = goes.bars_it (sym barred_is ∙ b) in cc) in ap (λ x. Ok x) same,
+          λ is. barred_is ∙ (led.barred (let same : o ≡ outcome.NoEffect = cc in ap (λ x. Ok x) same)).0,
+          λ b. let same : o ≡ outcome.NoEffect = (let q = led.bars_it (sym barred_is ∙ b) in cc) in ap (λ x. Ok x) same,
         );
         refused = tt;
         config = refl;
       }
 
-      pub goes_err : (f : UnitFault) (t : SeatParts) → SeatMeets (seat_outcome e s) (Err f) s t → SeatGoes e s (Err f) t → MachineGoes e p (Err (Unit f)) (with_seat p c t)
-      goes_err f t met goes = record {
+      pub leads_err : (f : UnitFault) (t : SeatParts) → SeatOutcomeLeads (seat_outcome e s) (Err f) s t → SeatLeads e s (Err f) t → MachineLeads e p (Err (Unit f)) (with_seat p c t)
+      leads_err f t met led = record {
         leads = tt;
-        barred = (λ is. absurd (cc), λ b. let q = goes.bars_it (sym barred_is ∙ b) in absurd (cc));
+        barred = (λ is. absurd (cc), λ b. let q = led.bars_it (sym barred_is ∙ b) in absurd (cc));
         refused = ap (with_seat p c) (same_after e f t met) ∙ back;
         config = refl;
       }

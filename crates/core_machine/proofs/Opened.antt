@@ -35,27 +35,11 @@ units_next g programs n x found =
     ∙ new_units-push g 0 (take n programs) x
     ∙ ap (λ m. new_units g 0 (take n programs) ++ new_unit g m x ∷ []) count
 
-new_seats-push : (g : ConfigParts) (c : ℕ) (xs : List (List Instruction)) (x : List Instruction)
-    → new_seats g c (xs ++ x ∷ []) ≡ new_seats g c xs ++ new_seat g (c + length xs) x ∷ []
-new_seats-push g c [] x = ap (λ n. new_seat g n x ∷ []) (let e : c ≡ c + 0 = omega arith in e)
-new_seats-push g c (y ∷ ys) x =
-    ap (λ ss. new_seat g c y ∷ ss) (new_seats-push g (suc c) ys x
-    ∙ ap (λ n. new_seats g (suc c) ys ++ new_seat g n x ∷ []) (let e : suc c + length ys ≡ c + suc (length ys) = omega arith in e))
-
-pub seats_next : (g : ConfigParts) (programs : List (List Instruction)) (n : ℕ) (x : List Instruction) → slice_get programs n ≡ Some x
-    → new_seats g 0 (take (n + 1) programs) ≡ new_seats g 0 (take n programs) ++ new_seat g n x ∷ []
-seats_next g programs n x found =
-    let below = slice_get_within programs n x found in
-    let count : 0 + length (take n programs) ≡ n = omega (arith, length-take-le n programs (let le : n ≤ length programs = omega arith in le)) in
-    ap (new_seats g 0) (take_more programs n x below ∙ ap (λ y. take n programs ++ y ∷ []) (get_or_from_slice_get programs n x x found))
-    ∙ new_seats-push g 0 (take n programs) x
-    ∙ ap (λ m. new_seats g 0 (take n programs) ++ new_seat g m x ∷ []) count
-
 seat_found : (g : ConfigParts) (c : ℕ) (programs : List (List Instruction)) (d : ℕ) (s : SeatParts) → slice_get (new_seats g c programs) d ≡ Some s
     → (s.unit.core ≡ c + d) × (s.unit.config ≡ g)
 seat_found g c [] d s e = absurd (cc)
 seat_found g c (x ∷ xs) zero s e =
-    let same : new_seat g c x ≡ s = cc in
+    let same : new_seat (new_unit g c x) ≡ s = cc in
     (sym (ap (λ (y : SeatParts). y.unit.core) same) ∙ (let n : c ≡ c + 0 = omega arith in n), sym (ap (λ (y : SeatParts). y.unit.config) same))
 seat_found g c (x ∷ xs) (suc d) s e =
     let found = seat_found g (suc c) xs d s e in
@@ -120,7 +104,7 @@ programs_opening g c (x ∷ xs) = ap (λ ps. x ∷ ps) (programs_opening g (suc 
 
 new_room : (g : ConfigParts) (c : ℕ) (programs : List (List Instruction)) (i : ℕ) (seat : SeatParts) → slice_get (new_seats g c programs) i ≡ Some seat → seat.unit.cache.capacity ≡ g.cache_lines
 new_room g c [] i seat e = absurd cc
-new_room g c (p ∷ ps) zero seat e = let one : new_seat g c p ≡ seat = cc in ap (λ (x : SeatParts). x.unit.cache.capacity) (sym one)
+new_room g c (p ∷ ps) zero seat e = let one : new_seat (new_unit g c p) ≡ seat = cc in ap (λ (x : SeatParts). x.unit.cache.capacity) (sym one)
 new_room g c (p ∷ ps) (suc i) seat e = new_room g (suc c) ps i seat e
 
 pub opening_kept : (programs : List (List Instruction)) (g : ConfigParts) → IsMachine (opening_parts programs g)

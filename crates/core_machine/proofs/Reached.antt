@@ -10,16 +10,16 @@ use Rattle.core_machine.specs.Machine.{World, Leads, Run, start, next, opening}
 use Rattle.core_machine.specs.Opening.{opening_parts}
 use Rattle.core_machine.specs.Parts.{CoreParts, world}
 use Rattle.core_machine.specs.Runs.{behind, run_from, MayRefuse, IsRefusedAt}
-use Rattle.core_machine.specs.Steps.{StepOutcome, Refuses, Answers, Steps, Meets, MachineGoes, step_outcome}
+use Rattle.core_machine.specs.Steps.{StepOutcome, Refuses, Answers, Steps, OutcomeLeads, MachineLeads, step_outcome}
 use Rattle.core_machine.specs.declared.event.Event.{Event}
 use Rattle.core_machine.specs.declared.fault.CoreFault.{CoreFault}
 
-pub behind_met : (x : StepOutcome) (o : Outcome) (p q : CoreParts) → Meets x (Ok o) p q → behind x ≡ Some q
+pub behind_met : (x : StepOutcome) (o : Outcome) (p q : CoreParts) → OutcomeLeads x (Ok o) p q → behind x ≡ Some q
 behind_met (Refuses f) o p q m = let e = m.0 in absurd (cc)
 behind_met (Answers y t) o p q m = ap (λ z. Some z) (sym m.1)
 behind_met (Steps w y t) o p q m = ap (λ z. Some z) (sym m.1)
 
-pub may_refuse : (x : StepOutcome) (f : CoreFault) (p q : CoreParts) → Meets x (Err f) p q → MayRefuse x f
+pub may_refuse : (x : StepOutcome) (f : CoreFault) (p q : CoreParts) → OutcomeLeads x (Err f) p q → MayRefuse x f
 may_refuse (Refuses due) f p q m = let e = m.0 in cc
 may_refuse (Answers y t) f p q m = let e = m.0 in absurd (cc)
 may_refuse (Steps w y t) f p q m = m.0
@@ -49,18 +49,18 @@ module _ (programs : List (List Instruction)) (g : ConfigParts) (events : List E
   one_more : take (n + 1) events ≡ take n events ++ e ∷ []
   one_more = take_more events n e below ∙ ap (λ x. take n events ++ x ∷ []) (sym here)
 
-  pub reached_next : (o : Outcome) → Meets (step_outcome p e) (Ok o) p q → MachineGoes e p (Ok o) q → IsRunSoFar programs g (take (n + 1) events) q
-  reached_next o met goes =
-      let led = subst (λ (x : ConfigParts). Leads x (world p) e o (world q)) so_far.config goes.leads in
+  pub reached_next : (o : Outcome) → OutcomeLeads (step_outcome p e) (Ok o) p q → MachineLeads e p (Ok o) q → IsRunSoFar programs g (take (n + 1) events) q
+  reached_next o met led =
+      let leads = subst (λ (x : ConfigParts). Leads x (world p) e o (world q)) so_far.config led.leads in
       subst (λ (es : List Event). IsRunSoFar programs g es q) (sym one_more)
       (record {
         reached = run_from-push (opening_parts programs g) (take n events) e ∙ ap (option_and_then (λ x. behind (step_outcome x e))) so_far.reached
             ∙ behind_met (step_outcome p e) o p q met;
-        run = next (take n events) e o (world p) (world q) so_far.run led;
-        config = goes.config ∙ so_far.config;
+        run = next (take n events) e o (world p) (world q) so_far.run leads;
+        config = led.config ∙ so_far.config;
       })
 
-  pub refused_here : (f : CoreFault) → Meets (step_outcome p e) (Err f) p q → IsRefusedAt programs g events n f
+  pub refused_here : (f : CoreFault) → OutcomeLeads (step_outcome p e) (Err f) p q → IsRefusedAt programs g events n f
   refused_here f met = record {
     machine = p;
     reached = so_far.reached;

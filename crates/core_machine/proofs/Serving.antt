@@ -17,7 +17,7 @@ use Rattle.core_machine.specs.Machine.{World, Leads, serves, spills, no_effect, 
 use Rattle.core_machine.specs.Parts.{CoreParts, world, IsPlaced}
 use Rattle.core_machine.specs.SeatParts.{SeatParts}
 use Rattle.core_machine.specs.Seats.{asked_by, seen}
-use Rattle.core_machine.specs.Steps.{Meets, MachineGoes, served_outcome, spill_told, spilled_outcome, step_outcome, with_seat}
+use Rattle.core_machine.specs.Steps.{OutcomeLeads, MachineLeads, served_outcome, spill_told, spilled_outcome, step_outcome, with_seat}
 use Rattle.core_machine.specs.declared.event.Event.TheVariants as event
 use Rattle.core_machine.specs.declared.fault.CoreFault.TheVariants.{Slice as FromSlice}
 use Rattle.std.specs.Bool.{OnTrue}
@@ -71,11 +71,11 @@ module _ (p : CoreParts) (k : IsPlaced p) (c : ℕ) (s : SeatParts) (there : sli
   serve_barred_is : is_barred p.config (world p) (event.Serve c) ≡ (is_none s.unit.hand || is_some s.kept)
   serve_barred_is = ap (bars_at (event.Serve c)) (found_in_map seen p.seats c s there)
 
-  pub idle_outcome : asked_by s.unit.hand s.kept ≡ None → Meets (step_outcome p (event.Serve c)) (Ok outcome.NoEffect) p (with_seat p c s)
+  pub idle_outcome : asked_by s.unit.hand s.kept ≡ None → OutcomeLeads (step_outcome p (event.Serve c)) (Ok outcome.NoEffect) p (with_seat p c s)
   idle_outcome idle = rw (there, idle) (refl, ap (λ (seats : List SeatParts). record p { seats = seats }) (set_again p.seats c s there))
 
-  pub goes_idle : asked_by s.unit.hand s.kept ≡ None → MachineGoes (event.Serve c) p (Ok outcome.NoEffect) (with_seat p c s)
-  goes_idle idle =
+  pub leads_idle : asked_by s.unit.hand s.kept ≡ None → MachineLeads (event.Serve c) p (Ok outcome.NoEffect) (with_seat p c s)
+  leads_idle idle =
       let b = serve_barred_is ∙ idle_bars s.unit.hand s.kept idle in
       let back : with_seat p c s ≡ p = ap (λ (seats : List SeatParts). record p { seats = seats }) (set_again p.seats c s there) in
       record {
@@ -101,11 +101,11 @@ module _ (p : CoreParts) (k : IsPlaced p) (c : ℕ) (s : SeatParts) (there : sli
         ap (λ (seats : List SeatParts). record p { seats = seats; slices = slice_set p.slices n t }) (set_again p.seats c s there)
         ∙ ap (λ (slices : List SliceParts). record p { slices = slices }) (ap (slice_set p.slices n) same ∙ set_again p.slices n sl at)
 
-    pub served_ok : (x : Reply) (t : SliceParts) → slice.Meets (slice.handle_outcome sl c m) (Ok x) sl t
-        → Meets (step_outcome p (event.Serve c)) (Ok (outcome.Served x)) p (serve_at x t)
-    served_ok x t met = rw (there, asked, at_number) (subst (λ (i : ℕ). Meets (served_outcome p c s i sl (slice.handle_outcome sl c m)) (Ok (outcome.Served x)) p (serve_at x t)) n_is (by_outcome (slice.handle_outcome sl c m) met))
+    pub served_ok : (x : Reply) (t : SliceParts) → slice.OutcomeLeads (slice.handle_outcome sl c m) (Ok x) sl t
+        → OutcomeLeads (step_outcome p (event.Serve c)) (Ok (outcome.Served x)) p (serve_at x t)
+    served_ok x t met = rw (there, asked, at_number) (subst (λ (i : ℕ). OutcomeLeads (served_outcome p c s i sl (slice.handle_outcome sl c m)) (Ok (outcome.Served x)) p (serve_at x t)) n_is (by_outcome (slice.handle_outcome sl c m) met))
       where
-        by_outcome : (o : slice.Outcome Reply) → slice.Meets o (Ok x) sl t → Meets (served_outcome p c s n sl o) (Ok (outcome.Served x)) p (serve_at x t)
+        by_outcome : (o : slice.Outcome Reply) → slice.OutcomeLeads o (Ok x) sl t → OutcomeLeads (served_outcome p c s n sl o) (Ok (outcome.Served x)) p (serve_at x t)
         by_outcome (slice.Refuses f) w = let q = w.0 in absurd (cc)
         by_outcome (slice.Answers y) w =
             let same : x ≡ y = (let q = w.0 in cc) in (
@@ -115,11 +115,11 @@ module _ (p : CoreParts) (k : IsPlaced p) (c : ℕ) (s : SeatParts) (there : sli
         by_outcome (slice.Steps y entries state) w =
             (ap (λ z. outcome.Served z) w.0, ap (λ z. serve_at z t) w.0 ∙ ap (λ (u : SliceParts). serve_at y u) w.1)
 
-    pub served_err : (f : SliceFault) (t : SliceParts) → slice.Meets (slice.handle_outcome sl c m) (Err f) sl t
-        → Meets (step_outcome p (event.Serve c)) (Err (FromSlice f)) p (refused_at t)
+    pub served_err : (f : SliceFault) (t : SliceParts) → slice.OutcomeLeads (slice.handle_outcome sl c m) (Err f) sl t
+        → OutcomeLeads (step_outcome p (event.Serve c)) (Err (FromSlice f)) p (refused_at t)
     served_err f t met = rw (there, asked, at_number) (by_outcome (slice.handle_outcome sl c m) met)
       where
-        by_outcome : (o : slice.Outcome Reply) → slice.Meets o (Err f) sl t → Meets (served_outcome p c s (slice_number p.config (addr_of m)) sl o) (Err (FromSlice f)) p (refused_at t)
+        by_outcome : (o : slice.Outcome Reply) → slice.OutcomeLeads o (Err f) sl t → OutcomeLeads (served_outcome p c s (slice_number p.config (addr_of m)) sl o) (Err (FromSlice f)) p (refused_at t)
         by_outcome (slice.Refuses g) w = ((let same : f ≡ g = (let q = w.0 in cc) in ap (λ z. Err (FromSlice z)) same), both_back t w.1)
         by_outcome (slice.Answers y) w = let q = w.0 in absurd (cc)
         by_outcome (slice.Steps y entries state) w = (ap (λ z. FromSlice z) w.0, both_back t w.1)
@@ -127,16 +127,16 @@ module _ (p : CoreParts) (k : IsPlaced p) (c : ℕ) (s : SeatParts) (there : sli
     unserved_bars : is_barred p.config (world p) (event.Serve c) ≡ false
     unserved_bars = let facts = asked_facts s.unit.hand s.kept m asked in serve_barred_is ∙ rw (facts.0, facts.1) refl
 
-    pub goes_refused_serve : (f : SliceFault) (t : SliceParts) → t ≡ sl → MachineGoes (event.Serve c) p (Err (FromSlice f)) (refused_at t)
-    goes_refused_serve f t same = record {
+    pub leads_refused_serve : (f : SliceFault) (t : SliceParts) → t ≡ sl → MachineLeads (event.Serve c) p (Err (FromSlice f)) (refused_at t)
+    leads_refused_serve f t same = record {
       leads = tt;
       barred = (λ q. absurd (cc), λ b. let e : true ≡ false = sym b ∙ unserved_bars in absurd (cc));
       refused = both_back t same;
       config = refl;
     }
 
-    pub goes_served : (x : Reply) (t : SliceParts) → slice.IsHandled sl c m x t → MachineGoes (event.Serve c) p (Ok (outcome.Served x)) (serve_at x t)
-    goes_served x t handled =
+    pub leads_served : (x : Reply) (t : SliceParts) → slice.IsHandled sl c m x t → MachineLeads (event.Serve c) p (Ok (outcome.Served x)) (serve_at x t)
+    leads_served x t handled =
         let facts = asked_facts s.unit.hand s.kept m asked in
         let handles = subst (λ (g : ConfigParts). Handles g (seen_slice sl) c m x handled.entries (seen_slice t)) (k.slices n sl at).config handled.handles in
         let led = serves c (seen s) m x handled.entries (seen_slice sl) (seen_slice t) (found_in_map seen p.seats c s there) facts.0 facts.1 (found_in_map seen_slice p.slices (slice_number p.config (addr_of m)) sl at_number) handles in
@@ -166,20 +166,20 @@ module _ (p : CoreParts) (k : IsPlaced p) (a n : ℕ) (n_is : n ≡ slice_number
   slice_back : (t : SliceParts) → t ≡ sl → with_slice_parts p k n sl at t ≡ p
   slice_back t same = ap (with_slice_parts p k n sl at) same ∙ slice_again p k n sl at
 
-  pub spilled_ok : (went : Bool) (t : SliceParts) → slice.Meets (slice.evict_outcome sl a) (Ok went) sl t
-      → Meets (step_outcome p (event.Spill a)) (Ok (spill_told went)) p (with_slice_parts p k n sl at t)
-  spilled_ok went t met = rw spill_number (subst (λ (i : ℕ). Meets (spilled_outcome p i sl (slice.evict_outcome sl a)) (Ok (spill_told went)) p (with_slice_parts p k n sl at t)) n_is (by_outcome (slice.evict_outcome sl a) met))
+  pub spilled_ok : (went : Bool) (t : SliceParts) → slice.OutcomeLeads (slice.evict_outcome sl a) (Ok went) sl t
+      → OutcomeLeads (step_outcome p (event.Spill a)) (Ok (spill_told went)) p (with_slice_parts p k n sl at t)
+  spilled_ok went t met = rw spill_number (subst (λ (i : ℕ). OutcomeLeads (spilled_outcome p i sl (slice.evict_outcome sl a)) (Ok (spill_told went)) p (with_slice_parts p k n sl at t)) n_is (by_outcome (slice.evict_outcome sl a) met))
     where
-      by_outcome : (o : slice.Outcome Bool) → slice.Meets o (Ok went) sl t → Meets (spilled_outcome p n sl o) (Ok (spill_told went)) p (with_slice_parts p k n sl at t)
+      by_outcome : (o : slice.Outcome Bool) → slice.OutcomeLeads o (Ok went) sl t → OutcomeLeads (spilled_outcome p n sl o) (Ok (spill_told went)) p (with_slice_parts p k n sl at t)
       by_outcome (slice.Refuses f) w = let q = w.0 in absurd (cc)
       by_outcome (slice.Answers y) w = ((let same : went ≡ y = (let q = w.0 in cc) in ap (λ z. Ok (spill_told z)) same), slice_back t w.1)
       by_outcome (slice.Steps y entries state) w = (ap spill_told w.0, ap (with_slice_parts p k n sl at) w.1)
 
-  pub spilled_err : (f : SliceFault) (t : SliceParts) → slice.Meets (slice.evict_outcome sl a) (Err f) sl t
-      → Meets (step_outcome p (event.Spill a)) (Err (FromSlice f)) p (with_slice_parts p k n sl at t)
+  pub spilled_err : (f : SliceFault) (t : SliceParts) → slice.OutcomeLeads (slice.evict_outcome sl a) (Err f) sl t
+      → OutcomeLeads (step_outcome p (event.Spill a)) (Err (FromSlice f)) p (with_slice_parts p k n sl at t)
   spilled_err f t met = rw spill_number (by_outcome (slice.evict_outcome sl a) met)
     where
-      by_outcome : (o : slice.Outcome Bool) → slice.Meets o (Err f) sl t → Meets (spilled_outcome p (slice_number p.config a) sl o) (Err (FromSlice f)) p (with_slice_parts p k n sl at t)
+      by_outcome : (o : slice.Outcome Bool) → slice.OutcomeLeads o (Err f) sl t → OutcomeLeads (spilled_outcome p (slice_number p.config a) sl o) (Err (FromSlice f)) p (with_slice_parts p k n sl at t)
       by_outcome (slice.Refuses g) w = ((let same : f ≡ g = (let q = w.0 in cc) in ap (λ z. Err (FromSlice z)) same), slice_back t w.1)
       by_outcome (slice.Answers y) w = let q = w.0 in absurd (cc)
       by_outcome (slice.Steps y entries state) w = (ap (λ z. FromSlice z) w.0, slice_back t w.1)
@@ -190,14 +190,14 @@ module _ (p : CoreParts) (k : IsPlaced p) (a n : ℕ) (n_is : n ≡ slice_number
       ∙ ap (λ (o : Option ManagedLine). not (is_some_shared o)) (get-lookup sl.state.lines a)
 
   -- nothing went, and nothing changed
-  stayed : (t : SliceParts) (o : Option ManagedLine) → false ≡ is_some_shared o → slice.Meets (slice.line_outcome sl a o) (Ok false) sl t → t ≡ sl
+  stayed : (t : SliceParts) (o : Option ManagedLine) → false ≡ is_some_shared o → slice.OutcomeLeads (slice.line_outcome sl a o) (Ok false) sl t → t ≡ sl
   stayed t None e met = met.1
   stayed t (Some (Exclusive owner)) e met = met.1
   stayed t (Some (Shared l)) e met = absurd (cc)
 
-  pub goes_spill : (went : Bool) (t : SliceParts) → went ≡ is_some_shared (lookup (nat_eq a) sl.state.lines) → OnTrue went (slice.IsEvicted sl a t)
-      → slice.Meets (slice.evict_outcome sl a) (Ok went) sl t → MachineGoes (event.Spill a) p (Ok (spill_told went)) (with_slice_parts p k n sl at t)
-  goes_spill true t shared evicted met =
+  pub leads_spill : (went : Bool) (t : SliceParts) → went ≡ is_some_shared (lookup (nat_eq a) sl.state.lines) → OnTrue went (slice.IsEvicted sl a t)
+      → slice.OutcomeLeads (slice.evict_outcome sl a) (Ok went) sl t → MachineLeads (event.Spill a) p (Ok (spill_told went)) (with_slice_parts p k n sl at t)
+  leads_spill true t shared evicted met =
       let led = spills a (seen_slice sl) (seen_slice t) (found_in_map seen_slice p.slices (slice_number p.config a) sl spill_number) (evicted.evicts) in
       let same : world (with_slice_parts p k n sl at t) ≡ with_slice p.config (world p) a (seen_slice t) =
       ap (λ (slices : List Slice). record (world p) { slices = slices }) (map-set seen_slice p.slices n t)
@@ -209,7 +209,7 @@ module _ (p : CoreParts) (k : IsPlaced p) (a n : ℕ) (n_is : n ≡ slice_number
         refused = tt;
         config = refl;
       }
-  goes_spill false t shared evicted met =
+  leads_spill false t shared evicted met =
       let b : is_barred p.config (world p) (event.Spill a) ≡ true = spill_barred_is ∙ ap not (sym shared) in
       let back = slice_back t (stayed t (lookup (nat_eq a) sl.state.lines) shared met) in
       record {
@@ -219,25 +219,25 @@ module _ (p : CoreParts) (k : IsPlaced p) (a n : ℕ) (n_is : n ≡ slice_number
         config = refl;
       }
 
-  pub goes_refused_spill : (f : SliceFault) (t : SliceParts) → slice.Meets (slice.evict_outcome sl a) (Err f) sl t → t ≡ sl
-      → MachineGoes (event.Spill a) p (Err (FromSlice f)) (with_slice_parts p k n sl at t)
-  goes_refused_spill f t met same = record {
+  pub leads_refused_spill : (f : SliceFault) (t : SliceParts) → slice.OutcomeLeads (slice.evict_outcome sl a) (Err f) sl t → t ≡ sl
+      → MachineLeads (event.Spill a) p (Err (FromSlice f)) (with_slice_parts p k n sl at t)
+  leads_refused_spill f t met same = record {
     leads = tt;
     barred = (λ q. absurd (cc), λ b. absurd (refusal (lookup (nat_eq a) sl.state.lines) met (sym spill_barred_is ∙ b)));
     refused = slice_back t same;
     config = refl;
   }
     where
-      refusal : (o : Option ManagedLine) → slice.Meets (slice.line_outcome sl a o) (Err f) sl t → not (is_some_shared o) ≡ true → ⊥
+      refusal : (o : Option ManagedLine) → slice.OutcomeLeads (slice.line_outcome sl a o) (Err f) sl t → not (is_some_shared o) ≡ true → ⊥
       refusal None w e = let q = w.0 in absurd (cc)
       refusal (Some (Exclusive owner)) w e = let q = w.0 in absurd (cc)
       refusal (Some (Shared l)) w e = absurd (cc)
 
   -- the slice is still the same one
-  pub kept_spilled : (went : Bool) (t : SliceParts) → slice.Meets (slice.evict_outcome sl a) (Ok went) sl t → IsPlaced (with_slice_parts p k n sl at t)
+  pub kept_spilled : (went : Bool) (t : SliceParts) → slice.OutcomeLeads (slice.evict_outcome sl a) (Ok went) sl t → IsPlaced (with_slice_parts p k n sl at t)
   kept_spilled went t met = by_outcome (slice.evict_outcome sl a) met
     where
-      by_outcome : (o : slice.Outcome Bool) → slice.Meets o (Ok went) sl t → IsPlaced (with_slice_parts p k n sl at t)
+      by_outcome : (o : slice.Outcome Bool) → slice.OutcomeLeads o (Ok went) sl t → IsPlaced (with_slice_parts p k n sl at t)
       by_outcome (slice.Refuses f) w = let q = w.0 in absurd (cc)
       by_outcome (slice.Answers y) w = kept_slices p k n sl at t (ap (λ (x : SliceParts). x.number) w.1) (ap (λ (x : SliceParts). x.config) w.1)
       by_outcome (slice.Steps y entries state) w = kept_slices p k n sl at t (ap (λ (x : SliceParts). x.number) w.1) (ap (λ (x : SliceParts). x.config) w.1)

@@ -1,5 +1,5 @@
 -- The machine as it starts.
-use Rattle.std.specs.Prelude.{ℕ, suc, List, [], ◌∷◌, None}
+use Rattle.std.specs.Prelude.{ℕ, suc, List, [], ◌∷◌, None, map}
 use Rattle.lease_rule.specs.ConfigParts.{ConfigParts}
 use Rattle.core_program.specs.declared.instruction.Instruction.{Instruction}
 use Rattle.core_program.specs.Running.{start_of}
@@ -29,14 +29,13 @@ abbrev pub new_units : ConfigParts → ℕ → List (List Instruction) → List 
 new_units g c [] = []
 new_units g c (program ∷ programs) = new_unit g c program ∷ new_units g (suc c) programs
 
--- core c in its seat
-abbrev pub new_seat : ConfigParts → ℕ → List Instruction → SeatParts
-new_seat g c program = record { unit = new_unit g c program; kept = None }
+-- a core in its seat
+abbrev pub new_seat : UnitParts → SeatParts
+new_seat u = record { unit = u; kept = None }
 
--- the cores of these programs, from core c on
+-- the cores of these programs, from core c on, in their seats
 abbrev pub new_seats : ConfigParts → ℕ → List (List Instruction) → List SeatParts
-new_seats g c [] = []
-new_seats g c (program ∷ programs) = new_seat g c program ∷ new_seats g (suc c) programs
+new_seats g c programs = map new_seat (new_units g c programs)
 
 abbrev pub opening_parts : List (List Instruction) → ConfigParts → CoreParts
 opening_parts programs g = record { config = g; seats = new_seats g 0 programs; slices = new_slices g g.slices }

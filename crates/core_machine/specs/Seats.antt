@@ -23,10 +23,10 @@ pub data SeatOutcome : Type 0 where
   Steps : Outcome → SeatParts → SeatOutcome
 
 -- the event, with this result, led from s to t as the outcome says; only for lack of memory may a step be refused
-abbrev pub SeatMeets : SeatOutcome → Result Outcome UnitFault → SeatParts → SeatParts → Type 0
-SeatMeets (Refuses fault) r s t = (r ≡ Err fault) × (t ≡ s)
-SeatMeets (Answers o q) r s t = (r ≡ Ok o) × (t ≡ q)
-SeatMeets (Steps o q) r s t = MatchResult r (λ x. (x ≡ o) × (t ≡ q)) (λ fault. (fault ≡ OutOfMemory) × (t ≡ s))
+abbrev pub SeatOutcomeLeads : SeatOutcome → Result Outcome UnitFault → SeatParts → SeatParts → Type 0
+SeatOutcomeLeads (Refuses fault) r s t = (r ≡ Err fault) × (t ≡ s)
+SeatOutcomeLeads (Answers o q) r s t = (r ≡ Ok o) × (t ≡ q)
+SeatOutcomeLeads (Steps o q) r s t = MatchResult r (λ x. (x ≡ o) × (t ≡ q)) (λ fault. (fault ≡ OutOfMemory) × (t ≡ s))
 
 -- the unit comes to this, and then this reply is kept for it
 abbrev pub with_kept : Option Reply → unit.UnitOutcome → SeatOutcome
@@ -58,7 +58,7 @@ abbrev pub seen : SeatParts → Core
 seen s = core_of s.unit s.kept
 
 -- with an outcome that isn't NoEffect the event leads the core on; NoEffect comes exactly where it doesn't apply, and changes nothing
-pub record SeatGoes (e : Event) (s : SeatParts) (r : Result Outcome UnitFault) (t : SeatParts) : Type 0 where
+pub record SeatLeads (e : Event) (s : SeatParts) (r : Result Outcome UnitFault) (t : SeatParts) : Type 0 where
   pub leads : (o : Outcome) → r ≡ Ok o → o ≢ NoEffect → CoreLeads s.unit.config s.unit.core (seen s) e o (seen t)
   pub barred : r ≡ Ok NoEffect → (bars e (seen s) ≡ true) × (t ≡ s)
   pub bars_it : bars e (seen s) ≡ true → r ≡ Ok NoEffect

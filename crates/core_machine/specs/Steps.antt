@@ -36,10 +36,10 @@ is_memory (Slice slice_fault.OutOfMemory) = true
 is_memory fault = false
 
 -- the event, with this result, led from p to q as the outcome says; a step may be refused only by its own lack of memory
-abbrev pub Meets : StepOutcome → Result Outcome CoreFault → CoreParts → CoreParts → Type 0
-Meets (Refuses fault) r p q = (r ≡ Err fault) × (q ≡ p)
-Meets (Answers o t) r p q = (r ≡ Ok o) × (q ≡ t)
-Meets (Steps wanting o t) r p q = MatchResult r (λ x. (x ≡ o) × (q ≡ t)) (λ fault. (fault ≡ wanting) × (q ≡ p))
+abbrev pub OutcomeLeads : StepOutcome → Result Outcome CoreFault → CoreParts → CoreParts → Type 0
+OutcomeLeads (Refuses fault) r p q = (r ≡ Err fault) × (q ≡ p)
+OutcomeLeads (Answers o t) r p q = (r ≡ Ok o) × (q ≡ t)
+OutcomeLeads (Steps wanting o t) r p q = MatchResult r (λ x. (x ≡ o) × (q ≡ t)) (λ fault. (fault ≡ wanting) × (q ≡ p))
 
 abbrev pub with_seat : CoreParts → ℕ → SeatParts → CoreParts
 with_seat p c s = record p { seats = slice_set p.seats c s }
@@ -104,7 +104,7 @@ step_outcome p (event.Spill a) =
 step_outcome p (event.Increment c) = alone p c (event.Increment c)
 
 -- the event led from p to q: an event without effect is answered so, and a refused one changes nothing
-pub record MachineGoes (e : Event) (p : CoreParts) (r : Result Outcome CoreFault) (q : CoreParts) : Type 0 where
+pub record MachineLeads (e : Event) (p : CoreParts) (r : Result Outcome CoreFault) (q : CoreParts) : Type 0 where
   pub leads : IfOk r (λ o. Leads p.config (world p) e o (world q))
   pub barred : (r ≡ Ok NoEffect) ↔ (is_barred p.config (world p) e ≡ true)
   pub refused : OnErr r (q ≡ p)

@@ -3,6 +3,7 @@
 ghost use Rattle.std.specs.Prelude.{◌≡◌};
 ghost use Rattle.core_program.specs.declared.fault.ProgramFault.TheVariants.{OutOfMemory};
 
+use fault_names::FaultName;
 use std::alloc::{AllocError, AllocFailed};
 use std::fmt;
 use std::fmt::Display;
@@ -30,10 +31,10 @@ impl Display for ProgramFault {
 
     fn fmt<W: fmt::Write>(&self, f: &mut fmt::Formatter<W>) -> fmt::Result {
         match self {
-            ProgramFault::BadLine(line) => write!(f, "line {line}: 7 BadLine"),
-            ProgramFault::TooLong(line) => write!(f, "line {line}: 8 TooLong"),
-            ProgramFault::SkipPastEnd(line) => write!(f, "line {line}: 9 SkipPastEnd"),
-            ProgramFault::OutOfMemory => f.write_str("10 OutOfMemory"),
+            ProgramFault::BadLine(line) => write!(f, "line {line}: {}", FaultName::BadProgramLine),
+            ProgramFault::TooLong(line) => write!(f, "line {line}: {}", FaultName::TooLong),
+            ProgramFault::SkipPastEnd(line) => write!(f, "line {line}: {}", FaultName::SkipPastEnd),
+            ProgramFault::OutOfMemory => write!(f, "{}", FaultName::OutOfMemory),
         }
     }
 }

@@ -9,7 +9,7 @@ use Rattle.manager_slice.specs.Limits.{entry_limit}
 use Rattle.private_cache.specs.Steps.{has_room, least_recently_used}
 use Rattle.private_cache.specs.Table.{Hit}
 use Rattle.core_unit.specs.Core.{Core, next_id, next_of, op_addr, tries}
-use Rattle.core_unit.specs.Outcomes.{Meets, Refuses, Steps, miss_outcome, op_outcome, perform_fault, performed, turn_outcome, unless_faulty}
+use Rattle.core_unit.specs.Outcomes.{OutcomeLeads, Refuses, Steps, miss_outcome, op_outcome, perform_fault, performed, turn_outcome, unless_faulty}
 use Rattle.core_unit.specs.Parts.{UnitParts, core_of}
 use Rattle.core_unit.specs.inner.Look.{look_of}
 use Rattle.core_unit.specs.declared.entry.CoreEntry.TheVariants as entry
@@ -31,7 +31,7 @@ turn_of_miss p x free next misses = rw (free, next, misses) refl
 
 -- an operation that hits is never without effect
 pub hit_acts : (p q : UnitParts) (x : Op) (hit : Option Hit) (made : Record) (r : Result Outcome UnitFault) → look.Hit made ≡ look_of (core_of p None) x hit
-    → Meets (op_outcome p x hit) r p q → r ≡ Ok NoEffect → ⊥
+    → OutcomeLeads (op_outcome p x hit) r p q → r ≡ Ok NoEffect → ⊥
 hit_acts p q x None made r told met e = absurd (cc)
 hit_acts p q x (Some hit) made r told met e = acts (nat_lt (length p.transcript) entry_limit) (perform_fault p x hit) met
   where
@@ -39,7 +39,7 @@ hit_acts p q x (Some hit) made r told met e = acts (nat_lt (length p.transcript)
     after = record (performed p x hit) { transcript = p.transcript ++ entry.Performed ∷ [] }
 
     acts : (room : Bool) (fault : Option StampFault)
-        → Meets (if room then unless_faulty fault (Steps (Performed (next_id p.core (core_of p None))) after) else Refuses TranscriptFull) r p q → ⊥
+        → OutcomeLeads (if room then unless_faulty fault (Steps (Performed (next_id p.core (core_of p None))) after) else Refuses TranscriptFull) r p q → ⊥
     acts true None met = let both = rw e at met in cc
     acts true (Some fault) met = let refused = met.0 in cc
     acts false fault met = let refused = met.0 in cc

@@ -35,10 +35,10 @@ pub data UnitOutcome : Type 0 where
   Steps : Outcome → UnitParts → UnitOutcome
 
 -- the call, with this result, led from p to q as the outcome says; only for lack of memory may a step be refused
-abbrev pub Meets : UnitOutcome → Result Outcome UnitFault → UnitParts → UnitParts → Type 0
-Meets (Refuses fault) r p q = (r ≡ Err fault) × (q ≡ p)
-Meets (Answers o t) r p q = (r ≡ Ok o) × (q ≡ t)
-Meets (Steps o t) r p q =
+abbrev pub OutcomeLeads : UnitOutcome → Result Outcome UnitFault → UnitParts → UnitParts → Type 0
+OutcomeLeads (Refuses fault) r p q = (r ≡ Err fault) × (q ≡ p)
+OutcomeLeads (Answers o t) r p q = (r ≡ Ok o) × (q ≡ t)
+OutcomeLeads (Steps o t) r p q =
     MatchResult r (λ x. (x ≡ o) × (q ≡ t)) (λ fault. (fault ≡ OutOfMemory) × (q ≡ p))
 
 -- one more entry is refused for this

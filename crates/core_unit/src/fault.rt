@@ -3,6 +3,7 @@
 ghost use Rattle.std.specs.Prelude.{◌≡◌};
 ghost use Rattle.core_unit.specs.declared.fault.UnitFault.TheVariants.{OutOfMemory, Stamp};
 
+use fault_names::FaultName;
 use line_stamps::StampFault;
 use private_cache::FillFault;
 use std::alloc::AllocError;
@@ -31,10 +32,10 @@ impl Display for UnitFault {
 
     fn fmt<W: fmt::Write>(&self, f: &mut fmt::Formatter<W>) -> fmt::Result {
         match self {
-            UnitFault::BadReply => f.write_str("14 BadReply"),
-            UnitFault::TranscriptFull => f.write_str("13 TranscriptFull"),
+            UnitFault::BadReply => write!(f, "{}", FaultName::BadReply),
+            UnitFault::TranscriptFull => write!(f, "{}", FaultName::TranscriptFull),
             UnitFault::Stamp(fault) => write!(f, "{fault}"),
-            UnitFault::OutOfMemory => f.write_str("10 OutOfMemory"),
+            UnitFault::OutOfMemory => write!(f, "{}", FaultName::OutOfMemory),
         }
     }
 }

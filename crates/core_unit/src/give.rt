@@ -3,7 +3,7 @@
 ghost use Rattle.std.specs.Prelude.{◌≡◌, Some, None, Ok, IsNone, OnErr};
 ghost use Rattle.private_cache.specs.Steps.{line_at};
 ghost use Rattle.private_cache.specs.Table.{recalled};
-ghost use Rattle.core_unit.specs.Outcomes.{IsLackOfRoom, Meets, eviction, evict_outcome, give_outcome, recall_outcome};
+ghost use Rattle.core_unit.specs.Outcomes.{IsLackOfRoom, OutcomeLeads, eviction, evict_outcome, give_outcome, recall_outcome};
 ghost use Rattle.core_unit.specs.Parts.{SameUnit, UnitParts};
 
 use super::entry::CoreEntry;
@@ -23,7 +23,7 @@ impl CoreUnit {
     /// The refusals, in this order: 13 TranscriptFull, 4 StampLimit, 10 OutOfMemory. They change
     /// nothing.
     pub fn recall(&mut self, recall: &Recall) -> Result<Outcome, UnitFault>
-        ensures outcome { Meets (recall_outcome self.old recall.now) result self.old self.new }
+        ensures outcome { OutcomeLeads (recall_outcome self.old recall.now) result self.old self.new }
         ensures same { SameUnit self.old self.new }
         ensures refused { OnErr result (self.new ≡ self.old) }
     {
@@ -53,7 +53,7 @@ impl CoreUnit {
     ///
     /// The refusals, in this order: 13 TranscriptFull, 10 OutOfMemory. They change nothing.
     pub fn evict(&mut self, addr: Addr) -> Result<Outcome, UnitFault>
-        ensures outcome { Meets (evict_outcome self.old addr) result self.old self.new }
+        ensures outcome { OutcomeLeads (evict_outcome self.old addr) result self.old self.new }
         ensures same { SameUnit self.old self.new }
         ensures refused { OnErr result (self.new ≡ self.old) }
     {
@@ -66,7 +66,7 @@ impl CoreUnit {
     /// Evicts the line of an address. No message is in hand.
     pub(crate) fn evict_line(&mut self, addr: Addr) -> Result<Outcome, UnitFault>
         requires { self.old.hand ≡ None }
-        ensures outcome { Meets (eviction self.old (λ m. Outcome.Gave m) addr (line_at self.old.cache addr))
+        ensures outcome { OutcomeLeads (eviction self.old (λ m. Outcome.Gave m) addr (line_at self.old.cache addr))
             result self.old self.new }
         ensures effect { result ≡ Ok Outcome.NoEffect → IsNone (line_at self.old.cache addr) }
         ensures same { SameUnit self.old self.new }
@@ -106,7 +106,7 @@ fn recall_without_room(
     refused: UnitFault,
 ) -> Result<Outcome, UnitFault>
     ensures { (p : UnitParts) → IsLackOfRoom p.transcript refused
-        → Meets (give_outcome p recall.now (recalled recall.now lease (line_at cache.now recall.now.addr))) result p p }
+        → OutcomeLeads (give_outcome p recall.now (recalled recall.now lease (line_at cache.now recall.now.addr))) result p p }
 {
     match cache.peek_recall(recall, lease) {
         Ok(None) => Ok(Outcome::NoEffect),

@@ -1,7 +1,7 @@
 //! Self-increments.
 
 ghost use Rattle.std.specs.Prelude.{◌≡◌, OnErr};
-ghost use Rattle.core_unit.specs.Outcomes.{Meets, increment_outcome};
+ghost use Rattle.core_unit.specs.Outcomes.{OutcomeLeads, increment_outcome};
 ghost use Rattle.core_unit.specs.Parts.{SameUnit};
 
 use super::entry::CoreEntry;
@@ -18,7 +18,7 @@ impl CoreUnit {
     /// The refusals, in this order: 13 TranscriptFull, 4 StampLimit, 10 OutOfMemory. They change
     /// nothing.
     pub fn increment(&mut self) -> Result<Outcome, UnitFault>
-        ensures outcome { Meets (increment_outcome self.old) result self.old self.new }
+        ensures outcome { OutcomeLeads (increment_outcome self.old) result self.old self.new }
         ensures same { SameUnit self.old self.new }
         ensures refused { OnErr result (self.new ≡ self.old) }
     {

@@ -4,9 +4,8 @@ ghost use Rattle.std.specs.Prelude.{◌≡◌, None, MatchOption, MatchResult, i
 ghost use Rattle.lease_rule.specs.Lease.{self_increment};
 ghost use Rattle.private_cache.specs.Answers.{hit_fault, past_limit};
 ghost use Rattle.private_cache.specs.Steps.{after_operation, line_at};
-ghost use Rattle.core_unit.specs.Core.{op_addr, op_hit, is_due, next_id, record_of, tries};
-ghost use Rattle.core_unit.specs.inner.Look.{look_of};
-ghost use Rattle.core_unit.specs.Parts.{core_of};
+ghost use Rattle.core_unit.specs.Core.{op_addr, op_hit, is_due};
+ghost use Rattle.core_unit.specs.inner.Look.{IsLook};
 
 use super::unit::CoreUnit;
 use lease_rule::{Config, self_increment};
@@ -36,13 +35,9 @@ pub(crate) fn op_addr(op: &Op) -> Addr
 }
 
 impl CoreUnit {
-    // What the line of its address makes of an operation.
+    /// What the line of its address makes of an operation.
     pub(crate) fn look(&self, op: &Op) -> Result<Look, StampFault>
-        ensures { let u = core_of self.now None in
-            let hit = tries self.now.core u op.now in
-            MatchResult result
-            (λ look. (look ≡ look_of u op.now hit) × (hit_fault hit ≡ None))
-            (λ fault. hit_fault hit ≡ Some fault) }
+        ensures { IsLook self.now op.now result }
     {
         match op {
             Op::Load(addr) => self.look_to_load(*addr),
@@ -52,11 +47,7 @@ impl CoreUnit {
     }
 
     fn look_to_load(&self, addr: Addr) -> Result<Look, StampFault>
-        ensures { let u = core_of self.now None in
-            let hit = tries self.now.core u (Op.Load addr) in
-            MatchResult result
-            (λ look. (look ≡ look_of u (Op.Load addr) hit) × (hit_fault hit ≡ None))
-            (λ fault. hit_fault hit ≡ Some fault) }
+        ensures { IsLook self.now (Op.Load addr) result }
     {
         match &self.cache.peek_load(addr, self.pts, self.r) {
             Ok(
@@ -73,11 +64,7 @@ impl CoreUnit {
     }
 
     fn look_to_store(&self, addr: Addr, value: Word) -> Result<Look, StampFault>
-        ensures { let u = core_of self.now None in
-            let hit = tries self.now.core u (Op.Store addr value) in
-            MatchResult result
-            (λ look. (look ≡ look_of u (Op.Store addr value) hit) × (hit_fault hit ≡ None))
-            (λ fault. hit_fault hit ≡ Some fault) }
+        ensures { IsLook self.now (Op.Store addr value) result }
     {
         match &self.cache.peek_store(addr, self.pts, self.r) {
             Ok(Store::Hit { stamp, rank }) => Ok(Look::Hit(Record::new(
@@ -93,11 +80,7 @@ impl CoreUnit {
     }
 
     fn look_to_swap(&self, addr: Addr, value: Word) -> Result<Look, StampFault>
-        ensures { let u = core_of self.now None in
-            let hit = tries self.now.core u (Op.Swap addr value) in
-            MatchResult result
-            (λ look. (look ≡ look_of u (Op.Swap addr value) hit) × (hit_fault hit ≡ None))
-            (λ fault. hit_fault hit ≡ Some fault) }
+        ensures { IsLook self.now (Op.Swap addr value) result }
     {
         match &self.cache.peek_swap(addr, self.pts, self.r) {
             Ok(

@@ -5,7 +5,7 @@ ghost use Rattle.private_cache.specs.Steps.{fill_line};
 ghost use Rattle.line_stamps.specs.Messages.{addr_of};
 ghost use Rattle.manager_slice.specs.Messages.{is_request};
 ghost use Rattle.core_unit.specs.Core.{fits};
-ghost use Rattle.core_unit.specs.Outcomes.{Meets, recorded, fill_outcome, take_outcome, without_hand};
+ghost use Rattle.core_unit.specs.Outcomes.{OutcomeLeads, recorded, fill_outcome, take_outcome, without_hand};
 ghost use Rattle.core_unit.specs.Parts.{SameUnit};
 ghost use Rattle.core_unit.specs.declared.entry.CoreEntry.TheVariants as entry;
 ghost use Rattle.line_stamps.specs.declared.message.Reply.TheVariants.{Taken};
@@ -26,7 +26,7 @@ impl CoreUnit {
     /// kind that it asks for, or doesn't fit the line or the cache; 13 TranscriptFull, which a Busy
     /// doesn't meet, as it makes no entry; 10 OutOfMemory. They change nothing.
     pub fn take(&mut self, reply: &Reply) -> Result<Outcome, UnitFault>
-        ensures outcome { Meets (take_outcome self.old reply.now) result self.old self.new }
+        ensures outcome { OutcomeLeads (take_outcome self.old reply.now) result self.old self.new }
         ensures same { SameUnit self.old self.new }
         ensures refused { OnErr result (self.new ≡ self.old) }
     {
@@ -48,7 +48,7 @@ impl CoreUnit {
     fn end_give_back(&mut self, message: &Message) -> Result<Outcome, UnitFault>
         requires hand { self.old.hand ≡ Some message.now }
         requires gives { is_request message.now ≡ false }
-        ensures outcome { Meets (recorded self.old (entry.Got message.now Taken) None Outcome.Took (without_hand self.old))
+        ensures outcome { OutcomeLeads (recorded self.old (entry.Got message.now Taken) None Outcome.Took (without_hand self.old))
             result self.old self.new }
         ensures same { SameUnit self.old self.new }
         ensures refused { OnErr result (self.new ≡ self.old) }
@@ -68,7 +68,7 @@ impl CoreUnit {
     fn fill(&mut self, message: &Message, reply: &Reply) -> Result<Outcome, UnitFault>
         requires hand { self.old.hand ≡ Some message.now }
         requires kind { fits message.now reply.now ≡ true }
-        ensures outcome { Meets (fill_outcome self.old message.now reply.now
+        ensures outcome { OutcomeLeads (fill_outcome self.old message.now reply.now
             (fill_line self.old.cache (addr_of message.now) reply.now)) result self.old self.new }
         ensures same { SameUnit self.old self.new }
         ensures refused { OnErr result (self.new ≡ self.old) }

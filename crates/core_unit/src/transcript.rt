@@ -16,11 +16,11 @@ const ENTRY_LIMIT: usize = 1_048_576;
 
 /// How many entries an operation makes whose line another core wants too: the line comes, the
 /// operation is performed, the line is given back, and that is taken.
-const OPERATION_ENTRIES: usize = 4;
+const ENTRIES_PER_OPERATION: usize = 4;
 
 /// An entry as a transcript keeps it. It takes 8 bytes, where one with a message and its reply takes 104.
 #[derive(Clone, Copy, Debug, PartialEq, Eq)]
-enum Step {
+enum KeptEntry {
     /// The next operation was performed.
     Performed,
     /// The entry at this place of the others.
@@ -30,7 +30,7 @@ enum Step {
 /// What a core did, in order: at most 1,048,576 entries. Operations, of which there are most, take few bytes.
 #[derive(Drop)]
 pub struct Transcript {
-    steps: Vec<Step>,
+    kept: Vec<KeptEntry>,
     /// The entries that aren't operations.
     others: Vec<CoreEntry>,
 }
@@ -42,12 +42,12 @@ impl Model for Transcript {
     ghost Value = { TranscriptParts };
 
     ghost view = { λ t. record {
-      entries = entries_of t.others.items t.steps.items;
-      has_room = nat_lt (vec_len t.steps) (vec_capacity t.steps)
+      entries = entries_of t.others.items t.kept.items;
+      has_room = nat_lt (vec_len t.kept) (vec_capacity t.kept)
           && nat_lt (vec_len t.others) (vec_capacity t.others);
     } };
 
-    ghost invariant = { λ t. IsTranscript t.others.items t.steps.items };
+    ghost invariant = { λ t. IsTranscript t.others.items t.kept.items };
 }
 
 impl Transcript {
@@ -56,10 +56,10 @@ impl Transcript {
     pub(crate) fn with_room(alloc: Global, operations: usize) -> Result<Transcript, AllocError>
         ensures { IfOk result (λ t. t.entries ≡ []) }
     {
-        let entries = operations.saturating_mul(OPERATION_ENTRIES);
-        let steps = Vec::with_capacity(alloc, entries)?;
+        let entries = operations.saturating_mul(ENTRIES_PER_OPERATION);
+        let kept = Vec::with_capacity(alloc, entries)?;
         let others = Vec::with_capacity(alloc, entries.saturating_sub(operations))?;
-        Ok(Transcript { steps, others })
+        Ok(Transcript { kept, others })
     }
 
     /// How many entries there are.
@@ -67,16 +67,16 @@ impl Transcript {
         ensures len { result ≡ length self.now.entries }
         ensures limit { length self.now.entries ≤ entry_limit }
     {
-        self.steps.len()
+        self.kept.len()
     }
 
     /// The entry at a place, from 0; none after the last.
     pub fn get(&self, place: usize) -> Option<CoreEntry>
         ensures { result ≡ slice_get self.now.entries place }
     {
-        match self.steps.get(place)? {
-            Step::Performed => Some(CoreEntry::Performed),
-            Step::Other(other) => self.others.get(*other as usize).copied(),
+        match self.kept.get(place)? {
+            KeptEntry::Performed => Some(CoreEntry::Performed),
+            KeptEntry::Other(other) => self.others.get(*other as usize).copied(),
         }
     }
 
@@ -85,7 +85,7 @@ impl Transcript {
         ensures entries { self.new.entries ≡ self.old.entries }
         ensures room { OnOk result (self.new.has_room ≡ true) }
     {
-        self.steps.reserve(1)?;
+        self.kept.reserve(1)?;
         self.others.reserve(1)?;
         Ok(())
     }
@@ -96,7 +96,7 @@ impl Transcript {
         requires fits { length self.old.entries < entry_limit }
         ensures { self.new.entries ≡ self.old.entries ++ entry.Performed ∷ [] }
     {
-        self.steps.push_reserved(Step::Performed);
+        self.kept.push_reserved(KeptEntry::Performed);
     }
 
     /// One entry more that isn't an operation.
@@ -107,7 +107,7 @@ impl Transcript {
     {
         let place = self.others.len() as u32;
         push_other(&mut self.others, entry);
-        self.steps.push_reserved(Step::Other(place));
+        self.kept.push_reserved(KeptEntry::Other(place));
     }
 }
 

@@ -4,7 +4,7 @@ ghost use Rattle.std.specs.Prelude.{◌≡◌, Some, None, IsSome, IsSomeAnd, Ok
 ghost use Rattle.private_cache.specs.Answers.{hit_fault};
 ghost use Rattle.private_cache.specs.Steps.{has_room, least_recently_used};
 ghost use Rattle.core_unit.specs.Core.{next_of, next_request, op_addr, record_of, tries};
-ghost use Rattle.core_unit.specs.Outcomes.{Meets, miss_outcome, op_outcome, turn_outcome};
+ghost use Rattle.core_unit.specs.Outcomes.{OutcomeLeads, miss_outcome, op_outcome, turn_outcome};
 ghost use Rattle.core_unit.specs.Parts.{core_of, SameUnit};
 
 use super::fault::UnitFault;
@@ -25,7 +25,7 @@ impl CoreUnit {
     /// The refusals, in this order: 13 TranscriptFull, 4 StampLimit or 5 RankLimit of the operation,
     /// 4 StampLimit of the self-increment that is due after it, 10 OutOfMemory. They change nothing.
     pub fn turn(&mut self) -> Result<Outcome, UnitFault>
-        ensures outcome { Meets (turn_outcome self.old) result self.old self.new }
+        ensures outcome { OutcomeLeads (turn_outcome self.old) result self.old self.new }
         ensures barred { result ≡ Ok Outcome.NoEffect → IsSome self.old.hand }
         ensures same { SameUnit self.old self.new }
         ensures refused { OnErr result (self.new ≡ self.old) }
@@ -52,7 +52,7 @@ impl CoreUnit {
         requires next { next_of (core_of self.old None) ≡ Some op.now }
         requires hits { IsSomeAnd (tries self.old.core (core_of self.old None) op.now)
             (λ hit. (made.now ≡ record_of op.now hit) × (hit_fault (Some hit) ≡ None)) }
-        ensures outcome { Meets (op_outcome self.old op.now (tries self.old.core (core_of self.old None) op.now))
+        ensures outcome { OutcomeLeads (op_outcome self.old op.now (tries self.old.core (core_of self.old None) op.now))
             result self.old self.new }
         ensures same { SameUnit self.old self.new }
         ensures refused { OnErr result (self.new ≡ self.old) }
@@ -93,7 +93,7 @@ impl CoreUnit {
         requires next { next_of (core_of self.old None) ≡ Some op.now }
         requires misses { tries self.old.core (core_of self.old None) op.now ≡ None }
         requires asked { request.now ≡ next_request (core_of self.old None) op.now }
-        ensures outcome { Meets (miss_outcome self.old op.now (has_room self.old.cache (op_addr op.now))
+        ensures outcome { OutcomeLeads (miss_outcome self.old op.now (has_room self.old.cache (op_addr op.now))
             (least_recently_used self.old.cache)) result self.old self.new }
         ensures effect { ¬ (result ≡ Ok Outcome.NoEffect) }
         ensures same { SameUnit self.old self.new }

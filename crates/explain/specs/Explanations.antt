@@ -27,6 +27,7 @@ pub record IsSummary (es : List Entry) (summary : Summary) : Type 0 where
   pub swaps : summary.swaps ≡ count_by (λ e. is_swap e.logged.act) es
   pub all : summary.loads + summary.stores + summary.swaps ≡ length es
   pub stamps : AreEnds es summary.stamps
+  pub sharing : summary.sharing ≤ length es
   pub used : AreMostUsed es summary.addresses summary.most_used.items
   pub rows : IfSome summary.rows (λ rows. IsPermutation es rows.items)
   pub ordered : IfSome summary.rows (λ rows. IsSorted entry_cmp rows.items)

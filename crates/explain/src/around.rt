@@ -6,14 +6,14 @@ ghost use Rattle.explain.specs.Windows.{window, window_start};
 use log_record::Entry;
 use std::alloc::{AllocError, Global};
 
-/// How far to each side of a place is told.
-const REACH: usize = 8;
+/// How many rows to each side of a place are told.
+const ROWS_EACH_SIDE: usize = 8;
 
 /// The first place that is told of.
 pub(crate) fn start_of(place: usize) -> usize
     ensures { result ≡ window_start place }
 {
-    place.saturating_sub(REACH)
+    place.saturating_sub(ROWS_EACH_SIDE)
 }
 
 /// The entries around a place.
@@ -25,6 +25,6 @@ pub(crate) fn entries_around(
     requires { place ≤ length entries.now }
     ensures { IfOk result (λ rows. rows.items ≡ window entries.now place) }
 {
-    let end = place.saturating_add(REACH + 1).min(entries.len());
+    let end = place.saturating_add(ROWS_EACH_SIDE + 1).min(entries.len());
     Vec::from_slice(alloc, &entries[start_of(place)..end])
 }

@@ -1,6 +1,6 @@
 //! What a set has that gets Yes.
 
-ghost use Rattle.std.specs.Prelude.{◌≡◌, ◌≤◌, ◌↔◌, IfOk, IfSome, IsSome, IsPermutation, IsSorted, length};
+ghost use Rattle.std.specs.Prelude.{◌≡◌, ◌≤◌, ◌↔◌, IfOk, IfSome, IsSome, IsPermutation, IsSorted, length, vec_len};
 ghost use Rattle.std.specs.Option.{option_copied};
 ghost use Rattle.address_check.specs.Groups.{AscendsByPlace};
 ghost use Rattle.log_record.specs.Entries.{entry_cmp};
@@ -19,13 +19,13 @@ use std::alloc::{AllocError, Global};
 use std::cmp::Reverse;
 
 /// The most operations that are drawn all at once.
-const DRAWN: usize = 200;
+const MAX_DRAWN_OPERATIONS: usize = 200;
 
 /// How many stamps are counted one by one, at most, for each operation: the bytes of a stamp, since a count takes one.
-const COUNTED_EACH: usize = 8;
+const MAX_COUNTS_PER_OPERATION: usize = 8;
 
 /// How many addresses are told as the most used.
-const MOST_USED: usize = 5;
+const MOST_USED_ADDRESSES: usize = 5;
 
 /// Whether the entry that comes next, if there is one, has the address of this one.
 fn goes_on(entry: &Entry, next: Option<&Entry>) -> bool
@@ -83,17 +83,18 @@ fn alone(alloc: Global, entries: &[Entry], least: Stamp, span: usize) -> Result<
 }
 
 /// The stamps of the entries, ascending.
-fn stamps(alloc: Global, entries: &[Entry]) -> Result<Vec<Stamp>, AllocError> {
-    let mut stamps = Vec::with_capacity(alloc, entries.len())?;
-    for entry in entries {
-        stamps.push(entry.key().ts)?;
-    }
+fn stamps(alloc: Global, entries: &[Entry]) -> Result<Vec<Stamp>, AllocError>
+    ensures { IfOk result (λ stamps. vec_len stamps ≡ length entries.now) }
+{
+    let mut stamps: Vec<Stamp> = entries.iter().map(|entry| entry.key().ts).collect(alloc)?;
     stamps.sort_unstable();
     Ok(stamps)
 }
 
 /// How many of the stamps, which ascend, stand beside one that is the same.
-fn beside_the_same(stamps: &[Stamp]) -> usize {
+fn beside_the_same(stamps: &[Stamp]) -> usize
+    ensures { result ≤ length stamps.now }
+{
     let mut sharing = 0;
     for place in 0..stamps.len() {
         let earlier = place > 0 && stamps[place - 1] == stamps[place];
@@ -111,12 +112,14 @@ fn sharing(
     alloc: Global,
     entries: &[Entry],
     range: &Option<(Stamp, Stamp)>,
-) -> Result<usize, AllocError> {
+) -> Result<usize, AllocError>
+    ensures { IfOk result (λ sharing. sharing ≤ length entries.now) }
+{
     let Some((least, greatest)) = range else {
         return Ok(0);
     };
     let span = greatest.get().saturating_sub(least.get()) as usize;
-    if span / COUNTED_EACH < entries.len() {
+    if span / MAX_COUNTS_PER_OPERATION < entries.len() {
         let alone = alone(alloc, entries, *least, span.saturating_add(1))?;
         return Ok(entries.len().saturating_sub(alone));
     }
@@ -139,7 +142,7 @@ fn rows(alloc: Global, entries: &[Entry]) -> Result<Option<Vec<Entry>>, AllocErr
     ensures sorted { IfOk result (λ rows. IfSome rows (λ rows. IsSorted entry_cmp rows.items)) }
     ensures told { IfOk result (λ rows. IsSome rows ↔ (length entries.now ≤ most_drawn)) }
 {
-    if entries.len() > DRAWN {
+    if entries.len() > MAX_DRAWN_OPERATIONS {
         return Ok(None);
     }
     Ok(Some(by_key(alloc, entries)?))
@@ -151,7 +154,7 @@ fn most_used(uses: Vec<Use>) -> Result<Vec<Use>, AllocError>
 {
     let mut most = uses;
     most.sort_by_key(|it| Reverse(it.operations))?;
-    most.truncate(MOST_USED);
+    most.truncate(MOST_USED_ADDRESSES);
     Ok(most)
 }
 

@@ -7,7 +7,7 @@ ghost use Rattle.explanation_picture.specs.Pictures.{IsPicture};
 use super::placing::Placing;
 use super::scene::{Scene, scene_of};
 use super::svg::{Svg, TextStyle};
-use explain::{Explanation, ShownId, kind_name, place_of};
+use explain::{Explanation, kind_name, place_of};
 use log_record::Entry;
 use mem_op::{CoreId, OpId};
 use std::alloc::{AllocError, Global};
@@ -67,7 +67,7 @@ fn texts(alloc: Global, scene: &Scene) -> Result<Vec<String>, AllocError> {
 
 /// The text of an operation's box.
 fn box_text(alloc: Global, row: &Entry) -> Result<String, AllocError> {
-    format!(in alloc; "{}: {}", ShownId(row.id()), row.logged())
+    format!(in alloc; "{}: {}", row.id(), row.logged())
 }
 
 /// How many letters the longest text has.

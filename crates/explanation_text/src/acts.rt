@@ -1,6 +1,5 @@
 //! What is told of each kind of operation. Nothing else of this crate looks at an act.
 
-use explain::ShownId;
 use log_record::{Act, Entry};
 use mem_op::{Op, Source};
 use std::alloc::{AllocError, Global};
@@ -20,9 +19,7 @@ pub(crate) fn source_text(alloc: Global, entry: &Entry) -> Result<String, AllocE
     match &entry.act() {
         Act::Store => Ok(String::new(alloc)),
         Act::Load(Source::Init) | Act::Swap(Source::Init, _) => String::from_str(alloc, "init"),
-        Act::Load(Source::Store(id)) | Act::Swap(Source::Store(id), _) => {
-            ShownId(*id).to_string(alloc)
-        }
+        Act::Load(Source::Store(id)) | Act::Swap(Source::Store(id), _) => { id.to_string(alloc) }
     }
 }
 

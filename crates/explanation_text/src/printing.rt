@@ -4,9 +4,7 @@ use super::sentence::{push_departure, push_fall, push_wrong_read};
 use super::shown::{ShownLine, ShownOr};
 use super::table::push_table;
 use core_program::print_instruction;
-use explain::{
-    Departure, Due, Explanation, Fall, ShownId, Summary, Use, WrongRead, kind_name, named_id,
-};
+use explain::{Departure, Due, Explanation, Fall, Summary, Use, WrongRead, kind_name, named_id};
 use line_stamps::Stamp;
 use mem_op::Word;
 use std::alloc::{AllocError, Global};
@@ -50,7 +48,7 @@ impl<'a> fmt::Display for Named<'a> {
         };
         match &self.0.named {
             Some(named) => ShownLine(named).fmt(f),
-            None => write!(f, "{}, which isn't in the logs", ShownId(id)),
+            None => write!(f, "{}, which isn't in the logs", id),
         }
     }
 }

@@ -2,7 +2,7 @@
 
 use super::acts::{Deed, op_of};
 use address_check::is_store;
-use explain::{Departure, Fall, ShownId, WrongRead, kind_name, named_id};
+use explain::{Departure, Fall, WrongRead, kind_name, named_id};
 use std::alloc::AllocError;
 use std::fmt::Display;
 use verdict::Rule;
@@ -14,8 +14,8 @@ pub(crate) fn push_wrong_read(text: &mut String, found: &WrongRead) -> Result<()
     }
     match named_id(&found.load) {
         Some(named) => {
-            let (load, addr) = (ShownId(found.load.id()), found.load.addr().get());
-            let source = ShownId(named);
+            let (load, addr) = (found.load.id(), found.load.addr().get());
+            let source = named;
             write!(text, "{load} read address {addr} from {source}")?;
             push_wrong_source(text, found)
         }
@@ -29,7 +29,7 @@ pub(crate) fn push_wrong_read(text: &mut String, found: &WrongRead) -> Result<()
 
 /// Adds what a load or a swap read whose source is the initial word. That word is 0, but a log may have another.
 fn push_initial_read(text: &mut String, found: &WrongRead) -> Result<(), AllocError> {
-    let load = ShownId(found.load.id());
+    let load = found.load.id();
     let (addr, value) = (found.load.addr().get(), found.load.logged().word_answered());
     if value == 0 {
         return write!(text, "{load} read the initial 0 of address {addr}");
@@ -46,7 +46,7 @@ fn push_wrong_value(text: &mut String, found: &WrongRead) -> Result<(), AllocErr
         push_initial_read(text, found)?;
         return text.push_str(", but that is 0.");
     };
-    let (load, store, stored) = (ShownId(found.load.id()), ShownId(right.id()), right.value());
+    let (load, store, stored) = (found.load.id(), right.id(), right.value());
     let (addr, value) = (found.load.addr().get(), found.load.logged().word_answered());
     write!(
         text,
@@ -91,7 +91,7 @@ fn push_last_store(text: &mut String, found: &WrongRead, when: &str) -> Result<(
     match &found.right {
         None => text.push_str(", and no store comes before it"),
         Some(right) => {
-            let (store, stored) = (ShownId(right.id()), right.value());
+            let (store, stored) = (right.id(), right.value());
             write!(text, ", but {store} had stored {stored} there {when}")
         }
     }
@@ -103,7 +103,7 @@ fn push_right_store(text: &mut String, found: &WrongRead) -> Result<(), AllocErr
     match &found.right {
         None => write!(text, "no store to address {addr} comes before it"),
         Some(right) => {
-            let (store, stored) = (ShownId(right.id()), right.value());
+            let (store, stored) = (right.id(), right.value());
             write!(
                 text,
                 "the last store to address {addr} before it is {store}, of {stored}"
@@ -114,7 +114,7 @@ fn push_right_store(text: &mut String, found: &WrongRead) -> Result<(), AllocErr
 
 /// Adds what falls along a core's log.
 pub(crate) fn push_fall(text: &mut String, fall: &Fall) -> Result<(), AllocError> {
-    let id = ShownId(fall.fault.id());
+    let id = fall.fault.id();
     let (before, after) = (fall.before.key(), fall.fault.key());
     let stamp = before.ts.get();
     let to = after.ts.get();
@@ -143,12 +143,12 @@ pub(crate) fn push_departure(text: &mut String, departure: &Departure) -> Result
 /// Adds what a core's log has where its program does something else.
 fn push_found(text: &mut String, departure: &Departure) -> Result<(), AllocError> {
     let Some(found) = &departure.found else {
-        let (core, id) = (departure.id.core.get(), ShownId(departure.id));
+        let (core, id) = (departure.id.core.get(), departure.id);
         return write!(
             text,
             "The log of core {core} ends before {id}, where its program "
         );
     };
-    let (id, deed) = (ShownId(found.id()), Deed(op_of(found)));
+    let (id, deed) = (found.id(), Deed(op_of(found)));
     write!(text, "{id} {deed}, but its program ")
 }

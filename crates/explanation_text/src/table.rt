@@ -1,7 +1,7 @@
 //! Tables of aligned columns.
 
 use super::acts::{source_text, value_text};
-use explain::{ShownId, kind_name};
+use explain::kind_name;
 use log_record::Entry;
 use std::alloc::{AllocError, Global};
 
@@ -35,7 +35,7 @@ const COLUMNS: [(Column, &str, bool); 6] = [
 /// The cell of a record in a column.
 fn cell(alloc: Global, column: Column, entry: &Entry) -> Result<String, AllocError> {
     match column {
-        Column::Id => ShownId(entry.id()).to_string(alloc),
+        Column::Id => entry.id().to_string(alloc),
         Column::Stamp => entry.key().ts.get().to_string(alloc),
         Column::Rank => entry.key().rank.get().to_string(alloc),
         Column::Act => String::from_str(alloc, kind_name(entry)),

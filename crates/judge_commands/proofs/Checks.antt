@@ -1,21 +1,18 @@
 -- The check of files, by what the judge answers to their sources.
-use Rattle.std.proofs.Common.{◌≡◌, sym, subst, inl, inr, arith, ◌+◌, ◌<◌, refl, add-one, length, slice_index_or, take, ℕ, zero, suc, List, [], ◌∷◌, ◌++◌, Option, None, Some, Result, Ok, Err, vec_len}
+use Rattle.std.proofs.Common.{◌≡◌, subst, inl, inr, arith, ◌+◌, ◌<◌, refl, add-one, length, slice_index_or, take, ℕ, zero, suc, List, [], ◌∷◌, ◌++◌, Option, None, Some, Result, Ok, Err, vec_len}
 use Rattle.std.specs.Prelude.{IfSome, IsErrOf, slice_get}
 use Rattle.std.specs.List.{AllZip}
 use Rattle.std.proofs.Math.Seq.{take-suc}
 use Rattle.std.specs.Borrow.{Bor}
 use Rattle.command_line.specs.declared.request.Check.{Check}
 use Rattle.log_record.specs.declared.record.Record.{Record}
-use Rattle.core_program.specs.Answers.{SpellsSet}
-use Rattle.core_program.specs.declared.format.Format.{Format}
-use Rattle.core_program.specs.SetParts.{SetParts}
 use Rattle.core_program.specs.declared.instruction.Instruction.{Instruction}
 use Rattle.log_file.specs.Devices.{Tells}
 use Rattle.log_file.specs.Sets.{ReaderFailed, TellEach}
 use Rattle.call_devices.specs.Files.{Files, IsOnlyRead, IsUnread, one_more_unopened}
 use Rattle.call_devices.proofs.Files.{unopened}
 use Rattle.verdict.specs.Counts.{IsInRange, IsOutOfRange}
-use Rattle.verdict.specs.Judgement.{IsAnswerBy, TellsFailures}
+use Rattle.verdict.specs.Judgement.{IsAnswerBy}
 use Rattle.verdict.specs.declared.answer.Verdict.{Verdict}
 use Rattle.verdict.specs.declared.judge_fault.Count.TheVariants.{Files as FileCount, Workers, Programs as ProgramCount}
 use Rattle.verdict.specs.declared.judge_fault.JudgeFault.{JudgeFault}
@@ -88,20 +85,13 @@ pub not_opened : {S : Type 0} (remaining : S → Option (List ℕ)) (failed : S 
     → IsOpenFault old new asked.files.items fault → IsCheckedAgainst old.told (IsUnread remaining failed old new) programs asked (Err fault)
 not_opened remaining failed old new programs asked (Read file) range why = (range, unopened_at remaining failed old new asked.files.items file why.0 why.1)
 not_opened remaining failed old new programs asked OutOfMemory range why = tt
-not_opened remaining failed old new programs asked (BadConfig count) range why = absurd why
-not_opened remaining failed old new programs asked (Log file line fault) range why = absurd why
+not_opened remaining failed old new programs asked other range why = absurd why
 
 -- and then the folder was only read
 pub only_opened : (old new : Files) (names : List (Bor (List ℕ))) (fault : JudgeFault) → IsOpenFault old new names fault → IsOnlyRead old new
 only_opened old new names (Read file) why = inr why.1
 only_opened old new names OutOfMemory why = inl why
-only_opened old new names (BadConfig count) why = absurd why
-only_opened old new names (Log file line fault) why = absurd why
-
--- a failed read is that of a reader
-pub reader_failed : {S : Type 0} (failed : S → ℕ) (sources later : List S) (answer : Result Verdict JudgeFault) (file : ℕ)
-    → TellsFailures failed sources later answer → answer ≡ Err (Read file) → ReaderFailed failed sources later file
-reader_failed failed sources later answer file tells is = subst (TellsFailures failed sources later) is tells
+only_opened old new names other why = absurd why
 
 -- the judge's answer is that of the check
 pub checked : (told : List ℕ → Option (List ℕ)) (unread : List ℕ → Type 0) (programs : Option (List (List Instruction))) (asked : Check) (judged : List (List Record) → Verdict) (answer : Result Verdict JudgeFault) (texts : List (List ℕ))
@@ -137,18 +127,4 @@ against told unread asked (Err (Read file)) h = h
 against told unread asked (Err (BadConfig FileCount)) h = whatever told asked.program (IsOutOfRange (vec_len asked.files)) h
 against told unread asked (Err (BadConfig Workers)) h = whatever told asked.program (IsInRange (vec_len asked.files) × IsOutOfRange asked.workers) h
 against told unread asked (Err (BadConfig ProgramCount)) h = h
-against told unread asked (Err OutOfMemory) h = tt
-
--- a set of programs that was read has some format
-pub of_format : (told : List ℕ → Option (List ℕ)) (name : List ℕ) (set : SetParts) → (text : List ℕ) × Tells (told name) text × SpellsSet text set
-    → (text : List ℕ) × Tells (told name) text × (format : Format) × SpellsSet text (record { format = format; programs = set.programs })
-of_format told name set (text, tells, spells) = (text, tells, set.format, spells)
-
--- where their file was read
-pub against_some : (told : List ℕ → Option (List ℕ)) (asked : Check) (name : Bor (List ℕ)) (programs : List (List Instruction)) (Holds : Option (List (List Instruction)) → Type 0) → asked.program ≡ Some name
-    → (text : List ℕ) × Tells (told name.now) text × (format : Format) × SpellsSet text (record { format = format; programs = programs }) → Holds (Some programs) → Against told asked.program Holds
-against_some told asked name programs Holds some read h = subst (λ n. Against told n Holds) (sym some) (Some programs, read, h)
-
-pub checked_some : (told : List ℕ → Option (List ℕ)) (unread : List ℕ → Type 0) (asked : Check) (name : Bor (List ℕ)) (programs : List (List Instruction)) (answer : Result Verdict JudgeFault) → asked.program ≡ Some name
-    → (text : List ℕ) × Tells (told name.now) text × (format : Format) × SpellsSet text (record { format = format; programs = programs }) → IsCheckedAgainst told unread (Some programs) asked answer → IsChecked told unread asked (lifted answer)
-checked_some told unread asked name programs answer some read h = against told unread asked answer (against_some told asked name programs _ some read h)
+against told unread asked (Err OutOfMemory) h = inl refl

@@ -1,5 +1,5 @@
 -- What explaining comes to, from what its parts answer.
-use Rattle.std.proofs.Common.{◌≡◌, ap, subst, refl, ℕ, List, length, Option, None, Some, Result, Ok, Err, vec_len, option_copied}
+use Rattle.std.proofs.Common.{◌≡◌, ap, subst, refl, inl, inr, ℕ, List, length, Option, None, Some, Result, Ok, Err, vec_len, option_copied}
 use Rattle.std.specs.Prelude.{IfOk, IsErrOf, option_map}
 use Rattle.std.specs.Borrow.{Bor}
 use Rattle.command_line.specs.declared.request.Check.{Check}
@@ -10,14 +10,22 @@ use Rattle.log_file.specs.Sets.{ReaderFailed}
 use Rattle.verdict.specs.CoreFaultsOf.{given}
 use Rattle.verdict.specs.Counts.{IsInRange, IsOutOfRange}
 use Rattle.verdict.specs.Bases.{IsExaminationOf, IsExaminedBy, verdict_in}
-use Rattle.verdict.specs.Judgement.{SpellFlatRunBy, TellsFailures}
+use Rattle.verdict.specs.Judgement.{IsYes, OnYes, SpellFlatRunBy, TellsFailures}
 use Rattle.verdict.specs.VerdictOf.{run_verdict_of, verdict_of}
 use Rattle.verdict.specs.declared.answer.Verdict.{Verdict}
 use Rattle.verdict.specs.declared.basis.Examined.{Examined}
 use Rattle.verdict.specs.declared.judge_fault.Count.TheVariants.{Files as FileCount, Workers, Programs as ProgramCount}
 use Rattle.verdict.specs.declared.judge_fault.JudgeFault.{JudgeFault}
 use Rattle.verdict.specs.declared.judge_fault.JudgeFault.TheVariants.{BadConfig, Read}
-use Rattle.judge_commands.specs.Checking.{AreInRange, AreNotAsMany, AreTextsOf, FilesRunFlatBy, IsAnswerAgainst, IsCheckedAgainst, IsUnreadAt}
+use Rattle.std.proofs.KnownBytes.{Keeps-refl}
+use Rattle.command_line.specs.declared.request.Explain.{Explain}
+use Rattle.call_devices.specs.Files.{Files}
+use Rattle.call_devices.specs.Sinks.{Sink}
+use Rattle.call_devices.specs.declared.call_fault.CallFault.TheVariants.{Output, OutOfMemory}
+use Rattle.judge_commands.specs.Checking.{AreInRange, AreNotAsMany, AreTextsOf, FilesRunFlatBy, IsAnswerAgainst, IsChecked, IsCheckedAgainst, IsUnprogrammedBy, IsUnreadAt}
+use Rattle.judge_commands.specs.Explaining.{IsExplained}
+use Rattle.judge_commands.specs.declared.fault.JudgingFault.{JudgingFault}
+use Rattle.judge_commands.specs.declared.fault.JudgingFault.TheVariants.{PictureUnwritten, Call}
 use Rattle.judge_commands.proofs.Checks.{checked}
 
 -- the programs that a reference leads to are those that were read
@@ -49,6 +57,11 @@ reader_failed_in failed sources later (Ok examined) file tells is = cc
 reader_failed_in failed sources later (Err found) file tells is =
     let same : found ≡ Read file = cc in subst (λ (f : JudgeFault). TellsFailures {T = Examined} failed sources later (Err f)) same tells
 
+-- what a Yes says of the verdict, it says of the examination
+pub yes_in : {P Q : Type 0} (result : Result Examined JudgeFault) → (P → Q) → OnYes (verdict_in result) P → IfOk result (λ examined. IsYes examined.verdict → Q)
+yes_in (Ok examined) turned holds = λ is. turned (holds is)
+yes_in (Err fault) turned holds = tt
+
 -- the texts of the files spell a run of these programs
 pub flat_by : (told : List ℕ → Option (List ℕ)) (asked : Check) (programs : Option (List (List Instruction))) (texts : List (List ℕ)) → AreTextsOf told asked.files.items texts
     → SpellFlatRunBy programs texts → FilesRunFlatBy told asked programs
@@ -60,3 +73,17 @@ pub some_set : (programs : Option (List (List Instruction))) (texts : List (List
     → IfOk result (λ examined. (logs : List (List Record)) × IsExaminationOf programs logs examined)
 some_set programs texts (Ok examined) by = (by.0, by.2)
 some_set programs texts (Err fault) by = tt
+
+-- ---- no verdict to explain
+
+unprogrammed_alone : (told : List ℕ → Option (List ℕ)) (unread : List ℕ → Type 0) (name : Option (Bor (List ℕ))) → ¬ (IsUnprogrammedBy told unread name Output)
+unprogrammed_alone told unread None is = is
+unprogrammed_alone told unread (Some name) is = is
+
+-- nothing was printed and nothing was put
+pub untold : (old new : Files) (unread : List ℕ → Type 0) (asked : Explain) (sink : Sink) (fault : JudgingFault) → IsChecked old.told unread asked.check (Err fault) → IsExplained old new unread asked sink sink (Err fault)
+untold old new unread asked sink (Call Output) (inl wrong) = cc
+untold old new unread asked sink (Call Output) (inr why) = absurd (unprogrammed_alone old.told unread asked.check.program why.1)
+untold old new unread asked sink (Call OutOfMemory) why = inl (Keeps-refl sink.contents)
+untold old new unread asked sink PictureUnwritten why = absurd why
+untold old new unread asked sink other why = (why, Keeps-refl sink.contents)

@@ -56,9 +56,7 @@ not_counted told unread asked sink n (BadConfig Workers) same ok bad files worke
 not_counted told unread asked sink n (BadConfig ProgramCount) same ok bad files workers =
     let fine = in_range n (λ out. let wrong : BadConfig ProgramCount ≡ BadConfig FileCount = cc (files.1 out) in absurd cc) in
     absurd (let wrong = ok.1 (fine, in_range 1 one_in_range) in cc)
-not_counted told unread asked sink n (Log file line fault) same ok bad files workers = absurd bad
-not_counted told unread asked sink n (Read file) same ok bad files workers = absurd bad
-not_counted told unread asked sink n OutOfMemory same ok bad files workers = absurd bad
+not_counted told unread asked sink n other same ok bad files workers = absurd bad
 
 -- a file can't be opened
 pub not_opened : {S : Type 0} (remaining : S → Option (List ℕ)) (failed : S → ℕ) (old new : Files) (asked : Order) (sink : Sink) (fault : JudgeFault) → IsInRange (vec_len asked.files)
@@ -66,8 +64,7 @@ pub not_opened : {S : Type 0} (remaining : S → Option (List ℕ)) (failed : S 
 not_opened remaining failed old new asked sink (Read file) range why =
     ((range, unopened_at remaining failed old new asked.files.items file why.0 why.1), nothing sink)
 not_opened remaining failed old new asked sink OutOfMemory range why = (tt, nothing sink)
-not_opened remaining failed old new asked sink (BadConfig count) range why = absurd why
-not_opened remaining failed old new asked sink (Log file line fault) range why = absurd why
+not_opened remaining failed old new asked sink other range why = absurd why
 
 abbrev pub lifted : Result Verdict MergeFault → Result Verdict JudgingFault
 lifted (Ok verdict) = Ok verdict

@@ -21,13 +21,13 @@ use Rattle.judge_commands.specs.Checking.{AreTextsOf, IsUnreadAt}
 use Rattle.judge_commands.specs.inner.Opening.{IsOpenFault}
 use Rattle.judge_commands.proofs.Checks.{unopened_at}
 use Rattle.call_devices.proofs.Files.{keeps_told}
-use Rattle.call_devices.specs.declared.logs_fault.LogsFault.{LogsFault}
+use Rattle.call_devices.specs.declared.call_fault.CallFault.{CallFault}
 use Rattle.judge_commands.specs.Faults.{from_judge}
 use Rattle.call_devices.specs.Files.{Files, IsUnread}
 use Rattle.call_devices.specs.Logs.{ArePut, ArePutUpTo, IsUnwritten, performed_below}
 use Rattle.judge_commands.specs.Upgrading.{IsUnspelled, IsUpgraded, log_in, Spelled}
 use Rattle.judge_commands.specs.inner.Reading.{read_log_of}
-use Rattle.judge_commands.specs.declared.fault.JudgingFault.TheVariants.{Logs}
+use Rattle.judge_commands.specs.declared.fault.JudgingFault.TheVariants.{Call}
 use Rattle.judge_commands.proofs.Orders.{in_range, one_in_range}
 
 -- no file was opened, since their number is out of range
@@ -41,16 +41,14 @@ not_counted old unread asked n (BadConfig Workers) same ok bad files workers = a
 not_counted old unread asked n (BadConfig ProgramCount) same ok bad files workers =
     let fine = in_range n (λ out. let wrong : BadConfig ProgramCount ≡ BadConfig FileCount = cc (files.1 out) in absurd cc) in
     absurd (let wrong = ok.1 (fine, in_range 1 one_in_range) in cc)
-not_counted old unread asked n (Log file line fault) same ok bad files workers = absurd bad
-not_counted old unread asked n (Read file) same ok bad files workers = absurd bad
-not_counted old unread asked n OutOfMemory same ok bad files workers = absurd bad
+not_counted old unread asked n other same ok bad files workers = absurd bad
 
 -- the files weren't read
 pub not_read : (old new : Files) (unread : List ℕ → Type 0) (asked : Upgrade) (fault : JudgeFault) → IsInRange (vec_len asked.files)
     → IsUnspelled old new unread asked.files.items fault → IsUpgraded old new unread asked (Err (from_judge fault))
 not_read old new unread asked (Log file line fault) range why = (range, why)
 not_read old new unread asked (Read file) range why = (range, why)
-not_read old new unread asked OutOfMemory range why = tt
+not_read old new unread asked OutOfMemory range why = inl refl
 not_read old new unread asked (BadConfig count) range why = absurd why
 
 -- which leaves what the folder tells of its files
@@ -65,8 +63,7 @@ pub unopened : {S : Type 0} (remaining : S → Option (List ℕ)) (failed : S �
     → IsUnspelled old new (IsUnread remaining failed old new) names fault
 unopened remaining failed old new names (Read file) why = (inr why.1, unopened_at remaining failed old new names file why.0 why.1)
 unopened remaining failed old new names OutOfMemory why = inl why
-unopened remaining failed old new names (BadConfig count) why = absurd why
-unopened remaining failed old new names (Log file line fault) why = absurd why
+unopened remaining failed old new names other why = absurd why
 
 -- the set has a fault
 pub faulty : (old new : Files) (unread : List ℕ → Type 0) (names : List (Bor (List ℕ))) (texts : List (List ℕ)) (file : ℕ) (fault : LogFault)
@@ -102,5 +99,5 @@ module _ (old new : Files) (unread : List ℕ → Type 0) (asked : Upgrade) (vs 
   pub written : (count : ℕ) → count ≡ performed_below (read_log_of vs) n → ArePut Two old new asked.out.now n (read_log_of vs) → IsUpgraded old new unread asked (Ok count)
   written count counted put = (range, spelled (λ m made. (count ≡ performed_below made m) × ArePut Two old new asked.out.now m made) (counted, put))
 
-  pub not_written : (fault : LogsFault) → IsUnwritten (ArePutUpTo Two old new asked.out.now n (read_log_of vs)) fault → IsUpgraded old new unread asked (Err (Logs fault))
-  not_written fault unwritten = (range, spelled (λ m made. IsUnwritten (ArePutUpTo Two old new asked.out.now m made) fault) unwritten)
+  pub not_written : (fault : CallFault) → IsUnwritten (ArePutUpTo Two old new asked.out.now n (read_log_of vs)) fault → IsUpgraded old new unread asked (Err (Call fault))
+  not_written fault unwritten = inr (range, spelled (λ m made. IsUnwritten (ArePutUpTo Two old new asked.out.now m made) fault) unwritten)

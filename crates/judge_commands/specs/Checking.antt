@@ -1,5 +1,5 @@
 -- What the check of files answers.
-use Rattle.std.specs.Prelude.{◌≡◌, ◌<◌, ⊤, ℕ, List, length, Option, None, Some, Result, Ok, Err, IfSome, vec_len}
+use Rattle.std.specs.Prelude.{◌≡◌, ◌<◌, ◌⊎◌, ⊤, ℕ, List, length, Option, None, Some, Result, Ok, Err, IfSome, vec_len}
 use Rattle.std.specs.Borrow.{Bor}
 use Rattle.std.specs.List.{AllZip, HoldsAt}
 use Rattle.command_line.specs.declared.request.Check.{Check}
@@ -14,9 +14,10 @@ use Rattle.verdict.specs.declared.judge_fault.Count.TheVariants.{Files, Workers,
 use Rattle.verdict.specs.declared.judge_fault.JudgeFault.{JudgeFault}
 use Rattle.verdict.specs.declared.judge_fault.JudgeFault.TheVariants.{BadConfig, Log, Read, OutOfMemory}
 use Rattle.call_devices.specs.Programs.{IsUnprogrammed}
-use Rattle.call_devices.specs.declared.programs_fault.ProgramsFault.{ProgramsFault}
+use Rattle.call_devices.specs.declared.call_fault.CallFault.{CallFault}
+use Rattle.call_devices.specs.declared.call_fault.CallFault.TheVariants.{OutOfMemory as NoMemory}
 use Rattle.judge_commands.specs.declared.fault.JudgingFault.{JudgingFault}
-use Rattle.judge_commands.specs.declared.fault.JudgingFault.TheVariants.{Judge, Programs, Logs, PictureUnwritten, Output, OutOfMemory as NoMemory}
+use Rattle.judge_commands.specs.declared.fault.JudgingFault.TheVariants.{Judge, Call}
 pub use Rattle.verdict.specs.Counts.{AreNotAsMany}
 pub use Rattle.verdict.specs.Judgement.{IsAnswerAgainst}
 
@@ -47,7 +48,7 @@ abbrev pub Against : (List ℕ → Option (List ℕ)) → Option (Bor (List ℕ)
 Against told name Holds = (programs : Option (List (List Instruction))) × AreProgramsOf told name programs × Holds programs
 
 -- why there are no programs in a file whose name was given
-abbrev pub IsUnprogrammedBy : (List ℕ → Option (List ℕ)) → (List ℕ → Type 0) → Option (Bor (List ℕ)) → ProgramsFault → Type 0
+abbrev pub IsUnprogrammedBy : (List ℕ → Option (List ℕ)) → (List ℕ → Type 0) → Option (Bor (List ℕ)) → CallFault → Type 0
 IsUnprogrammedBy told unread None fault = ⊥
 IsUnprogrammedBy told unread (Some name) fault = IsUnprogrammed told unread name.now fault
 
@@ -80,12 +81,8 @@ IsChecked told unread asked (Err (Judge (Read file))) = Against told asked.progr
 IsChecked told unread asked (Err (Judge (BadConfig Files))) = IsOutOfRange (vec_len asked.files)
 IsChecked told unread asked (Err (Judge (BadConfig Workers))) = IsInRange (vec_len asked.files) × IsOutOfRange asked.workers
 IsChecked told unread asked (Err (Judge (BadConfig ProgramCount))) = Against told asked.program (λ programs. IsCheckedAgainst told unread programs asked (Err (BadConfig ProgramCount)))
-IsChecked told unread asked (Err (Judge OutOfMemory)) = ⊥
-IsChecked told unread asked (Err NoMemory) = ⊤
-IsChecked told unread asked (Err (Programs fault)) = AreInRange asked × IsUnprogrammedBy told unread asked.program fault
-IsChecked told unread asked (Err (Logs fault)) = ⊥
-IsChecked told unread asked (Err PictureUnwritten) = ⊥
-IsChecked told unread asked (Err Output) = ⊥
+IsChecked told unread asked (Err (Call fault)) = (fault ≡ NoMemory) ⊎ (AreInRange asked × IsUnprogrammedBy told unread asked.program fault)
+IsChecked told unread asked (Err other) = ⊥
 
 -- ---- what a Yes says
 

@@ -12,10 +12,11 @@ use Rattle.verdict.specs.Texts.{verdict_text}
 use Rattle.verdict.specs.declared.answer.Verdict.{Verdict}
 use Rattle.call_devices.specs.Sinks.{line}
 use Rattle.judge_commands.specs.Checking.{IsChecked}
+use Rattle.call_devices.specs.declared.call_fault.CallFault.TheVariants.{Output, OutOfMemory}
 use Rattle.call_devices.specs.Files.{Files}
 use Rattle.call_devices.specs.Sinks.{HasFailed, Sink, TakesBeginning}
 use Rattle.judge_commands.specs.declared.fault.JudgingFault.{JudgingFault}
-use Rattle.judge_commands.specs.declared.fault.JudgingFault.TheVariants.{Judge, Programs, Logs, PictureUnwritten, Output, OutOfMemory}
+use Rattle.judge_commands.specs.declared.fault.JudgingFault.TheVariants.{PictureUnwritten, Call}
 
 -- the name that a picture goes to, where one was given
 abbrev pub IsPictureName : Option (Bor (List ℕ)) → List ℕ → Type 0
@@ -55,12 +56,10 @@ abbrev pub IsExplained : Files → Files → (List ℕ → Type 0) → Explain �
 IsExplained old new unread asked out out' (Ok verdict) =
     IsChecked old.told unread asked.check (Ok verdict) × PutsPictureAt verdict old new asked.picture
     × (text : List ℕ) × BeginsWithVerdict verdict text × Appends out.contents out'.contents text
-IsExplained old new unread asked out out' (Err Output) =
+IsExplained old new unread asked out out' (Err (Call Output)) =
     Judged old unread asked.check (λ verdict. PutsPictureAt verdict old new asked.picture × HasFailed out out'
     × (text : List ℕ) × BeginsWithVerdict verdict text × TakesBeginning out out' text)
 IsExplained old new unread asked out out' (Err PictureUnwritten) =
     Judged old unread asked.check (λ verdict. FailsPictureAt verdict old new asked.picture) × Keeps out.contents out'.contents
-IsExplained old new unread asked out out' (Err OutOfMemory) = Keeps out.contents out'.contents ⊎ HasFailed out out'
-IsExplained old new unread asked out out' (Err (Judge fault)) = IsChecked old.told unread asked.check (Err (Judge fault)) × Keeps out.contents out'.contents
-IsExplained old new unread asked out out' (Err (Programs fault)) = IsChecked old.told unread asked.check (Err (Programs fault)) × Keeps out.contents out'.contents
-IsExplained old new unread asked out out' (Err (Logs fault)) = ⊥
+IsExplained old new unread asked out out' (Err (Call OutOfMemory)) = Keeps out.contents out'.contents ⊎ HasFailed out out'
+IsExplained old new unread asked out out' (Err fault) = IsChecked old.told unread asked.check (Err fault) × Keeps out.contents out'.contents

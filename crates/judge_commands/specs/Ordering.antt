@@ -7,12 +7,13 @@ use Rattle.merge_judge.specs.OrderText.{LacksEnd}
 use Rattle.verdict.specs.Counts.{IsInRange, IsOutOfRange}
 use Rattle.verdict.specs.Judgement.{IsAnswerTo}
 use Rattle.verdict.specs.declared.answer.Verdict.{Verdict}
-use Rattle.verdict.specs.declared.judge_fault.Count.TheVariants.{Files, Workers, Programs as ProgramCount}
-use Rattle.verdict.specs.declared.judge_fault.JudgeFault.TheVariants.{BadConfig, Log, Read, OutOfMemory}
+use Rattle.verdict.specs.declared.judge_fault.Count.TheVariants.{Files}
+use Rattle.verdict.specs.declared.judge_fault.JudgeFault.TheVariants.{BadConfig, Log, Read}
 use Rattle.judge_commands.specs.Checking.{AreTextsOf, IsUnreadAt}
 use Rattle.call_devices.specs.Sinks.{HasFailed, Sink, Took}
+use Rattle.call_devices.specs.declared.call_fault.CallFault.TheVariants.{Output, OutOfMemory as NoMemory}
 use Rattle.judge_commands.specs.declared.fault.JudgingFault.{JudgingFault}
-use Rattle.judge_commands.specs.declared.fault.JudgingFault.TheVariants.{Judge, Programs, Logs, PictureUnwritten, Output, OutOfMemory as NoMemory}
+use Rattle.judge_commands.specs.declared.fault.JudgingFault.TheVariants.{Judge, Call}
 
 -- The judge that merges answers this verdict to the texts of the files; with a Yes the sink took the order text of an order by which
 -- the set that they spell is sequentially consistent, and else what it took lacks the `end` line.
@@ -27,14 +28,9 @@ IsUnordered told unread asked old new (Judge (Log file line fault)) =
     IsInRange (vec_len asked.files) × (texts : List (List ℕ)) × AreTextsOf told asked.files.items texts × IsAnswerTo texts (Err (Log file line fault))
 IsUnordered told unread asked old new (Judge (Read file)) = IsInRange (vec_len asked.files) × IsUnreadAt unread asked.files.items file
 IsUnordered told unread asked old new (Judge (BadConfig Files)) = IsOutOfRange (vec_len asked.files)
-IsUnordered told unread asked old new (Judge (BadConfig Workers)) = ⊥
-IsUnordered told unread asked old new (Judge (BadConfig ProgramCount)) = ⊥
-IsUnordered told unread asked old new (Judge OutOfMemory) = ⊥
-IsUnordered told unread asked old new Output = IsInRange (vec_len asked.files) × HasFailed old new
-IsUnordered told unread asked old new NoMemory = ⊤
-IsUnordered told unread asked old new (Programs fault) = ⊥
-IsUnordered told unread asked old new (Logs fault) = ⊥
-IsUnordered told unread asked old new PictureUnwritten = ⊥
+IsUnordered told unread asked old new (Call Output) = IsInRange (vec_len asked.files) × HasFailed old new
+IsUnordered told unread asked old new (Call NoMemory) = ⊤
+IsUnordered told unread asked old new other = ⊥
 
 -- the verdict on the files, or why there is none; then what the sink took lacks the `end` line
 abbrev pub IsOrdered : (List ℕ → Option (List ℕ)) → (List ℕ → Type 0) → Order → Sink → Sink → Result Verdict JudgingFault → Type 0

@@ -1,5 +1,5 @@
 -- What the writing of a set of logs anew answers, in format 2.
-use Rattle.std.specs.Prelude.{◌≡◌, ⊤, ℕ, List, [], Option, Result, Ok, Err, slice_get, vec_len}
+use Rattle.std.specs.Prelude.{◌≡◌, ◌⊎◌, ℕ, List, [], Option, Result, Ok, Err, slice_get, vec_len}
 use Rattle.std.specs.Borrow.{Bor}
 use Rattle.std.specs.Option.{option_map_or}
 use Rattle.command_line.specs.declared.request.Upgrade.{Upgrade}
@@ -7,14 +7,15 @@ use Rattle.log_file.specs.Sets.{IsFirstOfSet, SpellSet}
 use Rattle.log_record.specs.declared.format.Format.TheVariants.{Two}
 use Rattle.log_record.specs.declared.record.Record.{Record}
 use Rattle.verdict.specs.Counts.{IsInRange, IsOutOfRange}
-use Rattle.verdict.specs.declared.judge_fault.Count.TheVariants.{Files as FileCount, Workers, Programs as ProgramCount}
+use Rattle.verdict.specs.declared.judge_fault.Count.TheVariants.{Files as FileCount}
 use Rattle.verdict.specs.declared.judge_fault.JudgeFault.{JudgeFault}
 use Rattle.verdict.specs.declared.judge_fault.JudgeFault.TheVariants.{BadConfig, Log, Read, OutOfMemory}
 use Rattle.judge_commands.specs.Checking.{AreTextsOf, IsUnreadAt}
 use Rattle.call_devices.specs.Files.{Files, IsOnlyRead}
 use Rattle.call_devices.specs.Logs.{ArePut, ArePutUpTo, IsUnwritten, performed_below}
+use Rattle.call_devices.specs.declared.call_fault.CallFault.TheVariants.{OutOfMemory as NoMemory}
 use Rattle.judge_commands.specs.declared.fault.JudgingFault.{JudgingFault}
-use Rattle.judge_commands.specs.declared.fault.JudgingFault.TheVariants.{Judge, Programs, Logs, PictureUnwritten, Output, OutOfMemory as NoMemory}
+use Rattle.judge_commands.specs.declared.fault.JudgingFault.TheVariants.{Judge, Call}
 
 -- log c of a set, of no records where it has no such log
 abbrev pub log_in : List (List Record) → ℕ → List Record
@@ -32,7 +33,7 @@ IsUnspelled old new unread names (Log file line fault) =
     (new ≡ old) × (texts : List (List ℕ)) × AreTextsOf old.told names texts × IsFirstOfSet texts file line fault
 IsUnspelled old new unread names (Read file) = IsOnlyRead old new × IsUnreadAt unread names file
 IsUnspelled old new unread names OutOfMemory = IsOnlyRead old new
-IsUnspelled old new unread names (BadConfig count) = ⊥
+IsUnspelled old new unread names other = ⊥
 
 -- The number of operations of the logs, or why they weren't written. A number of files that is out of range is told before a file is
 -- opened, and a file that is refused before one is written. The folder was `old` before and is `new` after: each log in format 2.
@@ -41,18 +42,13 @@ IsUpgraded old new unread asked (Ok count) =
     IsInRange (vec_len asked.files)
     × Spelled old.told asked.files.items (λ logs. (count ≡ performed_below (log_in logs) (vec_len asked.files))
     × ArePut Two old new asked.out.now (vec_len asked.files) (log_in logs))
-IsUpgraded old new unread asked (Err (Logs fault)) =
-    IsInRange (vec_len asked.files)
-    × Spelled old.told asked.files.items (λ logs. IsUnwritten (ArePutUpTo Two old new asked.out.now (vec_len asked.files) (log_in logs)) fault)
 IsUpgraded old new unread asked (Err (Judge (Log file line fault))) =
     IsInRange (vec_len asked.files) × IsUnspelled old new unread asked.files.items (Log file line fault)
 IsUpgraded old new unread asked (Err (Judge (Read file))) =
     IsInRange (vec_len asked.files) × IsUnspelled old new unread asked.files.items (Read file)
 IsUpgraded old new unread asked (Err (Judge (BadConfig FileCount))) = (new ≡ old) × IsOutOfRange (vec_len asked.files)
-IsUpgraded old new unread asked (Err (Judge (BadConfig Workers))) = ⊥
-IsUpgraded old new unread asked (Err (Judge (BadConfig ProgramCount))) = ⊥
-IsUpgraded old new unread asked (Err (Judge OutOfMemory)) = ⊥
-IsUpgraded old new unread asked (Err NoMemory) = ⊤
-IsUpgraded old new unread asked (Err (Programs fault)) = ⊥
-IsUpgraded old new unread asked (Err PictureUnwritten) = ⊥
-IsUpgraded old new unread asked (Err Output) = ⊥
+IsUpgraded old new unread asked (Err (Call fault)) =
+    (fault ≡ NoMemory)
+    ⊎ (IsInRange (vec_len asked.files)
+    × Spelled old.told asked.files.items (λ logs. IsUnwritten (ArePutUpTo Two old new asked.out.now (vec_len asked.files) (log_in logs)) fault))
+IsUpgraded old new unread asked (Err other) = ⊥

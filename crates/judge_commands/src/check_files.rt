@@ -1,19 +1,28 @@
 //! The check of the logs of a set.
 
-ghost use Rattle.std.specs.Prelude.{◌≡◌, IfErr, IfOk, None, OnOk, Some};
+ghost use Rattle.std.specs.Prelude.{◌≡◌, List, IfErr, IfOk, OnOk, MatchResult, option_map};
 ghost use Rattle.call_devices.specs.Files.{IsOnlyRead, IsUnread};
+ghost use Rattle.log_record.specs.declared.record.Record.{Record};
+ghost use Rattle.verdict.specs.Bases.{IsExaminationOf, verdict_in};
+ghost use Rattle.verdict.specs.CoreFaultsOf.{given};
 ghost use Rattle.verdict.specs.Judgement.{IsYes};
 ghost use Rattle.judge_commands.specs.Checking as checking;
 ghost use Rattle.judge_commands.specs.inner.Opening.{IsOpenFault};
 
 use super::fault::JudgingFault;
-use super::gate::OpenGate;
-use call_devices::{Folder, read_programs};
+use call_devices::{CallFault, Folder, read_programs};
 use command_line::Check;
 use core_program::ProgramSet;
 use std::alloc::Global;
 use std::thread::Threads;
-use verdict::{JudgeFault, Verdict, check_counts, judge, judge_run};
+use verdict::{Examined, JudgeFault, OpenGate, Verdict, check_counts, examine};
+
+/// The verdict on the logs of a set with what it stands on, and the programs against which it was judged, where there are any.
+#[derive(Drop)]
+pub(crate) struct Found {
+    pub(crate) examined: Examined,
+    pub(crate) programs: Option<ProgramSet>,
+}
 
 /// The verdict on the logs in files of the folder, against the programs in another where one is asked
 /// for, or why there is no answer: 6 of files and workers comes before a file is opened, the programs
@@ -33,61 +42,91 @@ pub fn check<R: Threads + Sync, F: Folder>(
         → checking.FilesRunFlat (F.files folder.old).told asked.now) }
     ensures read { IsOnlyRead (F.files folder.old) (F.files folder.new) }
 {
-    check_counts(asked.files.len(), asked.workers as usize)?;
-    let Some(name) = asked.program else {
-        return Ok(judge_files(rt, alloc, folder, asked)?);
-    };
-    let programs = read_programs(alloc, folder, name)?;
-    Ok(judge_run_files(rt, alloc, folder, asked, &programs)?)
+    match examine_asked(rt, alloc, folder, asked) {
+        Ok(Found { examined, .. }) => Ok(examined.verdict),
+        Err(fault) => Err(fault),
+    }
 }
 
-/// The verdict on the logs in files of the folder.
-fn judge_files<R: Threads + Sync, F: Folder>(
+/// The same, with what the verdict stands on.
+pub(crate) fn examine_asked<R: Threads + Sync, F: Folder>(
     rt: &R,
     alloc: Global,
     folder: &mut F,
     asked: &Check<'_>,
-) -> Result<Verdict, JudgeFault>
-    requires { checking.AreInRange asked.now }
-    ensures exact { checking.IsCheckedAgainst (F.files folder.old).told
+) -> Result<Found, JudgingFault>
+    ensures exact { MatchResult result
+        (λ found. checking.IsChecked (F.files folder.old).told
         (IsUnread F.Source.remaining F.Source.failed
-        (F.files folder.old) (F.files folder.new)) None asked.now result }
-    ensures sound { IfOk result (λ verdict. IsYes verdict
+        (F.files folder.old) (F.files folder.new))
+        asked.now (Ok found.examined.verdict))
+        (λ fault. checking.IsChecked (F.files folder.old).told
+        (IsUnread F.Source.remaining F.Source.failed
+        (F.files folder.old) (F.files folder.new))
+        asked.now (Err fault)) }
+    ensures quiet { OnOk result (F.files folder.new ≡ F.files folder.old) }
+    ensures read { IsOnlyRead (F.files folder.old) (F.files folder.new) }
+    ensures examined { IfOk result (λ found. (logs : List (List Record))
+        × IsExaminationOf (option_map (λ set. set.programs) found.programs) logs found.examined) }
+    ensures sound { IfOk result (λ found. IsYes found.examined.verdict
         → checking.FilesAreConsistent (F.files folder.old).told asked.now) }
+    ensures flat { IfOk result (λ found. IsYes found.examined.verdict
+        → checking.FilesRunFlat (F.files folder.old).told asked.now) }
+{
+    check_counts(asked.files.len(), asked.workers as usize)?;
+    let programs = read_given(alloc, folder, asked.program)?;
+    let examined = examine_files(rt, alloc, folder, asked, programs.as_ref())?;
+    Ok(Found { examined, programs })
+}
+
+/// The programs in a file of the folder, where its name is given.
+fn read_given<F: Folder>(
+    alloc: Global,
+    folder: &mut F,
+    name: Option<&str>,
+) -> Result<Option<ProgramSet>, CallFault>
+    ensures ok { IfOk result (λ programs. checking.AreProgramsOf (F.files folder.old).told name.entry
+        (option_map (λ set. set.programs) programs)) }
+    ensures quiet { OnOk result (F.files folder.new ≡ F.files folder.old) }
+    ensures err { IfErr result (checking.IsUnprogrammedBy (F.files folder.old).told
+        (IsUnread F.Source.remaining F.Source.failed
+        (F.files folder.old) (F.files folder.new)) name.entry) }
     ensures read { IsOnlyRead (F.files folder.old) (F.files folder.new) }
 {
-    let mut sources = open_all(alloc, folder, asked.files.as_slice())?;
-    judge(
-        rt,
-        alloc,
-        sources.as_mut_slice(),
-        asked.workers as usize,
-        &OpenGate,
-    )
+    match name {
+        None => Ok(None),
+        Some(name) => match read_programs(alloc, folder, name) {
+            Ok(programs) => Ok(Some(programs)),
+            Err(fault) => Err(fault),
+        },
+    }
 }
 
-/// The verdict on the logs in files of the folder, against these programs.
-fn judge_run_files<R: Threads + Sync, F: Folder>(
+/// The verdict on the logs in files of the folder, against these programs where they are given, with what it stands on.
+fn examine_files<R: Threads + Sync, F: Folder>(
     rt: &R,
     alloc: Global,
     folder: &mut F,
     asked: &Check<'_>,
-    programs: &ProgramSet,
-) -> Result<Verdict, JudgeFault>
+    programs: Option<&ProgramSet>,
+) -> Result<Examined, JudgeFault>
     requires { checking.AreInRange asked.now }
     ensures exact { checking.IsCheckedAgainst (F.files folder.old).told
         (IsUnread F.Source.remaining F.Source.failed
         (F.files folder.old) (F.files folder.new))
-        (Some programs.now.programs) asked.now result }
-    ensures sound { IfOk result (λ verdict. IsYes verdict
-        → checking.FilesAreConsistent (F.files folder.old).told asked.now) }
-    ensures flat { IfOk result (λ verdict. IsYes verdict
-        → checking.FilesRunFlatBy (F.files folder.old).told asked.now (Some programs.now.programs)) }
+        (given programs.entry) asked.now (verdict_in result) }
+    ensures quiet { OnOk result (F.files folder.new ≡ F.files folder.old) }
     ensures read { IsOnlyRead (F.files folder.old) (F.files folder.new) }
+    ensures examined { IfOk result (λ examined. (logs : List (List Record))
+        × IsExaminationOf (given programs.entry) logs examined) }
+    ensures sound { IfOk result (λ examined. IsYes examined.verdict
+        → checking.FilesAreConsistent (F.files folder.old).told asked.now) }
+    ensures flat { IfOk result (λ examined. IsYes examined.verdict
+        → checking.FilesRunFlatBy (F.files folder.old).told asked.now (given programs.entry)) }
 {
     let mut sources = open_all(alloc, folder, asked.files.as_slice())?;
     let workers = asked.workers as usize;
-    judge_run(
+    examine(
         rt,
         alloc,
         programs,

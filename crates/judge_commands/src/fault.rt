@@ -2,9 +2,11 @@
 
 ghost use Rattle.std.specs.Prelude.{◌≡◌};
 ghost use Rattle.judge_commands.specs.Faults.{from_judge, from_merge, judging_fault_status};
-ghost use Rattle.judge_commands.specs.declared.fault.JudgingFault.TheVariants.{Logs, OutOfMemory, Output, Programs};
+ghost use Rattle.judge_commands.specs.declared.fault.JudgingFault.TheVariants.{Call};
+ghost use Rattle.call_devices.specs.declared.call_fault.CallFault.TheVariants as call;
 
-use call_devices::{LogsFault, ProgramsFault};
+use call_devices::CallFault;
+use fault_names::FaultName;
 use log_file::WriteFailed;
 use merge_judge::MergeFault;
 use std::alloc::AllocError;
@@ -18,16 +20,10 @@ use verdict::JudgeFault;
 pub enum JudgingFault {
     /// There is no verdict, and not for lack of memory.
     Judge(JudgeFault),
-    /// There are no programs.
-    Programs(ProgramsFault),
-    /// The logs can't be written.
-    Logs(LogsFault),
     /// The picture of an explanation can't be written.
     PictureUnwritten,
-    /// Standard output failed.
-    Output,
-    /// A growth was refused.
-    OutOfMemory,
+    /// As any command may be refused.
+    Call(CallFault),
 }
 
 impl JudgingFault {
@@ -39,9 +35,8 @@ impl JudgingFault {
             JudgingFault::Judge(JudgeFault::Log { .. }) => 2,
             JudgingFault::Judge(JudgeFault::BadConfig(_)) => 3,
             JudgingFault::Judge(JudgeFault::Read { .. } | JudgeFault::OutOfMemory) => 4,
-            JudgingFault::Programs(fault) => fault.status(),
-            JudgingFault::Logs(_) | JudgingFault::PictureUnwritten => 4,
-            JudgingFault::Output | JudgingFault::OutOfMemory => 4,
+            JudgingFault::PictureUnwritten => 4,
+            JudgingFault::Call(fault) => fault.status(),
         }
     }
 }
@@ -55,11 +50,8 @@ impl Display for JudgingFault {
     fn fmt<W: fmt::Write>(&self, f: &mut fmt::Formatter<W>) -> fmt::Result {
         match self {
             JudgingFault::Judge(fault) => write!(f, "refused: {fault}"),
-            JudgingFault::Programs(fault) => write!(f, "refused: {fault}"),
-            JudgingFault::Logs(fault) => write!(f, "refused: {fault}"),
-            JudgingFault::PictureUnwritten => f.write_str("refused: picture: 29 Write"),
-            JudgingFault::Output => f.write_str("refused: output: 29 Write"),
-            JudgingFault::OutOfMemory => f.write_str("refused: 10 OutOfMemory"),
+            JudgingFault::PictureUnwritten => write!(f, "refused: picture: {}", FaultName::Write),
+            JudgingFault::Call(fault) => write!(f, "refused: {fault}"),
         }
     }
 }
@@ -69,7 +61,7 @@ impl From<JudgeFault> for JudgingFault {
 
     fn from(reason: JudgeFault) -> JudgingFault {
         match reason {
-            JudgeFault::OutOfMemory => JudgingFault::OutOfMemory,
+            JudgeFault::OutOfMemory => JudgingFault::Call(CallFault::OutOfMemory),
             reason => JudgingFault::Judge(reason),
         }
     }
@@ -81,39 +73,31 @@ impl From<MergeFault> for JudgingFault {
     fn from(reason: MergeFault) -> JudgingFault {
         match reason {
             MergeFault::Judge(reason) => JudgingFault::from(reason),
-            MergeFault::Write => JudgingFault::Output,
+            MergeFault::Write => JudgingFault::Call(CallFault::Output),
         }
     }
 }
 
-impl From<ProgramsFault> for JudgingFault {
-    ghost from_gives = { λ reason fault. fault ≡ Programs reason };
+impl From<CallFault> for JudgingFault {
+    ghost from_gives = { λ reason fault. fault ≡ Call reason };
 
-    fn from(reason: ProgramsFault) -> JudgingFault {
-        JudgingFault::Programs(reason)
-    }
-}
-
-impl From<LogsFault> for JudgingFault {
-    ghost from_gives = { λ reason fault. fault ≡ Logs reason };
-
-    fn from(reason: LogsFault) -> JudgingFault {
-        JudgingFault::Logs(reason)
+    fn from(reason: CallFault) -> JudgingFault {
+        JudgingFault::Call(reason)
     }
 }
 
 impl From<WriteFailed> for JudgingFault {
-    ghost from_gives = { λ _ fault. fault ≡ Output };
+    ghost from_gives = { λ _ fault. fault ≡ Call call.Output };
 
     fn from(_failed: WriteFailed) -> JudgingFault {
-        JudgingFault::Output
+        JudgingFault::Call(CallFault::Output)
     }
 }
 
 impl From<AllocError> for JudgingFault {
-    ghost from_gives = { λ _ fault. fault ≡ OutOfMemory };
+    ghost from_gives = { λ _ fault. fault ≡ Call call.OutOfMemory };
 
     fn from(_error: AllocError) -> JudgingFault {
-        JudgingFault::OutOfMemory
+        JudgingFault::Call(CallFault::OutOfMemory)
     }
 }

@@ -3,7 +3,6 @@
 
 mod check_files;
 mod fault;
-mod gate;
 mod order_files;
 mod telling;
 mod upgrade_files;

@@ -1,22 +1,20 @@
 //! The verdict on the logs of a set, and why it is so.
 
-ghost use Rattle.std.specs.Prelude.{◌≡◌, ◌↔◌, ◌++◌, List, IfErr, IfOk, IfSome, IsSome, IsTrue, OnOk, MatchResult, option_map, string_bytes};
-ghost use Rattle.core_program.specs.SetParts.{SetParts};
+ghost use Rattle.std.specs.Prelude.{◌≡◌, ◌↔◌, ◌++◌, List, IfErr, IfOk, IfSome, IsSome, IsTrue, OnOk, MatchResult, string_bytes};
 ghost use Rattle.explain.specs.Pictures.{HasPicture};
 ghost use Rattle.explanation_picture.specs.Pictures.{IsPicture};
 ghost use Rattle.log_record.specs.declared.record.Record.{Record};
 ghost use Rattle.verdict.specs.CoreFaultsOf.{given};
-ghost use Rattle.verdict.specs.Bases.{IsExaminationOf, verdict_in};
+ghost use Rattle.verdict.specs.Bases.{IsExaminationOf};
 ghost use Rattle.verdict.specs.Judgement.{IsYes};
 ghost use Rattle.judge_commands.specs.Checking as checking;
 ghost use Rattle.judge_commands.specs.Explaining as explaining;
 ghost use Rattle.call_devices.specs.Files.{IsOnlyRead, IsUnread, KeepsFiles};
 ghost use Rattle.call_devices.specs.Sinks.{sink_of};
 
-use super::check_files::open_all;
+use super::check_files::examine_asked;
 use super::fault::JudgingFault;
-use super::gate::OpenGate;
-use call_devices::{Folder, ProgramsFault, read_programs};
+use call_devices::Folder;
 use command_line::{Check, Explain};
 use core_program::ProgramSet;
 use explain::{Explanation, explain as explained};
@@ -25,7 +23,7 @@ use explanation_text::print;
 use log_file::{ByteSink, write_all};
 use std::alloc::{AllocError, Global};
 use std::thread::Threads;
-use verdict::{Examined, JudgeFault, Verdict, check_counts, examine};
+use verdict::{Examined, Verdict};
 
 /// What is told where a picture is asked for and the set is too large for one.
 const NO_PICTURE: &str = "picture        none, of more than 200 operations\n";
@@ -117,74 +115,15 @@ fn tell<R: Threads + Sync, F: Folder>(
     ensures flat { IfOk result (λ told. IsYes told.verdict
         → checking.FilesRunFlat (F.files folder.old).told asked.now) }
 {
-    check_counts(asked.files.len(), asked.workers as usize)?;
-    let programs = read_given(alloc, folder, asked.program)?;
-    let examined = examine_files(rt, alloc, folder, asked, programs.as_ref())?;
+    let found = examine_asked(rt, alloc, folder, asked)?;
     let told = words(
         alloc,
-        &examined,
-        programs.as_ref(),
+        &found.examined,
+        found.programs.as_ref(),
         asked.files.len(),
         is_drawn,
     )?;
     Ok(told)
-}
-
-/// The programs in a file of the folder, where its name is given.
-fn read_given<F: Folder>(
-    alloc: Global,
-    folder: &mut F,
-    name: Option<&str>,
-) -> Result<Option<ProgramSet>, ProgramsFault>
-    ensures ok { IfOk result (λ programs. checking.AreProgramsOf (F.files folder.old).told name.entry
-        (option_map (λ set. set.programs) programs)) }
-    ensures quiet { OnOk result (F.files folder.new ≡ F.files folder.old) }
-    ensures err { IfErr result (checking.IsUnprogrammedBy (F.files folder.old).told
-        (IsUnread F.Source.remaining F.Source.failed
-        (F.files folder.old) (F.files folder.new)) name.entry) }
-    ensures read { IsOnlyRead (F.files folder.old) (F.files folder.new) }
-{
-    match name {
-        None => Ok(None),
-        Some(name) => match read_programs(alloc, folder, name) {
-            Ok(programs) => Ok(Some(programs)),
-            Err(fault) => Err(fault),
-        },
-    }
-}
-
-/// The verdict on the logs in files of the folder, against these programs where they are given, with what it stands on.
-fn examine_files<R: Threads + Sync, F: Folder>(
-    rt: &R,
-    alloc: Global,
-    folder: &mut F,
-    asked: &Check<'_>,
-    programs: Option<&ProgramSet>,
-) -> Result<Examined, JudgeFault>
-    requires { checking.AreInRange asked.now }
-    ensures exact { checking.IsCheckedAgainst (F.files folder.old).told
-        (IsUnread F.Source.remaining F.Source.failed
-        (F.files folder.old) (F.files folder.new))
-        (given programs.entry) asked.now (verdict_in result) }
-    ensures quiet { OnOk result (F.files folder.new ≡ F.files folder.old) }
-    ensures read { IsOnlyRead (F.files folder.old) (F.files folder.new) }
-    ensures examined { IfOk result (λ examined. (logs : List (List Record))
-        × IsExaminationOf (given programs.entry) logs examined) }
-    ensures sound { IfOk result (λ examined. IsYes examined.verdict
-        → checking.FilesAreConsistent (F.files folder.old).told asked.now) }
-    ensures flat { IfOk result (λ examined. IsYes examined.verdict
-        → checking.FilesRunFlatBy (F.files folder.old).told asked.now (given programs.entry)) }
-{
-    let mut sources = open_all(alloc, folder, asked.files.as_slice())?;
-    let workers = asked.workers as usize;
-    examine(
-        rt,
-        alloc,
-        programs,
-        sources.as_mut_slice(),
-        workers,
-        &OpenGate,
-    )
 }
 
 /// The text of a verdict and of what there is to tell of it, and a picture where it is to be drawn and can be.

@@ -1,5 +1,6 @@
 //! Which number of a configuration is out of its range.
 
+use fault_names::FaultName;
 use std::fmt;
 use std::fmt::Display;
 use thiserror::Error;
@@ -31,13 +32,13 @@ impl Display for BadConfig {
 
     fn fmt<W: fmt::Write>(&self, f: &mut fmt::Formatter<W>) -> fmt::Result {
         match self {
-            BadConfig::Slices => f.write_str("6 BadConfig slices"),
-            BadConfig::Lease => f.write_str("6 BadConfig lease"),
-            BadConfig::Period => f.write_str("6 BadConfig period"),
-            BadConfig::CacheLines => f.write_str("6 BadConfig cache_lines"),
-            BadConfig::SliceLines => f.write_str("6 BadConfig slice_lines"),
-            BadConfig::Inbox => f.write_str("6 BadConfig inbox"),
-            BadConfig::Turns => f.write_str("6 BadConfig turns"),
+            BadConfig::Slices => write!(f, "{} slices", FaultName::BadConfig),
+            BadConfig::Lease => write!(f, "{} lease", FaultName::BadConfig),
+            BadConfig::Period => write!(f, "{} period", FaultName::BadConfig),
+            BadConfig::CacheLines => write!(f, "{} cache_lines", FaultName::BadConfig),
+            BadConfig::SliceLines => write!(f, "{} slice_lines", FaultName::BadConfig),
+            BadConfig::Inbox => write!(f, "{} inbox", FaultName::BadConfig),
+            BadConfig::Turns => write!(f, "{} turns", FaultName::BadConfig),
         }
     }
 }

@@ -1,8 +1,10 @@
 -- The texts of the faults: a number and a name.
-use Rattle.std.specs.Prelude.{ℕ, List, codes}
+use Rattle.std.specs.Prelude.{ℕ, List}
+use Rattle.fault_names.specs.Names.{name_text}
+use Rattle.fault_names.specs.declared.fault_name.FaultName.TheVariants as named
 use Rattle.line_stamps.specs.declared.fault.StampFault.{StampFault}
 use Rattle.line_stamps.specs.declared.fault.StampFault.TheVariants.{StampLimit, RankLimit}
 
 abbrev pub fault_text : StampFault → List ℕ
-fault_text StampLimit = codes "4 StampLimit"
-fault_text RankLimit = codes "5 RankLimit"
+fault_text StampLimit = name_text named.StampLimit
+fault_text RankLimit = name_text named.RankLimit

@@ -1,5 +1,6 @@
 //! Why there is no such stamp or rank.
 
+use fault_names::FaultName;
 use std::fmt;
 use std::fmt::Display;
 use thiserror::Error;
@@ -21,8 +22,8 @@ impl Display for StampFault {
 
     fn fmt<W: fmt::Write>(&self, f: &mut fmt::Formatter<W>) -> fmt::Result {
         match self {
-            StampFault::StampLimit => f.write_str("4 StampLimit"),
-            StampFault::RankLimit => f.write_str("5 RankLimit"),
+            StampFault::StampLimit => write!(f, "{}", FaultName::StampLimit),
+            StampFault::RankLimit => write!(f, "{}", FaultName::RankLimit),
         }
     }
 }

@@ -8,7 +8,8 @@ use Rattle.core_machine.specs.Machine.{World}
 use Rattle.core_machine.specs.Parts.{CoreParts, world}
 use Rattle.litmus.specs.Collecting.{AreEndsOf}
 use Rattle.litmus_test.specs.Parts.{LitmusParts}
-use Rattle.litmus.specs.Runs.{ThreadEnd, IsEndOf, IsSeededRun, IsThreadRun, left, outcome_of, seed_of}
+use Rattle.litmus_outcome.specs.Ends.{ThreadEnd, left, outcome_of}
+use Rattle.litmus.specs.Runs.{IsEndOf, IsSeededRun, IsThreadRun, seed_of}
 use Rattle.litmus.specs.inner.Tallies.{IsTally}
 use Rattle.litmus.proofs.Tallied.{none_counted}
 

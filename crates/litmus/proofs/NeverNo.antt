@@ -11,9 +11,10 @@ use Rattle.machine_laws.proofs.Below.{ended_below_get_yes, whole_below_get_yes}
 use Rattle.simulation.specs.Events.{simulated_events}
 use Rattle.simulation.proofs.Ended.{simulated_ended}
 use Rattle.litmus_test.specs.Parts.{LitmusParts}
-use Rattle.litmus.specs.Runs.{ThreadEnd, IsCauseOf, IsRunCause, IsSeededRun, IsThreadCause, IsThreadRun, IsUnsimulated, IsUnthreaded, SaysNo, left, logs_of, no_memory, not_ended, not_yes}
-use Rattle.litmus.specs.declared.run_fault.RunCause.{RunCause}
-use Rattle.litmus.specs.declared.run_fault.RunCause.TheVariants as cause
+use Rattle.litmus_outcome.specs.Ends.{ThreadEnd, SaysNo, left, logs_of}
+use Rattle.litmus.specs.Runs.{IsCauseOf, IsRunCause, IsSeededRun, IsThreadCause, IsThreadRun, IsUnsimulated, IsUnthreaded, no_memory, not_ended, not_yes}
+use Rattle.litmus_outcome.specs.declared.run_cause.RunCause.{RunCause}
+use Rattle.litmus_outcome.specs.declared.run_cause.RunCause.TheVariants as cause
 
 seeded_yes : (t : LitmusParts) (g : ConfigParts) (seed : ℕ) (q : CoreParts) → length t.programs ≤ 64 → IsSeededRun t g seed q → GetYesBy t.programs (logs_of t (world q))
 seeded_yes t g seed q few (did, run) =
@@ -27,9 +28,9 @@ threaded_yes t g end ran = whole_below_get_yes t.programs g end.units end.slices
 -- so none of them gets No
 never_no : {E : Type 0} (Ran : E → Type 0) (NotEnded : RunCause → Type 0) (at : E → World) (t : LitmusParts) (why : RunCause)
     → (NotEnded why → SaysNo why → ⊥) → ((end : E) → Ran end → GetYesBy t.programs (logs_of t (at end))) → IsCauseOf E Ran NotEnded at t why → SaysNo why → ⊥
-never_no Ran NotEnded at t (cause.No id rule) unended each (not_ended n) told = unended n told
-never_no Ran NotEnded at t (cause.No id rule) unended each (not_yes end ran judged) told = let gets = each end ran in cc
-never_no Ran NotEnded at t (cause.No id rule) unended each (no_memory e) told = cc
+never_no Ran NotEnded at t (cause.No fault) unended each (not_ended n) told = unended n told
+never_no Ran NotEnded at t (cause.No fault) unended each (not_yes end ran judged) told = let gets = each end ran in cc
+never_no Ran NotEnded at t (cause.No fault) unended each (no_memory e) told = cc
 never_no Ran NotEnded at t (cause.Simulation reason) unended each is told = told
 never_no Ran NotEnded at t (cause.Threads reason) unended each is told = told
 never_no Ran NotEnded at t cause.OutOfMemory unended each is told = told

@@ -9,9 +9,10 @@ use Rattle.core_machine.specs.Machine.{World}
 use Rattle.core_machine.specs.Parts.{CoreParts, world}
 use Rattle.litmus_test.specs.Outcomes.{is_forbidden, is_outcome}
 use Rattle.litmus_test.specs.Parts.{LitmusParts}
-use Rattle.litmus.specs.Runs.{ThreadEnd, GetsYes, IsRunCause, IsSeededRun, IsThreadCause, IsThreadRun, SaysNo, left, outcome_of, seed_of}
+use Rattle.litmus_outcome.specs.Ends.{ThreadEnd, GetsYes, SaysNo, left, outcome_of}
+use Rattle.litmus.specs.Runs.{IsRunCause, IsSeededRun, IsThreadCause, IsThreadRun, seed_of}
 use Rattle.litmus_test.specs.TableParts.{RowParts, TableParts}
-use Rattle.litmus.specs.declared.run_fault.RunCause.{RunCause}
+use Rattle.litmus_outcome.specs.declared.run_cause.RunCause.{RunCause}
 use Rattle.litmus.specs.declared.run_fault.CollectFault.{CollectFault}
 use Rattle.litmus.specs.declared.run_fault.CollectFault.TheVariants.{BadRuns, Run, OutOfMemory}
 

@@ -2,15 +2,16 @@
 
 ghost use Rattle.std.specs.Prelude.{◌≡◌, ◌↔◌, IsErrOf, IfErr, MatchResult};
 ghost use Rattle.litmus.specs.Collecting.{IsBadRunCount, IsCollectFault, IsSeededTable, TellsNo};
-ghost use Rattle.litmus.specs.Runs.{IsRunCause, IsSeededEnd, IsSeededRun, IsUnsimulated, SaysNo};
+ghost use Rattle.litmus_outcome.specs.Ends.{SaysNo};
+ghost use Rattle.litmus.specs.Runs.{IsRunCause, IsSeededEnd, IsSeededRun, IsUnsimulated};
 ghost use Rattle.litmus.specs.declared.run_fault.CollectFault.TheVariants.{BadRuns};
-ghost use Rattle.litmus.specs.declared.run_fault.RunCause.TheVariants as cause;
+ghost use Rattle.litmus_outcome.specs.declared.run_cause.RunCause.TheVariants as cause;
 
 use super::collecting::{check_runs, table_of};
-use super::judging::judged_outcome;
-use super::run_fault::{CollectFault, RunCause};
+use super::run_fault::CollectFault;
 use super::tally::count_outcome;
 use lease_rule::Config;
+use litmus_outcome::{RunCause, judged_outcome};
 use litmus_test::{Litmus, Table};
 use simulation::simulate;
 use std::alloc::Global;

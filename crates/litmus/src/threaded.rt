@@ -2,16 +2,17 @@
 
 ghost use Rattle.std.specs.Prelude.{◌↔◌, IsErrOf, IfErr, MatchResult};
 ghost use Rattle.litmus.specs.Collecting.{IsBadRunCount, IsThreadFault, IsThreadTable, TellsNo};
-ghost use Rattle.litmus.specs.Runs.{IsThreadCause, IsThreadEnd, SaysNo};
+ghost use Rattle.litmus_outcome.specs.Ends.{SaysNo};
+ghost use Rattle.litmus.specs.Runs.{IsThreadCause, IsThreadEnd};
 ghost use Rattle.litmus.specs.declared.run_fault.CollectFault.TheVariants.{BadRuns};
 
 use super::collecting::{check_runs, table_of};
-use super::judging::judged_outcome;
-use super::run_fault::{CollectFault, RunCause};
+use super::run_fault::CollectFault;
 use super::tally::count_outcome;
 use lease_rule::Config;
+use litmus_outcome::{RunCause, judged_outcome};
 use litmus_test::{Litmus, Table};
-use machine::{Go, Pace, RunFault, run_threads};
+use machine::{Go, Pace, ThreadsFault, run_threads};
 use mem_op::CoreId;
 use std::alloc::Global;
 use std::collections::BTreeMap;
@@ -41,7 +42,7 @@ fn run_threaded<R: Threads + Wait + Sync>(
 {
     match run_threads(rt, alloc, test.programs(), config, &Unpaced) {
         Ok(end) => judged_outcome(rt, alloc, test, &end),
-        Err(stopped) => Err(RunCause::Threads(RunFault::of(&stopped))),
+        Err(stopped) => Err(RunCause::Threads(ThreadsFault::of(&stopped))),
     }
 }
 

@@ -1,6 +1,8 @@
 -- The texts of faults, and which of a program's is which.
 use Rattle.std.specs.Prelude.{ℕ, List, ◌++◌, codes}
 use Rattle.std.specs.Fmt.{decimal}
+use Rattle.fault_names.specs.Names.{name_text}
+use Rattle.fault_names.specs.declared.fault_name.FaultName.TheVariants as named
 use Rattle.core_program.specs.declared.fault.ProgramFault.{ProgramFault}
 use Rattle.core_program.specs.declared.fault.ProgramFault.TheVariants as program
 use Rattle.litmus_test.specs.declared.fault.LitmusFault.{LitmusFault}
@@ -8,11 +10,11 @@ use Rattle.litmus_test.specs.declared.fault.LitmusFault.TheVariants.{BadLitmusLi
 
 -- the line where there is one, a number and a name
 abbrev pub fault_text : LitmusFault → List ℕ
-fault_text (BadLitmusLine line) = codes "line " ++ (decimal line ++ codes ": 41 BadLitmusLine")
-fault_text (BadLine line) = codes "line " ++ (decimal line ++ codes ": 7 BadLine")
-fault_text (TooLong line) = codes "line " ++ (decimal line ++ codes ": 8 TooLong")
-fault_text (SkipPastEnd line) = codes "line " ++ (decimal line ++ codes ": 9 SkipPastEnd")
-fault_text OutOfMemory = codes "10 OutOfMemory"
+fault_text (BadLitmusLine line) = codes "line " ++ (decimal line ++ (codes ": " ++ name_text named.BadLitmusLine))
+fault_text (BadLine line) = codes "line " ++ (decimal line ++ (codes ": " ++ name_text named.BadProgramLine))
+fault_text (TooLong line) = codes "line " ++ (decimal line ++ (codes ": " ++ name_text named.TooLong))
+fault_text (SkipPastEnd line) = codes "line " ++ (decimal line ++ (codes ": " ++ name_text named.SkipPastEnd))
+fault_text OutOfMemory = name_text named.OutOfMemory
 
 -- a fault in a program of the test
 abbrev pub from_program : ProgramFault → LitmusFault

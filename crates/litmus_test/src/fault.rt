@@ -5,6 +5,7 @@ ghost use Rattle.litmus_test.specs.declared.fault.LitmusFault.TheVariants.{OutOf
 ghost use Rattle.litmus_test.specs.FaultTexts.{from_program};
 
 use core_program::ProgramFault;
+use fault_names::FaultName;
 use std::alloc::{AllocError, AllocFailed};
 use std::fmt;
 use std::fmt::Display;
@@ -34,11 +35,15 @@ impl Display for LitmusFault {
 
     fn fmt<W: fmt::Write>(&self, f: &mut fmt::Formatter<W>) -> fmt::Result {
         match self {
-            LitmusFault::BadLitmusLine(line) => write!(f, "line {line}: 41 BadLitmusLine"),
-            LitmusFault::BadLine(line) => write!(f, "line {line}: 7 BadLine"),
-            LitmusFault::TooLong(line) => write!(f, "line {line}: 8 TooLong"),
-            LitmusFault::SkipPastEnd(line) => write!(f, "line {line}: 9 SkipPastEnd"),
-            LitmusFault::OutOfMemory => f.write_str("10 OutOfMemory"),
+            LitmusFault::BadLitmusLine(line) => write!(
+                f,
+                "line {line}: {}",
+                FaultName::BadLitmusLine
+            ),
+            LitmusFault::BadLine(line) => write!(f, "line {line}: {}", FaultName::BadProgramLine),
+            LitmusFault::TooLong(line) => write!(f, "line {line}: {}", FaultName::TooLong),
+            LitmusFault::SkipPastEnd(line) => write!(f, "line {line}: {}", FaultName::SkipPastEnd),
+            LitmusFault::OutOfMemory => write!(f, "{}", FaultName::OutOfMemory),
         }
     }
 }

@@ -1,12 +1,15 @@
 -- A log's text, line by line: what was written so far is a beginning of it.
-use Rattle.std.proofs.Common.{◌≡◌, ℕ, ◌+◌, ◌<◌, ◌≤◌, List, [], ◌∷◌, ◌++◌, length, map, take, drop, get_or, true, Option, refl, sym, ap, ◌∙◌, arith, append_assoc}
+use Rattle.std.proofs.Common.{◌≡◌, ℕ, ◌+◌, ◌<◌, ◌≤◌, List, [], ◌∷◌, ◌++◌, length, map, take, drop, get_or, true, Option, refl, sym, ap, subst, ◌∙◌, arith, append_assoc}
 use Rattle.std.proofs.lemmas.List.{append-nil, length-append, map-append, take-append-drop, take_all, take_at, take_more}
 use Rattle.std.proofs.lemmas.Grind.{flat_map-append}
+use Rattle.std.specs.Prelude.{Result}
+use Rattle.std.proofs.lemmas.Result.{on_ok_weaker}
 use Rattle.std.specs.Io.KnownBytes.{Appends}
 use Rattle.std.specs.List.{AllByRecursion}
 use Rattle.log_record.specs.declared.format.Format.{Format}
 use Rattle.log_record.specs.declared.record.Record.{Record}
 use Rattle.log_record.specs.Line.{record_text, end_text, has_act, Fits, FitsIn}
+use Rattle.log_file.specs.Devices.{Writes}
 use Rattle.log_file.specs.Log.{HasEach, with_lf, begun, text_of, spelling}
 use Rattle.log_file.proofs.Devices.{appends_more}
 use Rattle.log_file.proofs.Lines.{begun_push, fits_push, spelling_is}
@@ -51,8 +54,16 @@ module _ (format : Format) (core cores : ℕ) (records : List Record) where
       (text_of (map record_text (drop i records) ++ end_text (length records) ∷ []), rw parts (simp (flat_map-append, append_assoc)))
 
   -- the end line completes the text
-  pub end_front : (i : ℕ) → length records ≤ i → Begins (so_far i ++ with_lf (end_text (length records))) whole
-  end_front i all = ([], rw (take_all i records all, append-nil) (sym (spelling_is format core cores records)))
+  completed : (i : ℕ) → length records ≤ i → so_far i ++ with_lf (end_text (length records)) ≡ whole
+  completed i all = rw (take_all i records all) (sym (spelling_is format core cores records))
+
+  -- so it is all written where the end line is
+  pub end_written : {T E : Type 0} (old mid new : Option (List ℕ)) (i : ℕ) (r : Result T E) → length records ≤ i → Appends old mid (so_far i)
+      → Writes mid new (with_lf (end_text (length records))) r → Writes old new whole r
+  end_written old mid new i r all p w = (
+    line_taken old mid new (so_far i) (with_lf (end_text (length records))) whole ([], append-nil _ ∙ completed i all) p w.0,
+    on_ok_weaker r (λ q. subst (Appends old new) (completed i all) (appends_more old mid new (so_far i) _ p q)) w.1,
+  )
 
   -- one record more
   module _ (i : ℕ) (r : Record) (below : i < length records) (at : r ≡ get_or records i r) where

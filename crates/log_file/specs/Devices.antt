@@ -1,5 +1,6 @@
 -- What devices tell: their bytes, and how often they failed.
-use Rattle.std.specs.Prelude.{◌≡◌, ℕ, ◌+◌, ◌-◌, ◌^◌, ◌<◌, ◌⊎◌, min, List, Option, None, Some, Result, MatchResult}
+use Rattle.std.specs.Prelude.{◌≡◌, ℕ, ◌+◌, ◌-◌, ◌^◌, ◌<◌, ◌≤◌, ◌⊎◌, min, List, Option, None, Some, Result, MatchResult, OnOk, length, take}
+use Rattle.std.specs.Io.KnownBytes.{Appends}
 
 -- an Err alone changes the count of failures: it adds 1, but for the largest count, which stays
 abbrev pub CountsFailure : {T E : Type 0} → ℕ → ℕ → Result T E → Type 0
@@ -8,6 +9,14 @@ CountsFailure old new r = MatchResult r (λ _. new ≡ old) (λ _. new ≡ min (
 -- the device failed: the count rose, or is the largest
 abbrev pub Failed : ℕ → ℕ → Type 0
 Failed old new = (old < new) ⊎ (new ≡ 2 ^ 64 - 1)
+
+-- a failure is told only where the device failed, and none is passed over
+abbrev pub TellsFailure : Type 0 → ℕ → ℕ → Type 0
+TellsFailure told old new = (told → Failed old new) × (¬ told → new ≡ old)
+
+-- the sink took a beginning of the text, and where the answer is Ok all of it
+abbrev pub Writes : {T E : Type 0} → Option (List ℕ) → Option (List ℕ) → List ℕ → Result T E → Type 0
+Writes old new text r = ((n : ℕ) × (n ≤ length text) × Appends old new (take n text)) × OnOk r (Appends old new text)
 
 -- the bytes are those that the source told, where it told any
 abbrev pub Tells : Option (List ℕ) → List ℕ → Type 0

@@ -1,22 +1,24 @@
 -- The texts of the faults: a number and a name, after the line where there is one.
 use Rattle.std.specs.Prelude.{ℕ, List, ◌++◌, codes}
 use Rattle.std.specs.Fmt.{decimal}
+use Rattle.fault_names.specs.Names.{name_text}
+use Rattle.fault_names.specs.declared.fault_name.FaultName.TheVariants as named
 use Rattle.log_file.specs.declared.fault.FormatFault.{FormatFault}
 use Rattle.log_file.specs.declared.fault.FormatFault.TheVariants.{BadHeader, BadLine, OutOfRange, TooMany, CountDiffers, TrailingBytes, Truncated, WrongCore}
 use Rattle.log_file.specs.declared.fault.LogFault.{LogFault}
 use Rattle.log_file.specs.declared.fault.LogFault.TheVariants.{At, OutOfMemory, Read}
 
 abbrev pub fault_text : FormatFault → List ℕ
-fault_text BadHeader = codes "20 BadHeader"
-fault_text BadLine = codes "21 BadLine"
-fault_text OutOfRange = codes "22 OutOfRange"
-fault_text TooMany = codes "23 TooMany"
-fault_text CountDiffers = codes "24 CountDiffers"
-fault_text TrailingBytes = codes "25 TrailingBytes"
-fault_text Truncated = codes "26 Truncated"
-fault_text WrongCore = codes "27 WrongCore"
+fault_text BadHeader = name_text named.BadHeader
+fault_text BadLine = name_text named.BadLine
+fault_text OutOfRange = name_text named.OutOfRange
+fault_text TooMany = name_text named.TooMany
+fault_text CountDiffers = name_text named.CountDiffers
+fault_text TrailingBytes = name_text named.TrailingBytes
+fault_text Truncated = name_text named.Truncated
+fault_text WrongCore = name_text named.WrongCore
 
 abbrev pub log_fault_text : LogFault → List ℕ
 log_fault_text (At line fault) = codes "line " ++ decimal line ++ codes ": " ++ fault_text fault
-log_fault_text OutOfMemory = codes "10 OutOfMemory"
-log_fault_text Read = codes "28 Read"
+log_fault_text OutOfMemory = name_text named.OutOfMemory
+log_fault_text Read = name_text named.Read

@@ -1,5 +1,6 @@
 //! How devices fail, and why their bytes could not be had or given.
 
+use fault_names::FaultName;
 use std::alloc::AllocError;
 use std::fmt;
 use std::fmt::Display;
@@ -10,12 +11,14 @@ use thiserror::Error;
 pub struct ReadFailed;
 
 impl Display for ReadFailed {
-    ghost use Rattle.std.specs.Prelude.{Some, codes};
+    ghost use Rattle.std.specs.Prelude.{Some};
+    ghost use Rattle.fault_names.specs.Names.{name_text};
+    ghost use Rattle.fault_names.specs.declared.fault_name.FaultName.TheVariants as named;
 
-    ghost output = { λ fault. Some (codes "28 Read") };
+    ghost output = { λ fault. Some (name_text named.Read) };
 
     fn fmt<W: fmt::Write>(&self, f: &mut fmt::Formatter<W>) -> fmt::Result {
-        f.write_str("28 Read")
+        write!(f, "{}", FaultName::Read)
     }
 }
 
@@ -24,12 +27,14 @@ impl Display for ReadFailed {
 pub struct WriteFailed;
 
 impl Display for WriteFailed {
-    ghost use Rattle.std.specs.Prelude.{Some, codes};
+    ghost use Rattle.std.specs.Prelude.{Some};
+    ghost use Rattle.fault_names.specs.Names.{name_text};
+    ghost use Rattle.fault_names.specs.declared.fault_name.FaultName.TheVariants as named;
 
-    ghost output = { λ fault. Some (codes "29 Write") };
+    ghost output = { λ fault. Some (name_text named.Write) };
 
     fn fmt<W: fmt::Write>(&self, f: &mut fmt::Formatter<W>) -> fmt::Result {
-        f.write_str("29 Write")
+        write!(f, "{}", FaultName::Write)
     }
 }
 
@@ -50,8 +55,8 @@ impl Display for ReadFault {
 
     fn fmt<W: fmt::Write>(&self, f: &mut fmt::Formatter<W>) -> fmt::Result {
         match self {
-            ReadFault::OutOfMemory => f.write_str("10 OutOfMemory"),
-            ReadFault::Read => f.write_str("28 Read"),
+            ReadFault::OutOfMemory => write!(f, "{}", FaultName::OutOfMemory),
+            ReadFault::Read => write!(f, "{}", FaultName::Read),
         }
     }
 }
@@ -95,8 +100,8 @@ impl Display for WriteFault {
 
     fn fmt<W: fmt::Write>(&self, f: &mut fmt::Formatter<W>) -> fmt::Result {
         match self {
-            WriteFault::OutOfMemory => f.write_str("10 OutOfMemory"),
-            WriteFault::Write => f.write_str("29 Write"),
+            WriteFault::OutOfMemory => write!(f, "{}", FaultName::OutOfMemory),
+            WriteFault::Write => write!(f, "{}", FaultName::Write),
         }
     }
 }

@@ -1,6 +1,7 @@
 //! What is wrong with a log, and with a set of logs.
 
 use super::device_fault::ReadFailed;
+use fault_names::FaultName;
 use std::alloc::{AllocError, AllocFailed};
 use std::fmt;
 use std::fmt::Display;
@@ -35,14 +36,14 @@ impl Display for FormatFault {
 
     fn fmt<W: fmt::Write>(&self, f: &mut fmt::Formatter<W>) -> fmt::Result {
         match self {
-            FormatFault::BadHeader => f.write_str("20 BadHeader"),
-            FormatFault::BadLine => f.write_str("21 BadLine"),
-            FormatFault::OutOfRange => f.write_str("22 OutOfRange"),
-            FormatFault::TooMany => f.write_str("23 TooMany"),
-            FormatFault::CountDiffers => f.write_str("24 CountDiffers"),
-            FormatFault::TrailingBytes => f.write_str("25 TrailingBytes"),
-            FormatFault::Truncated => f.write_str("26 Truncated"),
-            FormatFault::WrongCore => f.write_str("27 WrongCore"),
+            FormatFault::BadHeader => write!(f, "{}", FaultName::BadHeader),
+            FormatFault::BadLine => write!(f, "{}", FaultName::BadLine),
+            FormatFault::OutOfRange => write!(f, "{}", FaultName::OutOfRange),
+            FormatFault::TooMany => write!(f, "{}", FaultName::TooMany),
+            FormatFault::CountDiffers => write!(f, "{}", FaultName::CountDiffers),
+            FormatFault::TrailingBytes => write!(f, "{}", FaultName::TrailingBytes),
+            FormatFault::Truncated => write!(f, "{}", FaultName::Truncated),
+            FormatFault::WrongCore => write!(f, "{}", FaultName::WrongCore),
         }
     }
 }
@@ -67,8 +68,8 @@ impl Display for LogFault {
     fn fmt<W: fmt::Write>(&self, f: &mut fmt::Formatter<W>) -> fmt::Result {
         match self {
             LogFault::At(line, fault) => write!(f, "line {}: {}", line, fault),
-            LogFault::OutOfMemory => f.write_str("10 OutOfMemory"),
-            LogFault::Read => f.write_str("28 Read"),
+            LogFault::OutOfMemory => write!(f, "{}", FaultName::OutOfMemory),
+            LogFault::Read => write!(f, "{}", FaultName::Read),
         }
     }
 }
@@ -124,8 +125,8 @@ impl Display for SetFault {
     fn fmt<W: fmt::Write>(&self, f: &mut fmt::Formatter<W>) -> fmt::Result {
         match &self.fault {
             LogFault::At(line, fault) => write!(f, "file {} line {}: {}", self.file, line, fault),
-            LogFault::Read => write!(f, "file {}: 28 Read", self.file),
-            LogFault::OutOfMemory => f.write_str("10 OutOfMemory"),
+            LogFault::Read => write!(f, "file {}: {}", self.file, FaultName::Read),
+            LogFault::OutOfMemory => write!(f, "{}", FaultName::OutOfMemory),
         }
     }
 }

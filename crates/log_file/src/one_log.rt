@@ -15,10 +15,10 @@ use std::alloc::Global;
 use std::thread::Threads;
 
 /// The most bytes of a piece that the calling thread parses alone: it stays near the processor.
-const OWN_PIECE: usize = 32_768;
+const CALLER_PIECE_BYTES: usize = 32_768;
 
 /// The most bytes of a piece that several workers parse.
-const SHARED_PIECE: usize = 2_097_152;
+const WORKERS_PIECE_BYTES: usize = 2_097_152;
 
 /// The records of the log that the source's bytes spell, kept in this list, or the first fault of these bytes. The reader was
 /// fed nothing.
@@ -38,7 +38,11 @@ pub(crate) fn read_list<R: Threads + Sync, S: ByteSource, L: RecordList + Drop>(
         Failed (S.failed source.old) (S.failed source.new) }
     ensures quiet { ¬ IsErrOf result LogFault.Read → S.failed source.new ≡ S.failed source.old }
 {
-    let size = if workers > 1 { SHARED_PIECE } else { OWN_PIECE };
+    let size = if workers > 1 {
+        WORKERS_PIECE_BYTES
+    } else {
+        CALLER_PIECE_BYTES
+    };
     let mut buffer = vec![in alloc; 0u8; size]?;
     'pieces: loop {
         let room = buffer.as_mut_slice();

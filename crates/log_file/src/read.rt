@@ -8,7 +8,7 @@ use super::device_fault::ReadFault;
 use std::alloc::Global;
 
 /// The most bytes of a piece.
-const PIECE: usize = 4_096;
+const READ_PIECE_BYTES: usize = 4_096;
 
 /// The bytes that a source has left: 10 where a growth was refused, 28 where a read failed.
 pub fn read_all<S: ByteSource>(alloc: Global, source: &mut S) -> Result<Vec<u8>, ReadFault>
@@ -20,7 +20,7 @@ pub fn read_all<S: ByteSource>(alloc: Global, source: &mut S) -> Result<Vec<u8>,
     ensures quiet { ¬ IsErrOf result ReadFault.Read → S.failed source.new ≡ S.failed source.old }
 {
     let mut found = Vec::new(alloc);
-    let mut piece = [0u8; PIECE];
+    let mut piece = [0u8; READ_PIECE_BYTES];
     loop {
         let count = source.read(&mut piece)?;
         if count == 0 {

@@ -13,7 +13,7 @@ use std::alloc::Global;
 use std::thread::Threads;
 
 /// The fewest bytes that are worth the threads of workers.
-const SHARED: usize = 65_536;
+const MIN_SHARED_TEXT_BYTES: usize = 65_536;
 
 /// Takes all of a piece, and keeps its records.
 pub(crate) fn take_piece<L: RecordList>(
@@ -109,7 +109,7 @@ pub(crate) fn take_piece_by<R: Threads + Sync, L: RecordList>(
     let (first, rest) = cut(piece, 0);
     take_piece(lines, records, first)?;
     match lines.format() {
-        Some(format) if workers > 1 && rest.len() >= SHARED => {
+        Some(format) if workers > 1 && rest.len() >= MIN_SHARED_TEXT_BYTES => {
             let fronts = fronts_of(rt, alloc, format, rest, workers)?;
             take_fronts(lines, records, format, &fronts)
         }

@@ -1,10 +1,9 @@
 //! A log written to a device.
 
-ghost use Rattle.std.specs.Prelude.{◌≡◌, ◌<◌, ◌≤◌, ◌↔◌, ℕ, length, take, OnOk, IsErrOf, IsTrue, string_bytes};
-ghost use Rattle.std.specs.Io.KnownBytes.{Appends};
+ghost use Rattle.std.specs.Prelude.{◌≡◌, ◌<◌, ◌≤◌, ◌↔◌, length, OnOk, IsErrOf, IsTrue, string_bytes};
 ghost use Rattle.mem_op.specs.Limits.{operation_limit};
 ghost use Rattle.log_record.specs.Line.{Fits, SourceFits, record_text};
-ghost use Rattle.log_file.specs.Devices.{Failed};
+ghost use Rattle.log_file.specs.Devices.{TellsFailure, Writes};
 ghost use Rattle.log_file.specs.Log.{HasEach, IsLog, spelling, with_lf};
 
 use super::byte_sink::{ByteSink, write_all};
@@ -25,22 +24,19 @@ pub fn write_log<W: ByteSink>(
     cores: u64,
     records: &[Record],
 ) -> Result<(), LogWriteFault>
-    requires core { (core < cores) × (cores ≤ 64) }
+    requires core { core < cores }
+    requires cores { cores ≤ 64 }
     requires few { length records.now ≤ operation_limit }
     // 15 comes exactly where a log of this format may not have one of the records, before any byte.
     ensures swap { IsErrOf result LogWriteFault.SwapInFormatOne ↔ ¬ HasEach format records.now }
     ensures untouched { IsErrOf result LogWriteFault.SwapInFormatOne → sink.new ≡ sink.old }
-    // What is written spells a log, the one of these records.
-    ensures written { OnOk result (IsLog format core cores records.now
-        × Appends (W.contents sink.old) (W.contents sink.new) (spelling format core cores records.now)) }
-    ensures begun { (n : ℕ) × (n ≤ length (spelling format core cores records.now))
-        × Appends (W.contents sink.old) (W.contents sink.new)
-        (take n (spelling format core cores records.now)) }
-    // A failed write is answered only where the sink failed in this call.
-    ensures failed { IsErrOf result LogWriteFault.Write →
-        Failed (W.failed sink.old) (W.failed sink.new) }
-    // And no failed write is passed over.
-    ensures quiet { ¬ IsErrOf result LogWriteFault.Write → W.failed sink.new ≡ W.failed sink.old }
+    // What is written spells a log, the one of these records; after a fault it is a beginning of that.
+    ensures log { OnOk result (IsLog format core cores records.now) }
+    ensures written { Writes (W.contents sink.old) (W.contents sink.new)
+        (spelling format core cores records.now) result }
+    // A failed write is answered only where the sink failed in this call, and none is passed over.
+    ensures failures { TellsFailure (IsErrOf result LogWriteFault.Write)
+        (W.failed sink.old) (W.failed sink.new) }
 {
     if !has_each(format, records) {
         return Err(LogWriteFault::SwapInFormatOne);
@@ -64,18 +60,15 @@ fn write_lines<W: ByteSink>(
     cores: u64,
     records: &[Record],
 ) -> Result<(), WriteFault>
-    requires core { (core < cores) × (cores ≤ 64) }
+    requires core { core < cores }
+    requires cores { cores ≤ 64 }
     requires few { length records.now ≤ operation_limit }
     requires each { HasEach format records.now }
     ensures log { OnOk result (IsLog format core cores records.now) }
-    ensures written { OnOk result
-        (Appends (W.contents sink.old) (W.contents sink.new) (spelling format core cores records.now)) }
-    ensures begun { (n : ℕ) × (n ≤ length (spelling format core cores records.now))
-        × Appends (W.contents sink.old) (W.contents sink.new)
-        (take n (spelling format core cores records.now)) }
-    ensures failed { IsErrOf result WriteFault.Write →
-        Failed (W.failed sink.old) (W.failed sink.new) }
-    ensures quiet { ¬ IsErrOf result WriteFault.Write → W.failed sink.new ≡ W.failed sink.old }
+    ensures written { Writes (W.contents sink.old) (W.contents sink.new)
+        (spelling format core cores records.now) result }
+    ensures failures { TellsFailure (IsErrOf result WriteFault.Write)
+        (W.failed sink.old) (W.failed sink.new) }
 {
     write_line(sink, print_header(alloc, format, core, cores)?)?;
     let mut line = LineBuffer::new();
@@ -88,14 +81,10 @@ fn write_lines<W: ByteSink>(
 
 // Writes a line with its line feed.
 fn write_line<W: ByteSink>(sink: &mut W, mut line: String) -> Result<(), WriteFault>
-    ensures written { OnOk result
-        (Appends (W.contents sink.old) (W.contents sink.new) (with_lf (string_bytes line))) }
-    ensures begun { (n : ℕ) × (n ≤ length (with_lf (string_bytes line)))
-        × Appends (W.contents sink.old) (W.contents sink.new)
-        (take n (with_lf (string_bytes line))) }
-    ensures failed { IsErrOf result WriteFault.Write →
-        Failed (W.failed sink.old) (W.failed sink.new) }
-    ensures quiet { ¬ IsErrOf result WriteFault.Write → W.failed sink.new ≡ W.failed sink.old }
+    ensures written { Writes (W.contents sink.old) (W.contents sink.new)
+        (with_lf (string_bytes line)) result }
+    ensures failures { TellsFailure (IsErrOf result WriteFault.Write)
+        (W.failed sink.old) (W.failed sink.new) }
 {
     line.push('\n')?;
     write_all(sink, line.as_bytes())?;
@@ -108,14 +97,10 @@ fn write_record<W: ByteSink>(
     line: &mut LineBuffer,
     logged: &Record,
 ) -> Result<(), WriteFault>
-    ensures written { OnOk result
-        (Appends (W.contents sink.old) (W.contents sink.new) (with_lf (record_text logged.now))) }
-    ensures begun { (n : ℕ) × (n ≤ length (with_lf (record_text logged.now)))
-        × Appends (W.contents sink.old) (W.contents sink.new)
-        (take n (with_lf (record_text logged.now))) }
-    ensures failed { IsErrOf result WriteFault.Write →
-        Failed (W.failed sink.old) (W.failed sink.new) }
-    ensures quiet { ¬ IsErrOf result WriteFault.Write → W.failed sink.new ≡ W.failed sink.old }
+    ensures written { Writes (W.contents sink.old) (W.contents sink.new)
+        (with_lf (record_text logged.now)) result }
+    ensures failures { TellsFailure (IsErrOf result WriteFault.Write)
+        (W.failed sink.old) (W.failed sink.new) }
 {
     Ok(write_all(sink, line.line(logged))?)
 }

@@ -1,6 +1,7 @@
 //! Why a log wasn't written.
 
 use super::device_fault::WriteFault;
+use fault_names::FaultName;
 use std::fmt;
 use std::fmt::Display;
 use thiserror::Error;
@@ -24,9 +25,9 @@ impl Display for LogWriteFault {
 
     fn fmt<W: fmt::Write>(&self, f: &mut fmt::Formatter<W>) -> fmt::Result {
         match self {
-            LogWriteFault::SwapInFormatOne => f.write_str("15 SwapInFormat1"),
-            LogWriteFault::OutOfMemory => f.write_str("10 OutOfMemory"),
-            LogWriteFault::Write => f.write_str("29 Write"),
+            LogWriteFault::SwapInFormatOne => write!(f, "{}", FaultName::SwapInFormatOne),
+            LogWriteFault::OutOfMemory => write!(f, "{}", FaultName::OutOfMemory),
+            LogWriteFault::Write => write!(f, "{}", FaultName::Write),
         }
     }
 }

@@ -1,5 +1,6 @@
 //! Why a line isn't a record's.
 
+use fault_names::FaultName;
 use std::fmt;
 use std::fmt::Display;
 use thiserror::Error;
@@ -21,8 +22,8 @@ impl Display for LineFault {
 
     fn fmt<W: fmt::Write>(&self, f: &mut fmt::Formatter<W>) -> fmt::Result {
         match self {
-            LineFault::BadLine => f.write_str("21 BadLine"),
-            LineFault::OutOfRange => f.write_str("22 OutOfRange"),
+            LineFault::BadLine => write!(f, "{}", FaultName::BadLine),
+            LineFault::OutOfRange => write!(f, "{}", FaultName::OutOfRange),
         }
     }
 }

@@ -1,4 +1,4 @@
--- What the laws of the core machine say of a run of threads that is settled.
+-- What the laws of the core machine say of a run of threads that is accepted.
 use Rattle.std.proofs.Common.{List, Result, Ok, Err}
 use Rattle.std.specs.Prelude.{IfOk}
 use Rattle.lease_rule.specs.ConfigParts.{ConfigParts}

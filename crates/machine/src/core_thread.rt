@@ -5,7 +5,7 @@ ghost use Rattle.core_unit.specs.Parts.{SameUnit};
 ghost use Rattle.machine.specs.declared.core_thread.Turned.TheVariants.{Performed};
 ghost use Rattle.machine.specs.inner.Giving.{HasGivenAll, HasTaken};
 
-use super::ends::Ended;
+use super::ends::ThreadEnd;
 use super::gate::StartGate;
 use super::pace::{Go, Pace};
 use audit::Cause;
@@ -19,11 +19,11 @@ use std::thread;
 
 /// A core that is answered Busy looks into its inbox so often before it asks again, so that the owner of the line finds the lock of
 /// the slice free; after a recall it asks at once.
-const LOOKS: u32 = 64;
+const INBOX_LOOKS_AFTER_BUSY: u32 = 64;
 
 /// After as many turns for an operation a core that is answered Busy lets other threads have its processor, since the owner of the
 /// line may wait for one.
-const PATIENCE: u64 = 2;
+const BUSY_TURNS_BETWEEN_YIELDS: u64 = 2;
 
 // What a turn came to.
 #[derive(Clone, Copy, Debug, PartialEq, Eq)]
@@ -46,11 +46,11 @@ pub(crate) fn run_behind<T: Port + Drop, P: Pace, R: Wait>(
     port: T,
     inboxes: &[Inbox],
     pace: &P,
-) -> Ended
+) -> ThreadEnd
     ensures { SameUnit unit result.unit }
 {
     if !gate.pass(rt) {
-        return Ended { unit, fault: None };
+        return ThreadEnd { unit, fault: None };
     }
     run_core(rt, unit, port, inboxes, pace)
 }
@@ -62,7 +62,7 @@ fn run_core<T: Port + Drop, P: Pace, R: Wait>(
     port: T,
     inboxes: &[Inbox],
     pace: &P,
-) -> Ended
+) -> ThreadEnd
     ensures same { SameUnit unit result.unit }
     ensures given { result.fault ≡ None → unit.hand ≡ None → HasGivenAll result.unit }
 {
@@ -70,7 +70,7 @@ fn run_core<T: Port + Drop, P: Pace, R: Wait>(
     let mut port = port;
     let ran = run_program(rt, &mut unit, &mut port, inboxes, pace);
     let given = give_lines_back(&mut unit, &mut port);
-    Ended {
+    ThreadEnd {
         unit,
         fault: ran.and(given).err(),
     }
@@ -130,7 +130,7 @@ fn perform<T: Port, P: Pace, R: Wait>(
             Turned::Waits => looks = true,
             Turned::Refused => {
                 looks = !stand_back(rt, unit, port, inboxes)?;
-                if turn % PATIENCE == PATIENCE - 1 {
+                if turn % BUSY_TURNS_BETWEEN_YIELDS == BUSY_TURNS_BETWEEN_YIELDS - 1 {
                     thread::yield_now();
                 }
             }
@@ -149,7 +149,7 @@ fn stand_back<T: Port, R: Wait>(
 ) -> Result<bool, Cause>
     ensures { SameUnit unit.old unit.new }
 {
-    for _ in 0..LOOKS {
+    for _ in 0..INBOX_LOOKS_AFTER_BUSY {
         spin_loop();
         if answer_recall(rt, unit, port, inboxes)? {
             return Ok(true);

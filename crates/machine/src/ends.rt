@@ -6,7 +6,7 @@ use std::alloc::{AllocError, Global};
 
 /// What a thread gives back.
 #[derive(Drop)]
-pub(crate) struct Ended {
+pub(crate) struct ThreadEnd {
     /// The unit that it owned.
     pub(crate) unit: CoreUnit,
     /// The fault that it met, if it did.
@@ -32,7 +32,7 @@ impl Ends {
     }
 
     /// Keeps what the next core's thread gave back.
-    pub(crate) fn keep(&mut self, ended: Ended) -> Result<(), AllocError> {
+    pub(crate) fn keep(&mut self, ended: ThreadEnd) -> Result<(), AllocError> {
         let Ends { units, faults } = self;
         units.reserve(1)?;
         faults.reserve(1)?;

@@ -6,7 +6,7 @@ use std::sync::{Condvar, Mutex, Wait};
 
 /// So often a thread looks whether the gate is open before it sleeps: a tenth of a millisecond or more, in which four threads are
 /// started. One that slept may be woken on the processor of another that has just begun, and then waits for it.
-const LOOKS: u32 = 20_000;
+const GATE_LOOKS_BEFORE_SLEEP: u32 = 20_000;
 
 // What those who wait are told.
 #[derive(Clone, Copy, Debug, PartialEq, Eq)]
@@ -63,7 +63,7 @@ impl StartGate {
 
     // Looks for a while whether the gate is open. Those who find it so need no lock, for which they would all come at once, and sleep.
     fn is_found_open(&self) -> bool {
-        for _ in 0..LOOKS {
+        for _ in 0..GATE_LOOKS_BEFORE_SLEEP {
             if self.is_open.load(Ordering::SeqCst) {
                 return true;
             }

@@ -7,6 +7,6 @@ mod gate;
 mod pace;
 mod running;
 
-pub use audit::{AuditFault, Cause, MachineFault, RunEnd, RunFault, audit};
+pub use audit::{AuditFault, Cause, MachineFault, RunEnd, ThreadsFault, audit};
 pub use pace::{Go, Pace};
 pub use running::run_threads;

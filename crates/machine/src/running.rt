@@ -12,7 +12,7 @@ use super::ends::Ends;
 use super::gate::StartGate;
 use super::pace::Pace;
 use audit::laws::merges_are_runs;
-use audit::{Cause, MachineFault, RunEnd, settle};
+use audit::{Cause, MachineFault, RunEnd, accept_run};
 use core_program::ProgramSet;
 use core_unit::CoreUnit;
 use inbox::Inbox;
@@ -60,12 +60,12 @@ pub fn run_threads<P: Pace + Sync, R: Threads + Wait + Sync>(
     let Ok(ends) = run_units(rt, alloc, &bank, &inboxes, pace, units) else {
         return Err(no_memory(alloc));
     };
-    settled(programs, config, ends, bank.into_slices())
+    accepted(programs, config, ends, bank.into_slices())
 }
 
-// What the threads gave back, settled: Ok names the events of a run, whose logs get Yes, and of a fault each log that is left is a unit's
+// What the threads gave back, accepted: Ok names the events of a run, whose logs get Yes, and of a fault each log that is left is a unit's
 // own.
-fn settled(
+fn accepted(
     programs: &ProgramSet,
     config: &Config,
     ends: Ends,
@@ -82,7 +82,7 @@ fn settled(
     merges_are_runs();
     merged_logs_get_yes();
     each_replays(&units);
-    settle(programs, config, units, &faults, slices)
+    accept_run(programs, config, units, &faults, slices)
 }
 
 // An empty inbox for each of so many cores.

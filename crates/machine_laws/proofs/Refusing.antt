@@ -44,7 +44,7 @@ use Rattle.core_unit.specs.declared.outcome.Outcome.TheVariants.{Sent, Gave, Too
 use Rattle.core_machine.specs.Machine.{slice_number}
 use Rattle.core_machine.specs.Parts.{CoreParts, world, IsPlaced, IsMachine, HaveRoom, programs_of}
 use Rattle.core_machine.specs.SeatParts.{SeatParts}
-use Rattle.core_machine.specs.Seats.{SeatOutcome, SeatMeets, asked_by, seat_outcome, seen}
+use Rattle.core_machine.specs.Seats.{SeatOutcome, SeatOutcomeLeads, asked_by, seat_outcome, seen}
 use Rattle.core_machine.specs.Seats as seat
 use Rattle.core_machine.specs.Steps.{StepOutcome, Refuses, Answers, Steps, with_seat, core_outcome, seated, at_slice, served_outcome, serve_outcome, spilled_outcome, alone, step_outcome}
 use Rattle.core_machine.specs.Runs.{MayRefuse, IsRefusedAt, behind, run_from}
@@ -360,13 +360,13 @@ module _ (told : Bool) where
 -- ---- the room of a cache
 
 -- an event of a core leaves its cache the room that it has
-same_room : (s t : SeatParts) (r : Result Outcome UnitFault) (o : SeatOutcome) → FineSeat false s o → SeatMeets o r s t → t.unit.cache.capacity ≡ s.unit.cache.capacity
+same_room : (s t : SeatParts) (r : Result Outcome UnitFault) (o : SeatOutcome) → FineSeat false s o → SeatOutcomeLeads o r s t → t.unit.cache.capacity ≡ s.unit.cache.capacity
 same_room s t r (seat.Refuses fault) f m = ap (λ (x : SeatParts). x.unit.cache.capacity) m.1
 same_room s t r (seat.Answers o q) f m = ap (λ (x : SeatParts). x.unit.cache.capacity) m.1 ∙ f.capacity
 same_room s t (Ok o) (seat.Steps wanting q) f m = ap (λ (x : SeatParts). x.unit.cache.capacity) m.1 ∙ f.capacity
 same_room s t (Err fault) (seat.Steps wanting q) f m = ap (λ (x : SeatParts). x.unit.cache.capacity) m.1
 
-pub seat_room : (g : ConfigParts) (e : Event) (s t : SeatParts) (r : Result Outcome UnitFault) → SeatMeets (seat_outcome e s) r s t → s.unit.cache.capacity ≡ g.cache_lines → t.unit.cache.capacity ≡ g.cache_lines
+pub seat_room : (g : ConfigParts) (e : Event) (s t : SeatParts) (r : Result Outcome UnitFault) → SeatOutcomeLeads (seat_outcome e s) r s t → s.unit.cache.capacity ≡ g.cache_lines → t.unit.cache.capacity ≡ g.cache_lines
 seat_room g e s t r met room = same_room s t r (seat_outcome e s) (seat_fine false g e s room (λ told. absurd cc)) met ∙ room
 
 -- ---- a machine that some events lead to

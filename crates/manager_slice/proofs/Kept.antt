@@ -19,7 +19,7 @@ use Rattle.manager_slice.proofs.RowTable.{RowHolds, row_holds, slice_of-spilled}
 use Rattle.manager_slice.specs.Changes.{slice_of, after_eviction, served, spilled, entries_of}
 use Rattle.line_stamps.specs.Messages.{addr_of}
 use Rattle.manager_slice.specs.Messages.{is_busy_reply}
-use Rattle.manager_slice.specs.Outcome.{Refuses, Answers, Steps, Meets, handle_outcome, row_outcome, IsEvicted, IsHandled}
+use Rattle.manager_slice.specs.Outcome.{Refuses, Answers, Steps, OutcomeLeads, handle_outcome, row_outcome, IsEvicted, IsHandled}
 use Rattle.manager_slice.specs.Parts.{SliceParts}
 use Rattle.manager_slice.specs.Replay.{SliceStep, IsKept}
 use Rattle.manager_slice.specs.Rows.{row_of}
@@ -76,14 +76,14 @@ module _ (p : SliceParts) (kept : IsKept p) where
     some_entries (Some e) r h = cc
 
     -- Busy is answered just where the outcome is Busy
-    module _ (q : SliceParts) (result : Result Reply SliceFault) (met : Meets (handle_outcome p c m) result p q) (x : RecallParts) where
+    module _ (q : SliceParts) (result : Result Reply SliceFault) (met : OutcomeLeads (handle_outcome p c m) result p q) (x : RecallParts) where
       busy_met : handle_outcome p c m ≡ Answers (Busy x) → result ≡ Ok (Busy x)
       busy_met e = (rw e at met).0
 
       busy_due : result ≡ Ok (Busy x) → handle_outcome p c m ≡ Answers (Busy x)
       busy_due e = go (row_of p.config p.state c m) refl (rw e at met)
         where
-          go : (o : Result Row SliceFault) → row_of p.config p.state c m ≡ o → Meets (row_outcome p c m o) (Ok (Busy x)) p q → row_outcome p c m o ≡ Answers (Busy x)
+          go : (o : Result Row SliceFault) → row_of p.config p.state c m ≡ o → OutcomeLeads (row_outcome p c m o) (Ok (Busy x)) p q → row_outcome p c m o ≡ Answers (Busy x)
           go (Err fault) i k = let bad = k.0 in absurd cc
           go (Ok (Recalled y)) i k = let same : Busy y ≡ Busy x = cc (k.0) in ap (λ (r : Reply). Answers r) same
           go (Ok (Answered evicted r line)) i k = stepped (nat_le (length p.history + length (entries_of evicted c m r)) entry_limit) k
@@ -94,7 +94,7 @@ module _ (p : SliceParts) (kept : IsKept p) where
               after : SliceState
               after = served (after_eviction evicted p.state) (addr_of m) line
 
-              stepped : (b : Bool) → Meets (cond b (Steps r (entries_of evicted c m r) after) (Refuses HistoryFull)) (Ok (Busy x)) p q → cond b (Steps r (entries_of evicted c m r) after) (Refuses HistoryFull) ≡ Answers (Busy x)
+              stepped : (b : Bool) → OutcomeLeads (cond b (Steps r (entries_of evicted c m r) after) (Refuses HistoryFull)) (Ok (Busy x)) p q → cond b (Steps r (entries_of evicted c m r) after) (Refuses HistoryFull) ≡ Answers (Busy x)
               stepped true z = let same : Busy x ≡ r = z.0 in let bad = rw (← same) at not_busy in absurd cc
               stepped false z = let bad = z.0 in absurd cc
 

@@ -29,10 +29,10 @@ pub data Outcome (A : Type 0) : Type 0 where
   Steps : A → List HistoryEntry → SliceState → Outcome A
 
 -- the call, with this result, led from p to q as the outcome says; only for lack of memory may a step be refused
-abbrev pub Meets : {A : Type 0} → Outcome A → Result A SliceFault → SliceParts → SliceParts → Type 0
-Meets (Refuses fault) r p q = (r ≡ Err fault) × (q ≡ p)
-Meets (Answers x) r p q = (r ≡ Ok x) × (q ≡ p)
-Meets (Steps x es s) r p q =
+abbrev pub OutcomeLeads : {A : Type 0} → Outcome A → Result A SliceFault → SliceParts → SliceParts → Type 0
+OutcomeLeads (Refuses fault) r p q = (r ≡ Err fault) × (q ≡ p)
+OutcomeLeads (Answers x) r p q = (r ≡ Ok x) × (q ≡ p)
+OutcomeLeads (Steps x es s) r p q =
     MatchResult r (λ y. (y ≡ x) × (q ≡ record p { state = s; history = p.history ++ es })) (λ fault. (fault ≡ OutOfMemory) × (q ≡ p))
 
 -- a step, where its entries fit into the history

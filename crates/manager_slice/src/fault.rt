@@ -3,6 +3,7 @@
 ghost use Rattle.std.specs.Prelude.{◌≡◌};
 ghost use Rattle.manager_slice.specs.declared.fault.SliceFault.TheVariants.{OutOfMemory};
 
+use fault_names::FaultName;
 use std::alloc::AllocError;
 use std::fmt;
 use std::fmt::Display;
@@ -29,10 +30,10 @@ impl Display for SliceFault {
 
     fn fmt<W: fmt::Write>(&self, f: &mut fmt::Formatter<W>) -> fmt::Result {
         match self {
-            SliceFault::NotOwner => f.write_str("11 NotOwner"),
-            SliceFault::StampLimit => f.write_str("4 StampLimit"),
-            SliceFault::HistoryFull => f.write_str("12 HistoryFull"),
-            SliceFault::OutOfMemory => f.write_str("10 OutOfMemory"),
+            SliceFault::NotOwner => write!(f, "{}", FaultName::NotOwner),
+            SliceFault::StampLimit => write!(f, "{}", FaultName::StampLimit),
+            SliceFault::HistoryFull => write!(f, "{}", FaultName::HistoryFull),
+            SliceFault::OutOfMemory => write!(f, "{}", FaultName::OutOfMemory),
         }
     }
 }

@@ -9,7 +9,7 @@ ghost use Rattle.manager_slice.specs.declared.fault.SliceFault.TheVariants.{Hist
 ghost use Rattle.manager_slice.specs.declared.row.Row.TheVariants.{Answered};
 ghost use Rattle.manager_slice.specs.Changes.{entries_of, served, after_eviction};
 ghost use Rattle.line_stamps.specs.Messages.{addr_of};
-ghost use Rattle.manager_slice.specs.Outcome.{Answers, Meets, handle_outcome, evict_outcome, step_of, IsEvicted, IsHandled};
+ghost use Rattle.manager_slice.specs.Outcome.{Answers, OutcomeLeads, handle_outcome, evict_outcome, step_of, IsEvicted, IsHandled};
 ghost use Rattle.manager_slice.specs.Limits.{entry_limit};
 ghost use Rattle.manager_slice.specs.Lines.{is_some_shared};
 ghost use Rattle.manager_slice.specs.Opening.{new_slice};
@@ -127,7 +127,7 @@ impl ManagerSlice {
 
         // Which row it is and which line gives way follows from the order of service. 11, 4 and 12 come exactly where they
         // are due; 10 comes only instead of a step.
-        ensures outcome { Meets (handle_outcome self.old from message.now) result self.old self.new }
+        ensures outcome { OutcomeLeads (handle_outcome self.old from message.now) result self.old self.new }
         ensures busy { (x : RecallParts) → (result ≡ Ok (Busy x))
             ↔ (handle_outcome self.old from message.now ≡ Answers (Busy x)) }
         ensures refused { OnErr result (self.new ≡ self.old) }
@@ -157,7 +157,7 @@ impl ManagerSlice {
         ensures table { IfOk result (λ went. OnTrue went (IsEvicted self.old addr self.new)) }
         ensures shared { IfOk result (λ went.
             went ≡ is_some_shared (lookup (nat_eq addr) self.old.state.lines)) }
-        ensures outcome { Meets (evict_outcome self.old addr) result self.old self.new }
+        ensures outcome { OutcomeLeads (evict_outcome self.old addr) result self.old self.new }
         ensures refused { OnErr result (self.new ≡ self.old) }
     {
         let ManagerSlice { state, history, .. } = self;
@@ -182,7 +182,7 @@ impl ManagerSlice {
         requires { row_of self.old.config self.old.state from message.now
             ≡ Ok (Answered evicted.now reply.now line.now) }
         ensures table { OnOk result (IsHandled self.old from message.now reply.now self.new) }
-        ensures outcome { Meets (step_of self.old tt (entries_of evicted.now from message.now reply.now)
+        ensures outcome { OutcomeLeads (step_of self.old tt (entries_of evicted.now from message.now reply.now)
             (served (after_eviction evicted.now self.old.state) (addr_of message.now) line.now))
             result self.old self.new }
     {

@@ -2,3 +2,4 @@ pub mod Consistency
 pub mod Faults
 pub mod Limits
 pub mod Parts
+pub mod Texts

@@ -1,5 +1,6 @@
 //! Why a number is out of range.
 
+use fault_names::FaultName;
 use std::fmt;
 use std::fmt::Display;
 use thiserror::Error;
@@ -23,9 +24,9 @@ impl Display for RangeFault {
 
     fn fmt<W: fmt::Write>(&self, f: &mut fmt::Formatter<W>) -> fmt::Result {
         match self {
-            RangeFault::AddrRange => f.write_str("1 AddrRange"),
-            RangeFault::CoreRange => f.write_str("2 CoreRange"),
-            RangeFault::IndexRange => f.write_str("3 IndexRange"),
+            RangeFault::AddrRange => write!(f, "{}", FaultName::AddrRange),
+            RangeFault::CoreRange => write!(f, "{}", FaultName::CoreRange),
+            RangeFault::IndexRange => write!(f, "{}", FaultName::IndexRange),
         }
     }
 }

@@ -3,6 +3,8 @@
 use super::addr::Addr;
 use super::core_id::CoreId;
 use super::op_index::OpIndex;
+use std::fmt;
+use std::fmt::Display;
 use std::marker::Model;
 
 /// A word of memory. Every word is 0 at first.
@@ -25,6 +27,18 @@ impl Model for OpId {
     ghost view = { λ id. record { core = id.core; index = id.index } };
 
     ghost inverse = { λ id. record { core = id.core; index = id.index } };
+}
+
+/// As `1.0`: the core, and its operation's place.
+impl Display for OpId {
+    ghost use Rattle.std.specs.Prelude.{Some};
+    ghost use Rattle.mem_op.specs.Texts.{id_text};
+
+    ghost output = { λ id. Some (id_text id) };
+
+    fn fmt<W: fmt::Write>(&self, f: &mut fmt::Formatter<W>) -> fmt::Result {
+        write!(f, "{}.{}", self.core.get(), self.index.get())
+    }
 }
 
 /// Where a word comes from.

@@ -1,6 +1,6 @@
 //! A folder in memory.
 
-ghost use Rattle.std.specs.Prelude.{◌≡◌, ◌∷◌, ◌++◌, List, [], OnErr, OnOk, IfSome, Some, option_map, string_bytes};
+ghost use Rattle.std.specs.Prelude.{◌≡◌, ◌∷◌, ◌++◌, [], OnErr, OnOk, IfSome, Some, string_bytes};
 ghost use Rattle.memory_folder.specs.Files.{files_in, told_of};
 ghost use Rattle.memory_folder.specs.Held.{files_held};
 ghost use Rattle.memory_folder.specs.Reading.{bytes_left};

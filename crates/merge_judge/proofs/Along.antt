@@ -20,7 +20,7 @@ use Rattle.address_check.proofs.StorePass.{key_of_fault}
 use Rattle.address_check.proofs.Totals.{entry_total, tied_faults, less_by_key}
 use Rattle.verdict.specs.ByKey.{by_key}
 use Rattle.verdict.proofs.SerialOrder.{by_key-ascends, in_set_by_key, tied_id}
-use Rattle.merge_judge.specs.inner.Words.{fault_after, first_along, last_store_to}
+use Rattle.merge_judge.specs.inner.Memory.{fault_after, first_along, last_store_to}
 use Rattle.merge_judge.proofs.WordFacts.{stores_to}
 
 -- one more entry

@@ -1,24 +1,24 @@
 -- What a merge answers that ends before its verdict.
-use Rattle.std.specs.Prelude.{◌≡◌, ℕ, List, [], ◌++◌, refl, Option, Result, Ok, Err, map, take, ◌⊎◌}
-use Rattle.std.proofs.Common.{sym, ◌∙◌, ap}
+use Rattle.std.specs.Prelude.{◌≡◌, ℕ, List, [], ◌++◌, refl, Option, Result, Ok, Err, IfSome, map, take, ◌⊎◌, Bool, true, false, length}
+use Rattle.std.proofs.Common.{sym, ◌∙◌, ap, append-nil, inl, inr, subst}
 use Rattle.log_file.specs.declared.device_fault.WriteFault.{WriteFault}
 use Rattle.log_file.specs.declared.device_fault.WriteFault.TheVariants.{OutOfMemory as NoMemory, Write as WriteFailed}
 use Rattle.verdict.specs.declared.judge_fault.JudgeFault.{JudgeFault}
 use Rattle.verdict.specs.declared.judge_fault.JudgeFault.TheVariants.{BadConfig, Log, OutOfMemory, Read}
 use Rattle.log_file.specs.Sets.{TellEach}
-use Rattle.verdict.specs.Judgement.{IsYes}
-use Rattle.verdict.specs.ByKey.{by_key}
+use Rattle.verdict.specs.Judgement.{IsAnswerTo, IsYes}
+use Rattle.verdict.specs.ByKey.{by_key, ids_by_key}
 use Rattle.merge_judge.specs.Begun.{BeginsOrder, BeginsWhole, EndBefore, StopsBefore}
 use Rattle.merge_judge.specs.inner.Lanes.{IsMerged, NoFalls}
 use Rattle.verdict.proofs.Told.{each_tells, told}
 use Rattle.std.specs.Io.KnownBytes.{Appends}
+use Rattle.merge_judge.specs.Answer.{judged}
+use Rattle.merge_judge.specs.declared.merge_fault.MergeFault.{MergeFault}
 use Rattle.merge_judge.specs.declared.merge_fault.MergeFault.TheVariants.{Judge, Write}
-use Rattle.merge_judge.specs.OrderText.{LacksEnd}
+use Rattle.merge_judge.specs.OrderText.{LacksEnd, end_line, id_lines, order_text}
 use Rattle.merge_judge.specs.WriteFaults.{from_write}
 use Rattle.verdict.specs.Counts.{IsBadCount}
-use Rattle.merge_judge.specs.inner.Judging.{IsMergedBy}
-use Rattle.std.specs.Prelude.{Bool, true, false, length}
-use Rattle.std.proofs.Common.{append-nil, inl, inr, subst}
+use Rattle.merge_judge.specs.inner.Judging.{IsMergedBy, line_where}
 use Rattle.std.proofs.lemmas.List.{length-map}
 use Rattle.mem_op.specs.declared.id.OpId.{OpId}
 use Rattle.mem_op.specs.Consistency.{IsSequentialOrder}
@@ -27,15 +27,12 @@ use Rattle.log_record.specs.declared.record.Entry.{Entry}
 use Rattle.log_record.specs.Entries.{operations_of}
 use Rattle.log_file.proofs.Devices.{appends_more}
 use Rattle.verdict.specs.declared.answer.Verdict.TheVariants.{Yes, No}
-use Rattle.verdict.specs.ByKey.{ids_by_key}
 use Rattle.verdict.specs.FaultParts.{FaultParts}
 use Rattle.verdict.proofs.Bridge.{yes_is_sequential}
 use Rattle.merge_judge.specs.declared.lane.Lane.{Lane}
 use Rattle.merge_judge.specs.declared.merge.Merge.{Merge}
-use Rattle.merge_judge.specs.OrderText.{end_line, id_lines, order_text}
-use Rattle.merge_judge.specs.inner.Judging.{line_where}
 use Rattle.merge_judge.specs.inner.Merging.{HasMerged}
-use Rattle.merge_judge.specs.inner.Settling.{Settles}
+use Rattle.merge_judge.specs.inner.FinalVerdict.{IsFinalVerdict}
 use Rattle.merge_judge.specs.inner.Writing.{IsWritten}
 use Rattle.merge_judge.proofs.MergeSoFar.{front_of, joined, lacks_end, lacks_more, lines_where}
 use Rattle.merge_judge.proofs.Shown.{IsShown, ids, order_where}
@@ -44,27 +41,21 @@ use Rattle.merge_judge.proofs.WritingFacts.{appends_none}
 
 -- what ends in place of a verdict has no word of the texts but how they begin
 module _ {S : Type 0} (remaining : S → Option (List ℕ)) (failed : S → ℕ) (old new : Option (List ℕ)) (before after : List S) (written : List ℕ) (appends : Appends old new written) (lacks : LacksEnd written) (texts : List (List ℕ)) (tells : TellEach remaining before texts) where
+  early : (fault : MergeFault) → IfSome (judged (Err fault)) (IsAnswerTo texts) → StopsBefore texts (Err fault) written → ((file : ℕ) → fault ≡ Judge (Read file) → ⊥) → IsMergedBy remaining failed old new before after (Err fault)
+  early fault answers stops unread = record {
+    texts = texts;
+    tells = tells;
+    answers = answers;
+    written = written;
+    appends = appends;
+    writes = lacks;
+    stops = stops;
+    read = λ file h. absurd (unread file h);
+  }
+
   pub ends_early : (f : WriteFault) → BeginsOrder texts (Err (from_write f)) written ⊎ BeginsWhole texts written → IsMergedBy remaining failed old new before after (Err (from_write f))
-  ends_early NoMemory stops = record {
-    texts = texts;
-    tells = tells;
-    answers = tt;
-    written = written;
-    appends = appends;
-    writes = lacks;
-    stops = stops;
-    read = λ file h. absurd cc;
-  }
-  ends_early WriteFailed stops = record {
-    texts = texts;
-    tells = tells;
-    answers = tt;
-    written = written;
-    appends = appends;
-    writes = lacks;
-    stops = stops;
-    read = λ file h. absurd cc;
-  }
+  ends_early NoMemory stops = early (Judge OutOfMemory) tt stops (λ file h. cc)
+  ends_early WriteFailed stops = early Write tt stops (λ file h. cc)
 
 -- a failed write is told as such
 pub wrote : (f : WriteFault) → ◌≡◌ {A = Result (Unit {0}) WriteFault} (Err f) (Err WriteFailed) → from_write f ≡ Write
@@ -77,9 +68,9 @@ no_memory remaining failed old before after =
     ends_early remaining failed old old before after [] (appends_none old) (lacks_end [] [] [] refl) texts (each_tells remaining before) NoMemory
     (inl (none_begins remaining before OutOfMemory))
 
-early : (f : WriteFault) (texts : List (List ℕ)) (logs : List (List Record)) → EndBefore texts (Err (from_write f)) logs
-early NoMemory texts logs = tt
-early WriteFailed texts logs = tt
+no_end_before : (f : WriteFault) (texts : List (List ℕ)) (logs : List (List Record)) → EndBefore texts (Err (from_write f)) logs
+no_end_before NoMemory texts logs = tt
+no_end_before WriteFailed texts logs = tt
 
 -- a write that fails at a record
 pub look_fails : {S : Type 0} (remaining : S → Option (List ℕ)) (failed : S → ℕ) (old mid new : Option (List ℕ)) (before after : List S) (lanes : List Lane) (numbers : List ℕ) (clean : Bool) (merged : List (List Record)) (done : List Entry) (written kept kept_new : List ℕ) (order : List OpId) (on : Bool) (id : OpId) (f : WriteFault)
@@ -89,13 +80,13 @@ look_fails remaining failed old mid new before after lanes numbers clean merged 
     let all : (written ++ w.0) ++ w.1.0 ≡ id_lines (order_where on order id) = joined written kept w.0 w.1.0 (line_where on id) (id_lines order) lines w.1.2 ∙ sym (lines_where on order id) in
     let t = begun_texts remaining failed before after lanes numbers clean merged done m in
     ends_early remaining failed old new before after (written ++ w.0) (appends_more old mid new written w.0 appends w.1.1) (lacks_end (written ++ w.0) w.1.0 (order_where on order id) all) t.0 t.1.0 f
-    (inl (begins_order t.0 (Err (from_write f)) (order_where on order id) merged done lanes (written ++ w.0) w.1.0 shown t.1.1 all (early f t.0 shown.logs)))
+    (inl (begins_order t.0 (Err (from_write f)) (order_where on order id) merged done lanes (written ++ w.0) w.1.0 shown t.1.1 all (no_end_before f t.0 shown.logs)))
 
 -- a set without a verdict, and one with a No
 module _ {S : Type 0} (remaining : S → Option (List ℕ)) (failed : S → ℕ) (old new : Option (List ℕ)) (before after : List S) (lanes : List Lane) (merged : List (List Record)) (done : List Entry) (written kept : List ℕ) (order : List OpId)
     (shown : IsShown order merged done lanes) (appends : Appends old new written) (lines : written ++ kept ≡ id_lines order) where
-  pub settled_fault : (fault : JudgeFault) → (IsBadCount fault → ⊥) → Settles remaining failed before after lanes merged (Err fault) → IsMergedBy remaining failed old new before after (Err (Judge fault))
-  settled_fault fault counts s = record {
+  pub merged_fault : (fault : JudgeFault) → (IsBadCount fault → ⊥) → IsFinalVerdict remaining failed before after lanes merged (Err fault) → IsMergedBy remaining failed old new before after (Err (Judge fault))
+  merged_fault fault counts s = record {
     texts = s.texts;
     tells = s.tells;
     answers = s.answers;
@@ -112,8 +103,8 @@ module _ {S : Type 0} (remaining : S → Option (List ℕ)) (failed : S → ℕ)
       go (Read file) h = begins_order s.texts (Err (Judge (Read file))) order merged done lanes written kept shown s.begun lines tt
       go OutOfMemory h = inl (begins_order s.texts (Err (Judge OutOfMemory)) order merged done lanes written kept shown s.begun lines tt)
 
-  pub settled_no : (fault : FaultParts) → (NoFalls lanes → done ≡ by_key merged) → Settles remaining failed before after lanes merged (Ok (No fault)) → IsMergedBy remaining failed old new before after (Ok (No fault))
-  settled_no fault by_key_is s = record {
+  pub merged_no : (fault : FaultParts) → (NoFalls lanes → done ≡ by_key merged) → IsFinalVerdict remaining failed before after lanes merged (Ok (No fault)) → IsMergedBy remaining failed old new before after (Ok (No fault))
+  merged_no fault by_key_is s = record {
     texts = s.texts;
     tells = s.tells;
     answers = s.answers;
@@ -127,7 +118,7 @@ module _ {S : Type 0} (remaining : S → Option (List ℕ)) (failed : S → ℕ)
 -- a Yes: all records were merged without a fault, and their order is written
 module _ {S : Type 0} (remaining : S → Option (List ℕ)) (failed : S → ℕ) (old mid new : Option (List ℕ)) (before after : List S) (merge : Merge) (merged : List (List Record)) (done : List Entry) (written kept kept_new : List ℕ) (order : List OpId) (count : ℕ)
     (m : HasMerged remaining failed before after merge merged done) (appends : Appends old mid written) (lines : written ++ kept ≡ id_lines order)
-    (s : Settles remaining failed before after merge.lanes.items merged (Ok (Yes count))) (counted : count ≡ length done) (all : merge.clean ≡ true → order ≡ ids done) where
+    (s : IsFinalVerdict remaining failed before after merge.lanes.items merged (Ok (Yes count))) (counted : count ≡ length done) (all : merge.clean ≡ true → order ≡ ids done) where
   steady : merge.clean ≡ true
   steady = go merge.clean refl
     where
@@ -142,8 +133,8 @@ module _ {S : Type 0} (remaining : S → Option (List ℕ)) (failed : S → ℕ)
   long : count ≡ length order
   long = counted ∙ sym (ap length (all steady) ∙ length-map done (λ (e : Entry). e.id))
 
-  pub settled_yes : IsWritten {E = WriteFault} mid new (kept ++ end_line count) (Ok tt) kept_new → kept_new ≡ [] → IsMergedBy remaining failed old new before after (Ok (Yes count))
-  settled_yes w none = record {
+  pub merged_yes : IsWritten {E = WriteFault} mid new (kept ++ end_line count) (Ok tt) kept_new → kept_new ≡ [] → IsMergedBy remaining failed old new before after (Ok (Yes count))
+  merged_yes w none = record {
     texts = s.texts;
     tells = s.tells;
     answers = s.answers;

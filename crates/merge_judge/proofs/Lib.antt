@@ -9,7 +9,7 @@ pub mod Merged
 pub mod WordFacts
 pub mod WritingFacts
 pub mod Opening
-pub mod Settled
+pub mod FinalVerdict
 pub mod Shown
 pub mod MergeSoFar
 pub mod Stopped

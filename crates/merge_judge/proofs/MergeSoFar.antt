@@ -15,7 +15,7 @@ use Rattle.merge_judge.specs.declared.merge.Merge.{Merge}
 use Rattle.merge_judge.specs.OrderText.{LacksEnd, end_line, id_line, id_lines, order_text}
 use Rattle.merge_judge.specs.inner.Judging.{line_where}
 use Rattle.merge_judge.specs.inner.Merging.{HasMerged}
-use Rattle.merge_judge.specs.inner.Words.{Holds, first_along}
+use Rattle.merge_judge.specs.inner.Memory.{Holds, first_along}
 use Rattle.merge_judge.proofs.Added.{entries_few}
 use Rattle.merge_judge.proofs.Shown.{IsShown, ids, order_where}
 use Rattle.merge_judge.proofs.WritingFacts.{end_line_some}

@@ -25,12 +25,12 @@ use Rattle.verdict.specs.Faults.{from_address}
 use Rattle.verdict.specs.VerdictOf.{verdict_of, verdict_with}
 use Rattle.merge_judge.specs.declared.lane.Lane.{Lane}
 use Rattle.merge_judge.specs.inner.Lanes.{IsMerged, IsTaken, add, entry_at, front_list, log_at}
-use Rattle.merge_judge.specs.inner.Words.{first_along}
+use Rattle.merge_judge.specs.inner.Memory.{first_along}
 use Rattle.merge_judge.proofs.Added.{add_here, add_long, add_other}
 use Rattle.merge_judge.proofs.Along.{along_is_least}
 use Rattle.merge_judge.proofs.Falls.{fall_past, never_front}
 use Rattle.merge_judge.proofs.Opening.{no_entries}
-use Rattle.merge_judge.proofs.Settled.{log_there, one, there}
+use Rattle.merge_judge.proofs.FinalVerdict.{log_there, one, there}
 
 abbrev pub ids : List Entry → List OpId
 ids done = map (λ e. e.id) done

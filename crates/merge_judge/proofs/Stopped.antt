@@ -35,7 +35,7 @@ use Rattle.merge_judge.specs.OrderText.{id_lines}
 use Rattle.merge_judge.specs.OpenedLog.{OpenedLog}
 use Rattle.merge_judge.specs.declared.lane.Lane.{Lane}
 use Rattle.merge_judge.specs.inner.Lanes.{IsMerged, IsStage, NoFalls, front_list, log_at}
-use Rattle.merge_judge.specs.inner.Settling.{AreBegun, IsFaultIn}
+use Rattle.merge_judge.specs.inner.FinalVerdict.{AreBegun, IsFaultIn}
 use Rattle.log_file.specs.Log.{Spells}
 use Rattle.merge_judge.proofs.Along.{after_is_fault}
 use Rattle.merge_judge.proofs.Begins.{begins_front, begins_whole}
@@ -43,7 +43,7 @@ use Rattle.merge_judge.proofs.Falls.{fall_left}
 use Rattle.merge_judge.proofs.Following.{begun_text}
 use Rattle.merge_judge.proofs.MergeSoFar.{front_of}
 use Rattle.merge_judge.proofs.Opening.{no_entries, none_there, replicate_long}
-use Rattle.merge_judge.proofs.Settled.{gather, log_there, one, tell_each, there}
+use Rattle.merge_judge.proofs.FinalVerdict.{gather, log_there, one, tell_each, there}
 use Rattle.merge_judge.proofs.Shown.{IsShown, none_yes, yes_where}
 
 -- what is written of the ids that are shown

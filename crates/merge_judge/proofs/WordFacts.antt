@@ -1,5 +1,5 @@
 -- The words of memory along an order of records.
-use Rattle.std.specs.Prelude.{◌≡◌, ℕ, ◌<◌, Bool, true, false, cond, ◌&&◌, ◌==◌, if◌then◌else◌, List, [], ◌∷◌, ◌++◌, refl, Option, Some, None, find, slice_get, slice_index, slice_set, length}
+use Rattle.std.specs.Prelude.{◌≡◌, ℕ, ◌<◌, Bool, true, false, cond, ◌&&◌, ◌==◌, List, [], ◌∷◌, ◌++◌, refl, Option, Some, find, slice_get, slice_index, slice_set, length}
 use Rattle.std.proofs.Common.{sym, ◌∙◌, ap, subst, inl, inr, arith, length-set, get_or}
 use Rattle.std.proofs.lemmas.Bool.{cases_eq, eq-eqb, ne_eqb}
 use Rattle.std.proofs.lemmas.List.{get_or-set_same, get_or-set_other, reverse-append, get_or_read}
@@ -9,23 +9,9 @@ use Rattle.mem_op.specs.declared.id.Source.{Source}
 use Rattle.mem_op.specs.declared.id.Source.TheVariants.{Init, Store as From}
 use Rattle.log_record.specs.declared.record.Entry.{Entry}
 use Rattle.log_record.specs.declared.act.Act.TheVariants.{Load, Swap}
-use Rattle.address_check.specs.declared.fault.AddressRule.TheVariants.{Source as WrongSource, Value as WrongValue}
-use Rattle.address_check.specs.AddressFaults.{is_store, is_source, value_from, broken_rule, fault_by, act_fault}
-use Rattle.merge_judge.specs.inner.Words.{Holds, broken_by, fault_after, is_same_source, last_store_to, source_from}
+use Rattle.address_check.specs.AddressFaults.{is_store, source_from, value_from, broken_by, broken_rule, fault_by, act_fault}
+use Rattle.merge_judge.specs.inner.Memory.{Holds, fault_after, last_store_to}
 use Rattle.verdict.proofs.Lists.{set_here, set_elsewhere}
-
--- ---- what a load breaks by the word of its address
-
-same_source : (source : Source) (right : Option Entry) → is_same_source source (source_from right) ≡ is_source source right
-same_source Init None = refl
-same_source Init (Some e) = refl
-same_source (From id) None = refl
-same_source (From id) (Some e) = refl
-
-broken : (source : Source) (value : ℕ) (right : Option Entry) → broken_by source value (source_from right) (value_from right) ≡ broken_rule source value right
-broken source value right = ap (λ b. if b then (if value == value_from right then None else Some WrongValue) else Some WrongSource) (same_source source right)
-
--- ---- the words
 
 abbrev pub stores_to : ℕ → Entry → Bool
 stores_to addr e = is_store e.logged.act && (e.logged.addr == addr)
@@ -84,7 +70,6 @@ read_by_words values sources done e addr word source read from at within h v f =
     let origin : from ≡ source_from right = cc in
     ap (λ x. fault_by e (broken_by source read from x)) value
     ∙ ap (λ x. fault_by e (broken_by source read x (value_from right))) origin
-    ∙ ap (fault_by e) (broken source read right)
 
 -- what is found at a load
 pub load_by_words : (values : List ℕ) (sources : List Source) (done : List Entry) (e : Entry) (addr word : ℕ) (source from : Source) → e.logged.act ≡ Load source → addr ≡ e.logged.addr → addr < 65536 → Holds values sources done → word ≡ get_or values addr word → from ≡ get_or sources addr from → fault_by e (broken_by source e.logged.value from word) ≡ fault_after done e

@@ -3,7 +3,7 @@ use Rattle.std.specs.Prelude.{ℕ, ◌<◌, List, [], ◌∷◌, ◌++◌, refl,
 use Rattle.std.proofs.Common.{sym, ap, arith, append-nil, length-append, length-drop}
 use Rattle.std.proofs.lemmas.List.{take-append-drop}
 use Rattle.std.specs.Io.KnownBytes.{Appends}
-use Rattle.std.specs.Fmt.{decimal}
+use Rattle.mem_op.specs.Texts.{id_text}
 use Rattle.mem_op.specs.declared.id.OpId.{OpId}
 use Rattle.merge_judge.specs.OrderText.{id_line, end_line}
 use Rattle.merge_judge.specs.inner.Writing.{IsWritten}
@@ -27,7 +27,7 @@ some_behind : (xs ys : List ℕ) (y : ℕ) → 0 < length (xs ++ y ∷ ys)
 some_behind xs ys y = omega (arith, length-append xs (y ∷ ys))
 
 pub id_line_some : (id : OpId) → 0 < length (id_line id)
-id_line_some id = some_behind (decimal id.core) (decimal id.index ++ 10 ∷ []) 46
+id_line_some id = some_behind (id_text id) [] 10
 
 pub end_line_some : (count : ℕ) → 0 < length (end_line count)
 end_line_some count = omega arith

@@ -1,10 +1,7 @@
--- How the numbers of fronts are kept.
-use Rattle.std.specs.Prelude.{◌<◌, ◌≤◌, ℕ, List, length}
-use Rattle.merge_judge.specs.declared.fronts.Fronts.TheInside.{Inside}
+-- How a tournament keeps its numbers.
+use Rattle.std.specs.Prelude.{◌<◌, ◌≤◌, length}
+use Rattle.merge_judge.specs.declared.tournament.Tournament.TheInside.{Inside}
 use Rattle.merge_judge.specs.inner.Matches.{ArePlayed}
-
-abbrev pub numbers_of : Inside → List ℕ
-numbers_of a = a.numbers.items
 
 pub record IsTree (a : Inside) : Type 0 where
   pub some : 0 < length a.numbers.items

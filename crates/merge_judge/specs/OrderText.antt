@@ -2,11 +2,12 @@
 use Rattle.std.specs.Prelude.{◌≡◌, ℕ, ◌<◌, List, [], ◌∷◌, ◌++◌, codes, length, take}
 use Rattle.std.specs.Fmt.{decimal}
 use Rattle.std.specs.List.{flat_map}
+use Rattle.mem_op.specs.Texts.{id_text}
 use Rattle.mem_op.specs.declared.id.OpId.{OpId}
 
 -- the line of an id, as `1.0`
 abbrev pub id_line : OpId → List ℕ
-id_line id = decimal id.core ++ (codes "." ++ (decimal id.index ++ 10 ∷ []))
+id_line id = id_text id ++ 10 ∷ []
 
 abbrev pub id_lines : List OpId → List ℕ
 id_lines order = flat_map id_line order

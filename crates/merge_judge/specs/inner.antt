@@ -4,6 +4,6 @@ pub mod Judging
 pub mod Lanes
 pub mod Matches
 pub mod Merging
-pub mod Settling
-pub mod Words
+pub mod FinalVerdict
+pub mod Memory
 pub mod Writing

@@ -2,7 +2,7 @@
 
 ghost use Rattle.std.specs.Prelude.{◌≡◌, ◌↔◌, ◌<◌, ◌≤◌, ◌∷◌, ◌++◌, ◌&&◌, ℕ, List, [], None, length, is_none, IfErr, IfSome, IsErrOf};
 ghost use Rattle.std.specs.Io.KnownBytes.{Appends};
-ghost use Rattle.log_file.specs.Devices.{Failed};
+ghost use Rattle.log_file.specs.Devices.{TellsFailure};
 ghost use Rattle.log_file.specs.Sets.{ReaderFailed, TellEach};
 ghost use Rattle.verdict.specs.Counts.{IsOutOfRange};
 ghost use Rattle.verdict.specs.Judgement.{IsAnswerTo};
@@ -14,13 +14,13 @@ ghost use Rattle.merge_judge.specs.Begun.{StopsBefore};
 ghost use Rattle.std.specs.Option.{option_or};
 ghost use Rattle.log_record.specs.declared.record.Entry.{Entry};
 ghost use Rattle.merge_judge.specs.inner.Judging.{IsMergedBy, IsNoCount, line_where};
-ghost use Rattle.merge_judge.specs.inner.Words.{Holds, fault_after};
+ghost use Rattle.merge_judge.specs.inner.Memory.{Holds, fault_after};
 ghost use Rattle.merge_judge.specs.inner.Writing.{IsWritten};
 
 use super::merge::Merge;
 use super::merge_fault::MergeFault;
 use super::order_text::OrderText;
-use super::words::Words;
+use super::sourced_memory::SourcedMemory;
 use address_check::AddressFault;
 use log_file::{ByteSink, ByteSource, WriteFault};
 use log_record::Entry;
@@ -31,7 +31,7 @@ use verdict::{Verdict, check_counts};
 fn look<W: ByteSink>(
     entry: &Entry,
     clean: bool,
-    words: &mut Words,
+    words: &mut SourcedMemory,
     fault: &mut Option<AddressFault>,
     order: &mut OrderText,
     order_out: &mut W,
@@ -48,10 +48,8 @@ fn look<W: ByteSink>(
         → fault.new ≡ option_or fault.old (fault_after done entry.now) }
     ensures written { IsWritten (W.contents order_out.old) (W.contents order_out.new)
         (order.old ++ line_where (is_none fault.new && clean) entry.now.id) result order.new }
-    ensures failed { IsErrOf result WriteFault.Write
-        → Failed (W.failed order_out.old) (W.failed order_out.new) }
-    ensures quiet { ¬ IsErrOf result WriteFault.Write
-        → W.failed order_out.new ≡ W.failed order_out.old }
+    ensures failures { TellsFailure (IsErrOf result WriteFault.Write)
+        (W.failed order_out.old) (W.failed order_out.new) }
 {
     if fault.is_some() {
         return Ok(());
@@ -77,11 +75,10 @@ fn merged<S: ByteSource, W: ByteSink>(
     ensures counted { IfErr result IsNoCount }
     ensures exact { IsMergedBy S.remaining S.failed (W.contents order_out.old) (W.contents order_out.new)
         readers.old readers.new result }
-    ensures failed { IsErrOf result Write → Failed (W.failed order_out.old) (W.failed order_out.new) }
-    ensures quiet { ¬ IsErrOf result Write → W.failed order_out.new ≡ W.failed order_out.old }
+    ensures failures { TellsFailure (IsErrOf result Write) (W.failed order_out.old) (W.failed order_out.new) }
 {
     let mut merge = Merge::new(alloc, readers)?;
-    let mut words = Words::new(alloc)?;
+    let mut words = SourcedMemory::new(alloc)?;
     let mut order = OrderText::new(alloc)?;
     let mut fault = None;
     let mut count: usize = 0;
@@ -90,7 +87,7 @@ fn merged<S: ByteSource, W: ByteSink>(
         look(&entry, clean, &mut words, &mut fault, &mut order, order_out)?;
         count += 1;
     }
-    match merge.settle(readers, fault, count)? {
+    match merge.final_verdict(readers, fault, count)? {
         Verdict::No(fault) => Ok(Verdict::No(fault)),
         Verdict::Yes(count) => {
             order.end(order_out, count as u64)?;
@@ -120,24 +117,19 @@ pub fn merge_judge<S: ByteSource, W: ByteSink>(
     ensures unread { IsErrOf result (Judge (BadConfig Files)) → readers.new ≡ readers.old }
     ensures workers { ¬ IsErrOf result (Judge (BadConfig Workers)) }
     ensures programs { ¬ IsErrOf result (Judge (BadConfig Programs)) }
-    // The readers tell texts, and where no write failed the answer is that of the judge to these.
-    // With a Yes the writer took the text of an order by which the set is consistent; else what it took
-    // lacks the `end` line.
-    ensures exact { (texts : List (List ℕ)) × (TellEach S.remaining readers.old texts
+    // The readers tell texts, and where no write failed the answer is that of the judge to these. With a Yes
+    // the writer took the text of an order by which the set is consistent; else what it took lacks the `end`
+    // line, and the ids in it are, in the order of keys, the first of records with which the texts begin and
+    // to which the verdict is Yes. All of these come before the next record of each text that has more, and
+    // before the fault. After 6 it took nothing.
+    ensures exact { (texts : List (List ℕ)) × TellEach S.remaining readers.old texts
         × IfSome (judged result) (IsAnswerTo texts)
         × ((written : List ℕ) × Appends (W.contents order_out.old) (W.contents order_out.new) written
-        × WritesOrder texts result written)) }
-    // Without a Yes the ids that it took are, in the order of keys, the first of records with which the
-    // texts begin and to which the verdict is Yes. All of these come before the next record of each text
-    // that has more, and before the fault. After 6 it took nothing.
-    ensures stops { (texts : List (List ℕ)) × (TellEach S.remaining readers.old texts
-        × ((written : List ℕ) × Appends (W.contents order_out.old) (W.contents order_out.new) written
-        × StopsBefore texts result written)) }
+        × WritesOrder texts result written × StopsBefore texts result written) }
     ensures read { IfErr result (λ fault. (file : ℕ) → fault ≡ Judge (Read file)
         → ReaderFailed S.failed readers.old readers.new file) }
     // A failed write is answered only where the writer failed in this call, and none is passed over.
-    ensures failed { IsErrOf result Write → Failed (W.failed order_out.old) (W.failed order_out.new) }
-    ensures quiet { ¬ IsErrOf result Write → W.failed order_out.new ≡ W.failed order_out.old }
+    ensures failures { TellsFailure (IsErrOf result Write) (W.failed order_out.old) (W.failed order_out.new) }
 {
     check_counts(readers.len(), 1)?;
     merged(alloc, readers, order_out)

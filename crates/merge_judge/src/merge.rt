@@ -6,8 +6,8 @@ ghost use Rattle.log_record.specs.declared.record.Entry.{Entry};
 ghost use Rattle.merge_judge.specs.inner.Lanes.{AllEnded, IsFrontNumber, IsTaken, add};
 ghost use Rattle.merge_judge.specs.inner.Merging.{HasMerged, IsMerging, none_of};
 
-use super::fronts::Fronts;
 use super::lane::Lane;
+use super::tournament::Tournament;
 use log_file::ByteSource;
 use log_record::{Entry, Record};
 use mem_op::{CoreId, OpId, OpIndex};
@@ -19,7 +19,7 @@ pub(crate) struct Merge {
     /// The logs, one a core.
     pub(crate) lanes: Vec<Lane>,
     /// The numbers of their fronts.
-    pub(crate) fronts: Fronts,
+    pub(crate) fronts: Tournament,
     /// Whether no fault was found in any of them.
     pub(crate) clean: bool,
 }
@@ -53,24 +53,12 @@ impl Merge {
         let mut numbers = Vec::new(alloc);
         let mut clean = true;
         for (core, reader) in readers.iter_mut().enumerate() {
-            let Lane {
-                log,
-                front,
-                merged,
-                falls,
-                fault,
-            } = Lane::new(alloc, CoreId::at(core), cores, reader)?;
-            clean = clean && fault.is_none();
-            numbers.push(front_number(&front, core))?;
-            lanes.push(Lane {
-                log,
-                front,
-                merged,
-                falls,
-                fault,
-            })?;
+            let lane = Lane::new(alloc, CoreId::at(core), cores, reader)?;
+            clean = clean && lane.fault.is_none();
+            numbers.push(front_number(&lane.front, core))?;
+            lanes.push(lane)?;
         }
-        let fronts = Fronts::new(alloc, numbers)?;
+        let fronts = Tournament::new(alloc, numbers)?;
         Ok(Merge {
             lanes,
             fronts,

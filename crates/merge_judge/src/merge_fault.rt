@@ -5,6 +5,7 @@ ghost use Rattle.verdict.specs.declared.judge_fault.JudgeFault.TheVariants.{OutO
 ghost use Rattle.merge_judge.specs.declared.merge_fault.MergeFault.TheVariants.{Judge};
 ghost use Rattle.merge_judge.specs.WriteFaults.{from_write};
 
+use fault_names::FaultName;
 use log_file::WriteFault;
 use std::alloc::AllocError;
 use std::fmt;
@@ -30,7 +31,7 @@ impl Display for MergeFault {
     fn fmt<W: fmt::Write>(&self, f: &mut fmt::Formatter<W>) -> fmt::Result {
         match self {
             MergeFault::Judge(fault) => write!(f, "{}", fault),
-            MergeFault::Write => f.write_str("output: 29 Write"),
+            MergeFault::Write => write!(f, "output: {}", FaultName::Write),
         }
     }
 }

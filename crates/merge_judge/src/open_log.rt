@@ -14,7 +14,7 @@ use std::alloc::{AllocError, Global};
 use std::marker::Model;
 
 /// The most bytes of a file that are read at once.
-const PIECE: usize = 65_536;
+const LOG_PIECE_BYTES: usize = 65_536;
 
 /// The log of one core, whose file is read in pieces as records are asked for.
 #[derive(Drop)]
@@ -43,7 +43,7 @@ impl Model for OpenLog {
 fn room(alloc: Global) -> Result<Vec<u8>, AllocError>
     ensures { IfOk result (λ piece. 0 < length piece.items) }
 {
-    vec![in alloc; 0u8; PIECE]
+    vec![in alloc; 0u8; LOG_PIECE_BYTES]
 }
 
 impl OpenLog {
@@ -107,6 +107,8 @@ impl OpenLog {
             Failed (S.failed source.old) (S.failed source.new) }
         ensures quiet { ¬ IsErrOf result LogFault.Read → S.failed source.new ≡ S.failed source.old }
     {
+        // The proof alone looks at this count: each read but the last gives a byte, and a log has fewer than
+        // 2^27 of them, so the loop ends.
         let mut reads: usize = 0;
         loop {
             let logged = self.take()?;

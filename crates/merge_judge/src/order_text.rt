@@ -2,7 +2,7 @@
 
 ghost use Rattle.std.specs.Prelude.{◌≡◌, ◌++◌, ℕ, List, [], IfOk, IsErrOf, OnOk, string_bytes};
 ghost use Rattle.std.specs.Io.KnownBytes.{Appends};
-ghost use Rattle.log_file.specs.Devices.{Failed};
+ghost use Rattle.log_file.specs.Devices.{TellsFailure};
 ghost use Rattle.merge_judge.specs.OrderText.{end_line, id_line};
 ghost use Rattle.merge_judge.specs.inner.Writing.{IsWritten};
 
@@ -12,7 +12,7 @@ use std::alloc::{AllocError, Global};
 use std::marker::Model;
 
 /// How many bytes are written at once, or a line more.
-const PIECE: usize = 65_536;
+const ORDER_PIECE_BYTES: usize = 65_536;
 
 /// The lines of an order that weren't written yet.
 #[derive(Drop)]
@@ -32,8 +32,7 @@ impl Model for OrderText {
 fn push_id(text: &mut String, id: OpId) -> Result<(), AllocError>
     ensures { OnOk result (string_bytes text.new ≡ string_bytes text.old ++ id_line id) }
 {
-    let (core, index) = (id.core.get(), id.index.get());
-    writeln!(text, "{core}.{index}")
+    writeln!(text, "{id}")
 }
 
 /// Puts the last line behind a text.
@@ -49,7 +48,7 @@ impl OrderText {
         ensures { IfOk result (λ order. order ≡ []) }
     {
         Ok(OrderText {
-            text: String::with_capacity(alloc, PIECE)?,
+            text: String::with_capacity(alloc, ORDER_PIECE_BYTES)?,
         })
     }
 
@@ -57,8 +56,7 @@ impl OrderText {
     fn flush<W: ByteSink>(&mut self, out: &mut W) -> Result<(), WriteFault>
         ensures lines { OnOk result (self.new ≡ []) }
         ensures written { IsWritten (W.contents out.old) (W.contents out.new) self.old result [] }
-        ensures failed { IsErrOf result WriteFault.Write → Failed (W.failed out.old) (W.failed out.new) }
-        ensures quiet { ¬ IsErrOf result WriteFault.Write → W.failed out.new ≡ W.failed out.old }
+        ensures failures { TellsFailure (IsErrOf result WriteFault.Write) (W.failed out.old) (W.failed out.new) }
     {
         write_all(out, self.text.as_bytes())?;
         self.text.clear();
@@ -69,11 +67,10 @@ impl OrderText {
     pub(crate) fn add<W: ByteSink>(&mut self, out: &mut W, id: OpId) -> Result<(), WriteFault>
         ensures written { IsWritten (W.contents out.old) (W.contents out.new) (self.old ++ id_line id)
             result self.new }
-        ensures failed { IsErrOf result WriteFault.Write → Failed (W.failed out.old) (W.failed out.new) }
-        ensures quiet { ¬ IsErrOf result WriteFault.Write → W.failed out.new ≡ W.failed out.old }
+        ensures failures { TellsFailure (IsErrOf result WriteFault.Write) (W.failed out.old) (W.failed out.new) }
     {
         push_id(&mut self.text, id)?;
-        if self.text.len() < PIECE {
+        if self.text.len() < ORDER_PIECE_BYTES {
             return Ok(());
         }
         self.flush(out)
@@ -83,8 +80,7 @@ impl OrderText {
     pub(crate) fn end<W: ByteSink>(mut self, out: &mut W, count: u64) -> Result<(), WriteFault>
         ensures written { IsWritten (W.contents out.old) (W.contents out.new) (self ++ end_line count)
             result [] }
-        ensures failed { IsErrOf result WriteFault.Write → Failed (W.failed out.old) (W.failed out.new) }
-        ensures quiet { ¬ IsErrOf result WriteFault.Write → W.failed out.new ≡ W.failed out.old }
+        ensures failures { TellsFailure (IsErrOf result WriteFault.Write) (W.failed out.old) (W.failed out.new) }
     {
         push_end(&mut self.text, count)?;
         self.flush(out)

@@ -81,7 +81,7 @@ impl PrivateCache {
     }
 
     // The address, which is there, gets this line, and the order of use stays.
-    fn settle(&mut self, addr: Addr, held: &Held)
+    fn replace_line(&mut self, addr: Addr, held: &Held)
         requires { IsSome (line_at self.old addr) }
         ensures { self.new ≡ kept self.old addr held.now }
     {
@@ -178,15 +178,10 @@ impl PrivateCache {
             (λ store. (store ≡ store_answer addr held hit) × (hit_fault hit ≡ None))
             (λ fault. hit_fault hit ≡ Some fault) }
     {
-        let held = self.line(addr);
-        let Some(Held::Exclusive { modified, line }) = held else {
-            return Ok(Store::Miss(Message::ExReq {
-                addr,
-                copy: copy_of(held),
-            }));
-        };
-        let (stamp, rank) = store_time(*modified, line.stamps(), pts, r)?;
-        Ok(Store::Hit { stamp, rank })
+        match self.peek_swap(addr, pts, r)? {
+            Swap::Hit { stamp, rank, .. } => Ok(Store::Hit { stamp, rank }),
+            Swap::Miss(request) => Ok(Store::Miss(request)),
+        }
     }
 
     /// Stores a word at `addr` for a core of stamp `pts` and rank `r`; `id` is the store's own. A
@@ -378,7 +373,7 @@ impl PrivateCache {
     {
         let message = self.peek_recall(recall, lease)?;
         match &message {
-            Some(Message::WbRep { addr, line }) => self.settle(*addr, &Held::Shared(*line)),
+            Some(Message::WbRep { addr, line }) => self.replace_line(*addr, &Held::Shared(*line)),
             Some(_) => {
                 let _ = self.take_out(recall.addr);
             }

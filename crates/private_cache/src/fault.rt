@@ -1,5 +1,6 @@
 //! Why a reply isn't filled in.
 
+use fault_names::FaultName;
 use std::fmt;
 use std::fmt::Display;
 use thiserror::Error;
@@ -21,8 +22,8 @@ impl Display for FillFault {
 
     fn fmt<W: fmt::Write>(&self, f: &mut fmt::Formatter<W>) -> fmt::Result {
         match self {
-            FillFault::OutOfMemory => f.write_str("10 OutOfMemory"),
-            FillFault::BadReply => f.write_str("14 BadReply"),
+            FillFault::OutOfMemory => write!(f, "{}", FaultName::OutOfMemory),
+            FillFault::BadReply => write!(f, "{}", FaultName::BadReply),
         }
     }
 }

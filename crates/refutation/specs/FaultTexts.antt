@@ -1,9 +1,11 @@
 -- The text of a fault: the line where there is one, a number and a name.
 use Rattle.std.specs.Prelude.{ℕ, List, ◌++◌, codes}
 use Rattle.std.specs.Fmt.{decimal}
+use Rattle.fault_names.specs.Names.{name_text}
+use Rattle.fault_names.specs.declared.fault_name.FaultName.TheVariants as named
 use Rattle.refutation.specs.declared.fault.CertificateFault.{CertificateFault}
 use Rattle.refutation.specs.declared.fault.CertificateFault.TheVariants.{BadCertificate, OutOfMemory}
 
 abbrev pub fault_text : CertificateFault → List ℕ
-fault_text (BadCertificate line) = codes "line " ++ (decimal line ++ codes ": 43 BadCertificate")
-fault_text OutOfMemory = codes "10 OutOfMemory"
+fault_text (BadCertificate line) = codes "line " ++ (decimal line ++ (codes ": " ++ name_text named.BadCertificate))
+fault_text OutOfMemory = name_text named.OutOfMemory

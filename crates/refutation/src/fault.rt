@@ -3,6 +3,7 @@
 ghost use Rattle.std.specs.Prelude.{◌≡◌};
 ghost use Rattle.refutation.specs.declared.fault.CertificateFault.TheVariants.{OutOfMemory};
 
+use fault_names::FaultName;
 use std::alloc::{AllocError, AllocFailed};
 use std::fmt;
 use std::fmt::Display;
@@ -27,9 +28,10 @@ impl Display for CertificateFault {
         match self {
             CertificateFault::BadCertificate { line } => write!(
                 f,
-                "line {line}: 43 BadCertificate"
+                "line {line}: {}",
+                FaultName::BadCertificate
             ),
-            CertificateFault::OutOfMemory => f.write_str("10 OutOfMemory"),
+            CertificateFault::OutOfMemory => write!(f, "{}", FaultName::OutOfMemory),
         }
     }
 }

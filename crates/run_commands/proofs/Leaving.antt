@@ -30,7 +30,7 @@ use Rattle.simulation.proofs.Ended.{simulated_ended}
 use Rattle.simulation.proofs.SimulatedRuns.{simulated_run}
 use Rattle.command_line.specs.declared.request.Run.{Run as AskedRun}
 use Rattle.command_line.specs.declared.request.Sim.{Sim as AskedSim}
-use Rattle.litmus.proofs.Judged.{spell_push}
+use Rattle.litmus_outcome.proofs.Judged.{spell_push}
 use Rattle.call_devices.specs.Files.{Files}
 use Rattle.run_commands.specs.Leaving.{AreLogTexts, LeavesYes}
 use Rattle.call_devices.specs.Logs.{TellsFirst, log_name}

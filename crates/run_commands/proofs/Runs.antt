@@ -1,9 +1,8 @@
 -- How a run ends after its simulation.
-use Rattle.std.proofs.Common.{◌≡◌, ℕ, List, length, subst}
+use Rattle.std.proofs.Common.{◌≡◌, ℕ, List, length, subst, inl, inr}
 use Rattle.std.specs.Prelude.{Option, None, Ok, Err}
 use Rattle.command_line.specs.declared.request.Sim.{Sim}
 use Rattle.lease_rule.specs.Ranges.{first_bad}
-use Rattle.core_program.specs.declared.instruction.Instruction.{Instruction}
 use Rattle.core_program.specs.SetParts.{SetParts}
 use Rattle.schedule.specs.declared.command.Command.{Command}
 use Rattle.simulation.specs.Simulating.{IsSimulated, IsSimulationFault}
@@ -12,13 +11,13 @@ use Rattle.core_machine.specs.Opening.{opening_parts}
 use Rattle.core_machine.specs.Parts.{CoreParts, world}
 use Rattle.core_machine.specs.Works.{log_at}
 use Rattle.call_devices.specs.Files.{Files, IsUnread}
-use Rattle.call_devices.specs.declared.logs_fault.LogsFault.{LogsFault}
+use Rattle.call_devices.specs.declared.call_fault.CallFault.{CallFault}
 use Rattle.call_devices.specs.Logs.{ArePut, ArePutAsFar, ArePutUpTo, IsUnwritten, performed_below}
 use Rattle.call_devices.specs.Programs.{AreProgramsIn}
 use Rattle.run_commands.specs.Programmed.{config_of, log_format}
 use Rattle.run_commands.specs.Simulating.{AreCommandsOf, IsRun, IsUnscheduled}
 use Rattle.run_commands.specs.declared.fault.RunningFault.{RunningFault}
-use Rattle.run_commands.specs.declared.fault.RunningFault.TheVariants.{Config, Programs, Schedule, ScheduleUnread, Simulation, Run, Test, TestUnread, Collect, Logs, Output, OutOfMemory}
+use Rattle.run_commands.specs.declared.fault.RunningFault.TheVariants.{Schedule, ScheduleUnread, Simulation, Call}
 
 module _ (old new : Files) (unread : List ℕ → Type 0) (asked : Sim) (set : SetParts) (commands : List Command) (q : CoreParts)
     (sound : first_bad (config_of asked.limits) ≡ None) (read : AreProgramsIn old.told asked.programs.now set)
@@ -32,9 +31,9 @@ module _ (old new : Files) (unread : List ℕ → Type 0) (asked : Sim) (set : S
         → ArePut (log_format set.format) old new asked.out.now (length set.programs) (log_at (world q)) → IsRun old new unread asked (Ok count)
     ended count counted put = (sound, set, read, (commands, parsed, (q, simulated, (counted, put))))
 
-    pub not_written : (fault : LogsFault) → IsUnwritten (ArePutUpTo (log_format set.format) old new asked.out.now (length set.programs) (log_at (world q))) fault
-        → IsRun old new unread asked (Err (Logs fault))
-    not_written fault unwritten = (sound, set, read, (commands, parsed, (q, simulated, unwritten)))
+    pub not_written : (fault : CallFault) → IsUnwritten (ArePutUpTo (log_format set.format) old new asked.out.now (length set.programs) (log_at (world q))) fault
+        → IsRun old new unread asked (Err (Call fault))
+    not_written fault unwritten = inr (inr (sound, set, read, (commands, parsed, (q, simulated, unwritten))))
 
 -- there is no schedule
 pub unscheduled : {S : Type 0} (remaining : S → Option (List ℕ)) (failed : S → ℕ) (old now new : Files) (asked : Sim) (set : SetParts) (fault : RunningFault) → first_bad (config_of asked.limits) ≡ None
@@ -46,13 +45,5 @@ unscheduled remaining failed old now new asked set fault sound read same why =
     go : (fault : RunningFault) → IsUnscheduled old.told (IsUnread remaining failed old new) asked.schedule (length set.programs) fault → IsRun old new (IsUnread remaining failed old new) asked (Err fault)
     go (Schedule reason) why = (sound, set, read, why)
     go ScheduleUnread why = (sound, set, read, why)
-    go OutOfMemory why = tt
-    go (Config reason) why = absurd why
-    go (Programs reason) why = absurd why
-    go (Simulation reason) why = absurd why
-    go (Run reason) why = absurd why
-    go (Test reason) why = absurd why
-    go TestUnread why = absurd why
-    go (Collect reason) why = absurd why
-    go (Logs reason) why = absurd why
-    go Output why = absurd why
+    go (Call reason) why = inl why
+    go other why = absurd why

@@ -1,5 +1,5 @@
 -- How a run in threads ends.
-use Rattle.std.proofs.Common.{◌≡◌, ◌⊎◌, ℕ, List, [], length, sym, subst}
+use Rattle.std.proofs.Common.{◌≡◌, ◌⊎◌, ℕ, List, [], length, sym, subst, inr}
 use Rattle.std.specs.Prelude.{None, Ok, Err}
 use Rattle.command_line.specs.declared.request.Run.{Run as Asked}
 use Rattle.lease_rule.specs.Ranges.{first_bad}
@@ -11,18 +11,18 @@ use Rattle.audit.specs.Runs.{IsRun, IsUnitLog, StoppedShort, kept_log}
 use Rattle.audit.specs.declared.machine_fault.Cause.{Cause}
 use Rattle.audit.specs.declared.machine_fault.Cause.TheVariants.{GaveUp, Stopped}
 use Rattle.machine.specs.Runs.{IsMachineRun}
-use Rattle.audit.specs.declared.run_fault.RunFault.{RunFault}
+use Rattle.audit.specs.declared.threads_fault.ThreadsFault.{ThreadsFault}
 use Rattle.call_devices.specs.Files.{Files}
-use Rattle.call_devices.specs.declared.logs_fault.LogsFault.{LogsFault}
+use Rattle.call_devices.specs.declared.call_fault.CallFault.{CallFault}
 use Rattle.call_devices.specs.Logs.{ArePut, ArePutAsFar, ArePutUpTo, IsUnwritten, performed_below}
 use Rattle.call_devices.specs.Programs.{AreProgramsIn}
 use Rattle.run_commands.specs.Programmed.{config_of, log_format}
 use Rattle.run_commands.specs.Running.{AreLeft, IsThreadRun}
-use Rattle.run_commands.specs.declared.fault.RunningFault.TheVariants.{Logs, Run}
+use Rattle.run_commands.specs.declared.fault.RunningFault.TheVariants.{Call, Run}
 
 module _ (old new : Files) (unread : List ℕ → Type 0) (asked : Asked) (set : SetParts) (us : List UnitParts)
     (sound : first_bad (config_of asked.limits) ≡ None) (read : AreProgramsIn old.told asked.programs.now set) where
-  pub left : (fault : RunFault) → AreLeft set.programs fault us → ArePutAsFar (log_format set.format) old new asked.out.now (length set.programs) (kept_log us)
+  pub left : (fault : ThreadsFault) → AreLeft set.programs fault us → ArePutAsFar (log_format set.format) old new asked.out.now (length set.programs) (kept_log us)
       → IsThreadRun old new unread asked (Err (Run fault))
   left fault are far = (sound, set, read, (us, are, far))
 
@@ -31,12 +31,12 @@ module _ (old new : Files) (unread : List ℕ → Type 0) (asked : Asked) (set :
         → ArePut (log_format set.format) old new asked.out.now (length set.programs) (kept_log us) → IsThreadRun old new unread asked (Ok count)
     whole count counted put = (sound, set, read, (us, ss, is, events, (counted, put)))
 
-    pub not_written : (fault : LogsFault) → IsUnwritten (ArePutUpTo (log_format set.format) old new asked.out.now (length set.programs) (kept_log us)) fault
-        → IsThreadRun old new unread asked (Err (Logs fault))
-    not_written fault unwritten = (sound, set, read, (us, ss, is, events, unwritten))
+    pub not_written : (fault : CallFault) → IsUnwritten (ArePutUpTo (log_format set.format) old new asked.out.now (length set.programs) (kept_log us)) fault
+        → IsThreadRun old new unread asked (Err (Call fault))
+    not_written fault unwritten = inr (inr (sound, set, read, (us, ss, is, events, unwritten)))
 
 -- what the units of a fault are, told of the fault
-pub left_by : (programs : List (List Instruction)) (fault : RunFault) (core : ℕ) (cause : Cause) (us vs : List UnitParts) → fault.core ≡ core → fault.cause ≡ cause → us ≡ vs
+pub left_by : (programs : List (List Instruction)) (fault : ThreadsFault) (core : ℕ) (cause : Cause) (us vs : List UnitParts) → fault.core ≡ core → fault.cause ≡ cause → us ≡ vs
     → ((c : ℕ) → IsUnitLog c (kept_log vs c) ⊎ (kept_log vs c ≡ []))
     → (((cause ≡ GaveUp) ⊎ (cause ≡ Stopped)) → StoppedShort programs vs core) → AreLeft programs fault us
 left_by programs fault core cause us vs of_core of_cause same logs short = record {

@@ -1,21 +1,21 @@
 -- What the running of programs in threads answers.
-use Rattle.std.specs.Prelude.{◌≡◌, ◌⊎◌, ⊤, ℕ, List, [], length, None, Some, Result, Ok, Err}
+use Rattle.std.specs.Prelude.{◌≡◌, ◌⊎◌, ℕ, List, [], length, None, Some, Result, Ok, Err}
 use Rattle.command_line.specs.declared.request.Run.{Run}
 use Rattle.lease_rule.specs.Ranges.{first_bad}
 use Rattle.core_program.specs.declared.instruction.Instruction.{Instruction}
-use Rattle.core_program.specs.SetParts.{SetParts}
 use Rattle.manager_slice.specs.Parts.{SliceParts}
 use Rattle.core_unit.specs.Parts.{UnitParts}
 use Rattle.audit.specs.Runs.{IsRun, IsUnitLog, StoppedShort, kept_log}
 use Rattle.audit.specs.declared.machine_fault.Cause.TheVariants.{GaveUp, Stopped}
 use Rattle.machine.specs.Runs.{IsMachineRun}
-use Rattle.audit.specs.declared.run_fault.RunFault.{RunFault}
+use Rattle.audit.specs.declared.threads_fault.ThreadsFault.{ThreadsFault}
 use Rattle.call_devices.specs.Programs.{IsUnprogrammed}
 use Rattle.call_devices.specs.Files.{Files}
+use Rattle.call_devices.specs.declared.call_fault.CallFault.TheVariants.{OutOfMemory}
 use Rattle.call_devices.specs.Logs.{ArePut, ArePutAsFar, ArePutUpTo, IsUnwritten, performed_below}
 use Rattle.run_commands.specs.Programmed.{Programmed, config_of, log_format}
 use Rattle.run_commands.specs.declared.fault.RunningFault.{RunningFault}
-use Rattle.run_commands.specs.declared.fault.RunningFault.TheVariants.{Config, Programs, Schedule, ScheduleUnread, Simulation, Run as RunRefused, Test, TestUnread, Collect, Logs, Output, OutOfMemory}
+use Rattle.run_commands.specs.declared.fault.RunningFault.TheVariants.{Config, Run as RunRefused, Call}
 
 -- this holds of the units of a whole run of the programs, which is one of the core machine
 abbrev pub Ended : Run → List (List Instruction) → (List UnitParts → Type 0) → Type 0
@@ -25,7 +25,7 @@ Ended asked programs Holds =
 
 -- what a run left that isn't ended for this reason: each log is that of a unit of its core whose transcript replays, or empty, and
 -- the core of 30 or 31 has stopped before the end of its program
-pub record AreLeft (programs : List (List Instruction)) (fault : RunFault) (us : List UnitParts) : Type 0 where
+pub record AreLeft (programs : List (List Instruction)) (fault : ThreadsFault) (us : List UnitParts) : Type 0 where
   pub logs : (c : ℕ) → IsUnitLog c (kept_log us c) ⊎ (kept_log us c ≡ [])
   pub short : ((fault.cause ≡ GaveUp) ⊎ (fault.cause ≡ Stopped)) → StoppedShort programs us fault.core
 
@@ -38,19 +38,12 @@ IsThreadRun old new unread asked (Ok count) =
     Programmed old.told asked.limits asked.programs.now (λ set. Ended asked set.programs (λ us.
     (count ≡ performed_below (kept_log us) (length set.programs)) × ArePut (log_format set.format) old new asked.out.now (length set.programs) (kept_log us)))
 IsThreadRun old new unread asked (Err (Config fault)) = first_bad (config_of asked.limits) ≡ Some fault
-IsThreadRun old new unread asked (Err (Programs fault)) =
-    (first_bad (config_of asked.limits) ≡ None) × IsUnprogrammed old.told unread asked.programs.now fault
 IsThreadRun old new unread asked (Err (RunRefused fault)) =
     Programmed old.told asked.limits asked.programs.now (λ set. (us : List UnitParts)
     × AreLeft set.programs fault us × ArePutAsFar (log_format set.format) old new asked.out.now (length set.programs) (kept_log us))
-IsThreadRun old new unread asked (Err (Logs fault)) =
-    Programmed old.told asked.limits asked.programs.now (λ set. Ended asked set.programs (λ us.
-    IsUnwritten (ArePutUpTo (log_format set.format) old new asked.out.now (length set.programs) (kept_log us)) fault))
-IsThreadRun old new unread asked (Err OutOfMemory) = ⊤
-IsThreadRun old new unread asked (Err (Schedule fault)) = ⊥
-IsThreadRun old new unread asked (Err ScheduleUnread) = ⊥
-IsThreadRun old new unread asked (Err (Test fault)) = ⊥
-IsThreadRun old new unread asked (Err TestUnread) = ⊥
-IsThreadRun old new unread asked (Err (Collect fault)) = ⊥
-IsThreadRun old new unread asked (Err (Simulation fault)) = ⊥
-IsThreadRun old new unread asked (Err Output) = ⊥
+IsThreadRun old new unread asked (Err (Call fault)) =
+    (fault ≡ OutOfMemory)
+    ⊎ (((first_bad (config_of asked.limits) ≡ None) × IsUnprogrammed old.told unread asked.programs.now fault)
+    ⊎ Programmed old.told asked.limits asked.programs.now (λ set. Ended asked set.programs (λ us.
+    IsUnwritten (ArePutUpTo (log_format set.format) old new asked.out.now (length set.programs) (kept_log us)) fault)))
+IsThreadRun old new unread asked (Err other) = ⊥

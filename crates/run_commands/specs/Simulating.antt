@@ -1,24 +1,25 @@
 -- What the simulation of programs answers.
-use Rattle.std.specs.Prelude.{◌≡◌, ⊤, ℕ, zero, suc, ◌+◌, List, [], length, Option, None, Some, Result, Ok, Err}
+use Rattle.std.specs.Prelude.{◌≡◌, ◌≢◌, ◌⊎◌, ℕ, List, [], length, Option, None, Some, Result, Ok, Err}
 use Rattle.std.specs.Borrow.{Bor}
 use Rattle.command_line.specs.declared.request.Sim.{Sim}
 use Rattle.lease_rule.specs.Ranges.{first_bad}
-use Rattle.core_program.specs.declared.instruction.Instruction.{Instruction}
 use Rattle.core_program.specs.SetParts.{SetParts}
 use Rattle.log_file.specs.Devices.{Tells}
 use Rattle.schedule.specs.Answers.{IsFault as IsScheduleFault, Spells as SpellsSchedule}
 use Rattle.schedule.specs.declared.command.Command.{Command}
 use Rattle.schedule.specs.declared.fault.ScheduleFault.{ScheduleFault}
+use Rattle.schedule.specs.declared.fault.ScheduleFault.TheVariants.{OutOfMemory as NoScheduleMemory}
 use Rattle.core_machine.specs.Opening.{opening_parts}
 use Rattle.core_machine.specs.Parts.{CoreParts, world}
 use Rattle.core_machine.specs.Works.{log_at}
 use Rattle.simulation.specs.Simulating.{IsSimulated, IsSimulationFault}
 use Rattle.call_devices.specs.Programs.{IsUnprogrammed}
 use Rattle.call_devices.specs.Files.{Files}
+use Rattle.call_devices.specs.declared.call_fault.CallFault.TheVariants.{OutOfMemory}
 use Rattle.call_devices.specs.Logs.{ArePut, ArePutAsFar, ArePutUpTo, IsUnwritten, performed_below}
 use Rattle.run_commands.specs.Programmed.{Programmed, config_of, log_format}
 use Rattle.run_commands.specs.declared.fault.RunningFault.{RunningFault}
-use Rattle.run_commands.specs.declared.fault.RunningFault.TheVariants.{Config, Programs, Schedule, ScheduleUnread, Simulation, Run, Test, TestUnread, Collect, Logs, Output, OutOfMemory}
+use Rattle.run_commands.specs.declared.fault.RunningFault.TheVariants.{Config, Schedule, ScheduleUnread, Simulation, Call}
 
 -- ---- what was asked for
 
@@ -27,10 +28,10 @@ abbrev pub AreCommandsOf : (List ℕ → Option (List ℕ)) → Option (Bor (Lis
 AreCommandsOf told None cores commands = commands ≡ []
 AreCommandsOf told (Some name) cores commands = (text : List ℕ) × Tells (told name.now) text × SpellsSchedule cores text commands
 
--- why the text isn't a schedule for this number of cores
+-- why the text isn't a schedule for this number of cores, and not for lack of memory
 abbrev pub IsFaultOfSchedule : (List ℕ → Option (List ℕ)) → Option (Bor (List ℕ)) → ℕ → ScheduleFault → Type 0
 IsFaultOfSchedule told None cores fault = ⊥
-IsFaultOfSchedule told (Some name) cores fault = (text : List ℕ) × Tells (told name.now) text × IsScheduleFault cores text fault
+IsFaultOfSchedule told (Some name) cores fault = (fault ≢ NoScheduleMemory) × (text : List ℕ) × Tells (told name.now) text × IsScheduleFault cores text fault
 
 -- the file of the schedule can't be opened or read
 abbrev pub IsUnreadSchedule : (List ℕ → Type 0) → Option (Bor (List ℕ)) → Type 0
@@ -41,16 +42,8 @@ IsUnreadSchedule unread (Some name) = unread name.now
 abbrev pub IsUnscheduled : (List ℕ → Option (List ℕ)) → (List ℕ → Type 0) → Option (Bor (List ℕ)) → ℕ → RunningFault → Type 0
 IsUnscheduled told unread name cores (Schedule fault) = IsFaultOfSchedule told name cores fault
 IsUnscheduled told unread name cores ScheduleUnread = IsUnreadSchedule unread name
-IsUnscheduled told unread name cores OutOfMemory = ⊤
-IsUnscheduled told unread name cores (Config fault) = ⊥
-IsUnscheduled told unread name cores (Programs fault) = ⊥
-IsUnscheduled told unread name cores (Logs fault) = ⊥
-IsUnscheduled told unread name cores (Simulation fault) = ⊥
-IsUnscheduled told unread name cores (Run fault) = ⊥
-IsUnscheduled told unread name cores (Test fault) = ⊥
-IsUnscheduled told unread name cores TestUnread = ⊥
-IsUnscheduled told unread name cores (Collect fault) = ⊥
-IsUnscheduled told unread name cores Output = ⊥
+IsUnscheduled told unread name cores (Call fault) = fault ≡ OutOfMemory
+IsUnscheduled told unread name cores other = ⊥
 
 -- ---- what it came to
 
@@ -73,19 +66,15 @@ IsRun old new unread asked (Ok count) =
     Scheduled old.told asked (λ set commands. EndsIn asked set commands (λ q.
     (count ≡ performed_below (log_at (world q)) (length set.programs)) × ArePut (log_format set.format) old new asked.out.now (length set.programs) (log_at (world q))))
 IsRun old new unread asked (Err (Config fault)) = first_bad (config_of asked.limits) ≡ Some fault
-IsRun old new unread asked (Err (Programs fault)) = (first_bad (config_of asked.limits) ≡ None) × IsUnprogrammed old.told unread asked.programs.now fault
 IsRun old new unread asked (Err (Schedule fault)) = Programmed old.told asked.limits asked.programs.now (λ set. IsFaultOfSchedule old.told asked.schedule (length set.programs) fault)
 IsRun old new unread asked (Err ScheduleUnread) = Programmed old.told asked.limits asked.programs.now (λ set. IsUnreadSchedule unread asked.schedule)
 IsRun old new unread asked (Err (Simulation fault)) =
     Scheduled old.told asked (λ set commands. (q : CoreParts)
     × IsSimulationFault commands asked.seed (opening_parts set.programs (config_of asked.limits)) q fault
     × ArePutAsFar (log_format set.format) old new asked.out.now (length set.programs) (log_at (world q)))
-IsRun old new unread asked (Err (Logs fault)) =
-    Scheduled old.told asked (λ set commands. EndsIn asked set commands (λ q.
-    IsUnwritten (ArePutUpTo (log_format set.format) old new asked.out.now (length set.programs) (log_at (world q))) fault))
-IsRun old new unread asked (Err OutOfMemory) = ⊤
-IsRun old new unread asked (Err (Run fault)) = ⊥
-IsRun old new unread asked (Err (Test fault)) = ⊥
-IsRun old new unread asked (Err TestUnread) = ⊥
-IsRun old new unread asked (Err (Collect fault)) = ⊥
-IsRun old new unread asked (Err Output) = ⊥
+IsRun old new unread asked (Err (Call fault)) =
+    (fault ≡ OutOfMemory)
+    ⊎ (((first_bad (config_of asked.limits) ≡ None) × IsUnprogrammed old.told unread asked.programs.now fault)
+    ⊎ Scheduled old.told asked (λ set commands. EndsIn asked set commands (λ q.
+    IsUnwritten (ArePutUpTo (log_format set.format) old new asked.out.now (length set.programs) (log_at (world q))) fault)))
+IsRun old new unread asked (Err other) = ⊥

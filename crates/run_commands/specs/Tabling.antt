@@ -1,6 +1,6 @@
 -- What the counting of a litmus test's outcomes answers, and what standard output took of their table. The sink was `old` before and
 -- is `new` after.
-use Rattle.std.specs.Prelude.{◌≡◌, ◌<◌, ◌≤◌, ◌⊎◌, ⊤, ℕ, Bool, true, false, List, Option, None, Some, Result, Ok, Err}
+use Rattle.std.specs.Prelude.{◌≡◌, ◌≢◌, ◌⊎◌, ℕ, Bool, true, false, List, Option, None, Some, Result, Ok, Err}
 use Rattle.std.specs.Io.KnownBytes.{Appends, Keeps}
 use Rattle.std.specs.List.{AllByRecursion, list_any}
 use Rattle.command_line.specs.declared.request.Litmus.{Litmus}
@@ -10,15 +10,17 @@ use Rattle.litmus_test.specs.Answers.{IsFault, Spells}
 use Rattle.lease_rule.specs.ConfigParts.{ConfigParts}
 use Rattle.litmus.specs.Collecting.{IsBadRunCount, IsCollectFault, IsRunCount, IsSeededTable, IsThreadFault, IsThreadTable}
 use Rattle.litmus_test.specs.Parts.{LitmusParts}
+use Rattle.litmus_test.specs.declared.fault.LitmusFault.TheVariants.{OutOfMemory as NoTestMemory}
 use Rattle.litmus_test.specs.TableParts.{TableParts}
 use Rattle.litmus_test.specs.TableText.{table_text}
 use Rattle.litmus.specs.declared.run_fault.CollectFault.{CollectFault}
-use Rattle.litmus.specs.declared.run_fault.CollectFault.TheVariants.{BadRuns, Run as RunFailed, OutOfMemory as NoTableMemory}
+use Rattle.litmus.specs.declared.run_fault.CollectFault.TheVariants.{BadRuns, Run as RunFailed}
 use Rattle.log_file.specs.Devices.{Tells}
 use Rattle.run_commands.specs.Programmed.{config_of}
+use Rattle.call_devices.specs.declared.call_fault.CallFault.TheVariants.{Output, OutOfMemory}
 use Rattle.call_devices.specs.Sinks.{HasFailed, Sink, TakesBeginning}
 use Rattle.run_commands.specs.declared.fault.RunningFault.{RunningFault}
-use Rattle.run_commands.specs.declared.fault.RunningFault.TheVariants.{Config, Programs, Schedule, ScheduleUnread, Simulation, Run, Test, TestUnread, Collect, Logs, Output, OutOfMemory}
+use Rattle.run_commands.specs.declared.fault.RunningFault.TheVariants.{Config, Test, TestUnread, Collect, Call}
 
 -- ---- what was asked for
 
@@ -28,18 +30,10 @@ IsTestIn told name t = (text : List ℕ) × Tells (told name) text × Spells tex
 
 -- why there is no test: the text of its file, or it can't be read, or memory ran out
 abbrev pub IsUntested : (List ℕ → Option (List ℕ)) → (List ℕ → Type 0) → List ℕ → RunningFault → Type 0
-IsUntested told unread name (Test fault) = (text : List ℕ) × Tells (told name) text × IsFault text fault
+IsUntested told unread name (Test fault) = (fault ≢ NoTestMemory) × (text : List ℕ) × Tells (told name) text × IsFault text fault
 IsUntested told unread name TestUnread = unread name
-IsUntested told unread name OutOfMemory = ⊤
-IsUntested told unread name (Config fault) = ⊥
-IsUntested told unread name (Programs fault) = ⊥
-IsUntested told unread name (Logs fault) = ⊥
-IsUntested told unread name (Schedule fault) = ⊥
-IsUntested told unread name ScheduleUnread = ⊥
-IsUntested told unread name (Simulation fault) = ⊥
-IsUntested told unread name (Run fault) = ⊥
-IsUntested told unread name (Collect fault) = ⊥
-IsUntested told unread name Output = ⊥
+IsUntested told unread name (Call fault) = fault ≡ OutOfMemory
+IsUntested told unread name other = ⊥
 
 -- the numbers of the machine and the number of runs are in range
 pub record IsInOrder (asked : Litmus) : Type 0 where
@@ -79,17 +73,10 @@ IsUntabled told unread asked (Config fault) = first_bad (config_of asked.limits)
 IsUntabled told unread asked (Collect BadRuns) = (first_bad (config_of asked.limits) ≡ None) × IsBadRunCount asked.runs
 IsUntabled told unread asked (Collect (RunFailed k cause)) =
     Tested told asked (λ t. IsFaultBy asked.threads t (config_of asked.limits) asked.runs asked.seed (RunFailed k cause))
-IsUntabled told unread asked (Collect NoTableMemory) = ⊥
 IsUntabled told unread asked (Test fault) = IsInOrder asked × IsUntested told unread asked.test.now (Test fault)
 IsUntabled told unread asked TestUnread = IsInOrder asked × unread asked.test.now
-IsUntabled told unread asked OutOfMemory = ⊤
-IsUntabled told unread asked (Programs fault) = ⊥
-IsUntabled told unread asked (Logs fault) = ⊥
-IsUntabled told unread asked (Schedule fault) = ⊥
-IsUntabled told unread asked ScheduleUnread = ⊥
-IsUntabled told unread asked (Simulation fault) = ⊥
-IsUntabled told unread asked (Run fault) = ⊥
-IsUntabled told unread asked Output = ⊥
+IsUntabled told unread asked (Call fault) = fault ≡ OutOfMemory
+IsUntabled told unread asked other = ⊥
 
 -- ---- its text
 
@@ -99,15 +86,6 @@ IsUntabled told unread asked Output = ⊥
 abbrev pub IsCounted : (List ℕ → Option (List ℕ)) → (List ℕ → Type 0) → Litmus → Sink → Sink → Result Bool RunningFault → Type 0
 IsCounted told unread asked old new (Ok forbidden) =
     Tabled told asked (λ table. (forbidden ≡ has_forbidden table) × Appends old.contents new.contents (table_text table))
-IsCounted told unread asked old new (Err Output) = Tabled told asked (λ table. HasFailed old new × TakesBeginning old new (table_text table))
-IsCounted told unread asked old new (Err (Config fault)) = IsUntabled told unread asked (Config fault) × Keeps old.contents new.contents
-IsCounted told unread asked old new (Err (Programs fault)) = ⊥
-IsCounted told unread asked old new (Err (Schedule fault)) = ⊥
-IsCounted told unread asked old new (Err ScheduleUnread) = ⊥
-IsCounted told unread asked old new (Err (Simulation fault)) = ⊥
-IsCounted told unread asked old new (Err (Run fault)) = ⊥
-IsCounted told unread asked old new (Err (Logs fault)) = ⊥
-IsCounted told unread asked old new (Err (Test fault)) = IsUntabled told unread asked (Test fault) × Keeps old.contents new.contents
-IsCounted told unread asked old new (Err TestUnread) = IsUntabled told unread asked TestUnread × Keeps old.contents new.contents
-IsCounted told unread asked old new (Err (Collect fault)) = IsUntabled told unread asked (Collect fault) × Keeps old.contents new.contents
-IsCounted told unread asked old new (Err OutOfMemory) = Keeps old.contents new.contents ⊎ HasFailed old new
+IsCounted told unread asked old new (Err (Call Output)) = Tabled told asked (λ table. HasFailed old new × TakesBeginning old new (table_text table))
+IsCounted told unread asked old new (Err (Call OutOfMemory)) = Keeps old.contents new.contents ⊎ HasFailed old new
+IsCounted told unread asked old new (Err fault) = IsUntabled told unread asked fault × Keeps old.contents new.contents

@@ -1,27 +1,27 @@
 //! Why a command that runs programs was refused.
 
 ghost use Rattle.std.specs.Prelude.{◌≡◌};
-ghost use Rattle.run_commands.specs.Faults.{from_collect, from_write, running_fault_status};
-ghost use Rattle.run_commands.specs.declared.fault.RunningFault.TheVariants.{Config, Logs, Programs, Schedule, Simulation, Test};
+ghost use Rattle.run_commands.specs.Faults.{from_collect, from_schedule, from_test, running_fault_status};
+ghost use Rattle.run_commands.specs.declared.fault.RunningFault.TheVariants.{Call, Config, Simulation};
+ghost use Rattle.call_devices.specs.CallFaults.{from_write};
 
-use call_devices::{LogsFault, ProgramsFault};
+use call_devices::CallFault;
+use fault_names::FaultName;
 use lease_rule::BadConfig;
 use litmus::{CollectFault, LitmusFault, RunCause};
 use log_file::WriteFault;
-use machine::RunFault;
+use machine::ThreadsFault;
 use schedule::ScheduleFault;
 use simulation::SimulationFault;
 use std::fmt;
 use std::fmt::Display;
 use thiserror::Error;
 
-/// Why a command that runs programs was refused.
+/// Why a command that runs programs was refused. Lack of memory is told of the call, wherever it came.
 #[derive(Clone, Copy, Debug, PartialEq, Eq, Error)]
 pub enum RunningFault {
     /// A number of the configuration is out of its range.
     Config(BadConfig),
-    /// There are no programs.
-    Programs(ProgramsFault),
     /// The file of the schedule isn't a schedule.
     Schedule(ScheduleFault),
     /// The file of the schedule can't be opened, or a read of it failed.
@@ -29,19 +29,15 @@ pub enum RunningFault {
     /// The simulation isn't ended.
     Simulation(SimulationFault),
     /// The run in threads isn't ended.
-    Run(RunFault),
+    Run(ThreadsFault),
     /// The file of the litmus test isn't one.
     Test(LitmusFault),
     /// The file of the litmus test can't be opened, or a read of it failed.
     TestUnread,
-    /// There is no table of the outcomes of a litmus test, and not for lack of memory.
+    /// There is no table of the outcomes of a litmus test.
     Collect(CollectFault),
-    /// The logs can't be written.
-    Logs(LogsFault),
-    /// Standard output failed.
-    Output,
-    /// A growth was refused.
-    OutOfMemory,
+    /// As any command may be refused.
+    Call(CallFault),
 }
 
 impl RunningFault {
@@ -52,22 +48,18 @@ impl RunningFault {
     {
         match self {
             RunningFault::Config(_) => 3,
-            RunningFault::Programs(fault) => fault.status(),
-            RunningFault::Schedule(ScheduleFault::OutOfMemory) => 4,
-            RunningFault::Schedule(_) => 2,
-            RunningFault::Test(LitmusFault::OutOfMemory) => 4,
-            RunningFault::Test(_) => 2,
+            RunningFault::Schedule(_) | RunningFault::Test(_) => 2,
             RunningFault::Collect(CollectFault::BadRuns) => 3,
             RunningFault::Collect(
                 CollectFault::Run {
-                    cause: RunCause::No(_, _),
+                    cause: RunCause::No(_),
                     ..
                 },
             ) => 1,
             RunningFault::Collect(_) => 4,
             RunningFault::ScheduleUnread | RunningFault::TestUnread => 4,
             RunningFault::Simulation(_) | RunningFault::Run(_) => 4,
-            RunningFault::Logs(_) | RunningFault::Output | RunningFault::OutOfMemory => 4,
+            RunningFault::Call(fault) => fault.status(),
         }
     }
 }
@@ -81,34 +73,20 @@ impl Display for RunningFault {
     fn fmt<W: fmt::Write>(&self, f: &mut fmt::Formatter<W>) -> fmt::Result {
         match self {
             RunningFault::Config(fault) => write!(f, "refused: {fault}"),
-            RunningFault::Programs(fault) => write!(f, "refused: {fault}"),
-            RunningFault::Schedule(ScheduleFault::OutOfMemory) => {
-                f.write_str("refused: 10 OutOfMemory")
-            }
             RunningFault::Schedule(fault) => write!(f, "refused: schedule {fault}"),
-            RunningFault::ScheduleUnread => f.write_str("refused: schedule: 28 Read"),
+            RunningFault::ScheduleUnread => write!(f, "refused: schedule: {}", FaultName::Read),
             RunningFault::Simulation(fault) => write!(f, "refused: {fault}"),
             RunningFault::Run(fault) => write!(f, "refused: {fault}"),
-            RunningFault::Test(LitmusFault::OutOfMemory) => f.write_str("refused: 10 OutOfMemory"),
             RunningFault::Test(fault) => write!(f, "refused: litmus {fault}"),
-            RunningFault::TestUnread => f.write_str("refused: litmus: 28 Read"),
+            RunningFault::TestUnread => write!(f, "refused: litmus: {}", FaultName::Read),
             RunningFault::Collect(
                 CollectFault::Run {
                     run,
-                    cause: RunCause::No(id, rule),
+                    cause: RunCause::No(fault),
                 },
-            ) => {
-                write!(
-                    f,
-                    "no: run {run}: {}.{} {rule}",
-                    id.core.get(),
-                    id.index.get()
-                )
-            }
+            ) => write!(f, "no: run {run}: {fault}"),
             RunningFault::Collect(fault) => write!(f, "refused: {fault}"),
-            RunningFault::Logs(fault) => write!(f, "refused: {fault}"),
-            RunningFault::Output => f.write_str("refused: output: 29 Write"),
-            RunningFault::OutOfMemory => f.write_str("refused: 10 OutOfMemory"),
+            RunningFault::Call(fault) => write!(f, "refused: {fault}"),
         }
     }
 }
@@ -121,19 +99,14 @@ impl From<BadConfig> for RunningFault {
     }
 }
 
-impl From<ProgramsFault> for RunningFault {
-    ghost from_gives = { λ reason fault. fault ≡ Programs reason };
-
-    fn from(reason: ProgramsFault) -> RunningFault {
-        RunningFault::Programs(reason)
-    }
-}
-
 impl From<ScheduleFault> for RunningFault {
-    ghost from_gives = { λ reason fault. fault ≡ Schedule reason };
+    ghost from_gives = { λ reason fault. fault ≡ from_schedule reason };
 
     fn from(reason: ScheduleFault) -> RunningFault {
-        RunningFault::Schedule(reason)
+        match reason {
+            ScheduleFault::OutOfMemory => RunningFault::Call(CallFault::OutOfMemory),
+            reason => RunningFault::Schedule(reason),
+        }
     }
 }
 
@@ -146,10 +119,13 @@ impl From<SimulationFault> for RunningFault {
 }
 
 impl From<LitmusFault> for RunningFault {
-    ghost from_gives = { λ reason fault. fault ≡ Test reason };
+    ghost from_gives = { λ reason fault. fault ≡ from_test reason };
 
     fn from(reason: LitmusFault) -> RunningFault {
-        RunningFault::Test(reason)
+        match reason {
+            LitmusFault::OutOfMemory => RunningFault::Call(CallFault::OutOfMemory),
+            reason => RunningFault::Test(reason),
+        }
     }
 }
 
@@ -158,27 +134,24 @@ impl From<CollectFault> for RunningFault {
 
     fn from(reason: CollectFault) -> RunningFault {
         match reason {
-            CollectFault::OutOfMemory => RunningFault::OutOfMemory,
+            CollectFault::OutOfMemory => RunningFault::Call(CallFault::OutOfMemory),
             reason => RunningFault::Collect(reason),
         }
     }
 }
 
 impl From<WriteFault> for RunningFault {
-    ghost from_gives = { λ reason fault. fault ≡ from_write reason };
+    ghost from_gives = { λ reason fault. fault ≡ Call (from_write reason) };
 
     fn from(reason: WriteFault) -> RunningFault {
-        match reason {
-            WriteFault::OutOfMemory => RunningFault::OutOfMemory,
-            WriteFault::Write => RunningFault::Output,
-        }
+        RunningFault::Call(CallFault::from(reason))
     }
 }
 
-impl From<LogsFault> for RunningFault {
-    ghost from_gives = { λ reason fault. fault ≡ Logs reason };
+impl From<CallFault> for RunningFault {
+    ghost from_gives = { λ reason fault. fault ≡ Call reason };
 
-    fn from(reason: LogsFault) -> RunningFault {
-        RunningFault::Logs(reason)
+    fn from(reason: CallFault) -> RunningFault {
+        RunningFault::Call(reason)
     }
 }

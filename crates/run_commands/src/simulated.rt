@@ -8,7 +8,7 @@ ghost use Rattle.run_commands.specs.Simulating as simulating;
 use super::config::config_of;
 use super::fault::RunningFault;
 use super::logs::{MachineLogs, log_format};
-use call_devices::{Folder, read_programs, read_text, write_logs};
+use call_devices::{CallFault, Folder, read_programs, read_text, write_logs};
 use command_line::Sim;
 use log_file::ReadFault;
 use schedule::{Command, parse};
@@ -30,7 +30,7 @@ pub fn sim<F: Folder>(alloc: Global, folder: &mut F, asked: &Sim<'_>) -> Result<
     let programs = read_programs(alloc, folder, asked.programs)?;
     let commands = read_schedule(alloc, folder, asked.schedule, programs.len())?;
     let Ok(mut machine) = Core::new(alloc, &programs, &config) else {
-        return Err(RunningFault::OutOfMemory);
+        return Err(RunningFault::Call(CallFault::OutOfMemory));
     };
     let ended = simulate(alloc, &mut machine, commands.as_slice(), asked.seed);
     let written = write_logs(
@@ -67,9 +67,7 @@ fn read_schedule<F: Folder>(
     let text = match read_text(alloc, folder, name) {
         Ok(text) => text,
         Err(ReadFault::Read) => return Err(RunningFault::ScheduleUnread),
-        Err(ReadFault::OutOfMemory) => {
-            return Err(RunningFault::OutOfMemory);
-        }
+        Err(ReadFault::OutOfMemory) => return Err(RunningFault::Call(CallFault::OutOfMemory)),
     };
     let commands = parse(alloc, text.as_slice(), cores)?;
     Ok(commands)

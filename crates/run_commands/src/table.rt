@@ -7,7 +7,7 @@ ghost use Rattle.run_commands.specs.Tabling as tabling;
 
 use super::config::config_of;
 use super::fault::RunningFault;
-use call_devices::{Folder, read_text};
+use call_devices::{CallFault, Folder, read_text};
 use command_line::Litmus as Asked;
 use lease_rule::Config;
 use litmus::{CollectFault, Litmus, Table, collect_seeded, collect_threaded, write_table};
@@ -42,9 +42,7 @@ fn read_test<F: Folder>(alloc: Global, folder: &mut F, name: &str) -> Result<Lit
     let text = match read_text(alloc, folder, name) {
         Ok(text) => text,
         Err(ReadFault::Read) => return Err(RunningFault::TestUnread),
-        Err(ReadFault::OutOfMemory) => {
-            return Err(RunningFault::OutOfMemory);
-        }
+        Err(ReadFault::OutOfMemory) => return Err(RunningFault::Call(CallFault::OutOfMemory)),
     };
     let test = Litmus::parse(alloc, text.as_slice())?;
     Ok(test)

@@ -10,7 +10,7 @@ use super::logs::{UnitLogs, log_format};
 use super::watch::{Watch, Watched};
 use call_devices::{Folder, read_programs, write_logs};
 use command_line::Run;
-use machine::{RunFault, run_threads};
+use machine::{ThreadsFault, run_threads};
 use std::alloc::Global;
 use std::sync::Wait;
 use std::thread::Threads;
@@ -44,7 +44,7 @@ pub fn run<R: Threads + Wait + Sync, W: Watch + Sync, F: Folder>(
         Err(left) => {
             let made = UnitLogs { units: &left.units };
             let _written = write_logs(alloc, folder, asked.out, format, &made, programs.len());
-            Err(RunningFault::Run(RunFault::of(&left)))
+            Err(RunningFault::Run(ThreadsFault::of(&left)))
         }
     }
 }

@@ -1,9 +1,11 @@
 -- The text of a fault: the line where there is one, a number and a name.
 use Rattle.std.specs.Prelude.{ℕ, List, ◌++◌, codes}
 use Rattle.std.specs.Fmt.{decimal}
+use Rattle.fault_names.specs.Names.{name_text}
+use Rattle.fault_names.specs.declared.fault_name.FaultName.TheVariants as named
 use Rattle.schedule.specs.declared.fault.ScheduleFault.{ScheduleFault}
 use Rattle.schedule.specs.declared.fault.ScheduleFault.TheVariants.{BadScheduleLine, OutOfMemory}
 
 abbrev pub fault_text : ScheduleFault → List ℕ
-fault_text (BadScheduleLine line) = codes "line " ++ (decimal line ++ codes ": 40 BadScheduleLine")
-fault_text OutOfMemory = codes "10 OutOfMemory"
+fault_text (BadScheduleLine line) = codes "line " ++ (decimal line ++ (codes ": " ++ name_text named.BadScheduleLine))
+fault_text OutOfMemory = name_text named.OutOfMemory

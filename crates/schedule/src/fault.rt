@@ -3,6 +3,7 @@
 ghost use Rattle.std.specs.Prelude.{◌≡◌};
 ghost use Rattle.schedule.specs.declared.fault.ScheduleFault.TheVariants.{OutOfMemory};
 
+use fault_names::FaultName;
 use std::alloc::{AllocError, AllocFailed};
 use std::fmt;
 use std::fmt::Display;
@@ -26,8 +27,12 @@ impl Display for ScheduleFault {
 
     fn fmt<W: fmt::Write>(&self, f: &mut fmt::Formatter<W>) -> fmt::Result {
         match self {
-            ScheduleFault::BadScheduleLine { line } => write!(f, "line {line}: 40 BadScheduleLine"),
-            ScheduleFault::OutOfMemory => f.write_str("10 OutOfMemory"),
+            ScheduleFault::BadScheduleLine { line } => write!(
+                f,
+                "line {line}: {}",
+                FaultName::BadScheduleLine
+            ),
+            ScheduleFault::OutOfMemory => write!(f, "{}", FaultName::OutOfMemory),
         }
     }
 }

@@ -22,4 +22,4 @@ mod splits;
 mod stop;
 mod stores;
 
-pub use searching::search;
+pub use searching::{guess, search};

@@ -21,8 +21,9 @@ pub fn search(alloc: Global, trace: &Trace, budget: u64) -> Result<Answer, Alloc
     confirm(alloc, trace, guess(alloc, trace, budget)?)
 }
 
-/// What the search finds, which nobody has confirmed.
-fn guess(alloc: Global, trace: &Trace, budget: u64) -> Result<Answer, AllocError> {
+/// What the search finds, which nobody has confirmed. What isn't shown of it would be a bug of the search, and tests ask for
+/// it.
+pub fn guess(alloc: Global, trace: &Trace, budget: u64) -> Result<Answer, AllocError> {
     match find(alloc, trace, budget) {
         Ok(found) => Ok(found),
         Err(Stop::Refused) => Err(AllocError),

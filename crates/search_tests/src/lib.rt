@@ -2,6 +2,10 @@
 #![tactic(auto)]
 
 #[cfg(test)]
+mod drawn;
+#[cfg(test)]
+mod growths;
+#[cfg(test)]
 mod litmus_outcomes;
 #[cfg(test)]
 mod litmus_refutations;

@@ -3,9 +3,9 @@
 use super::refuted::trace_of;
 use refutation::Answer;
 use search::search;
-use std::alloc::Global;
+use std::alloc::{AllocError, Global};
 use std::test::Fail;
-use trace::Access;
+use trace::{Access, Trace};
 
 /// Enough for every trace here.
 pub(crate) const BUDGET: u64 = 100_000;
@@ -21,14 +21,18 @@ pub(crate) enum Told {
     Undecided,
 }
 
-/// What the search answers to a trace of these operations.
-pub(crate) fn answer_to(alloc: Global, rows: &[Row], budget: u64) -> Result<Told, Fail> {
-    let trace = trace_of(alloc, rows)?;
-    Ok(match search(alloc, &trace, budget)? {
+/// What the search answers to a trace.
+pub(crate) fn told_of(alloc: Global, trace: &Trace, budget: u64) -> Result<Told, AllocError> {
+    Ok(match search(alloc, trace, budget)? {
         Answer::Order(order) => Told::Order(order.len()),
         Answer::Refutation(refutation) => Told::Steps(refutation.steps().len()),
         Answer::Undecided => Told::Undecided,
     })
+}
+
+/// What the search answers to a trace of these operations.
+pub(crate) fn answer_to(alloc: Global, rows: &[Row], budget: u64) -> Result<Told, Fail> {
+    Ok(told_of(alloc, &trace_of(alloc, rows)?, budget)?)
 }
 
 #[test]

@@ -7,13 +7,13 @@ use Rattle.schedule.specs.declared.command.Command.{Command}
 use Rattle.schedule.specs.declared.command.Command.TheVariants as command
 use Rattle.core_machine.specs.Machine.{Run, next, start}
 use Rattle.core_machine.specs.Parts.{CoreParts, world}
-use Rattle.tardis_core.specs.Rounds.{IsOpIfLeft, IsRun, IsRunTo, Makes, Ops, Rounds}
+use Rattle.tardis_core.specs.Rounds.{IsOpIfLeft, IsRun, IsRunTo, EventLeads, Ops, Rounds}
 use Rattle.tardis_core.specs.Rounds as rounds
 use Rattle.core_machine.specs.Runs.{run_from}
 use Rattle.core_machine.specs.declared.event.Event.{Event}
 use Rattle.tardis_core.specs.declared.rounds.fault.RoundFault.{RoundFault}
 use Rattle.tardis_core.proofs.RoundRuns.{finish_fault_run, no_run, op_fault_run, part_runs, run_more, run_then, stays, stopped_run, then_run}
-use Rattle.simulation.specs.Commands.{Follows, IsRefusedCommand, IsUnfollowed, Obeys}
+use Rattle.simulation.specs.Commands.{Follows, IsRefusedCommand, IsUnfollowed, CommandLeads}
 use Rattle.simulation.specs.Commands as commands
 use Rattle.simulation.specs.Drawing.{Draws, IsDrawFault, Leads, draws_of}
 use Rattle.simulation.specs.Drawing as drawing
@@ -38,10 +38,10 @@ ops_run c p q rounds.no_op = no_run p
 ops_run c p q (rounds.next_op r t x op) =
     run_then p r t (ops_events c p r x) (rounds_events c r op.count t op.rounds) (ops_run c p r x) (rounds_run c r op.count t op.rounds)
 
-event_run : (p q : CoreParts) (e : Event) (o : Outcome) → Makes p e o q → IsRun p (e ∷ []) q
+event_run : (p q : CoreParts) (e : Event) (o : Outcome) → EventLeads p e o q → IsRun p (e ∷ []) q
 event_run p q e o made = run_more p p q [] e o (no_run p) made
 
-command_run : (p : CoreParts) (x : Command) (q : CoreParts) (did : Obeys p x q) → IsRun p (command_events p x q did) q
+command_run : (p : CoreParts) (x : Command) (q : CoreParts) (did : CommandLeads p x q) → IsRun p (command_events p x q did) q
 command_run p (command.Turn c) q (o, made) = event_run p q _ o made
 command_run p (command.Serve c) q (o, made) = event_run p q _ o made
 command_run p (command.Take c) q (o, made) = event_run p q _ o made

@@ -6,7 +6,7 @@ use Rattle.schedule.specs.declared.command.Command.{Command}
 use Rattle.schedule.specs.declared.command.Command.TheVariants as command
 use Rattle.core_machine.specs.Machine.{slice_number}
 use Rattle.core_machine.specs.Parts.{CoreParts}
-use Rattle.tardis_core.specs.Rounds.{IsCauseOf, IsFinished, IsFinishFault, IsOpFault, IsOpIfLeft, IsRefusedRound, IsRound, Makes}
+use Rattle.tardis_core.specs.Rounds.{IsCauseOf, IsFinished, IsFinishFault, IsOpFault, IsOpIfLeft, IsRefusedRound, IsRound, EventLeads}
 use Rattle.core_machine.specs.Runs.{MayRefuse}
 use Rattle.core_machine.specs.Steps.{step_outcome}
 use Rattle.core_machine.specs.declared.event.Event.{Event}
@@ -19,21 +19,21 @@ use Rattle.simulation.specs.declared.fault.SimulationFault.TheVariants.{Core, Sl
 -- ---- a command
 
 -- the event leads from p to q, with whatever outcome
-abbrev pub Happens : CoreParts → Event → CoreParts → Type 0
-Happens p e q = (o : Outcome) × Makes p e o q
+abbrev pub EventLeadsAnyhow : CoreParts → Event → CoreParts → Type 0
+EventLeadsAnyhow p e q = (o : Outcome) × EventLeads p e o q
 
 -- the command leads from p to q
-abbrev pub Obeys : CoreParts → Command → CoreParts → Type 0
-Obeys p (command.Turn c) q = Happens p (event.Turn c) q
-Obeys p (command.Serve c) q = Happens p (event.Serve c) q
-Obeys p (command.Take c) q = Happens p (event.Take c) q
-Obeys p (command.Recall x) q = Happens p (event.Recall x.owner x) q
-Obeys p (command.Evict c a) q = Happens p (event.Evict c a) q
-Obeys p (command.Spill a) q = Happens p (event.Spill a) q
-Obeys p (command.Bump c) q = Happens p (event.Increment c) q
-Obeys p (command.Round c) q = IsRound c p q
-Obeys p (command.Op c) q = IsOpIfLeft c p q
-Obeys p (command.Finish c) q = IsFinished c p q
+abbrev pub CommandLeads : CoreParts → Command → CoreParts → Type 0
+CommandLeads p (command.Turn c) q = EventLeadsAnyhow p (event.Turn c) q
+CommandLeads p (command.Serve c) q = EventLeadsAnyhow p (event.Serve c) q
+CommandLeads p (command.Take c) q = EventLeadsAnyhow p (event.Take c) q
+CommandLeads p (command.Recall x) q = EventLeadsAnyhow p (event.Recall x.owner x) q
+CommandLeads p (command.Evict c a) q = EventLeadsAnyhow p (event.Evict c a) q
+CommandLeads p (command.Spill a) q = EventLeadsAnyhow p (event.Spill a) q
+CommandLeads p (command.Bump c) q = EventLeadsAnyhow p (event.Increment c) q
+CommandLeads p (command.Round c) q = IsRound c p q
+CommandLeads p (command.Op c) q = IsOpIfLeft c p q
+CommandLeads p (command.Finish c) q = IsFinished c p q
 
 -- ---- a command that is refused
 
@@ -71,7 +71,7 @@ IsRefusedCommand p (command.Finish c) q fault = IsOfCore (IsFinishFault c p q) f
 -- the commands lead, one by one, from p to the last state
 pub data Follows (p : CoreParts) : List Command → CoreParts → Type 0 where
   no_command : Follows p [] p
-  one_more : (commands : List Command) (command : Command) (q t : CoreParts) → Follows p commands q → Obeys q command t →
+  one_more : (commands : List Command) (command : Command) (q t : CoreParts) → Follows p commands q → CommandLeads q command t →
       Follows p (commands ++ command ∷ []) t
 
 -- the commands before one lead from p to where it begins, and it is refused in q

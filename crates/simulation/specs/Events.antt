@@ -7,7 +7,7 @@ use Rattle.tardis_core.specs.Rounds.{IsOpIfLeft, IsRun, Ops, Rounds}
 use Rattle.tardis_core.specs.Rounds as rounds
 use Rattle.core_machine.specs.declared.event.Event.{Event}
 use Rattle.core_machine.specs.declared.event.Event.TheVariants as event
-use Rattle.simulation.specs.Commands.{Follows, Obeys}
+use Rattle.simulation.specs.Commands.{Follows, CommandLeads}
 use Rattle.simulation.specs.Commands as commands
 use Rattle.simulation.specs.Drawing.{Draws, Leads}
 use Rattle.simulation.specs.Drawing as drawing
@@ -31,7 +31,7 @@ ops_events c p q (rounds.next_op r t before op) = ops_events c p r before ++ rou
 
 -- ---- of commands
 
-abbrev pub command_events : (p : CoreParts) (x : Command) (q : CoreParts) → Obeys p x q → List Event
+abbrev pub command_events : (p : CoreParts) (x : Command) (q : CoreParts) → CommandLeads p x q → List Event
 command_events p (command.Turn c) q obeyed = event.Turn c ∷ []
 command_events p (command.Serve c) q obeyed = event.Serve c ∷ []
 command_events p (command.Take c) q obeyed = event.Take c ∷ []

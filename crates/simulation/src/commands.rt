@@ -1,7 +1,7 @@
 //! The commands of a schedule.
 
 ghost use Rattle.std.specs.Prelude.{◌≡◌, Some, MatchResult};
-ghost use Rattle.simulation.specs.Commands.{Follows, Happens, IsRefusedAt, IsRefusedCommand, IsRefusedSpill, IsUnfollowed, Obeys};
+ghost use Rattle.simulation.specs.Commands.{Follows, EventLeadsAnyhow, IsRefusedAt, IsRefusedCommand, IsRefusedSpill, IsUnfollowed, CommandLeads};
 ghost use Rattle.core_machine.specs.Machine.{core_event};
 
 use super::fault::SimulationFault;
@@ -25,30 +25,30 @@ pub(crate) fn follow(machine: &mut Core, commands: &[Command]) -> Result<(), Sim
 /// Does what a command says.
 fn obey(machine: &mut Core, command: &Command) -> Result<(), SimulationFault>
     ensures { MatchResult result
-        (λ _. Obeys machine.old command.now machine.new)
+        (λ _. CommandLeads machine.old command.now machine.new)
         (λ fault. IsRefusedCommand machine.old command.now machine.new fault) }
 {
     match command {
-        Command::Turn(core) => make(machine, *core, Event::Turn(*core)),
-        Command::Serve(core) => make(machine, *core, Event::Serve(*core)),
-        Command::Take(core) => make(machine, *core, Event::Take(*core)),
+        Command::Turn(core) => step_core(machine, *core, Event::Turn(*core)),
+        Command::Serve(core) => step_core(machine, *core, Event::Serve(*core)),
+        Command::Take(core) => step_core(machine, *core, Event::Take(*core)),
         Command::Recall(recall) => {
-            make(machine, recall.owner, Event::Recall(recall.owner, *recall))
+            step_core(machine, recall.owner, Event::Recall(recall.owner, *recall))
         }
-        Command::Evict(core, addr) => make(machine, *core, Event::Evict(*core, *addr)),
+        Command::Evict(core, addr) => step_core(machine, *core, Event::Evict(*core, *addr)),
         Command::Spill(addr) => spill(machine, *addr),
-        Command::Bump(core) => make(machine, *core, Event::Increment(*core)),
+        Command::Bump(core) => step_core(machine, *core, Event::Increment(*core)),
         Command::Round(core) => Ok(round(machine, *core)?),
         Command::Op(core) => Ok(op(machine, *core)?),
         Command::Finish(core) => Ok(finish(machine, *core)?),
     }
 }
 
-/// Makes an event of a core.
-fn make(machine: &mut Core, core: CoreId, event: Event) -> Result<(), SimulationFault>
+/// Makes an event of a core, which a refusal names.
+fn step_core(machine: &mut Core, core: CoreId, event: Event) -> Result<(), SimulationFault>
     requires own { core_event event ≡ Some core }
     ensures { MatchResult result
-        (λ _. Happens machine.old event machine.new)
+        (λ _. EventLeadsAnyhow machine.old event machine.new)
         (λ fault. IsRefusedAt machine.old event core machine.new fault) }
 {
     match machine.step(event) {
@@ -63,7 +63,7 @@ fn make(machine: &mut Core, core: CoreId, event: Event) -> Result<(), Simulation
 /// Spills the line of an address, where it is Shared.
 fn spill(machine: &mut Core, addr: Addr) -> Result<(), SimulationFault>
     ensures { MatchResult result
-        (λ _. Happens machine.old (Event.Spill addr) machine.new)
+        (λ _. EventLeadsAnyhow machine.old (Event.Spill addr) machine.new)
         (λ fault. (machine.new ≡ machine.old) × IsRefusedSpill machine.old addr fault) }
 {
     let number = machine.config().slice_of(addr);

@@ -13,10 +13,9 @@ use rand_core::SeedableRng;
 use rand_pcg::Pcg32;
 use std::alloc::{AllocError, Global};
 use tardis_core::Core;
-use tardis_core::rounds::{RoundCause, RoundFault, has_next, pick, round};
-
-/// A core gives up after this number of rounds that were drawn for it since its last operation.
-const MOST_ROUNDS: u16 = 1_000;
+use tardis_core::rounds::{
+    MAX_ROUNDS_PER_OPERATION, RoundCause, RoundFault, has_next, pick, round,
+};
 
 /// Draws a core with an operation left for each round, until none is left.
 pub(crate) fn draw_out(alloc: Global, machine: &mut Core, seed: u64) -> Result<(), SimulationFault>
@@ -54,7 +53,7 @@ fn drawn_round(machine: &mut Core, core: CoreId, waits: &mut [u16; 64]) -> Resul
         *wait = 0;
         return Ok(());
     }
-    if *wait >= MOST_ROUNDS - 1 {
+    if *wait >= MAX_ROUNDS_PER_OPERATION - 1 {
         return Err(RoundFault {
             core,
             fault: RoundCause::GaveUp,

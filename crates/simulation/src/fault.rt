@@ -3,6 +3,7 @@
 ghost use Rattle.std.specs.Prelude.{◌≡◌};
 ghost use Rattle.simulation.specs.declared.fault.SimulationFault.TheVariants.{Core, OutOfMemory};
 
+use fault_names::FaultName;
 use manager_slice::SliceFault;
 use std::alloc::AllocError;
 use std::fmt;
@@ -35,9 +36,9 @@ impl Display for SimulationFault {
             SimulationFault::Slice {
                 fault: SliceFault::OutOfMemory,
                 ..
-            } => f.write_str("10 OutOfMemory"),
+            } => write!(f, "{}", FaultName::OutOfMemory),
             SimulationFault::Slice { number, fault } => write!(f, "slice {number}: {fault}"),
-            SimulationFault::OutOfMemory => f.write_str("10 OutOfMemory"),
+            SimulationFault::OutOfMemory => write!(f, "{}", FaultName::OutOfMemory),
         }
     }
 }

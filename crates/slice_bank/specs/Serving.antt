@@ -3,7 +3,7 @@ use Rattle.std.specs.Prelude.{◌≡◌, ℕ, ◌%◌, List, Some, Result, IfOk,
 use Rattle.lease_rule.specs.ConfigParts.{ConfigParts}
 use Rattle.line_stamps.specs.declared.message.Message.{Message}
 use Rattle.line_stamps.specs.declared.message.Reply.{Reply}
-use Rattle.manager_slice.specs.Outcome.{IsHandled, Meets, handle_outcome}
+use Rattle.manager_slice.specs.Outcome.{IsHandled, OutcomeLeads, handle_outcome}
 use Rattle.manager_slice.specs.Parts.{SliceParts}
 use Rattle.manager_slice.specs.Replay.{Replays}
 use Rattle.manager_slice.specs.declared.fault.SliceFault.{SliceFault}
@@ -13,7 +13,7 @@ pub record IsServed (p : SliceParts) (c : ℕ) (m : Message) (r : Result Reply S
   -- a reply, its entries and what is left are of the manager's table
   pub table : IfOk r (λ reply. IsHandled p c m reply q)
   -- which of them, and which refusal, follows from the order of service
-  pub outcome : Meets (handle_outcome p c m) r p q
+  pub outcome : OutcomeLeads (handle_outcome p c m) r p q
 
 -- some slice served it so, from a state to which its history leads by the configuration that it keeps
 pub record IsServedBySome (c : ℕ) (m : Message) (r : Result Reply SliceFault) : Type 0 where

@@ -18,10 +18,10 @@ use std::sync::{Mutex, MutexGuard, Wait};
 
 /// So often a thread tries the lock of a slice before it sleeps for it. A service takes less than a microsecond, and to wake a
 /// thread takes tens of them.
-const TRIES: u32 = 400;
+const LOCK_TRIES_BEFORE_SLEEP: u32 = 400;
 
 /// So many pauses of the processor come after a try that failed, since each try takes the lock's cache line from its holder.
-const PAUSES: u32 = 6;
+const PAUSES_BETWEEN_LOCK_TRIES: u32 = 6;
 
 /// The slices of a machine, each under a lock of its own, for any number of threads. Contracts see the configuration alone: of a
 /// slice under its lock no more is known than its type keeps, which is that its state is the replay of its history.
@@ -98,7 +98,7 @@ fn take_lock<'a, R: Wait>(
     rt: &R,
     slice: &'a Mutex<CachePadded<ManagerSlice>>,
 ) -> MutexGuard<'a, CachePadded<ManagerSlice>> {
-    for _ in 0..TRIES {
+    for _ in 0..LOCK_TRIES_BEFORE_SLEEP {
         if let Some(taken) = slice.try_lock() {
             return taken;
         }
@@ -109,7 +109,7 @@ fn take_lock<'a, R: Wait>(
 
 // Lets the thread that holds a lock go on for a while.
 fn pause() {
-    for _ in 0..PAUSES {
+    for _ in 0..PAUSES_BETWEEN_LOCK_TRIES {
         spin_loop();
     }
 }

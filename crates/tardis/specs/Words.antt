@@ -1,11 +1,13 @@
 -- What is told of words that can't be read, and the exit status.
-use Rattle.std.specs.Prelude.{ℕ, List, codes}
+use Rattle.std.specs.Prelude.{ℕ, List, ◌++◌, codes}
+use Rattle.fault_names.specs.Names.{name_text}
+use Rattle.fault_names.specs.declared.fault_name.FaultName.TheVariants as named
 use Rattle.tardis.specs.declared.words.WordsFault.{WordsFault}
 use Rattle.tardis.specs.declared.words.WordsFault.TheVariants.{NotText, OutOfMemory}
 
 abbrev pub words_fault_text : WordsFault → List ℕ
 words_fault_text NotText = codes "error: invalid UTF-8 was detected in one or more arguments"
-words_fault_text OutOfMemory = codes "refused: 10 OutOfMemory"
+words_fault_text OutOfMemory = codes "refused: " ++ name_text named.OutOfMemory
 
 abbrev pub words_fault_status : WordsFault → ℕ
 words_fault_status NotText = 3

@@ -4,6 +4,7 @@ ghost use Rattle.std.specs.Prelude.{◌≡◌, IfOk, map, string_bytes};
 ghost use Rattle.tardis.specs.Words.{words_fault_status};
 ghost use Rattle.tardis.specs.declared.words.WordsFault.TheVariants.{OutOfMemory};
 
+use fault_names::FaultName;
 use std::alloc::{AllocFailed, Global};
 use std::io::ErrorKind;
 use std::{env, fmt, io};
@@ -41,7 +42,7 @@ impl fmt::Display for WordsFault {
             WordsFault::NotText => {
                 f.write_str("error: invalid UTF-8 was detected in one or more arguments")
             }
-            WordsFault::OutOfMemory => f.write_str("refused: 10 OutOfMemory"),
+            WordsFault::OutOfMemory => write!(f, "refused: {}", FaultName::OutOfMemory),
         }
     }
 }

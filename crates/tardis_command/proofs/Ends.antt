@@ -1,9 +1,9 @@
 -- How a call ends, from what its parts answer.
-use Rattle.std.proofs.Common.{◌≡◌, ◌⊎◌, ◌∙◌, ap, subst, sym, refl, ℕ, List, Option, None, Some, Result, Ok, Err, inl, inr}
+use Rattle.std.proofs.Common.{◌≡◌, ◌⊎◌, ◌∙◌, ap, subst, sym, refl, ℕ, List, Option, Result, Ok, Err, inl, inr}
 use Rattle.std.specs.Prelude.{IfOk, OnOk, IfErr}
 use Rattle.std.specs.Io.KnownBytes.{Appends, Keeps}
-use Rattle.std.proofs.KnownBytes.{Appends-nil}
-use Rattle.command_line.specs.Asking.{Asks, IsCommandLine}
+use Rattle.std.proofs.KnownBytes.{Keeps-refl}
+use Rattle.command_line.specs.Asking.{Asks, IsCommandLine, LackLogs}
 use Rattle.command_line.specs.declared.request.Explain.{Explain}
 use Rattle.command_line.specs.declared.request.Litmus.{Litmus}
 use Rattle.command_line.specs.declared.request.Request.{Request}
@@ -15,57 +15,67 @@ use Rattle.tardis_command.specs.Answers.{answer_status, answer_text, told_text, 
 use Rattle.tardis_command.specs.declared.answer.Answer.{Answer}
 use Rattle.tardis_command.specs.declared.answer.Answer.TheVariants as answer
 use Rattle.tardis_command.specs.inner.Printing.{IsUnprinted}
-use Rattle.tardis_command.specs.Endings.{Answered, Ending, EndsBy, HasFailed, IsAnswered, IsAnswerTo, IsDoneBy, IsPrintedBy, Misused, OutputAt, Refused, Sink, Takes, Unprinted, Unread, line, status_of}
+use Rattle.tardis_command.specs.Endings.{Answered, Ending, EndsBy, HasFailed, IsAnswered, IsDoneBy, IsPrinted, IsWritten, Misused, Refused, Says, Sink, Takes, Unprinted, Unread, line, status_of}
+use Rattle.judge_commands.specs.Checking.{IsChecked}
 use Rattle.judge_commands.specs.Explaining.{IsExplained}
+use Rattle.judge_commands.specs.Ordering.{IsOrdered}
+use Rattle.judge_commands.specs.Upgrading.{IsUpgraded}
 use Rattle.call_devices.specs.Files.{Files, IsOnlyRead, KeepsFiles}
 use Rattle.call_devices.proofs.Files.{keeps_told}
+use Rattle.command_line.specs.declared.request.Confirm.{Confirm}
+use Rattle.command_line.specs.declared.request.Search.{Search}
+use Rattle.command_line.specs.declared.request.TraceFiles.{TraceFiles}
+use Rattle.mem_op.specs.Consistency.{IsConsistent}
+use Rattle.search_commands.specs.Answers.{IsRightOf, search_status}
+use Rattle.search_commands.specs.Confirming.{IsConfirmed}
+use Rattle.search_commands.specs.Searching.{IsSearched}
+use Rattle.search_commands.specs.Traces.{TellsTrace}
+use Rattle.search_commands.specs.declared.answer.SearchAnswer.{SearchAnswer}
+use Rattle.search_commands.specs.declared.answer.SearchAnswer.TheVariants as searched
+use Rattle.search_commands.specs.declared.fault.SearchingFault.{SearchingFault}
+use Rattle.search_commands.specs.declared.fault.SearchingFault.TheVariants as searching
+use Rattle.verdict.specs.declared.judge_fault.JudgeFault.TheVariants as judge
+use Rattle.run_commands.specs.Running.{IsThreadRun}
+use Rattle.run_commands.specs.Simulating.{IsRun}
 use Rattle.run_commands.specs.Tabling.{IsCounted}
-use Rattle.tardis_command.specs.Faults.{command_fault_text, fault_status}
+use Rattle.tardis_command.specs.Faults.{command_fault_text, fault_status, from_judging, from_running, from_searching}
 use Rattle.tardis_command.specs.declared.fault.CommandFault.{CommandFault}
-use Rattle.tardis_command.specs.declared.fault.CommandFault.TheVariants.{Judging, Running, Output, OutOfMemory}
+use Rattle.tardis_command.specs.declared.fault.CommandFault.TheVariants.{Call}
+use Rattle.call_devices.specs.declared.call_fault.CallFault.TheVariants.{Output, OutOfMemory}
 use Rattle.judge_commands.specs.declared.fault.JudgingFault.{JudgingFault}
 use Rattle.judge_commands.specs.declared.fault.JudgingFault.TheVariants as judging
 use Rattle.run_commands.specs.declared.fault.RunningFault.{RunningFault}
 use Rattle.run_commands.specs.declared.fault.RunningFault.TheVariants as running
 
-pub kept : (contents : Option (List ℕ)) → Keeps contents contents
-kept None = tt
-kept (Some bytes) = refl
-
--- standard output holds what it held, or failed, where there was no verdict to print or it wasn't printed whole
-unless_failed : (old new : Sink) (fault : CommandFault) (ending : Ending) → IsAnswered ending (Err fault) → OutputAt old new ending
-    → Keeps old.contents new.contents ⊎ HasFailed old new
-unless_failed old new fault (Answered answer) answered output = cc
-unless_failed old new fault (Unprinted answer) answered output = inr output.0
-unless_failed old new fault (Refused reason) answered output = output
-unless_failed old new fault Unread answered output = absurd answered
-unless_failed old new fault (Misused text) answered output = absurd answered
-
 -- standard output holds what it held, or failed, where there is no table
 uncounted : (told : List ℕ → Option (List ℕ)) (unread : List ℕ → Type 0) (asked : Litmus) (old new : Sink) (fault : RunningFault) → IsCounted told unread asked old new (Err fault)
     → Keeps old.contents new.contents ⊎ HasFailed old new
-uncounted told unread asked old new running.Output done = let (order, t, test, made) = done in let (table, is, written) = made in inr written.0
-uncounted told unread asked old new running.OutOfMemory done = done
-uncounted told unread asked old new (running.Config fault) done = inl done.1
-uncounted told unread asked old new (running.Programs fault) done = absurd done
-uncounted told unread asked old new (running.Schedule fault) done = absurd done
-uncounted told unread asked old new running.ScheduleUnread done = absurd done
-uncounted told unread asked old new (running.Simulation fault) done = absurd done
-uncounted told unread asked old new (running.Run fault) done = absurd done
-uncounted told unread asked old new (running.Test fault) done = inl done.1
-uncounted told unread asked old new running.TestUnread done = inl done.1
-uncounted told unread asked old new (running.Collect fault) done = inl done.1
-uncounted told unread asked old new (running.Logs fault) done = absurd done
+uncounted told unread asked old new (running.Call Output) done = let (order, t, test, made) = done in let (table, is, written) = made in inr written.0
+uncounted told unread asked old new (running.Call OutOfMemory) done = done
+uncounted told unread asked old new other done = inl done.1
 
 -- standard output holds what it held, or failed, where nothing was explained
 unexplained : (before after : Files) (unread : List ℕ → Type 0) (asked : Explain) (old new : Sink) (fault : JudgingFault) → IsExplained before after unread asked old new (Err fault)
     → Keeps old.contents new.contents ⊎ HasFailed old new
-unexplained before after unread asked old new judging.Output done = let (verdict, checked, holds) = done in inr holds.1
-unexplained before after unread asked old new judging.OutOfMemory done = done
-unexplained before after unread asked old new judging.PictureUnwritten done = inl done.1
-unexplained before after unread asked old new (judging.Judge fault) done = inl done.1
-unexplained before after unread asked old new (judging.Programs fault) done = inl done.1
-unexplained before after unread asked old new (judging.Logs fault) done = absurd done
+unexplained before after unread asked old new (judging.Call Output) done = let (verdict, checked, holds) = done in inr holds.1
+unexplained before after unread asked old new (judging.Call OutOfMemory) done = done
+unexplained before after unread asked old new other done = inl done.1
+
+-- standard output holds what it held, or failed, where a search or a look at a certificate was refused
+unsearched : (before after : Files) (unread : List ℕ → Type 0) (asked : Search) (old new : Sink) (fault : SearchingFault) → IsSearched before after unread asked old new (Err fault)
+    → Keeps old.contents new.contents ⊎ HasFailed old new
+unsearched before after unread asked old new searching.Output done = let (answer, tells, text, told, failed, begun) = done in inr failed
+unsearched before after unread asked old new searching.OutOfMemory done = done
+unsearched before after unread asked old new searching.PictureUnwritten done = let (tells, keeps) = done in inl keeps
+unsearched before after unread asked old new other done = let (why, files, keeps) = done in inl keeps
+
+unconfirmed : (before after : Files) (unread : List ℕ → Type 0) (asked : Confirm) (old new : Sink) (fault : SearchingFault) → IsConfirmed before after unread asked old new (Err fault)
+    → Keeps old.contents new.contents ⊎ HasFailed old new
+unconfirmed before after unread asked old new searching.Output done = let (answer, tells, same, failed, begun) = done in inr failed
+unconfirmed before after unread asked old new searching.OutOfMemory done = done
+unconfirmed before after unread asked old new (searching.Certificate fault) done = let (tells, same, keeps) = done in inl keeps
+unconfirmed before after unread asked old new searching.CertificateUnread done = let (tells, certificate, keeps) = done in inl keeps
+unconfirmed before after unread asked old new other done = let (why, keeps) = done in inl keeps
 
 -- what holds whatever is answered
 pub whatever : (Said : Answer → Type 0) (X : Type 0) (r : Result Answer CommandFault) → X → IfOk r (λ answer. Said answer → X)
@@ -76,60 +86,76 @@ whatever Said X (Err fault) x = tt
 pub keeps_told_of : (old new : Files) (IsPut : List ℕ → Type 0) → IsOnlyRead old new → KeepsFiles old.told new.told IsPut
 keeps_told_of old new IsPut read name none = ap (λ (told : List ℕ → Option (List ℕ)). told name) (keeps_told old new read)
 
--- lack of memory may be told in place of whatever refusal
+-- ---- lack of memory may be told in place of whatever refusal
+
+abbrev pub NoMemory : (Result Answer CommandFault → Type 0) → Type 0
+NoMemory Is = Is (Err (Call OutOfMemory))
+
+printed_memory : (Is : Result Answer CommandFault → Type 0) (out out' : Sink) (fault : CommandFault) (ending : Ending) → NoMemory Is → IsAnswered ending (Err fault)
+    → IsPrinted Is out out' ending → IsPrinted Is out out' (Refused (Call OutOfMemory))
+printed_memory Is out out' fault (Answered answer) memory answered done = cc
+printed_memory Is out out' fault (Unprinted answer) memory answered done = (memory, inr done.1)
+printed_memory Is out out' fault (Refused reason) memory answered done = (memory, done.1)
+printed_memory Is out out' fault Unread memory answered done = absurd done
+printed_memory Is out out' fault (Misused text) memory answered done = absurd done
+
+written_memory : (Is : Result Answer CommandFault → Type 0) (fault : CommandFault) (ending : Ending) → ((reason : CommandFault) → Is (Err reason) → NoMemory Is)
+    → IsAnswered ending (Err fault) → IsWritten Is ending → NoMemory Is
+written_memory Is fault (Answered answer) memory answered done = cc
+written_memory Is fault (Refused reason) memory answered done = memory reason done
+written_memory Is fault (Unprinted answer) memory answered done = absurd done
+written_memory Is fault Unread memory answered done = absurd done
+written_memory Is fault (Misused text) memory answered done = absurd done
+
 memory_instead : (before after : Files) (unread : List ℕ → Type 0) (asked : Request) (out out' : Sink) (fault : CommandFault) (ending : Ending) → IsAnswered ending (Err fault)
-    → IsDoneBy before after unread asked out out' ending → IsDoneBy before after unread asked out out' (Refused OutOfMemory)
-memory_instead before after unread (request.Check check) out out' fault ending answered done = (tt, unless_failed out out' fault ending answered done.1)
-memory_instead before after unread (request.Upgrade upgrade) out out' fault ending answered done = (tt, unless_failed out out' fault ending answered done.1)
-memory_instead before after unread (request.Sim sim) out out' fault ending answered done = (tt, unless_failed out out' fault ending answered done.1)
-memory_instead before after unread (request.Run run) out out' fault ending answered done = (tt, unless_failed out out' fault ending answered done.1)
-memory_instead before after unread (request.Litmus litmus) out out' fault (Answered answer) answered done = cc
-memory_instead before after unread (request.Litmus litmus) out out' fault (Unprinted answer) answered done = absurd done
-memory_instead before after unread (request.Litmus litmus) out out' fault (Refused (Running reason)) answered done = uncounted before.told unread litmus out out' reason done
-memory_instead before after unread (request.Litmus litmus) out out' fault (Refused (Judging reason)) answered done = absurd done
-memory_instead before after unread (request.Litmus litmus) out out' fault (Refused Output) answered done = absurd done
-memory_instead before after unread (request.Litmus litmus) out out' fault (Refused OutOfMemory) answered done = done
-memory_instead before after unread (request.Litmus litmus) out out' fault Unread answered done = absurd done
-memory_instead before after unread (request.Litmus litmus) out out' fault (Misused text) answered done = absurd done
-memory_instead before after unread (request.Explain explain) out out' fault (Answered answer) answered done = cc
-memory_instead before after unread (request.Explain explain) out out' fault (Unprinted answer) answered done = absurd done
-memory_instead before after unread (request.Explain explain) out out' fault (Refused (Judging reason)) answered done = unexplained before after unread explain out out' reason done
-memory_instead before after unread (request.Explain explain) out out' fault (Refused (Running reason)) answered done = absurd done
-memory_instead before after unread (request.Explain explain) out out' fault (Refused Output) answered done = absurd done
-memory_instead before after unread (request.Explain explain) out out' fault (Refused OutOfMemory) answered done = done
-memory_instead before after unread (request.Explain explain) out out' fault Unread answered done = absurd done
-memory_instead before after unread (request.Explain explain) out out' fault (Misused text) answered done = absurd done
-memory_instead before after unread (request.Order order) out out' fault (Answered answer) answered done = cc
-memory_instead before after unread (request.Order order) out out' fault (Unprinted answer) answered done = absurd done
-memory_instead before after unread (request.Order order) out out' fault (Refused (Judging reason)) answered done = (tt, done.1)
-memory_instead before after unread (request.Order order) out out' fault (Refused (Running reason)) answered done = absurd done
-memory_instead before after unread (request.Order order) out out' fault (Refused Output) answered done = absurd done
-memory_instead before after unread (request.Order order) out out' fault (Refused OutOfMemory) answered done = done
-memory_instead before after unread (request.Order order) out out' fault Unread answered done = absurd done
-memory_instead before after unread (request.Order order) out out' fault (Misused text) answered done = absurd done
+    → IsDoneBy before after unread asked out out' ending → IsDoneBy before after unread asked out out' (Refused (Call OutOfMemory))
+memory_instead before after unread (request.Check check) out out' fault ending answered done =
+    printed_memory (Says answer.Judged from_judging (IsChecked before.told unread check)) out out' fault ending (judging.Call OutOfMemory, refl, inl refl) answered done
+memory_instead before after unread (request.Upgrade upgrade) out out' fault ending answered done =
+    printed_memory (Says answer.Done from_judging (IsUpgraded before after unread upgrade)) out out' fault ending (judging.Call OutOfMemory, refl, inl refl) answered done
+memory_instead before after unread (request.Sim sim) out out' fault ending answered done =
+    printed_memory (Says answer.Done from_running (IsRun before after unread sim)) out out' fault ending (running.Call OutOfMemory, refl, inl refl) answered done
+memory_instead before after unread (request.Run run) out out' fault ending answered done =
+    printed_memory (Says answer.Done from_running (IsThreadRun before after unread run)) out out' fault ending (running.Call OutOfMemory, refl, inl refl) answered done
+memory_instead before after unread (request.Litmus litmus) out out' fault ending answered done =
+    written_memory (Says answer.Counted from_running (IsCounted before.told unread litmus out out')) fault ending
+    (λ reason said. (running.Call OutOfMemory, refl, uncounted before.told unread litmus out out' said.0 said.2)) answered done
+memory_instead before after unread (request.Search search) out out' fault ending answered done =
+    written_memory (Says answer.Searched from_searching (IsSearched before after unread search out out')) fault ending
+    (λ reason said. (searching.OutOfMemory, refl, unsearched before after unread search out out' said.0 said.2)) answered done
+memory_instead before after unread (request.Confirm confirm) out out' fault ending answered done =
+    written_memory (Says answer.Searched from_searching (IsConfirmed before after unread confirm out out')) fault ending
+    (λ reason said. (searching.OutOfMemory, refl, unconfirmed before after unread confirm out out' said.0 said.2)) answered done
+memory_instead before after unread (request.Explain explain) out out' fault ending answered done =
+    written_memory (Says answer.Explained from_judging (IsExplained before after unread explain out out')) fault ending
+    (λ reason said. (judging.Call OutOfMemory, refl, unexplained before after unread explain out out' said.0 said.2)) answered done
+memory_instead before after unread (request.Order order) out out' fault ending answered done =
+    written_memory (Says answer.Ordered from_judging (IsOrdered before.told unread order out out')) fault ending
+    (λ reason said. (judging.Call OutOfMemory, refl, (tt, said.2.1))) answered done
 
--- what was asked was refused before there was an answer to print
-pub refused_at_once : (before after : Files) (unread : List ℕ → Type 0) (asked : Request) (out : Sink) (fault : CommandFault) (result : Result Answer CommandFault) → result ≡ Err fault
-    → IsAnswerTo before after unread asked (Err fault) → (ending : Ending) × IsAnswered ending result × IsPrintedBy before after unread asked out out ending
-refused_at_once before after unread asked out fault result is answered = (Refused fault, is, (answered, inl (kept out.contents)))
+-- ---- commands whose answer is printed
 
-module _ (before after : Files) (unread : List ℕ → Type 0) (asked : Request) (answer : Answer) (out out' : Sink) (answered : IsAnswerTo before after unread asked (Ok answer))
-    (memory : IsAnswerTo before after unread asked (Err OutOfMemory)) where
-  -- an answer whose line wasn't printed
-  unprinted : (fault : CommandFault) → IsUnprinted out out' (line (answer_text answer)) fault
-      → (ending : Ending) × IsAnswered ending (Err fault) × IsPrintedBy before after unread asked out out' ending
-  unprinted Output failed = (Unprinted answer, refl, (answered, failed))
-  unprinted OutOfMemory same =
-      (Refused OutOfMemory, refl, (memory, subst (λ (s : Sink). Keeps out.contents s.contents ⊎ HasFailed out s) (sym same) (inl (kept out.contents))))
-  unprinted (Judging reason) never = absurd never
-  unprinted (Running reason) never = absurd never
+module _ {X F : Type 0} (answer_of : X → Answer) (refusal : F → CommandFault) (Is : Result X F → Type 0) (out : Sink) where
+  -- it was refused before there was an answer to print
+  pub refused_at_once : (fault : F) (result : Result Answer CommandFault) → result ≡ Err (refusal fault) → Is (Err fault)
+      → (ending : Ending) × IsAnswered ending result × IsPrinted (Says answer_of refusal Is) out out ending
+  refused_at_once fault result is came = (Refused (refusal fault), is, ((fault, refl, came), inl (Keeps-refl out.contents)))
 
-  -- an answer that was to be printed
-  pub printed : (result : Result Answer CommandFault) → IfOk result (λ same. same ≡ answer)
-      → OnOk result (Appends out.contents out'.contents (line (answer_text answer))) → IfErr result (IsUnprinted out out' (line (answer_text answer)))
-      → (ending : Ending) × IsAnswered ending result × IsPrintedBy before after unread asked out out' ending
-  printed (Ok same) is appends failed = (Answered answer, ap (λ (a : Answer). Ok a) is, (answered, appends))
-  printed (Err fault) is appends failed = unprinted fault failed
+  module _ (out' : Sink) (x : X) (came : Is (Ok x)) (memory : NoMemory (Says answer_of refusal Is)) where
+    -- an answer whose line wasn't printed
+    unprinted : (fault : CommandFault) → IsUnprinted out out' (line (answer_text (answer_of x))) fault
+        → (ending : Ending) × IsAnswered ending (Err fault) × IsPrinted (Says answer_of refusal Is) out out' ending
+    unprinted (Call Output) failed = (Unprinted (answer_of x), refl, ((x, refl, came), failed.0, failed.1))
+    unprinted (Call OutOfMemory) same =
+        (Refused (Call OutOfMemory), refl, (memory, subst (λ (s : Sink). Keeps out.contents s.contents ⊎ HasFailed out s) (sym same) (inl (Keeps-refl out.contents))))
+    unprinted other never = absurd never
+
+    -- an answer that was to be printed
+    pub printed : (result : Result Answer CommandFault) → IfOk result (λ same. same ≡ answer_of x)
+        → OnOk result (Appends out.contents out'.contents (line (answer_text (answer_of x)))) → IfErr result (IsUnprinted out out' (line (answer_text (answer_of x))))
+        → (ending : Ending) × IsAnswered ending result × IsPrinted (Says answer_of refusal Is) out out' ending
+    printed (Ok same) is appends failed = (Answered (answer_of x), ap (λ (a : Answer). Ok a) is, ((x, refl, came), appends))
+    printed (Err fault) is appends failed = unprinted fault failed
 
 yes_of : (verdict : Verdict) → verdict_status verdict ≡ 0 → IsYes verdict
 yes_of (Yes count) zero = tt
@@ -141,10 +167,36 @@ pub printed_yes : (verdict : Verdict) (result : Result Answer CommandFault) (Hol
 printed_yes verdict (Ok answer) Holds is holds = λ zero. holds (yes_of verdict (sym (ap answer_status is) ∙ zero))
 printed_yes verdict (Err fault) Holds is holds = tt
 
+-- what an answer to a search says where its status is that of a yes
+pub right_yes : (told : List ℕ → Option (List ℕ)) (files : TraceFiles) (answer : SearchAnswer) → TellsTrace told files (λ cores. IsRightOf cores answer)
+    → search_status answer ≡ 0 → TellsTrace told files IsConsistent
+right_yes told files (searched.Yes operations) tells zero = let (cores, is, right) = tells in (cores, is, right.0)
+right_yes told files (searched.No operations) tells zero = cc
+
+-- and where it is that of a no
+pub right_no : (told : List ℕ → Option (List ℕ)) (files : TraceFiles) (answer : SearchAnswer) → TellsTrace told files (λ cores. IsRightOf cores answer)
+    → search_status answer ≡ 1 → TellsTrace told files (λ cores. ¬ (IsConsistent cores))
+right_no told files (searched.Yes operations) tells one = cc
+right_no told files (searched.No operations) tells one = let (cores, is, right) = tells in (cores, is, right.0)
+
+-- no refusal of a search has the status of a no
+pub refusal_is_no_no : (X : Type 0) (fault : SearchingFault) → fault_status (from_searching fault) ≡ 1 → X
+refusal_is_no_no X (searching.Logs (judge.Log file line fault)) one = cc
+refusal_is_no_no X (searching.Logs (judge.BadConfig count)) one = cc
+refusal_is_no_no X (searching.Logs (judge.Read file)) one = cc
+refusal_is_no_no X (searching.Logs judge.OutOfMemory) one = cc
+refusal_is_no_no X other one = cc
+
+-- nor is it that of lack of memory to tell another refusal
+pub told_no : (X : Type 0) (fault told : CommandFault) (status : ℕ) → (fault_status fault ≡ 1 → X) → (told ≡ fault) ⊎ (told ≡ Call OutOfMemory) → status ≡ fault_status told
+    → status ≡ 1 → X
+told_no X fault told status holds (inl is) same one = holds (sym (ap fault_status is) ∙ sym same ∙ one)
+told_no X fault told status holds (inr is) same one = cc
+
 module _ (before after : Files) (unread : List ℕ → Type 0) (words : List (List ℕ)) (out err : Sink) where
-  pub ends_misused : (err' : Sink) (text : List ℕ) → ¬ (IsCommandLine words) → Takes err err' text
+  pub ends_misused : (err' : Sink) (text : List ℕ) → ¬ (IsCommandLine words) ⊎ LackLogs words → Takes err err' text
       → EndsBy before after unread words out out err err' (Misused text)
-  ends_misused err' text misused takes = record { end = (misused, kept out.contents); complaint = takes }
+  ends_misused err' text misused takes = record { end = (misused, Keeps-refl out.contents); complaint = takes }
 
   -- the call answered this status, and told of this fault
   abbrev pub EndsAt : Sink → Sink → ℕ → Type 0
@@ -169,7 +221,7 @@ module _ (before after : Files) (unread : List ℕ → Type 0) (words : List (Li
       → status ≡ fault_status fault → EndsAt out' err' status
   ends_told asked (Answered answer) fault out' err' status asks answered done takes same = cc
   ends_told asked (Unprinted answer) fault out' err' status asks answered done takes same =
-      let is : fault ≡ Output = cc in (
+      let is : fault ≡ Call Output = cc in (
         Unprinted answer,
         same ∙ ap fault_status is,
         record { end = (asked, asks, done); complaint = subst (λ (f : CommandFault). Takes err err' (line (command_fault_text f))) is takes },
@@ -185,21 +237,21 @@ module _ (before after : Files) (unread : List ℕ → Type 0) (words : List (Li
 
   -- what was told is the fault, or lack of the memory to tell it
   pub ends_refused : (asked : Request) (ending : Ending) (fault reported : CommandFault) (out' err' : Sink) (status : ℕ) → Asks words asked
-      → IsAnswered ending (Err fault) → IsDoneBy before after unread asked out out' ending → (reported ≡ fault) ⊎ (reported ≡ OutOfMemory)
+      → IsAnswered ending (Err fault) → IsDoneBy before after unread asked out out' ending → (reported ≡ fault) ⊎ (reported ≡ Call OutOfMemory)
       → Takes err err' (line (command_fault_text reported)) → status ≡ fault_status reported → EndsAt out' err' status
   ends_refused asked ending fault reported out' err' status asks answered done (inl is) takes same =
       ends_told asked ending fault out' err' status asks answered done
       (subst (λ (f : CommandFault). Takes err err' (line (command_fault_text f))) is takes) (same ∙ ap fault_status is)
   ends_refused asked ending fault reported out' err' status asks answered done (inr is) takes same =
-      ends_told asked (Refused OutOfMemory) OutOfMemory out' err' status asks refl (memory_instead before after unread asked out out' fault ending answered done)
+      ends_told asked (Refused (Call OutOfMemory)) (Call OutOfMemory) out' err' status asks refl (memory_instead before after unread asked out out' fault ending answered done)
       (subst (λ (f : CommandFault). Takes err err' (line (command_fault_text f))) is takes) (same ∙ ap fault_status is)
 
   -- and there was no memory to read the words
-  pub ends_unread : (reported : CommandFault) (err' : Sink) (status : ℕ) → (reported ≡ OutOfMemory) ⊎ (reported ≡ OutOfMemory)
+  pub ends_unread : (reported : CommandFault) (err' : Sink) (status : ℕ) → (reported ≡ Call OutOfMemory) ⊎ (reported ≡ Call OutOfMemory)
       → Takes err err' (line (command_fault_text reported)) → status ≡ fault_status reported → EndsAt out err' status
   ends_unread reported err' status which takes same =
-      let is : reported ≡ OutOfMemory = elim which [ inl is ↦ is | inr is ↦ is ] in (
+      let is : reported ≡ Call OutOfMemory = elim which [ inl is ↦ is | inr is ↦ is ] in (
         Unread,
         same ∙ ap fault_status is,
-        record { end = kept out.contents; complaint = subst (λ (f : CommandFault). Takes err err' (line (command_fault_text f))) is takes },
+        record { end = Keeps-refl out.contents; complaint = subst (λ (f : CommandFault). Takes err err' (line (command_fault_text f))) is takes },
       )

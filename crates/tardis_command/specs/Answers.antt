@@ -1,17 +1,19 @@
 -- The texts and the exit statuses of answers.
-use Rattle.std.specs.Prelude.{ℕ, Bool, if◌then◌else◌, List, [], ◌++◌, codes}
+use Rattle.std.specs.Prelude.{ℕ, if◌then◌else◌, List, [], ◌++◌, codes}
 use Rattle.std.specs.Fmt.{decimal}
 use Rattle.verdict.specs.Texts.{verdict_text}
 use Rattle.verdict.specs.declared.answer.Verdict.{Verdict}
 use Rattle.verdict.specs.declared.answer.Verdict.TheVariants.{Yes, No}
 use Rattle.call_devices.specs.Sinks.{line}
+use Rattle.search_commands.specs.Answers.{search_status, search_text}
 use Rattle.tardis_command.specs.declared.answer.Answer.{Answer}
-use Rattle.tardis_command.specs.declared.answer.Answer.TheVariants.{Judged, Ordered, Explained, Counted, Done}
+use Rattle.tardis_command.specs.declared.answer.Answer.TheVariants.{Judged, Ordered, Explained, Searched, Counted, Done}
 
 abbrev pub answer_text : Answer → List ℕ
 answer_text (Judged verdict) = verdict_text verdict
 answer_text (Ordered verdict) = verdict_text verdict
 answer_text (Explained verdict) = verdict_text verdict
+answer_text (Searched answer) = search_text answer
 answer_text (Counted forbidden) = []
 answer_text (Done operations) = codes "done: " ++ (decimal operations ++ codes " operations")
 
@@ -20,6 +22,7 @@ abbrev pub told_text : Answer → List ℕ
 told_text (Judged verdict) = []
 told_text (Ordered verdict) = line (verdict_text verdict)
 told_text (Explained verdict) = []
+told_text (Searched answer) = []
 told_text (Counted forbidden) = []
 told_text (Done operations) = []
 
@@ -31,5 +34,6 @@ abbrev pub answer_status : Answer → ℕ
 answer_status (Judged verdict) = verdict_status verdict
 answer_status (Ordered verdict) = verdict_status verdict
 answer_status (Explained verdict) = verdict_status verdict
+answer_status (Searched answer) = search_status answer
 answer_status (Counted forbidden) = if forbidden then 1 else 0
 answer_status (Done operations) = 0

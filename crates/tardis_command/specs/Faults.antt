@@ -1,18 +1,41 @@
 -- What is told of refusals, and their exit statuses.
-use Rattle.std.specs.Prelude.{ℕ, List, codes}
+use Rattle.std.specs.Prelude.{ℕ, List, ◌++◌, codes}
+use Rattle.call_devices.specs.CallFaults.{call_fault_status, call_fault_text}
 use Rattle.judge_commands.specs.Faults.{judging_fault_status, judging_fault_text}
+use Rattle.judge_commands.specs.declared.fault.JudgingFault.{JudgingFault}
+use Rattle.judge_commands.specs.declared.fault.JudgingFault.TheVariants as judging
 use Rattle.run_commands.specs.Faults.{running_fault_status, running_fault_text}
+use Rattle.run_commands.specs.declared.fault.RunningFault.{RunningFault}
+use Rattle.run_commands.specs.declared.fault.RunningFault.TheVariants as running
+use Rattle.search_commands.specs.Faults.{searching_fault_status, searching_fault_text}
+use Rattle.search_commands.specs.declared.fault.SearchingFault.{SearchingFault}
+use Rattle.search_commands.specs.declared.fault.SearchingFault.TheVariants as searching
+use Rattle.call_devices.specs.declared.call_fault.CallFault.TheVariants.{Output, OutOfMemory}
 use Rattle.tardis_command.specs.declared.fault.CommandFault.{CommandFault}
-use Rattle.tardis_command.specs.declared.fault.CommandFault.TheVariants.{Judging, Running, Output, OutOfMemory}
+use Rattle.tardis_command.specs.declared.fault.CommandFault.TheVariants.{Judging, Searching, Running, Call}
+
+-- why a command that judges, one that looks at a trace, or one that runs programs, was refused
+abbrev pub from_judging : JudgingFault → CommandFault
+from_judging (judging.Call fault) = Call fault
+from_judging fault = Judging fault
+
+abbrev pub from_searching : SearchingFault → CommandFault
+from_searching searching.Output = Call Output
+from_searching searching.OutOfMemory = Call OutOfMemory
+from_searching fault = Searching fault
+
+abbrev pub from_running : RunningFault → CommandFault
+from_running (running.Call fault) = Call fault
+from_running fault = Running fault
 
 abbrev pub command_fault_text : CommandFault → List ℕ
 command_fault_text (Judging fault) = judging_fault_text fault
+command_fault_text (Searching fault) = searching_fault_text fault
 command_fault_text (Running fault) = running_fault_text fault
-command_fault_text Output = codes "refused: output: 29 Write"
-command_fault_text OutOfMemory = codes "refused: 10 OutOfMemory"
+command_fault_text (Call fault) = codes "refused: " ++ call_fault_text fault
 
 abbrev pub fault_status : CommandFault → ℕ
 fault_status (Judging fault) = judging_fault_status fault
+fault_status (Searching fault) = searching_fault_status fault
 fault_status (Running fault) = running_fault_status fault
-fault_status Output = 4
-fault_status OutOfMemory = 4
+fault_status (Call fault) = call_fault_status fault

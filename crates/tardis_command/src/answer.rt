@@ -3,6 +3,7 @@
 ghost use Rattle.std.specs.Prelude.{◌≡◌};
 ghost use Rattle.tardis_command.specs.Answers.{answer_status};
 
+use search_commands::SearchAnswer;
 use std::fmt;
 use std::fmt::Display;
 use verdict::Verdict;
@@ -16,6 +17,8 @@ pub enum Answer {
     Ordered(Verdict),
     /// The verdict on a set of logs, with what there is to tell of it.
     Explained(Verdict),
+    /// Whether a trace is consistent, by a search or by a certificate.
+    Searched(SearchAnswer),
     /// A table of the outcomes of a litmus test was written, and whether one of them is forbidden.
     Counted(bool),
     /// Programs were run to their ends, and have performed this number of operations.
@@ -34,6 +37,7 @@ impl Answer {
                     Verdict::Yes(_) => 0,
                 }
             }
+            Answer::Searched(answer) => answer.status(),
             Answer::Counted(true) => 1,
             Answer::Counted(false) | Answer::Done(_) => 0,
         }
@@ -51,6 +55,7 @@ impl Display for Answer {
             Answer::Judged(verdict) | Answer::Ordered(verdict) | Answer::Explained(verdict) => {
                 write!(f, "{verdict}")
             }
+            Answer::Searched(answer) => write!(f, "{answer}"),
             Answer::Counted(_) => f.write_str(""),
             Answer::Done(operations) => write!(f, "done: {operations} operations"),
         }

@@ -9,11 +9,12 @@ ghost use Rattle.tardis_command.specs.Endings as endings;
 use super::answer::Answer;
 use super::fault::CommandFault;
 use super::output::{print_answer, refuse, tell, tell_answer};
-use call_devices::Folder;
+use call_devices::{CallFault, Folder};
 use command_line::{Refusal, Request, read};
 use judge_commands::{check, explain, order, upgrade};
 use log_file::ByteSink;
 use run_commands::{Watch, count_outcomes, run, sim};
+use search_commands::{confirm, search};
 use std::alloc::Global;
 use std::sync::Wait;
 use std::thread::Threads;
@@ -23,7 +24,7 @@ const USAGE: u8 = 3;
 
 /// Does what the words of a command line ask for; the first is the program's own name, and
 /// answers the exit status: 0 for Yes or done, 1 for No or a forbidden outcome, 2 where a log, the
-/// programs, the schedule or the test are refused, 3 where the words are or a number is out of range, else 4. An answer goes to standard
+/// programs, the schedule, the test, the trace or the certificate are refused, 3 where the words are or a number is out of range, else 4. An answer goes to standard
 /// output, all else to standard error; where an order goes to standard output, its verdict goes to
 /// standard error. In the folder nothing is put but the logs of a run or of an upgrade and the picture of
 /// an explanation.
@@ -48,6 +49,8 @@ pub fn command<R: Threads + Wait + Sync, W: Watch + Sync, F: Folder, O: ByteSink
         (λ name. endings.AskFor (texts words.entry.now) (λ asked. endings.IsPutName asked name)) }
     ensures sound { result ≡ 0 → endings.AskFor (texts words.entry.now)
         (endings.AreConsistent (F.files folder.old).told) }
+    ensures refuted { result ≡ 1 → endings.AskFor (texts words.entry.now)
+        (endings.AreRefuted (F.files folder.old).told) }
     ensures order { result ≡ 0 → endings.AskFor (texts words.entry.now)
         (endings.AreOrdered (F.files folder.old).told (endings.sink_of O.contents O.failed out.old)
         (endings.sink_of O.contents O.failed out.new)) }
@@ -63,7 +66,7 @@ pub fn command<R: Threads + Wait + Sync, W: Watch + Sync, F: Folder, O: ByteSink
             return USAGE;
         }
         Err(Refusal::OutOfMemory) => {
-            return refuse(alloc, err, CommandFault::OutOfMemory);
+            return refuse(alloc, err, CommandFault::Call(CallFault::OutOfMemory));
         }
     };
     match perform(rt, alloc, &request, watch, folder, out) {
@@ -91,6 +94,8 @@ fn perform<R: Threads + Wait + Sync, W: Watch + Sync, F: Folder, O: ByteSink>(
         (endings.IsPutName request.now) }
     ensures sound { IfOk result (λ answer. answer_status answer ≡ 0
         → endings.AreConsistent (F.files folder.old).told request.now) }
+    ensures refuted { endings.status_in result ≡ 1
+        → endings.AreRefuted (F.files folder.old).told request.now }
     ensures order { IfOk result (λ answer. answer_status answer ≡ 0
         → endings.AreOrdered (F.files folder.old).told (endings.sink_of O.contents O.failed out.old)
         (endings.sink_of O.contents O.failed out.new) request.now) }
@@ -118,6 +123,8 @@ fn perform<R: Threads + Wait + Sync, W: Watch + Sync, F: Folder, O: ByteSink>(
             let operations = upgrade(rt, alloc, folder, asked)?;
             print_answer(alloc, out, Answer::Done(operations))
         }
+        Request::Search(asked) => Ok(Answer::Searched(search(rt, alloc, folder, asked, out)?)),
+        Request::Confirm(asked) => Ok(Answer::Searched(confirm(rt, alloc, folder, asked, out)?)),
         Request::Litmus(asked) => Ok(Answer::Counted(count_outcomes(
             rt, alloc, folder, asked, out,
         )?)),

@@ -1,12 +1,15 @@
 //! Why a command was refused.
 
 ghost use Rattle.std.specs.Prelude.{◌≡◌};
-ghost use Rattle.tardis_command.specs.Faults.{fault_status};
-ghost use Rattle.tardis_command.specs.declared.fault.CommandFault.TheVariants.{Judging, OutOfMemory, Output, Running};
+ghost use Rattle.tardis_command.specs.Faults.{fault_status, from_judging, from_running, from_searching};
+ghost use Rattle.tardis_command.specs.declared.fault.CommandFault.TheVariants.{Call};
+ghost use Rattle.call_devices.specs.declared.call_fault.CallFault.TheVariants.{OutOfMemory, Output};
 
+use call_devices::CallFault;
 use judge_commands::JudgingFault;
 use log_file::WriteFailed;
 use run_commands::RunningFault;
+use search_commands::SearchingFault;
 use std::alloc::AllocError;
 use std::fmt;
 use std::fmt::Display;
@@ -15,25 +18,26 @@ use thiserror::Error;
 /// Why a command was refused.
 #[derive(Clone, Copy, Debug, PartialEq, Eq, Error)]
 pub enum CommandFault {
-    /// A command that judges was refused.
+    /// As a command that judges is refused alone.
     Judging(JudgingFault),
-    /// A command that runs programs was refused.
+    /// As a command that looks at a trace is refused alone.
+    Searching(SearchingFault),
+    /// As a command that runs programs is refused alone.
     Running(RunningFault),
-    /// Standard output failed.
-    Output,
-    /// A growth was refused.
-    OutOfMemory,
+    /// As any command may be refused.
+    Call(CallFault),
 }
 
 impl CommandFault {
-    /// The exit status: that of the command, or 4.
+    /// The exit status.
     pub fn status(&self) -> u8
         ensures { result ≡ fault_status self.now }
     {
         match self {
             CommandFault::Judging(fault) => fault.status(),
+            CommandFault::Searching(fault) => fault.status(),
             CommandFault::Running(fault) => fault.status(),
-            CommandFault::Output | CommandFault::OutOfMemory => 4,
+            CommandFault::Call(fault) => fault.status(),
         }
     }
 }
@@ -47,41 +51,59 @@ impl Display for CommandFault {
     fn fmt<W: fmt::Write>(&self, f: &mut fmt::Formatter<W>) -> fmt::Result {
         match self {
             CommandFault::Judging(fault) => write!(f, "{fault}"),
+            CommandFault::Searching(fault) => write!(f, "{fault}"),
             CommandFault::Running(fault) => write!(f, "{fault}"),
-            CommandFault::Output => f.write_str("refused: output: 29 Write"),
-            CommandFault::OutOfMemory => f.write_str("refused: 10 OutOfMemory"),
+            CommandFault::Call(fault) => write!(f, "refused: {fault}"),
         }
     }
 }
 
 impl From<JudgingFault> for CommandFault {
-    ghost from_gives = { λ reason fault. fault ≡ Judging reason };
+    ghost from_gives = { λ reason fault. fault ≡ from_judging reason };
 
     fn from(reason: JudgingFault) -> CommandFault {
-        CommandFault::Judging(reason)
+        match reason {
+            JudgingFault::Call(fault) => CommandFault::Call(fault),
+            reason => CommandFault::Judging(reason),
+        }
+    }
+}
+
+impl From<SearchingFault> for CommandFault {
+    ghost from_gives = { λ reason fault. fault ≡ from_searching reason };
+
+    fn from(reason: SearchingFault) -> CommandFault {
+        match reason {
+            SearchingFault::Output => CommandFault::Call(CallFault::Output),
+            SearchingFault::OutOfMemory => CommandFault::Call(CallFault::OutOfMemory),
+            reason => CommandFault::Searching(reason),
+        }
     }
 }
 
 impl From<RunningFault> for CommandFault {
-    ghost from_gives = { λ reason fault. fault ≡ Running reason };
+    ghost from_gives = { λ reason fault. fault ≡ from_running reason };
 
     fn from(reason: RunningFault) -> CommandFault {
-        CommandFault::Running(reason)
+        match reason {
+            RunningFault::Call(fault) => CommandFault::Call(fault),
+            reason => CommandFault::Running(reason),
+        }
     }
 }
 
 impl From<WriteFailed> for CommandFault {
-    ghost from_gives = { λ _ fault. fault ≡ Output };
+    ghost from_gives = { λ _ fault. fault ≡ Call Output };
 
     fn from(_failed: WriteFailed) -> CommandFault {
-        CommandFault::Output
+        CommandFault::Call(CallFault::Output)
     }
 }
 
 impl From<AllocError> for CommandFault {
-    ghost from_gives = { λ _ fault. fault ≡ OutOfMemory };
+    ghost from_gives = { λ _ fault. fault ≡ Call OutOfMemory };
 
     fn from(_error: AllocError) -> CommandFault {
-        CommandFault::OutOfMemory
+        CommandFault::Call(CallFault::OutOfMemory)
     }
 }

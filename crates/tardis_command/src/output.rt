@@ -6,11 +6,13 @@ ghost use Rattle.tardis_command.specs.Answers.{answer_status, answer_text, told_
 ghost use Rattle.tardis_command.specs.Endings as endings;
 ghost use Rattle.tardis_command.specs.Faults as faults;
 ghost use Rattle.tardis_command.specs.inner.Printing as printing;
-ghost use Rattle.tardis_command.specs.declared.fault.CommandFault.TheVariants.{OutOfMemory};
+ghost use Rattle.tardis_command.specs.declared.fault.CommandFault.TheVariants.{Call};
+ghost use Rattle.call_devices.specs.declared.call_fault.CallFault.TheVariants.{OutOfMemory};
 
 use super::answer::Answer;
 use super::fault::CommandFault;
 use super::verdict_line::verdict_line;
+use call_devices::CallFault;
 use log_file::{ByteSink, write_all};
 use std::alloc::Global;
 
@@ -49,7 +51,7 @@ pub(crate) fn tell_answer<E: ByteSink>(err: &mut E, answer: &Answer) -> u8
 /// Tells the user of a refusal on standard error, and answers its exit status. Where there is no
 /// memory for that, it tells of this instead.
 pub(crate) fn refuse<E: ByteSink>(alloc: Global, err: &mut E, fault: CommandFault) -> u8
-    ensures { (told : CommandFault) × ((told ≡ fault) ⊎ (told ≡ OutOfMemory))
+    ensures { (told : CommandFault) × ((told ≡ fault) ⊎ (told ≡ Call OutOfMemory))
         × endings.Takes (endings.sink_of E.contents E.failed err.old)
         (endings.sink_of E.contents E.failed err.new)
         (endings.line (faults.command_fault_text told))
@@ -62,7 +64,7 @@ pub(crate) fn refuse<E: ByteSink>(alloc: Global, err: &mut E, fault: CommandFaul
         }
         Err(_) => {
             tell(err, "refused: 10 OutOfMemory\n");
-            CommandFault::OutOfMemory.status()
+            CallFault::OutOfMemory.status()
         }
     }
 }

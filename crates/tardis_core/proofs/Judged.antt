@@ -5,7 +5,7 @@ use Rattle.core_machine.specs.Machine.{Leads, next}
 use Rattle.core_machine.specs.Parts.{CoreParts, world, programs_of, IsMachine, IsReached}
 use Rattle.manager_slice.specs.declared.fault.SliceFault.TheVariants as slice_fault
 use Rattle.core_unit.specs.declared.fault.UnitFault.TheVariants as unit_fault
-use Rattle.core_machine.specs.Steps.{Meets, MachineGoes, is_memory, step_outcome}
+use Rattle.core_machine.specs.Steps.{OutcomeLeads, MachineLeads, is_memory, step_outcome}
 use Rattle.core_machine.specs.declared.event.Event.{Event}
 use Rattle.core_machine.specs.declared.fault.CoreFault.{CoreFault}
 use Rattle.core_machine.specs.declared.fault.CoreFault.TheVariants.{Unit, Slice}
@@ -17,15 +17,15 @@ use Rattle.machine_laws.specs.Refusals.{NoProtocolFault, is_protocol_fault}
 pub yes_before : RunsGetYes → (p : CoreParts) → IsReached p → GetYes (logs_of (world p))
 yes_before law p reached = law (programs_of p) p.config (world p) reached
 
-pub yes_after : RunsGetYes → (e : Event) (p : CoreParts) (r : StepResult) (q : CoreParts) → IsReached p → MachineGoes e p r q → GetYes (logs_of (world q))
-yes_after law e p r q reached goes = by_result r goes.leads goes.refused
+pub yes_after : RunsGetYes → (e : Event) (p : CoreParts) (r : StepResult) (q : CoreParts) → IsReached p → MachineLeads e p r q → GetYes (logs_of (world q))
+yes_after law e p r q reached led = by_result r led.leads led.refused
   where
     by_result : (r : StepResult) → IfOk r (λ o. Leads p.config (world p) e o (world q)) → OnErr r (q ≡ p) → GetYes (logs_of (world q))
     by_result (Ok o) leads refused =
         law (programs_of p) p.config (world q) (reached.0 ++ e ∷ [], next reached.0 e o (world p) (world q) reached.1 leads)
     by_result (Err fault) leads refused = subst (λ (t : CoreParts). GetYes (logs_of (world t))) (sym refused) (yes_before law p reached)
 
-pub passes : NoProtocolFault → (e : Event) (p : CoreParts) (r : StepResult) (q : CoreParts) → IsMachine p → Meets (step_outcome p e) r p q
+pub passes : NoProtocolFault → (e : Event) (p : CoreParts) (r : StepResult) (q : CoreParts) → IsMachine p → OutcomeLeads (step_outcome p e) r p q
     → IfErr r (λ fault. is_protocol_fault fault ≡ false)
 passes law e p (Ok o) q machine met = tt
 passes law e p (Err fault) q machine met = law p e fault machine (may_refuse (step_outcome p e) fault p q met)

@@ -1,4 +1,4 @@
-pub mod Goes
+pub mod Leading
 pub mod Judged
 pub mod Nexts
 pub mod RoundRuns

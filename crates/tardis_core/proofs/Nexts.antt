@@ -18,11 +18,11 @@ use Rattle.core_machine.proofs.Placed.{stays_in_set}
 
 -- ---- one core
 
-abbrev goes_on : Core → Bool
-goes_on u = is_some (next_of u)
+abbrev leads_on : Core → Bool
+leads_on u = is_some (next_of u)
 
 core_next : (g : ConfigParts) (c : ℕ) (u : Core) (e : Event) (o : Outcome) (v : Core) → CoreLeads g c u e o v
-    → ((e ≡ event.Turn c) × (goes_on u ≡ true)) ⊎ (goes_on v ≡ goes_on u)
+    → ((e ≡ event.Turn c) × (leads_on u ≡ true)) ⊎ (leads_on v ≡ leads_on u)
 core_next g c u e o v (turn_hits op hit h n t) = inl (refl, ap is_some n)
 core_next g c u e o v (turn_drops op b l h n t p held) = inr refl
 core_next g c u e o v (turn_gives op b modified l h n t p held) = inr refl
@@ -48,10 +48,10 @@ other_in_set f none (x ∷ xs) (suc i) zero v other = refl
 other_in_set f none (x ∷ xs) (suc i) (suc d) v other = other_in_set f none xs i d v (λ same. other (ap suc same))
 
 -- where a core goes on, it went on before, if all cores that can have ended did
-stays_behind : (xs : List Core) (i d : ℕ) (u v : Core) → slice_get xs i ≡ Some u → goes_on u ≡ true
-    → option_map_or goes_on (slice_get (slice_set xs i v) d) false ≡ true → option_map_or goes_on (slice_get xs d) false ≡ true
+stays_behind : (xs : List Core) (i d : ℕ) (u v : Core) → slice_get xs i ≡ Some u → leads_on u ≡ true
+    → option_map_or leads_on (slice_get (slice_set xs i v) d) false ≡ true → option_map_or leads_on (slice_get xs d) false ≡ true
 stays_behind [] i d u v e went on = on
-stays_behind (x ∷ xs) zero zero u v e went on = let is : x ≡ u = cc in ap goes_on is ∙ went
+stays_behind (x ∷ xs) zero zero u v e went on = let is : x ≡ u = cc in ap leads_on is ∙ went
 stays_behind (x ∷ xs) zero (suc d) u v e went on = on
 stays_behind (x ∷ xs) (suc i) zero u v e went on = on
 stays_behind (x ∷ xs) (suc i) (suc d) u v e went on = stays_behind xs i d u v e went on
@@ -65,20 +65,20 @@ as_before : (c d : ℕ) (w t : World) → has_next t d ≡ has_next w d → Next
 as_before c d w t is = record { went_on = λ on. sym is ∙ on; same = λ _. is }
 
 by_set : (c d : ℕ) (w t : World) (i : ℕ) (e : Event) (u v : Core) → slice_get w.cores i ≡ Some u → t.cores ≡ slice_set w.cores i v
-    → (e ≡ event.Turn i → c ≡ i) → ((e ≡ event.Turn i) × (goes_on u ≡ true)) ⊎ (goes_on v ≡ goes_on u) → NextAt c d w t
+    → (e ≡ event.Turn i → c ≡ i) → ((e ≡ event.Turn i) × (leads_on u ≡ true)) ⊎ (leads_on v ≡ leads_on u) → NextAt c d w t
 by_set c d w t i e u v at is whose (inl (turn, went)) =
     let own = whose turn in
     rw is record {
       went_on = λ on. stays_behind w.cores i d u v at went on;
-      same = λ other. other_in_set goes_on false w.cores i d v (λ same. other (same ∙ sym own));
+      same = λ other. other_in_set leads_on false w.cores i d v (λ same. other (same ∙ sym own));
     }
-by_set c d w t i e u v at is whose (inr same) = as_before c d w t (rw is (stays_in_set goes_on false w.cores i d u v at same))
+by_set c d w t i e u v at is whose (inr same) = as_before c d w t (rw is (stays_in_set leads_on false w.cores i d u v at same))
 
 leads_next : (c d : ℕ) (g : ConfigParts) (w : World) (e : Event) (o : Outcome) (t : World) → ((i : ℕ) → e ≡ event.Turn i → c ≡ i)
     → Leads g w e o t → NextAt c d w t
 leads_next c d g w e o t whose (by_core i x y u v at leads) = by_set c d w t i e u v at refl (whose i) (core_next g i u x y v leads)
 leads_next c d g w e o t whose (serves i u m x entries s r at h k there handled) =
-    as_before c d w t (stays_in_set goes_on false w.cores i d u (record u { kept = Some x }) at refl)
+    as_before c d w t (stays_in_set leads_on false w.cores i d u (record u { kept = Some x }) at refl)
 leads_next c d g w e o t whose (spills a s r there evicted) = as_before c d w t refl
 leads_next c d g w e o t whose (no_effect x barred) = as_before c d w t refl
 

@@ -5,7 +5,7 @@ use Rattle.log_record.specs.declared.record.Record.{Record}
 use Rattle.lease_rule.specs.ConfigParts.{ConfigParts}
 use Rattle.core_machine.specs.Machine.{World, Leads, Run, start, next}
 use Rattle.core_machine.specs.Parts.{CoreParts, world}
-use Rattle.tardis_core.specs.Rounds.{Makes, IsRun, IsRunTo, Stage, Part, begins, makes, passes, IsPart, IsStopped, Rounds, no_round, one_more, StillWaits, IsOp, IsOpFault, gave_up, stopped, Ops, no_op, next_op, IsFinishFault}
+use Rattle.tardis_core.specs.Rounds.{EventLeads, IsRun, IsRunTo, Stage, Part, begins, makes, passes, IsPart, IsStopped, Rounds, no_round, one_more, StillWaits, IsOp, IsOpFault, gave_up, stopped, Ops, no_op, next_op, IsFinishFault}
 use Rattle.core_machine.specs.Runs.{behind, run_from}
 use Rattle.core_machine.specs.Steps.{step_outcome}
 use Rattle.core_machine.specs.Works.{has_next}
@@ -29,7 +29,7 @@ run_from-append p (e ∷ es) fs = by_first (λ q. run_from-append q es fs) (behi
 pub no_run : (p : CoreParts) → IsRun p [] p
 no_run p = record { reached = refl; run = start; config = refl }
 
-pub run_more : (p q t : CoreParts) (es : List Event) (e : Event) (o : _) → IsRun p es q → Makes q e o t → IsRun p (es ++ e ∷ []) t
+pub run_more : (p q t : CoreParts) (es : List Event) (e : Event) (o : _) → IsRun p es q → EventLeads q e o t → IsRun p (es ++ e ∷ []) t
 run_more p q t es e o x made = record {
   reached = run_from-push p es e ∙ ap (option_and_then (λ y. behind (step_outcome y e))) x.reached ∙ behind_met (step_outcome q e) o q t made.met;
   run = next es e o (world q) (world t) x.run (subst (λ (g : ConfigParts). Leads g (world q) e o (world t)) x.config made.leads);

@@ -6,7 +6,7 @@ use Rattle.core_unit.specs.declared.outcome.Outcome.TheVariants as outcome
 use Rattle.line_stamps.specs.declared.message.Recall.{Recall}
 use Rattle.core_machine.specs.Machine.{World, core_event}
 use Rattle.core_machine.specs.Parts.{CoreParts, world}
-use Rattle.tardis_core.specs.Rounds.{IsMade, told_by, Stage, ToTurn, ToServe, ToTake, ToRecall, OwnerToServe, OwnerToTake, Over, turn_due, serve_due, take_due, due, stage_of, stage_of_recall, stage_after, stage_without, Part, begins, makes, passes, IsPart, IsCauseOf, IsStopped}
+use Rattle.tardis_core.specs.Rounds.{EventLeadsTelling, told_by, Stage, ToTurn, ToServe, ToTake, ToRecall, OwnerToServe, OwnerToTake, Over, turn_due, serve_due, take_due, due, stage_of, stage_of_recall, stage_after, stage_without, Part, begins, makes, passes, IsPart, IsCauseOf, IsStopped}
 use Rattle.core_machine.specs.Steps.{step_outcome}
 use Rattle.tardis_core.specs.Hands.{hand_at, SameWork, HasPerformed}
 use Rattle.core_machine.specs.declared.event.Event.{Event}
@@ -23,7 +23,7 @@ use Rattle.tardis_core.proofs.Works.{is_performed, is_turn, same_work, leads_sam
 pub part_passes : (c : ℕ) (from : Stage) (p : CoreParts) → due c (world p) from ≡ None → IsPart c from p p (stage_without from)
 part_passes c from p nothing = record { events = []; part = passes [] p from begins nothing }
 
-pub part_makes : (c : ℕ) (from : Stage) (p : CoreParts) (e : Event) (told : Told) (q : CoreParts) → due c (world p) from ≡ Some e → (made : IsMade p e told q)
+pub part_makes : (c : ℕ) (from : Stage) (p : CoreParts) (e : Event) (told : Told) (q : CoreParts) → due c (world p) from ≡ Some e → (made : EventLeadsTelling p e told q)
     → IsPart c from p q (stage_after from made.outcome)
 part_makes c from p e told q is made = record { events = e ∷ []; part = makes [] p from e made.outcome q begins is made.makes }
 
@@ -191,22 +191,22 @@ not_performed (outcome.Served x) not = refl
 not_performed outcome.Spilled not = refl
 not_performed outcome.NoEffect not = refl
 
-pub turn_performs : (c : ℕ) (p q : CoreParts) → IsMade p (event.Turn c) told.Performed q → HasPerformed c (world p) (world q)
+pub turn_performs : (c : ℕ) (p q : CoreParts) → EventLeadsTelling p (event.Turn c) told.Performed q → HasPerformed c (world p) (world q)
 turn_performs c p q made =
     leads_performs p.config (world p) (event.Turn c) made.outcome (world q) made.makes.leads (performed_told made.outcome (sym made.tells)) c refl
 
-pub turn_performs_not : (c : ℕ) (p q : CoreParts) (t : Told) → IsMade p (event.Turn c) t q → t ≢ told.Performed → SameWork c (world p) (world q)
+pub turn_performs_not : (c : ℕ) (p q : CoreParts) (t : Told) → EventLeadsTelling p (event.Turn c) t q → t ≢ told.Performed → SameWork c (world p) (world q)
 turn_performs_not c p q t made not =
     leads_same p.config (world p) (event.Turn c) made.outcome (world q) made.makes.leads (not_performed made.outcome (λ is. not (made.tells ∙ is))) c
 
 -- ---- a recall at its owner
 
-pub recalled : (c : ℕ) (x : Recall) (p q : CoreParts) → IsMade p (event.Recall x.owner x) told.Gave q → IsPart c (ToRecall x) p q (OwnerToServe x.owner)
+pub recalled : (c : ℕ) (x : Recall) (p q : CoreParts) → EventLeadsTelling p (event.Recall x.owner x) told.Gave q → IsPart c (ToRecall x) p q (OwnerToServe x.owner)
 recalled c x p q made =
     subst (λ (t : Told). IsPart c (ToRecall x) p q (stage_of_recall x.owner t)) (sym made.tells)
     (part_makes c (ToRecall x) p (event.Recall x.owner x) told.Gave q refl made)
 
-pub not_recalled : (c : ℕ) (x : Recall) (p q : CoreParts) (t : Told) → t ≢ told.Gave → IsMade p (event.Recall x.owner x) t q → IsPart c (ToRecall x) p q Over
+pub not_recalled : (c : ℕ) (x : Recall) (p q : CoreParts) (t : Told) → t ≢ told.Gave → EventLeadsTelling p (event.Recall x.owner x) t q → IsPart c (ToRecall x) p q Over
 not_recalled c x p q told.Gave not made = absurd (not refl)
 not_recalled c x p q told.Performed not made =
     subst (λ (t : Told). IsPart c (ToRecall x) p q (stage_of_recall x.owner t)) (sym made.tells)

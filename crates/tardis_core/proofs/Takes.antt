@@ -12,7 +12,7 @@ use Rattle.private_cache.specs.declared.held.Held.{Held}
 use Rattle.line_stamps.specs.Messages.{addr_of}
 use Rattle.manager_slice.specs.Messages.{is_request}
 use Rattle.core_unit.specs.Core.{has_place, fits}
-use Rattle.core_unit.specs.Outcomes.{Refuses, Answers, Meets, recorded, hand_outcome, reply_outcome, fill_outcome, take_outcome, without_hand}
+use Rattle.core_unit.specs.Outcomes.{Refuses, Answers, OutcomeLeads, recorded, hand_outcome, reply_outcome, fill_outcome, take_outcome, without_hand}
 use Rattle.core_unit.specs.Parts.{UnitParts, core_of}
 use Rattle.core_unit.specs.declared.entry.CoreEntry.{CoreEntry}
 use Rattle.core_unit.specs.declared.entry.CoreEntry.TheVariants as entry
@@ -21,9 +21,9 @@ use Rattle.core_unit.specs.declared.outcome.Outcome.{Outcome}
 use Rattle.core_unit.specs.declared.outcome.Outcome.TheVariants as outcome
 use Rattle.core_machine.specs.Machine.{CoreLeads, takes, takes_nothing, takes_busy}
 use Rattle.core_machine.specs.SeatParts.{SeatParts}
-use Rattle.core_machine.specs.Seats.{SeatGoes, seen}
+use Rattle.core_machine.specs.Seats.{SeatLeads, seen}
 use Rattle.core_machine.specs.declared.event.Event.TheVariants as event
-use Rattle.tardis_core.proofs.Goes.{UnitResult, goes_on, made_or_refused}
+use Rattle.tardis_core.proofs.Leading.{UnitResult, leads_on, made_or_refused}
 
 if_some : (b : Bool) (o : Option Held) (held : Held) → (if b then o else None) ≡ Some held → (b ≡ true) × (o ≡ Some held)
 if_some true o held e = (refl, e)
@@ -34,15 +34,15 @@ module _ (s : SeatParts) (capacity : s.unit.cache.capacity ≡ s.unit.config.cac
     -- an outcome of the unit that isn't a refusal
     on : (y : Outcome) (t : UnitParts) → y ≢ outcome.NoEffect → ◌≡◌ {A = UnitResult} (Ok o) (Ok y) → q ≡ t
         → CoreLeads s.unit.config s.unit.core (seen s) (event.Take s.unit.core) y (core_of t None)
-        → SeatGoes (event.Take s.unit.core) s (Ok o) (record { unit = q; kept = None })
+        → SeatLeads (event.Take s.unit.core) s (Ok o) (record { unit = q; kept = None })
     on y t other is new leads =
-        goes_on (event.Take s.unit.core) s (Ok o) (record { unit = q; kept = None }) (ap is_none served) y is other
+        leads_on (event.Take s.unit.core) s (Ok o) (record { unit = q; kept = None }) (ap is_none served) y is other
         (subst (λ (p : UnitParts). CoreLeads s.unit.config s.unit.core (seen s) (event.Take s.unit.core) y (core_of p None)) (sym new) leads)
 
     -- the same, where it makes an entry
-    made : (e : CoreEntry) (y : Outcome) (t : UnitParts) → y ≢ outcome.NoEffect → Meets (recorded s.unit e None y t) (Ok o) s.unit q
+    made : (e : CoreEntry) (y : Outcome) (t : UnitParts) → y ≢ outcome.NoEffect → OutcomeLeads (recorded s.unit e None y t) (Ok o) s.unit q
         → CoreLeads s.unit.config s.unit.core (seen s) (event.Take s.unit.core) y (core_of t None)
-        → SeatGoes (event.Take s.unit.core) s (Ok o) (record { unit = q; kept = None })
+        → SeatLeads (event.Take s.unit.core) s (Ok o) (record { unit = q; kept = None })
     made e y t other met leads =
         elim (made_or_refused s.unit e None y t (Ok o) q met) [
           | inl f ↦ let p : Ok o ≡ Err f.0 = f.1 in absurd (cc)
@@ -51,8 +51,8 @@ module _ (s : SeatParts) (capacity : s.unit.cache.capacity ≡ s.unit.config.cac
 
     module _ (m : Message) (h : s.unit.hand ≡ Some m) where
       filling : (b : Bool) → fits m x ≡ b → (line : Option Held) → fill_line s.unit.cache (addr_of m) x ≡ line
-          → Meets (if b then fill_outcome s.unit m x line else Refuses BadReply) (Ok o) s.unit q
-          → SeatGoes (event.Take s.unit.core) s (Ok o) (record { unit = q; kept = None })
+          → OutcomeLeads (if b then fill_outcome s.unit m x line else Refuses BadReply) (Ok o) s.unit q
+          → SeatLeads (event.Take s.unit.core) s (Ok o) (record { unit = q; kept = None })
       filling false kind line is met = let p = met.0 in absurd (cc)
       filling true kind None is met = let p = met.0 in absurd (cc)
       filling true kind (Some held) is met =
@@ -64,20 +64,20 @@ module _ (s : SeatParts) (capacity : s.unit.cache.capacity ≡ s.unit.config.cac
 
   module _ (m : Message) (h : s.unit.hand ≡ Some m) where
     busy : (recall : Recall) → s.kept ≡ Some (Busy recall) → (b : Bool) → is_request m ≡ b
-        → Meets (if b then Answers (outcome.Busy recall) (without_hand s.unit) else Refuses BadReply) (Ok o) s.unit q
-        → SeatGoes (event.Take s.unit.core) s (Ok o) (record { unit = q; kept = None })
+        → OutcomeLeads (if b then Answers (outcome.Busy recall) (without_hand s.unit) else Refuses BadReply) (Ok o) s.unit q
+        → SeatLeads (event.Take s.unit.core) s (Ok o) (record { unit = q; kept = None })
     busy recall served false is met = let p = met.0 in absurd (cc)
     busy recall served true is met =
         on (Busy recall) served (outcome.Busy recall) (without_hand s.unit) (λ y. cc) met.0 met.1 (takes_busy m recall h served is)
 
     rid : s.kept ≡ Some Taken → (b : Bool) → is_request m ≡ b
-        → Meets (if b then Refuses BadReply else recorded s.unit (entry.Got m Taken) None outcome.Took (without_hand s.unit)) (Ok o) s.unit q
-        → SeatGoes (event.Take s.unit.core) s (Ok o) (record { unit = q; kept = None })
+        → OutcomeLeads (if b then Refuses BadReply else recorded s.unit (entry.Got m Taken) None outcome.Took (without_hand s.unit)) (Ok o) s.unit q
+        → SeatLeads (event.Take s.unit.core) s (Ok o) (record { unit = q; kept = None })
     rid served true is met = let p = met.0 in absurd (cc)
     rid served false is met = made Taken served (entry.Got m Taken) outcome.Took (without_hand s.unit) (λ y. cc) met (takes_nothing m h served is)
 
-    by_reply : (x : Reply) → s.kept ≡ Some x → Meets (reply_outcome s.unit m x) (Ok o) s.unit q
-        → SeatGoes (event.Take s.unit.core) s (Ok o) (record { unit = q; kept = None })
+    by_reply : (x : Reply) → s.kept ≡ Some x → OutcomeLeads (reply_outcome s.unit m x) (Ok o) s.unit q
+        → SeatLeads (event.Take s.unit.core) s (Ok o) (record { unit = q; kept = None })
     by_reply (Busy recall) served met = busy recall served (is_request m) refl met
     by_reply Taken served met = rid served (is_request m) refl met
     by_reply (ShRep l) served met = filling (ShRep l) served m h (fits m (ShRep l)) refl (fill_line s.unit.cache (addr_of m) (ShRep l)) refl met
@@ -85,11 +85,11 @@ module _ (s : SeatParts) (capacity : s.unit.cache.capacity ≡ s.unit.config.cac
     by_reply (RenewRep rts) served met = filling (RenewRep rts) served m h (fits m (RenewRep rts)) refl (fill_line s.unit.cache (addr_of m) (RenewRep rts)) refl met
     by_reply (UpgradeRep rts) served met = filling (UpgradeRep rts) served m h (fits m (UpgradeRep rts)) refl (fill_line s.unit.cache (addr_of m) (UpgradeRep rts)) refl met
 
-  by_hand : (x : Reply) → s.kept ≡ Some x → (hand : Option Message) → s.unit.hand ≡ hand → Meets (hand_outcome s.unit x hand) (Ok o) s.unit q
-      → SeatGoes (event.Take s.unit.core) s (Ok o) (record { unit = q; kept = None })
+  by_hand : (x : Reply) → s.kept ≡ Some x → (hand : Option Message) → s.unit.hand ≡ hand → OutcomeLeads (hand_outcome s.unit x hand) (Ok o) s.unit q
+      → SeatLeads (event.Take s.unit.core) s (Ok o) (record { unit = q; kept = None })
   by_hand x served None h met = let p = met.0 in absurd (cc)
   by_hand x served (Some m) h met = by_reply m h x served met
 
-  pub goes_take : (x : Reply) → s.kept ≡ Some x → Meets (take_outcome s.unit x) (Ok o) s.unit q
-      → SeatGoes (event.Take s.unit.core) s (Ok o) (record { unit = q; kept = None })
-  goes_take x served met = by_hand x served s.unit.hand refl met
+  pub leads_take : (x : Reply) → s.kept ≡ Some x → OutcomeLeads (take_outcome s.unit x) (Ok o) s.unit q
+      → SeatLeads (event.Take s.unit.core) s (Ok o) (record { unit = q; kept = None })
+  leads_take x served met = by_hand x served s.unit.hand refl met

@@ -1,5 +1,7 @@
 -- The texts of the faults of rounds: whose it is, a number and a name.
-use Rattle.std.specs.Prelude.{ℕ, List, codes}
+use Rattle.std.specs.Prelude.{ℕ, List}
+use Rattle.fault_names.specs.Names.{name_text}
+use Rattle.fault_names.specs.declared.fault_name.FaultName.TheVariants as named
 use Rattle.audit.specs.Faults.{core_text}
 use Rattle.core_machine.specs.Faults as core
 use Rattle.tardis_core.specs.declared.rounds.fault.RoundCause.{RoundCause}
@@ -7,7 +9,7 @@ use Rattle.tardis_core.specs.declared.rounds.fault.RoundCause.TheVariants as cau
 use Rattle.tardis_core.specs.declared.rounds.fault.RoundFault.{RoundFault}
 
 abbrev pub cause_text : RoundCause → List ℕ
-cause_text cause.GaveUp = codes "30 GaveUp"
+cause_text cause.GaveUp = name_text named.GaveUp
 cause_text (cause.Core fault) = core.fault_text fault
 
 abbrev pub fault_text : RoundFault → List ℕ

@@ -6,7 +6,7 @@ use Rattle.core_unit.specs.declared.outcome.Outcome.TheVariants.{Performed, Busy
 use Rattle.core_machine.specs.Machine.{World, Leads, Run, core_event}
 use Rattle.core_machine.specs.Parts.{CoreParts, world}
 use Rattle.core_machine.specs.Runs.{MayRefuse, run_from}
-use Rattle.core_machine.specs.Steps.{StepOutcome, Meets, step_outcome}
+use Rattle.core_machine.specs.Steps.{StepOutcome, OutcomeLeads, step_outcome}
 use Rattle.core_machine.specs.Works.{has_next, log_at}
 use Rattle.tardis_core.specs.Hands.{HasPerformed, hand_at}
 use Rattle.core_machine.specs.declared.event.Event.{Event}
@@ -22,8 +22,8 @@ use Rattle.tardis_core.specs.declared.rounds.stages.Told.TheVariants as told
 -- ---- events that are made
 
 -- the event leads from p to q with this outcome
-pub record Makes (p : CoreParts) (e : Event) (o : Outcome) (q : CoreParts) : Type 0 where
-  pub met : Meets (step_outcome p e) (Ok o) p q
+pub record EventLeads (p : CoreParts) (e : Event) (o : Outcome) (q : CoreParts) : Type 0 where
+  pub met : OutcomeLeads (step_outcome p e) (Ok o) p q
   pub leads : Leads p.config (world p) e o (world q)
   pub config : q.config ≡ p.config
 
@@ -35,9 +35,9 @@ told_by (Gave m) = told.Gave
 told_by o = told.Other
 
 -- the event leads from p to q, and this is told of its outcome
-pub record IsMade (p : CoreParts) (e : Event) (told : Told) (q : CoreParts) : Type 0 where
+pub record EventLeadsTelling (p : CoreParts) (e : Event) (told : Told) (q : CoreParts) : Type 0 where
   pub outcome : Outcome
-  pub makes : Makes p e outcome q
+  pub makes : EventLeads p e outcome q
   pub tells : told ≡ told_by outcome
 
 -- these events lead from p to q, one after the other
@@ -118,7 +118,7 @@ stage_without _ = Over
 pub data Part (c : ℕ) (from : Stage) (p : CoreParts) : List Event → CoreParts → Stage → Type 0 where
   begins : Part c from p [] p from
   makes : (events : List Event) (q : CoreParts) (stage : Stage) (e : Event) (o : Outcome) (t : CoreParts) → Part c from p events q stage →
-      due c (world q) stage ≡ Some e → Makes q e o t → Part c from p (events ++ e ∷ []) t (stage_after stage o)
+      due c (world q) stage ≡ Some e → EventLeads q e o t → Part c from p (events ++ e ∷ []) t (stage_after stage o)
   passes : (events : List Event) (q : CoreParts) (stage : Stage) → Part c from p events q stage →
       due c (world q) stage ≡ None → Part c from p events q (stage_without stage)
 

@@ -1,8 +1,8 @@
 //! The machine as it starts.
 
-ghost use Rattle.std.specs.Prelude.{◌≡◌, true, IfOk, IfErr, vec_len};
+ghost use Rattle.std.specs.Prelude.{◌≡◌, true, IfOk, IfErr, map, vec_len};
 ghost use Rattle.core_machine.specs.Machine.{opening};
-ghost use Rattle.core_machine.specs.Opening.{new_seats, new_units, opening_parts};
+ghost use Rattle.core_machine.specs.Opening.{new_seat, new_units, opening_parts};
 ghost use Rattle.core_machine.specs.Parts.{world};
 ghost use Rattle.core_machine.specs.Steps.{is_memory};
 
@@ -14,7 +14,7 @@ use core_unit::CoreUnit;
 use lease_rule::Config;
 use manager_slice::new_slices;
 use mem_op::CoreId;
-use std::alloc::Global;
+use std::alloc::{AllocError, Global};
 
 impl Core {
     /// The machine with each core at the start of its program and all slices empty; 10 OutOfMemory
@@ -24,7 +24,8 @@ impl Core {
         ensures opening { IfOk result (λ m. world m ≡ opening programs.now.programs config.now.slices) }
         ensures refused { IfErr result (λ fault. is_memory fault ≡ true) }
     {
-        let seats = seats_of(alloc, programs, config)?;
+        let units = opening_units(alloc, programs, config)?;
+        let seats = seats_of(alloc, units)?;
         let slices = new_slices(alloc, config)?;
         Ok(Core {
             config: *config,
@@ -54,16 +55,12 @@ pub fn opening_units(
     Ok(units)
 }
 
-// A seat for each core at the start of its program.
-fn seats_of(alloc: Global, programs: &ProgramSet, config: &Config) -> Result<Vec<Seat>, CoreFault>
-    ensures seats { IfOk result (λ seats. seats.items ≡ new_seats config.now 0 programs.now.programs) }
-    ensures refused { IfErr result (λ fault. is_memory fault ≡ true) }
+// Each of these units in its seat.
+fn seats_of(alloc: Global, units: Vec<CoreUnit>) -> Result<Vec<Seat>, AllocError>
+    ensures { IfOk result (λ seats. seats.items ≡ map new_seat units.items) }
 {
     let mut seats = Vec::new(alloc);
-    for number in 0..programs.len() as u64 {
-        let core = CoreId::new(number).unwrap();
-        let program = programs.get(core).unwrap().clone()?;
-        let unit = CoreUnit::new(alloc, core, program, config)?;
+    for unit in units {
         seats.reserve(1)?;
         seats.push_reserved(Seat { unit, kept: None });
     }

@@ -9,4 +9,4 @@ mod stages;
 pub use draw::pick;
 pub use fault::{RoundCause, RoundFault};
 pub use hand::has_next;
-pub use ops::{finish, op, round};
+pub use ops::{MAX_ROUNDS_PER_OPERATION, finish, op, round};

@@ -4,12 +4,11 @@ ghost use Rattle.std.specs.Prelude.{◌≡◌, true, Some};
 ghost use Rattle.std.specs.Option.{option_copied};
 ghost use Rattle.core_unit.specs.Parts.{SameUnit};
 ghost use Rattle.core_machine.specs.Machine.{core_event, is_alone};
-ghost use Rattle.core_machine.specs.Seats.{SeatMeets, SeatGoes, asked_by, seat_outcome};
+ghost use Rattle.core_machine.specs.Seats.{SeatOutcomeLeads, SeatLeads, asked_by, seat_outcome};
 
 use core_machine::Event;
 use core_unit::{CoreUnit, Outcome, UnitFault};
-use line_stamps::{Message, Recall, Reply};
-use mem_op::Addr;
+use line_stamps::{Message, Reply};
 use std::marker::Model;
 
 /// A core, and the reply to the message in its hand, once that is served.
@@ -42,16 +41,19 @@ impl Seat {
     pub(crate) fn step(&mut self, event: &Event) -> Result<Outcome, UnitFault>
         requires own { core_event event.now ≡ Some self.old.unit.core }
         requires alone { is_alone event.now ≡ true }
-        ensures outcome { SeatMeets (seat_outcome event.now self.old) result self.old self.new }
+        ensures outcome { SeatOutcomeLeads (seat_outcome event.now self.old) result self.old self.new }
         ensures same { SameUnit self.old.unit self.new.unit }
-        ensures goes { SeatGoes event.now self.old result self.new }
+        ensures leads { SeatLeads event.now self.old result self.new }
     {
         match event {
-            Event::Turn(_) => self.turn(),
+            Event::Turn(_) => {
+                self.unit.replays();
+                self.unit.turn()
+            }
             Event::Take(_) => self.take(),
-            Event::Recall(_, recall) => self.recall(recall),
-            Event::Evict(_, addr) => self.evict(*addr),
-            Event::Increment(_) => self.increment(),
+            Event::Recall(_, recall) => self.unit.recall(recall),
+            Event::Evict(_, addr) => self.unit.evict(*addr),
+            Event::Increment(_) => self.unit.increment(),
             Event::Serve(_) | Event::Spill(_) => Ok(Outcome::NoEffect),
         }
     }
@@ -66,23 +68,12 @@ impl Seat {
         }
     }
 
-    // The core makes a turn.
-    #[inline(always)]
-    fn turn(&mut self) -> Result<Outcome, UnitFault>
-        ensures outcome { SeatMeets (seat_outcome (Event.Turn self.old.unit.core) self.old) result self.old self.new }
-        ensures same { SameUnit self.old.unit self.new.unit }
-        ensures goes { SeatGoes (Event.Turn self.old.unit.core) self.old result self.new }
-    {
-        self.unit.replays();
-        self.unit.turn()
-    }
-
     // The core takes the reply that is kept for it.
     #[inline(always)]
     fn take(&mut self) -> Result<Outcome, UnitFault>
-        ensures outcome { SeatMeets (seat_outcome (Event.Take self.old.unit.core) self.old) result self.old self.new }
+        ensures outcome { SeatOutcomeLeads (seat_outcome (Event.Take self.old.unit.core) self.old) result self.old self.new }
         ensures same { SameUnit self.old.unit self.new.unit }
-        ensures goes { SeatGoes (Event.Take self.old.unit.core) self.old result self.new }
+        ensures leads { SeatLeads (Event.Take self.old.unit.core) self.old result self.new }
     {
         let Seat { unit, kept } = self;
         let Some(reply) = kept else {
@@ -92,33 +83,5 @@ impl Seat {
         let outcome = unit.take(reply)?;
         *kept = None;
         Ok(outcome)
-    }
-
-    // This recall comes to the core.
-    #[inline(always)]
-    fn recall(&mut self, recall: &Recall) -> Result<Outcome, UnitFault>
-        ensures outcome { SeatMeets (seat_outcome (Event.Recall self.old.unit.core recall.now) self.old) result self.old self.new }
-        ensures same { SameUnit self.old.unit self.new.unit }
-        ensures goes { SeatGoes (Event.Recall self.old.unit.core recall.now) self.old result self.new }
-    {
-        self.unit.recall(recall)
-    }
-
-    // The core evicts the line of an address.
-    fn evict(&mut self, addr: Addr) -> Result<Outcome, UnitFault>
-        ensures outcome { SeatMeets (seat_outcome (Event.Evict self.old.unit.core addr) self.old) result self.old self.new }
-        ensures same { SameUnit self.old.unit self.new.unit }
-        ensures goes { SeatGoes (Event.Evict self.old.unit.core addr) self.old result self.new }
-    {
-        self.unit.evict(addr)
-    }
-
-    // The core increments its stamp.
-    fn increment(&mut self) -> Result<Outcome, UnitFault>
-        ensures outcome { SeatMeets (seat_outcome (Event.Increment self.old.unit.core) self.old) result self.old self.new }
-        ensures same { SameUnit self.old.unit self.new.unit }
-        ensures goes { SeatGoes (Event.Increment self.old.unit.core) self.old result self.new }
-    {
-        self.unit.increment()
     }
 }

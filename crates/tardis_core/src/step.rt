@@ -3,7 +3,7 @@
 ghost use Rattle.std.specs.Prelude.{◌≡◌, true, false, Some, IfErr};
 ghost use Rattle.core_machine.specs.Machine.{core_event, is_alone};
 ghost use Rattle.core_machine.specs.Parts.{world};
-ghost use Rattle.core_machine.specs.Steps.{Meets, MachineGoes, alone, spill_told, step_outcome};
+ghost use Rattle.core_machine.specs.Steps.{OutcomeLeads, MachineLeads, alone, spill_told, step_outcome};
 ghost use Rattle.machine_laws.specs.Laws.{GetYes, logs_of};
 ghost use Rattle.machine_laws.specs.Refusals.{is_protocol_fault};
 
@@ -30,12 +30,12 @@ impl Core {
     pub fn step(&mut self, event: Event) -> Result<Outcome, CoreFault>
         // The event leads there by the relation of the machine, and NoEffect comes exactly where it
         // doesn't apply.
-        ensures goes { MachineGoes event self.old result self.new }
+        ensures leads { MachineLeads event self.old result self.new }
 
         // Which line goes follows from the order of use and of service. Each refusal comes exactly
         // where it is due; 10 comes only instead of a step, and for Serve and Spill it is the
         // slice's, else the core's.
-        ensures outcome { Meets (step_outcome self.old event) result self.old self.new }
+        ensures outcome { OutcomeLeads (step_outcome self.old event) result self.old self.new }
 
         // The logs so far get Yes.
         ensures before { GetYes (logs_of (world self.old)) }
@@ -47,23 +47,23 @@ impl Core {
         runs_get_yes();
         never_refused();
         self.keeps();
-        self.make(event)
+        self.apply(event)
     }
 
-    // Makes an event.
+    // Makes an event, which no law is needed for.
     #[inline(always)]
-    fn make(&mut self, event: Event) -> Result<Outcome, CoreFault>
-        ensures goes { MachineGoes event self.old result self.new }
-        ensures outcome { Meets (step_outcome self.old event) result self.old self.new }
+    fn apply(&mut self, event: Event) -> Result<Outcome, CoreFault>
+        ensures leads { MachineLeads event self.old result self.new }
+        ensures outcome { OutcomeLeads (step_outcome self.old event) result self.old self.new }
     {
         match &event {
             Event::Serve(core) => self.serve(*core),
             Event::Spill(addr) => self.spill(*addr),
-            Event::Turn(core) => self.alone(*core, &event),
-            Event::Take(core) => self.alone(*core, &event),
-            Event::Recall(core, _) => self.alone(*core, &event),
-            Event::Evict(core, _) => self.alone(*core, &event),
-            Event::Increment(core) => self.alone(*core, &event),
+            Event::Turn(core)
+            | Event::Take(core)
+            | Event::Recall(core, _)
+            | Event::Evict(core, _)
+            | Event::Increment(core) => self.alone(*core, &event),
         }
     }
 
@@ -72,8 +72,8 @@ impl Core {
     fn alone(&mut self, core: CoreId, event: &Event) -> Result<Outcome, CoreFault>
         requires own { core_event event.now ≡ Some core }
         requires alone { is_alone event.now ≡ true }
-        ensures outcome { Meets (alone self.old core event.now) result self.old self.new }
-        ensures goes { MachineGoes event.now self.old result self.new }
+        ensures outcome { OutcomeLeads (alone self.old core event.now) result self.old self.new }
+        ensures leads { MachineLeads event.now self.old result self.new }
     {
         let Core { seats, .. } = self;
         let Some(seat) = seats.get_mut(core.get() as usize) else {
@@ -85,8 +85,8 @@ impl Core {
     // A slice serves the core's message in hand.
     #[inline(always)]
     fn serve(&mut self, core: CoreId) -> Result<Outcome, CoreFault>
-        ensures outcome { Meets (step_outcome self.old (Event.Serve core)) result self.old self.new }
-        ensures goes { MachineGoes (Event.Serve core) self.old result self.new }
+        ensures outcome { OutcomeLeads (step_outcome self.old (Event.Serve core)) result self.old self.new }
+        ensures leads { MachineLeads (Event.Serve core) self.old result self.new }
     {
         let Core {
             config,
@@ -107,8 +107,8 @@ impl Core {
 
     // A slice evicts the line of an address, where it is Shared.
     fn spill(&mut self, addr: Addr) -> Result<Outcome, CoreFault>
-        ensures outcome { Meets (step_outcome self.old (Event.Spill addr)) result self.old self.new }
-        ensures goes { MachineGoes (Event.Spill addr) self.old result self.new }
+        ensures outcome { OutcomeLeads (step_outcome self.old (Event.Spill addr)) result self.old self.new }
+        ensures leads { MachineLeads (Event.Spill addr) self.old result self.new }
     {
         let Core { config, slices, .. } = self;
         let slice = &mut slices[config.slice_of(addr)];

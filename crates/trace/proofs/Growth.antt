@@ -6,7 +6,7 @@ use Rattle.mem_op.specs.Consistency.{Operation}
 use Rattle.mem_op.specs.Limits.{operation_limit}
 use Rattle.flat_replay.specs.Accesses.{operation_lists}
 use Rattle.flat_replay.specs.Accesses.{own_operations}
-use Rattle.trace.specs.Growing.{with_core, with_operation, IsOfSize, SameOperations}
+use Rattle.trace.specs.Growing.{with_operation, IsOfSize, SameOperations}
 use Rattle.trace.specs.inner.Widening.{IsWidened}
 
 -- the operations that the vectors hold, with one more vector
@@ -68,19 +68,6 @@ with_operation-empty (suc core) operation [] h = refl
 with_operation-empty (suc core) operation (own ∷ others) h =
     ap (λ rest. own ∷ rest) (with_operation-empty core operation others (omega arith))
 
-with_core-empty : (core : ℕ) (cores : List (List Operation)) → length cores ≤ core → with_core core (cores ++ [] ∷ []) ≡ with_core core cores
-with_core-empty zero [] h = refl
-with_core-empty zero (own ∷ others) h = absurd (omega arith)
-with_core-empty (suc core) [] h = refl
-with_core-empty (suc core) (own ∷ others) h = ap (λ rest. own ∷ rest) (with_core-empty core others (omega arith))
-
--- a core that is there changes nothing
-pub with_core_there : (core : ℕ) (cores : List (List Operation)) → core < length cores → with_core core cores ≡ cores
-with_core_there zero [] h = absurd (omega arith)
-with_core_there (suc core) [] h = absurd (omega arith)
-with_core_there zero (own ∷ others) h = refl
-with_core_there (suc core) (own ∷ others) h = ap (λ rest. own ∷ rest) (with_core_there core others (omega arith))
-
 same_with_empty : (cores : List (List Operation)) → SameOperations cores (cores ++ [] ∷ [])
 same_with_empty [] zero = refl
 same_with_empty [] (suc core) = refl
@@ -88,7 +75,7 @@ same_with_empty (own ∷ others) zero = refl
 same_with_empty (own ∷ others) (suc core) = same_with_empty others core
 
 pub IsWidened_refl : (core : ℕ) (cores : List (List Operation)) → IsWidened core cores cores
-IsWidened_refl core cores = record { same = λ k. refl; alike = λ operation. refl; named = refl }
+IsWidened_refl core cores = record { same = λ k. refl; alike = λ operation. refl }
 
 pub IsWidened_push : (core : ℕ) (old : List (List Operation)) (cores : List (Vec Operation)) (more : Vec Operation)
     → more.items ≡ [] → length cores ≤ core → IsWidened core old (operation_lists cores)
@@ -99,7 +86,6 @@ IsWidened_push core old cores more none short widened =
       alike = λ operation.
           with_operation-empty core operation (operation_lists cores) (omega (arith, length_lists cores))
           ∙ widened.alike operation;
-      named = with_core-empty core (operation_lists cores) (omega (arith, length_lists cores)) ∙ widened.named;
     }
 
 -- cores of no operation change no core's number of operations

@@ -7,7 +7,7 @@ use Rattle.decimal_text.proofs.Numbers.{guard_some}
 use Rattle.decimal_text.proofs.Reading.{bind_some, some_is}
 use Rattle.mem_op.specs.Consistency.{Operation, Loaded, Stored, Swapped}
 use Rattle.trace.specs.declared.line.TraceLine.{TraceLine}
-use Rattle.trace.specs.declared.line.TraceLine.TheVariants.{Blank, Sync, Performs}
+use Rattle.trace.specs.declared.line.TraceLine.TheVariants.{Nothing, Performs}
 use Rattle.trace.specs.Grammar.{Part, Mark, Number, IsAhead, AreAhead, IsOver, cell, operation_parts, of_core, time_parts, AreTimes, AreAll, IsLine}
 use Rattle.trace.specs.inner.Reading.{mark_at, number_at, cell_at, word_at, access_at, swap_at, operation_at_front, is_over, after_time, rest_or, ends_at, are_times, is_ended, said_of, core_at, line_of}
 use Rattle.trace.proofs.Parts.{starts_plain, mark_takes, mark_again, mark_none, number_takes, number_again, number_none_at_mark, number_none_at_end, over_takes, over_again, not_over}
@@ -224,8 +224,7 @@ ended_again bytes (inr times) = elim (cases_Bool (is_over bytes)) [
 
 -- what is said of a core, without `T:`
 abbrev IsSaid : ℕ → List ℕ → TraceLine → Type 0
-IsSaid core bytes Blank = ⊥
-IsSaid core bytes (Sync k) = (k ≡ core) × AreAll (Mark (codes "sync") ∷ []) bytes
+IsSaid core bytes Nothing = AreAll (Mark (codes "sync") ∷ []) bytes
 IsSaid core bytes (Performs k operation) = (k ≡ core) × AreAll (operation_parts operation) bytes
 
 said_takes : (core : ℕ) (bytes : List ℕ) (said : TraceLine) → said_of core bytes ≡ Some said → IsSaid core bytes said
@@ -233,15 +232,15 @@ unfolding said_of
 said_takes core bytes said e = elim (branch (is_some (mark_at (codes "sync") bytes)) _ _ said e) [
   | inl e ↦ (
       let m = bind_some (mark_at (codes "sync") bytes) _ said e in
-      let g = guard_some (is_ended m.0) (Sync core) said m.2 in
-      subst (IsSaid core bytes) g.1 (refl, record { next = m.0; parts_ahead = (m.0, mark_takes (codes "sync") bytes m.0 m.1, refl); end = ended_takes m.0 g.0 }))
+      let g = guard_some (is_ended m.0) Nothing said m.2 in
+      subst (IsSaid core bytes) g.1 (record { next = m.0; parts_ahead = (m.0, mark_takes (codes "sync") bytes m.0 m.1, refl); end = ended_takes m.0 g.0 }))
   | inr e ↦ (
       let o = bind_some (operation_at_front bytes) _ said e in
       let g = guard_some (is_ended o.0.1) (Performs core o.0.0) said o.2 in
       subst (IsSaid core bytes) g.1 (refl, record { next = o.0.1; parts_ahead = operation_takes bytes o.0 o.1; end = ended_takes o.0.1 g.0 }))
 ]
 
-sync_again : (core : ℕ) (bytes : List ℕ) → AreAll (Mark (codes "sync") ∷ []) bytes → said_of core bytes ≡ Some (Sync core)
+sync_again : (core : ℕ) (bytes : List ℕ) → AreAll (Mark (codes "sync") ∷ []) bytes → said_of core bytes ≡ Some Nothing
 unfolding said_of
 sync_again core bytes all =
     let m = all.parts_ahead.0 in
@@ -293,25 +292,23 @@ core_again core parts bytes low all =
 pub line_takes : (line : List ℕ) (said : TraceLine) → line_of line ≡ Some said → IsLine line said
 unfolding line_of
 line_takes line said e = elim (cases_Bool (is_over line)) [
-  | inl h ↦ subst (IsLine line) (some_is Blank said (sym (rw h refl) ∙ e)) (over_takes line h)
+  | inl h ↦ subst (IsLine line) (some_is Nothing said (sym (rw h refl) ∙ e)) (inl (over_takes line h))
   | inr h ↦ (
-      let c = bind_some (core_at line) _ said (sym (ap (λ t. cond t (Some Blank) (core_at line >>= λ core. said_of core.0 core.1)) h) ∙ e) in
+      let c = bind_some (core_at line) _ said (sym (ap (λ t. cond t (Some Nothing) (core_at line >>= λ core. said_of core.0 core.1)) h) ∙ e) in
       let t = core_takes line c.0 c.1 in
       of_said c.0.0 c.0.1 said t.0 t.1 (said_takes c.0.0 c.0.1 said c.2))
 ]
   where
     of_said : (core : ℕ) (rest : List ℕ) (said : TraceLine) → core < 64 → ((parts : List Part) → AreAll parts rest → AreAll (of_core core parts) line)
         → IsSaid core rest said → IsLine line said
-    of_said core rest Blank low all h = absurd h
-    of_said core rest (Sync k) low all h =
-        subst (λ c. (c < 64) × AreAll (of_core c (Mark (codes "sync") ∷ [])) line) (sym h.0) (low, all (Mark (codes "sync") ∷ []) h.1)
+    of_said core rest Nothing low all h = inr (core, low, all (Mark (codes "sync") ∷ []) h)
     of_said core rest (Performs k operation) low all h =
         subst (λ c. (c < 64) × AreAll (of_core c (operation_parts operation)) line) (sym h.0) (low, all (operation_parts operation) h.1)
 
 pub line_again : (line : List ℕ) (said : TraceLine) → IsLine line said → line_of line ≡ Some said
 unfolding line_of
-line_again line Blank over = rw (over_again line over) refl
-line_again line (Sync core) (low, all) =
+line_again line Nothing (inl over) = rw (over_again line over) refl
+line_again line Nothing (inr (core, low, all)) =
     let b = core_again core (Mark (codes "sync") ∷ []) line low all in
     rw (b.more, b.core_is) (sync_again core b.rest b.all)
 line_again line (Performs core operation) (low, all) =

@@ -8,9 +8,9 @@ use Rattle.flat_replay.specs.Accesses.{own_operations}
 use Rattle.trace.specs.declared.fault.TraceFault.{TraceFault}
 use Rattle.trace.specs.declared.fault.TraceFault.TheVariants.{BadTraceLine, TooMany, OutOfMemory}
 use Rattle.trace.specs.declared.line.TraceLine.{TraceLine}
-use Rattle.trace.specs.declared.line.TraceLine.TheVariants.{Blank, Sync, Performs}
+use Rattle.trace.specs.declared.line.TraceLine.TheVariants.{Nothing, Performs}
 use Rattle.trace.specs.Grammar.{IsLine}
-use Rattle.trace.specs.Growing.{with_core, with_operation, IsOfSize}
+use Rattle.trace.specs.Growing.{with_operation, IsOfSize}
 use Rattle.trace.specs.Laws.{SpelledIsRead, AtMostOneFault}
 use Rattle.trace.specs.Texts.{with_line, trace_of, SpellsTrace, IsFaultAt, HasFirstFault, IsFault}
 use Rattle.trace.proofs.LineTexts.{line_once}
@@ -33,18 +33,9 @@ grows_with zero operation (own ∷ others) (suc k) = omega arith
 grows_with (suc core) operation (own ∷ others) zero = omega arith
 grows_with (suc core) operation (own ∷ others) (suc k) = grows_with core operation others k
 
-grows_named : (core : ℕ) (cores : List (List Operation)) (k : ℕ)
-    → length (own_operations cores k) ≤ length (own_operations (with_core core cores) k)
-grows_named zero [] k = omega arith
-grows_named (suc core) [] k = omega arith
-grows_named zero (own ∷ others) k = omega arith
-grows_named (suc core) (own ∷ others) zero = omega arith
-grows_named (suc core) (own ∷ others) (suc k) = grows_named core others k
-
 grows_line : (cores : List (List Operation)) (line : TraceLine) (k : ℕ)
     → length (own_operations cores k) ≤ length (own_operations (with_line cores line) k)
-grows_line cores Blank k = omega arith
-grows_line cores (Sync core) k = grows_named core cores k
+grows_line cores Nothing k = omega arith
 grows_line cores (Performs core operation) k = grows_with core operation cores k
 
 grows : (cores : List (List Operation)) (said : List TraceLine) (k : ℕ)

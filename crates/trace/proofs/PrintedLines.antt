@@ -8,10 +8,11 @@ use Rattle.std.proofs.lemmas.Bool.{and_parts, not-true}
 use Rattle.std.proofs.lemmas.Bool.Decides.{nat_tests}
 use Rattle.std.proofs.lemmas.Fmt.{decimal_by_steps}
 use Rattle.mem_op.specs.Consistency.{Operation, Loaded, Stored, Swapped}
+use Rattle.flat_replay.specs.Accesses.{Fits}
 use Rattle.trace.specs.declared.line.TraceLine.{TraceLine}
-use Rattle.trace.specs.declared.line.TraceLine.TheVariants.{Sync, Performs}
+use Rattle.trace.specs.declared.line.TraceLine.TheVariants.{Performs}
 use Rattle.trace.specs.Grammar.{AreBlanks, digit_value, value_on, AreDigits, NoneGoesOn, Part, Mark, Number, IsAhead, AreAhead, IsOver, cell, operation_parts, of_core, AreAll, IsLine}
-use Rattle.trace.specs.Printing.{operation_text, Fits}
+use Rattle.trace.specs.Printing.{operation_text}
 use Rattle.trace.specs.Reading.{IsOneLine}
 
 -- ---- decimal numbers
@@ -187,9 +188,6 @@ all_of_core core parts bytes low ahead = record {
 abbrev pub operation_line : ℕ → Operation → List ℕ
 operation_line core operation = decimal core ++ (codes ":" ++ body operation [])
 
-abbrev pub fence_line : ℕ → List ℕ
-fence_line core = decimal core ++ codes ": sync"
-
 pub operation_text_is : (core : ℕ) (operation : Operation) → operation_text core operation ≡ operation_line core operation ++ 10 ∷ []
 operation_text_is core operation =
     of_body operation
@@ -199,9 +197,6 @@ operation_text_is core operation =
     of_body (Loaded addr value) = refl
     of_body (Stored addr value) = refl
     of_body (Swapped addr read stored) = refl
-
-pub fence_text_is : (core : ℕ) → decimal core ++ codes ": sync\n" ≡ fence_line core ++ 10 ∷ []
-fence_text_is core = sym (append_assoc (decimal core) (codes ": sync") (10 ∷ []))
 
 -- a printed line is one line, and it says this
 pub record Says (line : List ℕ) (said : TraceLine) : Type 0 where
@@ -216,9 +211,3 @@ operation_says core operation low fits =
     says_plain (operation_line core operation) (Performs core operation)
     (plain_number core (codes ":" ++ body operation []) (omega arith) (body_plain operation fits))
     (low, all_of_core core (operation_parts operation) (body operation []) low (body_ahead operation [] fits tt))
-
-pub fence_says : (core : ℕ) → core < 64 → Says (fence_line core) (Sync core)
-fence_says core low =
-    says_plain (fence_line core) (Sync core)
-    (plain_number core (codes ": sync") (omega arith) refl)
-    (low, all_of_core core (Mark (codes "sync") ∷ []) (codes " sync") low ([], mark_ahead (codes " ") (codes "sync") [] (refl, tt), refl))

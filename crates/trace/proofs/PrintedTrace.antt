@@ -1,19 +1,20 @@
--- What is printed of a trace spells it.
-use Rattle.std.proofs.Common.{◌≡◌, ℕ, zero, suc, ◌+◌, ◌-◌, ◌<◌, ◌≤◌, List, [], ◌∷◌, ◌++◌, length, map, refl, sym, ap, subst, ◌∙◌, arith, append_assoc, append-nil}
-use Rattle.std.specs.Prelude.{codes, fold, slice_get}
-use Rattle.std.specs.Fmt.{decimal}
+-- What is printed of a trace spells the cores that it names.
+use Rattle.std.proofs.Common.{◌≡◌, ℕ, zero, suc, ◌+◌, ◌<◌, ◌≤◌, List, [], ◌∷◌, ◌++◌, length, map, refl, sym, ap, subst, ◌∙◌, arith, append_assoc, append-nil}
+use Rattle.std.specs.Prelude.{fold}
 use Rattle.std.specs.List.{AllByRecursion, AllZip, flat_map}
 use Rattle.std.specs.Str.Lines.{lines, strip_carriage_return}
 use Rattle.mem_op.specs.Consistency.{Operation}
+use Rattle.flat_replay.specs.Accesses.{Fits}
 use Rattle.trace.specs.declared.line.TraceLine.{TraceLine}
-use Rattle.trace.specs.declared.line.TraceLine.TheVariants.{Blank, Sync, Performs}
+use Rattle.trace.specs.declared.line.TraceLine.TheVariants.{Nothing, Performs}
 use Rattle.trace.specs.Grammar.{IsLine}
-use Rattle.trace.specs.Laws.{PrintedIsSpelled}
-use Rattle.trace.specs.Printing.{operation_text, cores_text, fence_text, trace_text, Fits, EachFits}
+use Rattle.trace.specs.Growing.{with_operation, IsOfSize, SameOperations}
+use Rattle.trace.specs.Laws.{PrintedIsSpelled, SpelledIsNamed}
+use Rattle.trace.specs.Printing.{operation_text, cores_text, trace_text, with_first, named_cores, EachFits}
 use Rattle.trace.specs.Reading.{IsOneLine, text_of}
 use Rattle.trace.specs.Texts.{with_line, trace_of}
 use Rattle.trace.proofs.Feeding.{whole_lines}
-use Rattle.trace.proofs.PrintedLines.{operation_line, fence_line, operation_text_is, fence_text_is, Says, operation_says, fence_says}
+use Rattle.trace.proofs.PrintedLines.{operation_line, operation_text_is, Says, operation_says}
 
 -- ---- what is said of cores
 
@@ -21,12 +22,10 @@ use Rattle.trace.proofs.PrintedLines.{operation_line, fence_line, operation_text
 abbrev said_of_own : ℕ → List Operation → List TraceLine
 said_of_own core own = map (λ operation. Performs core operation) own
 
--- what is said of a core and of those after it: their operations, and a fence of the last one where that has none
+-- the operations of a core and of those after it
 abbrev said_from : ℕ → List (List Operation) → List TraceLine
 said_from core [] = []
-said_from core ([] ∷ []) = Sync core ∷ []
-said_from core ((operation ∷ own) ∷ []) = said_of_own core (operation ∷ own)
-said_from core (own ∷ next ∷ others) = said_of_own core own ++ said_from (suc core) (next ∷ others)
+said_from core (own ∷ others) = said_of_own core own ++ said_from (suc core) others
 
 -- ---- they are the lines of the text
 
@@ -61,35 +60,60 @@ prints_own core (operation ∷ own) more others low fits rest =
     (prints_line (operation_line core operation) (operation_text core operation) text (Performs core operation) (said_of_own core own ++ others)
     (operation_text_is core operation) (operation_says core operation low fits.0) (prints_own core own more others low fits.1 rest))
 
--- the text of a core and of those after it, of which `last` is how many come after the first, and `end` the last one
-prints_from : (core last end : ℕ) (cores : List (List Operation)) → last ≡ length cores - 1 → end ≡ core + last → core + length cores ≤ 64
-    → EachFits cores → Prints (cores_text core cores ++ fence_text end (slice_get cores last)) (said_from core cores)
-prints_from core last end [] is at few fits = prints_nothing
-prints_from core (suc last) end (own ∷ []) is at few fits = absurd (omega arith)
-prints_from core zero end ([] ∷ []) is at few fits =
-    let same : core ≡ end = omega arith in
-    subst (λ k. Prints (decimal k ++ codes ": sync\n") (Sync core ∷ [])) same
-    (subst (λ bytes. Prints bytes (Sync core ∷ [])) (append-nil (decimal core ++ codes ": sync\n"))
-    (prints_line (fence_line core) (decimal core ++ codes ": sync\n") [] (Sync core) [] (fence_text_is core) (fence_says core (omega arith)) prints_nothing))
-prints_from core zero end ((operation ∷ own) ∷ []) is at few fits =
-    subst (λ bytes. Prints bytes (said_of_own core (operation ∷ own))) (sym (append-nil (flat_map (operation_text core) (operation ∷ own) ++ [])))
-    (subst (λ said. Prints (flat_map (operation_text core) (operation ∷ own) ++ []) said) (append-nil (said_of_own core (operation ∷ own)))
-    (prints_own core (operation ∷ own) [] [] (omega arith) fits.0 prints_nothing))
-prints_from core zero end (own ∷ next ∷ others) is at few fits = absurd (omega arith)
-prints_from core (suc last) end (own ∷ next ∷ others) is at few fits =
-    let rest : List ℕ = cores_text (suc core) (next ∷ others) in
-    let fence : List ℕ = fence_text end (slice_get (next ∷ others) last) in
-    subst (λ bytes. Prints bytes (said_of_own core own ++ said_from (suc core) (next ∷ others)))
-    (sym (append_assoc (flat_map (operation_text core) own) rest fence))
-    (prints_own core own (rest ++ fence) (said_from (suc core) (next ∷ others)) (omega arith) fits.0
-    (prints_from (suc core) last end (next ∷ others) (omega arith) (omega arith) (omega arith) fits.1))
+-- the text of a core and of those after it
+prints_from : (core : ℕ) (cores : List (List Operation)) → core + length cores ≤ 64 → EachFits cores → Prints (cores_text core cores) (said_from core cores)
+prints_from core [] few fits = prints_nothing
+prints_from core (own ∷ others) few fits =
+    prints_own core own (cores_text (suc core) others) (said_from (suc core) others) (omega arith) fits.0 (prints_from (suc core) others (omega arith) fits.1)
+
+-- ---- the cores that a text names
+
+-- a core is there then, and those before it
+with_first-with : (own : List Operation) (core : ℕ) (operation : Operation) (others : List (List Operation))
+    → with_first own (with_operation core operation others) ≡ own ∷ with_operation core operation others
+with_first-with [] zero operation [] = refl
+with_first-with [] zero operation (next ∷ others) = refl
+with_first-with [] (suc core) operation [] = refl
+with_first-with [] (suc core) operation (next ∷ others) = refl
+with_first-with (first ∷ own) core operation others = refl
+
+with_first-more : (own : List Operation) (operation : Operation) (others : List (List Operation))
+    → with_first (own ++ operation ∷ []) others ≡ (own ++ operation ∷ []) ∷ others
+with_first-more [] operation others = refl
+with_first-more (first ∷ own) operation others = refl
+
+-- after a first core that is named so are the others
+named_others : (own : List Operation) (others : List (List Operation)) → named_cores (own ∷ others) ≡ own ∷ others → named_cores others ≡ others
+named_others own others named = go own (named_cores others) named
+  where
+    go : (own : List Operation) (names : List (List Operation)) → with_first own names ≡ own ∷ others → names ≡ others
+    go [] [] e = absurd cc
+    go [] (next ∷ names) e = cc
+    go (operation ∷ own) names e = cc
+
+named_with : (core : ℕ) (operation : Operation) (cores : List (List Operation)) → named_cores cores ≡ cores
+    → named_cores (with_operation core operation cores) ≡ with_operation core operation cores
+named_with zero operation [] named = refl
+named_with (suc core) operation [] named = ap (with_first []) (named_with core operation [] refl) ∙ with_first-with [] core operation []
+named_with zero operation (own ∷ others) named =
+    ap (with_first (own ++ operation ∷ [])) (named_others own others named) ∙ with_first-more own operation others
+named_with (suc core) operation (own ∷ others) named =
+    ap (with_first own) (named_with core operation others (named_others own others named)) ∙ with_first-with own core operation others
+
+named_after : (cores : List (List Operation)) (said : List TraceLine) → named_cores cores ≡ cores
+    → named_cores (fold with_line cores said) ≡ fold with_line cores said
+named_after cores [] named = named
+named_after cores (Nothing ∷ said) named = named_after cores said named
+named_after cores (Performs core operation ∷ said) named = named_after (with_operation core operation cores) said (named_with core operation cores named)
+
+pub named : SpelledIsNamed
+named bytes cores spells = ap named_cores spells.trace ∙ named_after [] spells.said refl ∙ sym spells.trace
 
 -- ---- the trace is of what they say
 
 -- the same of the next core
 abbrev of_next : TraceLine → TraceLine
-of_next Blank = Blank
-of_next (Sync core) = Sync (suc core)
+of_next Nothing = Nothing
 of_next (Performs core operation) = Performs (suc core) operation
 
 own_of_next : (core : ℕ) (own : List Operation) (others : List TraceLine)
@@ -99,42 +123,29 @@ own_of_next core (operation ∷ own) others = ap (λ said. Performs (suc core) o
 
 said_of_next : (core : ℕ) (cores : List (List Operation)) → said_from (suc core) cores ≡ map of_next (said_from core cores)
 said_of_next core [] = refl
-said_of_next core ([] ∷ []) = refl
-said_of_next core ((operation ∷ own) ∷ []) =
-    sym (append-nil (said_of_own (suc core) (operation ∷ own))) ∙ own_of_next core (operation ∷ own) [] ∙ ap (map of_next) (append-nil (said_of_own core (operation ∷ own)))
-said_of_next core (own ∷ next ∷ others) =
-    ap (λ said. said_of_own (suc core) own ++ said) (said_of_next (suc core) (next ∷ others)) ∙ own_of_next core own (said_from (suc core) (next ∷ others))
+said_of_next core (own ∷ others) =
+    ap (λ said. said_of_own (suc core) own ++ said) (said_of_next (suc core) others) ∙ own_of_next core own (said_from (suc core) others)
 
 -- the first core has what it had
 after_next : (own : List Operation) (others : List (List Operation)) (said : List TraceLine)
     → fold with_line (own ∷ others) (map of_next said) ≡ own ∷ fold with_line others said
 after_next own others [] = refl
-after_next own others (Blank ∷ said) = after_next own others said
-after_next own others (Sync core ∷ said) = after_next own (with_line others (Sync core)) said
-after_next own others (Performs core operation ∷ said) = after_next own (with_line others (Performs core operation)) said
+after_next own others (Nothing ∷ said) = after_next own others said
+after_next own others (Performs core operation ∷ said) = after_next own (with_operation core operation others) said
 
--- the first line names a core
-abbrev Names : List TraceLine → Type 0
-Names [] = ⊥
-Names (Blank ∷ said) = ⊥
-Names (Sync core ∷ said) = Unit {0}
-Names (Performs core operation ∷ said) = Unit {0}
-
-names_own : (core : ℕ) (own : List Operation) (others : List TraceLine) → Names others → Names (said_of_own core own ++ others)
-names_own core [] others names = names
-names_own core (operation ∷ own) others names = tt
-
-names : (core : ℕ) (own : List Operation) (others : List (List Operation)) → Names (said_from core (own ∷ others))
-names core [] [] = tt
-names core (operation ∷ own) [] = tt
-names core own (next ∷ others) = names_own core own (said_from (suc core) (next ∷ others)) (names (suc core) next others)
+-- a first core of no operation, before others that are there
+before_others : (core : ℕ) (operation : Operation) (others : List (List Operation)) (said : List TraceLine)
+    → with_first [] (fold with_line (with_operation core operation others) said) ≡ [] ∷ fold with_line (with_operation core operation others) said
+before_others core operation others [] = with_first-with [] core operation others
+before_others core operation others (Nothing ∷ said) = before_others core operation others said
+before_others core operation others (Performs next more ∷ said) = before_others next more (with_operation core operation others) said
 
 -- a first core of no operation
-next_alone : (said : List TraceLine) → Names said → fold with_line [] (map of_next said) ≡ [] ∷ trace_of said
-next_alone [] named = absurd named
-next_alone (Blank ∷ said) named = absurd named
-next_alone (Sync core ∷ said) named = after_next [] (with_line [] (Sync core)) said
-next_alone (Performs core operation ∷ said) named = after_next [] (with_line [] (Performs core operation)) said
+next_alone : (said : List TraceLine) → fold with_line [] (map of_next said) ≡ with_first [] (trace_of said)
+next_alone [] = refl
+next_alone (Nothing ∷ said) = next_alone said
+next_alone (Performs core operation ∷ said) =
+    after_next [] (with_operation core operation []) said ∙ sym (before_others core operation [] said)
 
 -- more operations of the first core
 after_own : (had own : List Operation) (others : List TraceLine)
@@ -143,20 +154,42 @@ after_own had [] others = ap (λ (first : List Operation). fold with_line (first
 after_own had (operation ∷ own) others =
     after_own (had ++ operation ∷ []) own others ∙ ap (λ (first : List Operation). fold with_line (first ∷ []) others) (append_assoc had (operation ∷ []) own)
 
-trace_is : (cores : List (List Operation)) → trace_of (said_from 0 cores) ≡ cores
+trace_is : (cores : List (List Operation)) → trace_of (said_from 0 cores) ≡ named_cores cores
 trace_is [] = refl
-trace_is ([] ∷ []) = refl
-trace_is ((operation ∷ own) ∷ []) =
-    ap (fold with_line ((operation ∷ []) ∷ [])) (sym (append-nil (said_of_own 0 own))) ∙ after_own (operation ∷ []) own []
-trace_is ([] ∷ next ∷ others) =
-    ap trace_of (said_of_next 0 (next ∷ others))
-    ∙ next_alone (said_from 0 (next ∷ others)) (names 0 next others)
-    ∙ ap (λ (cores : List (List Operation)). [] ∷ cores) (trace_is (next ∷ others))
-trace_is ((operation ∷ own) ∷ next ∷ others) =
-    after_own (operation ∷ []) own (said_from 1 (next ∷ others))
-    ∙ ap (fold with_line ((operation ∷ own) ∷ [])) (said_of_next 0 (next ∷ others))
-    ∙ after_next (operation ∷ own) [] (said_from 0 (next ∷ others))
-    ∙ ap (λ (cores : List (List Operation)). (operation ∷ own) ∷ cores) (trace_is (next ∷ others))
+trace_is ([] ∷ others) = ap trace_of (said_of_next 0 others) ∙ next_alone (said_from 0 others) ∙ ap (with_first []) (trace_is others)
+trace_is ((operation ∷ own) ∷ others) =
+    after_own (operation ∷ []) own (said_from 1 others)
+    ∙ ap (fold with_line ((operation ∷ own) ∷ [])) (said_of_next 0 others)
+    ∙ after_next (operation ∷ own) [] (said_from 0 others)
+    ∙ ap (λ (cores : List (List Operation)). (operation ∷ own) ∷ cores) (trace_is others)
+
+-- and of its size
+few_named : (cores : List (List Operation)) → length (named_cores cores) ≤ length cores
+few_named [] = omega arith
+few_named (own ∷ others) = go own (named_cores others) (few_named others)
+  where
+    go : (own : List Operation) (names : List (List Operation)) → length names ≤ length others → length (with_first own names) ≤ suc (length others)
+    go [] [] few = omega arith
+    go [] (next ∷ names) few = omega arith
+    go (operation ∷ own) names few = omega arith
+
+same_named : (cores : List (List Operation)) → SameOperations cores (named_cores cores)
+same_named [] core = refl
+same_named (own ∷ others) core = go own (named_cores others) (same_named others) core
+  where
+    go : (own : List Operation) (names : List (List Operation)) → SameOperations others names → SameOperations (own ∷ others) (with_first own names)
+    go [] [] same zero = refl
+    go [] [] same (suc core) = same core
+    go [] (next ∷ names) same zero = refl
+    go [] (next ∷ names) same (suc core) = same core
+    go (operation ∷ own) names same zero = refl
+    go (operation ∷ own) names same (suc core) = same core
+
+size_named : (cores : List (List Operation)) → IsOfSize cores → IsOfSize (named_cores cores)
+size_named cores size = record {
+  few = omega (arith, few_named cores, size.few);
+  short = λ core. rw (same_named cores core) (size.short core);
+}
 
 -- ---- the text
 
@@ -169,7 +202,7 @@ lines_said text said prints =
 pub printed : PrintedIsSpelled
 printed cores size fits = record {
   said = said_from 0 cores;
-  says = lines_said (trace_text cores) (said_from 0 cores) (prints_from 0 (length cores - 1) (length cores - 1) cores refl (omega arith) (omega (arith, size.few)) fits);
-  size = size;
+  says = lines_said (trace_text cores) (said_from 0 cores) (prints_from 0 cores (omega (arith, size.few)) fits);
+  size = size_named cores size;
   trace = sym (trace_is cores);
 }

@@ -4,7 +4,7 @@ use Rattle.std.specs.Prelude.{fold}
 use Rattle.mem_op.specs.Consistency.{Operation}
 use Rattle.mem_op.specs.Limits.{operation_limit}
 use Rattle.trace.specs.declared.line.TraceLine.{TraceLine}
-use Rattle.trace.specs.declared.line.TraceLine.TheVariants.{Blank, Sync, Performs}
+use Rattle.trace.specs.declared.line.TraceLine.TheVariants.{Nothing, Performs}
 use Rattle.trace.specs.declared.refusal.Refusal.TheVariants.{TooMany}
 use Rattle.trace.specs.Grammar.{IsLine}
 use Rattle.flat_replay.specs.Accesses.{own_operations}
@@ -22,6 +22,5 @@ trace_of-push said last = fold-push [] said last
 -- only an operation is one too many
 pub too_many : (cores : List (List Operation)) (line : List ℕ) (said : TraceLine) → IsLine line said → IsLineRefusal cores said TooMany
     → (core : ℕ) × (operation : Operation) × IsLine line (Performs core operation) × (operation_limit ≤ length (own_operations cores core))
-too_many cores line Blank is full = absurd full
-too_many cores line (Sync core) is full = absurd full
+too_many cores line Nothing is full = absurd full
 too_many cores line (Performs core operation) is full = (core, operation, is, full)

@@ -3,7 +3,7 @@ use Rattle.std.specs.Prelude.{◌≡◌, ◌≢◌, ⊤, ℕ, ◌+◌, ◌-◌, 
 use Rattle.std.specs.List.{AllByRecursion}
 use Rattle.mem_op.specs.Consistency.{Operation, Loaded, Stored, Swapped}
 use Rattle.trace.specs.declared.line.TraceLine.{TraceLine}
-use Rattle.trace.specs.declared.line.TraceLine.TheVariants.{Blank, Sync, Performs}
+use Rattle.trace.specs.declared.line.TraceLine.TheVariants.{Nothing, Performs}
 
 -- a space or a tab
 abbrev pub is_blank : ℕ → Bool
@@ -110,8 +110,11 @@ pub record AreAll (parts : List Part) (bytes : List ℕ) : Type 0 where
   pub parts_ahead : AreAhead parts bytes next
   pub end : IsOver next ⊎ ((rest : List ℕ) × AreTimes next rest × IsOver rest)
 
--- what a line says: nothing, a fence or an operation of a core
+-- a fence of a core
+abbrev pub IsFence : List ℕ → Type 0
+IsFence line = (core : ℕ) × (core < 64) × AreAll (of_core core (Mark (codes "sync") ∷ [])) line
+
+-- what a line says: nothing, as blanks, a comment and a fence do, or an operation of a core
 abbrev pub IsLine : List ℕ → TraceLine → Type 0
-IsLine line Blank = IsOver line
-IsLine line (Sync core) = (core < 64) × AreAll (of_core core (Mark (codes "sync") ∷ [])) line
+IsLine line Nothing = IsOver line ⊎ IsFence line
 IsLine line (Performs core operation) = (core < 64) × AreAll (of_core core (operation_parts operation)) line

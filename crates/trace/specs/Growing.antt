@@ -18,13 +18,6 @@ with_operation (suc core) operation [] = [] ∷ with_operation core operation []
 with_operation zero operation (own ∷ others) = (own ++ operation ∷ []) ∷ others
 with_operation (suc core) operation (own ∷ others) = own ∷ with_operation core operation others
 
--- a core and those before it are there, if they weren't
-abbrev pub with_core : ℕ → List (List Operation) → List (List Operation)
-with_core zero [] = [] ∷ []
-with_core (suc core) [] = [] ∷ with_core core []
-with_core zero (own ∷ others) = own ∷ others
-with_core (suc core) (own ∷ others) = own ∷ with_core core others
-
 -- why an operation isn't added: its core is full, or memory was refused
 abbrev pub IsRefusal : ℕ → List (List Operation) → Refusal → Type 0
 IsRefusal core cores TooMany = operation_limit ≤ length (own_operations cores core)

@@ -1,8 +1,9 @@
 -- The text that is printed of a trace.
-use Rattle.std.specs.Prelude.{ℕ, suc, ◌-◌, ◌^◌, ◌<◌, List, [], ◌∷◌, ◌++◌, length, slice_get, Option, None, Some, codes}
+use Rattle.std.specs.Prelude.{ℕ, suc, List, [], ◌∷◌, ◌++◌, codes}
 use Rattle.std.specs.Fmt.{decimal}
 use Rattle.std.specs.List.{AllByRecursion, flat_map}
 use Rattle.mem_op.specs.Consistency.{Operation, Loaded, Stored, Swapped}
+use Rattle.flat_replay.specs.Accesses.{Fits}
 
 -- an operation of a core, and a line feed
 abbrev pub operation_text : ℕ → Operation → List ℕ
@@ -16,24 +17,20 @@ abbrev pub cores_text : ℕ → List (List Operation) → List ℕ
 cores_text core [] = []
 cores_text core (own ∷ others) = flat_map (operation_text core) own ++ cores_text (suc core) others
 
--- a fence, where a core is there and has no operation
-abbrev pub fence_text : ℕ → Option (List Operation) → List ℕ
-fence_text core None = []
-fence_text core (Some []) = decimal core ++ codes ": sync\n"
-fence_text core (Some (operation ∷ own)) = []
-
--- a fence of the last core, where that has no operation
-abbrev pub last_fence : List (List Operation) → List ℕ
-last_fence cores = fence_text (length cores - 1) (slice_get cores (length cores - 1))
-
 abbrev pub trace_text : List (List Operation) → List ℕ
-trace_text cores = cores_text 0 cores ++ last_fence cores
+trace_text cores = cores_text 0 cores
 
--- an operation whose address and words have 64 bits
-abbrev pub Fits : Operation → Type 0
-Fits (Loaded addr value) = (addr < 2 ^ 64) × (value < 2 ^ 64)
-Fits (Stored addr value) = (addr < 2 ^ 64) × (value < 2 ^ 64)
-Fits (Swapped addr read stored) = (addr < 2 ^ 64) × (read < 2 ^ 64) × (stored < 2 ^ 64)
+-- a core before others, if one of them has an operation
+abbrev pub with_first : List Operation → List (List Operation) → List (List Operation)
+with_first [] [] = []
+with_first [] (next ∷ others) = [] ∷ next ∷ others
+with_first (operation ∷ own) others = (operation ∷ own) ∷ others
 
+-- the cores that a text names: all but those of no operation after the last one that has some
+abbrev pub named_cores : List (List Operation) → List (List Operation)
+named_cores [] = []
+named_cores (own ∷ others) = with_first own (named_cores others)
+
+-- each address and word has 64 bits
 abbrev pub EachFits : List (List Operation) → Type 0
 EachFits cores = AllByRecursion (λ own. AllByRecursion Fits own) cores

@@ -7,15 +7,14 @@ use Rattle.mem_op.specs.Limits.{operation_limit}
 use Rattle.trace.specs.declared.fault.TraceFault.{TraceFault}
 use Rattle.trace.specs.declared.fault.TraceFault.TheVariants.{BadTraceLine, TooMany, OutOfMemory}
 use Rattle.trace.specs.declared.line.TraceLine.{TraceLine}
-use Rattle.trace.specs.declared.line.TraceLine.TheVariants.{Blank, Sync, Performs}
+use Rattle.trace.specs.declared.line.TraceLine.TheVariants.{Nothing, Performs}
 use Rattle.trace.specs.Grammar.{IsLine}
 use Rattle.flat_replay.specs.Accesses.{own_operations}
-use Rattle.trace.specs.Growing.{with_core, with_operation, IsOfSize}
+use Rattle.trace.specs.Growing.{with_operation, IsOfSize}
 
 -- the cores after one more line
 abbrev pub with_line : List (List Operation) → TraceLine → List (List Operation)
-with_line cores Blank = cores
-with_line cores (Sync core) = with_core core cores
+with_line cores Nothing = cores
 with_line cores (Performs core operation) = with_operation core operation cores
 
 -- the trace of what lines say

@@ -3,6 +3,7 @@
 ghost use Rattle.std.specs.Prelude.{◌≡◌};
 ghost use Rattle.trace.specs.declared.fault.TraceFault.TheVariants.{OutOfMemory};
 
+use fault_names::FaultName;
 use std::alloc::{AllocError, AllocFailed};
 use std::fmt;
 use std::fmt::Display;
@@ -27,9 +28,13 @@ impl Display for TraceFault {
 
     fn fmt<W: fmt::Write>(&self, f: &mut fmt::Formatter<W>) -> fmt::Result {
         match self {
-            TraceFault::BadTraceLine { line } => write!(f, "line {line}: 42 BadTraceLine"),
-            TraceFault::TooMany { line } => write!(f, "line {line}: 23 TooMany"),
-            TraceFault::OutOfMemory => f.write_str("10 OutOfMemory"),
+            TraceFault::BadTraceLine { line } => write!(
+                f,
+                "line {line}: {}",
+                FaultName::BadTraceLine
+            ),
+            TraceFault::TooMany { line } => write!(f, "line {line}: {}", FaultName::TooMany),
+            TraceFault::OutOfMemory => write!(f, "{}", FaultName::OutOfMemory),
         }
     }
 }

@@ -13,7 +13,7 @@ mod trace;
 
 pub use fault::TraceFault;
 pub use flat_replay::{Access, Address, Operations, replays};
-pub use laws::{one_fault, printed_is_spelled, spelled_is_read, spells_one};
+pub use laws::{one_fault, printed_is_spelled, spelled_is_named, spelled_is_read, spells_one};
 pub use reader::TraceReader;
 pub use refusal::Refusal;
 pub use trace::Trace;

@@ -13,10 +13,8 @@ use mem_op::{CoreId, Word};
 /// What a line of a trace says.
 #[derive(Clone, Copy, Debug, PartialEq, Eq)]
 pub(crate) enum TraceLine {
-    /// Nothing: it has blanks and a comment at most.
-    Blank,
-    /// A fence of a core, which is no operation.
-    Sync(CoreId),
+    /// Nothing: it has blanks and a comment at most, or is a fence of a core.
+    Nothing,
     /// An operation of a core.
     Performs(CoreId, Access),
 }
@@ -145,7 +143,7 @@ fn said_of(core: CoreId, bytes: &[u8]) -> Option<TraceLine>
 {
     if let Some(rest) = mark(b"sync", bytes) {
         return if is_ended(rest) {
-            Some(TraceLine::Sync(core))
+            Some(TraceLine::Nothing)
         } else {
             None
         };
@@ -176,7 +174,7 @@ pub(crate) fn read_line(line: &[u8]) -> Option<TraceLine>
     ensures { result ≡ line_of line.now }
 {
     if is_over(line) {
-        return Some(TraceLine::Blank);
+        return Some(TraceLine::Nothing);
     }
     let Some((core, rest)) = core(line) else {
         return None;

@@ -1,9 +1,9 @@
 //! Prints traces.
 
 ghost use Rattle.std.specs.Prelude.{◌≡◌, ◌++◌, IfOk, OnOk, string_bytes};
-ghost use Rattle.std.specs.List.{flat_map};
-ghost use Rattle.flat_replay.specs.Accesses.{operation_lists};
-ghost use Rattle.trace.specs.Printing.{last_fence, operation_text, trace_text, EachFits};
+ghost use Rattle.std.specs.List.{AllByRecursion, flat_map};
+ghost use Rattle.flat_replay.specs.Accesses.{Fits};
+ghost use Rattle.trace.specs.Printing.{named_cores, operation_text, trace_text};
 ghost use Rattle.trace.specs.Texts.{SpellsTrace};
 
 use super::trace::Trace;
@@ -40,12 +40,14 @@ impl fmt::Display for Line {
     }
 }
 
-/// Prints the operations of a core.
+/// Prints the operations of a core, each of which fits.
 fn print_core(text: &mut String, core: usize, operations: &[Access]) -> Result<(), AllocError>
-    ensures { OnOk result (string_bytes text.new
+    ensures text { OnOk result (string_bytes text.new
         ≡ string_bytes text.old ++ flat_map (operation_text core) operations.now) }
+    ensures fit { OnOk result (AllByRecursion Fits operations.now) }
 {
     for access in operations {
+        access.fits();
         let line = Line {
             core,
             access: *access,
@@ -55,33 +57,18 @@ fn print_core(text: &mut String, core: usize, operations: &[Access]) -> Result<(
     Ok(())
 }
 
-/// Prints a fence of the last core, where that has no operation.
-fn print_fence(text: &mut String, cores: &[Vec<Access>]) -> Result<(), AllocError>
-    ensures { OnOk result (string_bytes text.new ≡ string_bytes text.old
-        ++ last_fence (operation_lists cores.now)) }
-{
-    if let Some(last) = cores.last() {
-        if last.is_empty() {
-            let core = cores.len() - 1;
-            write!(text, "{core}: sync\n")?;
-        }
-    }
-    Ok(())
-}
-
 impl Trace {
-    /// The text of the trace: the operations of core 0, a line each, then those of core 1, and so on. Where the last core
-    /// has none, a fence names it. The text spells the trace. Err where memory was refused.
+    /// The text of the trace: the operations of core 0, a line each, then those of core 1, and so on. It spells the trace,
+    /// but for cores of no operation after the last one that has some, which no line names. Err where memory was refused.
     pub fn print(&self, alloc: Global) -> Result<String, AllocError>
         ensures text { IfOk result (λ text. string_bytes text ≡ trace_text self.now) }
-        ensures spelled { IfOk result (λ text. EachFits self.now → SpellsTrace (string_bytes text) self.now) }
+        ensures spelled { IfOk result (λ text. SpellsTrace (string_bytes text) (named_cores self.now)) }
     {
         let cores = self.cores();
         let mut text = String::new(alloc);
         for (core, operations) in cores.iter().enumerate() {
             print_core(&mut text, core, operations)?;
         }
-        print_fence(&mut text, cores)?;
         Ok(text)
     }
 }

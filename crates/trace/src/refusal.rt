@@ -3,6 +3,7 @@
 ghost use Rattle.std.specs.Prelude.{◌≡◌};
 ghost use Rattle.trace.specs.declared.refusal.Refusal.TheVariants.{OutOfMemory};
 
+use fault_names::FaultName;
 use std::alloc::{AllocError, AllocFailed};
 use std::fmt;
 use std::fmt::Display;
@@ -25,8 +26,8 @@ impl Display for Refusal {
 
     fn fmt<W: fmt::Write>(&self, f: &mut fmt::Formatter<W>) -> fmt::Result {
         match self {
-            Refusal::TooMany => f.write_str("23 TooMany"),
-            Refusal::OutOfMemory => f.write_str("10 OutOfMemory"),
+            Refusal::TooMany => write!(f, "{}", FaultName::TooMany),
+            Refusal::OutOfMemory => write!(f, "{}", FaultName::OutOfMemory),
         }
     }
 }

@@ -5,7 +5,7 @@ ghost use Rattle.mem_op.specs.Consistency.{operation_at};
 ghost use Rattle.mem_op.specs.Limits.{operation_limit};
 ghost use Rattle.flat_replay.specs.Accesses.{operation_lists};
 ghost use Rattle.flat_replay.specs.Accesses.{own_operations};
-ghost use Rattle.trace.specs.Growing.{with_core, with_operation, IsOfSize, IsRefusal, IsRefusalOfAll, SameOperations};
+ghost use Rattle.trace.specs.Growing.{with_operation, IsOfSize, IsRefusal, IsRefusalOfAll, SameOperations};
 ghost use Rattle.trace.specs.Texts.{with_line};
 ghost use Rattle.trace.specs.inner.Taking.{IsLineRefusal};
 ghost use Rattle.trace.specs.inner.Widening.{IsWidened};
@@ -147,15 +147,6 @@ impl Trace {
         Ok(())
     }
 
-    /// A core that is named is there, and the cores before it. Err where memory was refused.
-    #[tactic(auto, using(crate::proofs::Growth::size_of_widened, crate::proofs::Growth::with_core_there, crate::proofs::Growth::length_lists))]
-    fn name(&mut self, core: CoreId) -> Result<(), AllocError>
-        ensures named { OnOk result (self.new ≡ with_core core self.old) }
-        ensures size { OnOk result (IsOfSize self.new) }
-    {
-        widen(self.alloc, &mut self.cores, core.get() as usize)
-    }
-
     /// Adds what one more line says.
     pub(crate) fn add(&mut self, said: TraceLine) -> Result<(), Refusal>
         ensures added { OnOk result (self.new ≡ with_line self.old said) }
@@ -164,8 +155,7 @@ impl Trace {
     {
         let _cores = &self.cores;
         match said {
-            TraceLine::Blank => Ok(()),
-            TraceLine::Sync(core) => Ok(self.name(core)?),
+            TraceLine::Nothing => Ok(()),
             TraceLine::Performs(core, access) => self.push(core, access),
         }
     }

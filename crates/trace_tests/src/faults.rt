@@ -5,7 +5,7 @@ use trace::{Trace, TraceFault, TraceReader};
 
 #[test]
 fn bad_lines(rt: HostRuntime) -> Result<(), Fail> {
-    let bad: [&[u8]; 24] = [
+    let bad: [&[u8]; 25] = [
         b"64: M[0] := 1",
         b"0: M[0] := 100000000000000000000",
         b"0: M[0] := 18446744073709551616",
@@ -21,6 +21,7 @@ fn bad_lines(rt: HostRuntime) -> Result<(), Fail> {
         b"M[0] := 1",
         b"0:",
         b"0: sync sync",
+        b"64: sync",
         b"0: { M[0] == 1; M[1] := 2 }",
         b"0: { M[0] := 1; M[0] := 2 }",
         b"0: { M[0] == 1 M[0] := 2 }",

@@ -4,6 +4,8 @@
 #[cfg(test)]
 mod faults;
 #[cfg(test)]
+mod growths;
+#[cfg(test)]
 mod replays;
 #[cfg(test)]
 mod texts;

@@ -129,11 +129,11 @@ fn printing(rt: HostRuntime) -> Result<(), Fail> {
         "0: M[0] := 1\n0: M[1] == 0\n1: M[1] := 1\n1: M[0] == 0\n1: { M[2] == 0; M[2] := 7 }\n";
     let trace = Trace::parse(rt.alloc(), STORE_BUFFERING)?;
     assert_eq!(rt; trace.print(rt.alloc())?.as_str(), text);
-    let trace = Trace::parse(rt.alloc(), b"2: sync\n0: M[0x10] := 1")?;
-    assert_eq!(rt;
-        trace.print(rt.alloc())?.as_str(),
-        "0: M[16] := 1\n2: sync\n"
-    );
+    let trace = Trace::parse(rt.alloc(), b"2: sync\n1: M[0x10] := 1")?;
+    assert_eq!(rt; trace.cores().len(), 2);
+    assert_eq!(rt; trace.print(rt.alloc())?.as_str(), "1: M[16] := 1\n");
+    let trace = Trace::parse(rt.alloc(), b"63: sync # alone")?;
+    assert_eq!(rt; trace.cores().len(), 0);
     let trace = Trace::parse(rt.alloc(), b"# nothing")?;
     assert_eq!(rt; trace.print(rt.alloc())?.as_str(), "");
     Ok(())

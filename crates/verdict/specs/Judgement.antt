@@ -1,5 +1,5 @@
 -- What the judge answers to the texts of a set of logs.
-use Rattle.std.specs.Prelude.{◌≡◌, ◌<◌, ℕ, ◌+◌, List, drop, length, Option, Some, None, Result, Ok, Err}
+use Rattle.std.specs.Prelude.{◌≡◌, ◌<◌, ℕ, ◌+◌, List, drop, length, Option, Some, None, Result, Ok, Err, IfOk}
 use Rattle.mem_op.specs.Consistency.{IsConsistent}
 use Rattle.log_record.specs.declared.record.Record.{Record}
 use Rattle.log_record.specs.Entries.{operations_of}
@@ -71,6 +71,10 @@ IsOfTexts (Err OutOfMemory) = ⊥
 abbrev pub IsYes : Verdict → Type 0
 IsYes (Yes count) = Unit {0}
 IsYes (No fault) = ⊥
+
+-- this holds where the answer is Yes
+abbrev pub OnYes : Result Verdict JudgeFault → Type 0 → Type 0
+OnYes answer Holds = IfOk answer (λ verdict. IsYes verdict → Holds)
 
 -- the texts spell a set whose operations are sequentially consistent
 abbrev pub SpellConsistentSet : List (List ℕ) → Type 0

@@ -1,6 +1,9 @@
 -- The texts of verdicts and of faults.
 use Rattle.std.specs.Prelude.{ℕ, List, ◌++◌, codes}
 use Rattle.std.specs.Fmt.{decimal}
+use Rattle.fault_names.specs.Names.{name_text}
+use Rattle.fault_names.specs.declared.fault_name.FaultName.TheVariants as named
+use Rattle.mem_op.specs.Texts.{id_text}
 use Rattle.log_file.specs.Faults.{fault_text as line_fault_text}
 use Rattle.verdict.specs.declared.rule.Rule.{Rule}
 use Rattle.verdict.specs.declared.rule.Rule.TheVariants.{CoreOrder, Program, Source, Value}
@@ -20,8 +23,7 @@ rule_text Value = codes "VALUE"
 
 -- an id and a rule, as `1.0 SOURCE`
 abbrev pub fault_text : FaultParts → List ℕ
-fault_text fault =
-    decimal fault.id.core ++ codes "." ++ decimal fault.id.index ++ codes " " ++ rule_text fault.rule
+fault_text fault = id_text fault.id ++ codes " " ++ rule_text fault.rule
 
 abbrev pub verdict_text : Verdict → List ℕ
 verdict_text (Yes count) = codes "yes: " ++ decimal count ++ codes " operations"
@@ -34,9 +36,9 @@ count_text Programs = codes "programs"
 
 -- a number and a name, after the file and the line where there are any
 abbrev pub judge_fault_text : JudgeFault → List ℕ
-judge_fault_text (BadConfig count) = codes "6 BadConfig " ++ count_text count
+judge_fault_text (BadConfig count) = name_text named.BadConfig ++ codes " " ++ count_text count
 judge_fault_text (Log file line fault) =
     codes "file " ++ decimal file ++ codes " line " ++ decimal line ++ codes ": "
     ++ line_fault_text fault
-judge_fault_text OutOfMemory = codes "10 OutOfMemory"
-judge_fault_text (Read file) = codes "file " ++ decimal file ++ codes ": 28 Read"
+judge_fault_text OutOfMemory = name_text named.OutOfMemory
+judge_fault_text (Read file) = codes "file " ++ decimal file ++ codes ": " ++ name_text named.Read

@@ -1,11 +1,11 @@
 //! The judge of a set of log files that keeps what its verdict stands on.
 
-ghost use Rattle.std.specs.Prelude.{◌≡◌, ◌↔◌, ℕ, List, length, IfErr, IfOk, IsErrOf, OnOk};
+ghost use Rattle.std.specs.Prelude.{◌≡◌, ◌↔◌, ℕ, List, length, IfErr, IsErrOf};
 ghost use Rattle.log_file.specs.Sets.{TellEach};
 ghost use Rattle.verdict.specs.CoreFaultsOf.{given};
-ghost use Rattle.verdict.specs.Counts.{AreAsMany, AreNotAsMany, IsInRange, IsOutOfRange};
+ghost use Rattle.verdict.specs.Counts.{AreNotAsMany, IsInRange, IsOutOfRange};
 ghost use Rattle.verdict.specs.Bases.{IsExaminedBy, verdict_in};
-ghost use Rattle.verdict.specs.Judgement.{IsAnswerAgainst, IsReadUpTo, IsYes, SpellConsistentSet, SpellFlatRunBy, TellsFailures};
+ghost use Rattle.verdict.specs.Judgement.{IsAnswerAgainst, IsReadUpTo, OnYes, SpellConsistentSet, SpellFlatRunBy, TellsFailures};
 ghost use Rattle.verdict.specs.declared.judge_fault.Count.TheVariants.{Files, Workers, Programs};
 ghost use Rattle.verdict.specs.declared.judge_fault.JudgeFault.TheVariants.{BadConfig};
 
@@ -18,37 +18,6 @@ use core_program::ProgramSet;
 use log_file::{ByteSource, LogSet};
 use std::alloc::Global;
 use std::thread::Threads;
-
-/// The verdict on the set of logs that the readers give, against the programs of its cores where they
-/// are given, with what it stands on; or why there is none.
-fn examination<R: Threads + Sync, S: ByteSource, G: Gate + Sync>(
-    rt: &R,
-    alloc: Global,
-    programs: Option<&ProgramSet>,
-    readers: &mut [S],
-    workers: usize,
-    gate: &G,
-) -> Result<Examined, JudgeFault>
-    ensures files { IsErrOf result (BadConfig Files) ↔ IsOutOfRange (length readers.old) }
-    ensures workers { IsErrOf result (BadConfig Workers)
-        ↔ (IsInRange (length readers.old) × IsOutOfRange workers) }
-    ensures programs { IsErrOf result (BadConfig Programs)
-        ↔ (IsInRange (length readers.old) × IsInRange workers
-        × AreNotAsMany (length readers.old) (given programs.entry)) }
-    ensures later { (texts : List (List ℕ)) × TellEach S.remaining readers.old texts
-        × IfErr result (IsReadUpTo texts readers.old readers.new) }
-    ensures exact { (texts : List (List ℕ)) × TellEach S.remaining readers.old texts
-        × IsExaminedBy (given programs.entry) texts result }
-    ensures read { TellsFailures S.failed readers.old readers.new result }
-    ensures each { OnOk result (AreAsMany (length readers.old) (given programs.entry)) }
-{
-    let files = readers.len();
-    check_counts(files, workers)?;
-    check_programs(programs, files)?;
-    let set = LogSet::read(rt, alloc, readers, workers)?;
-    let examined = examine_set(rt, alloc, programs, set, workers, gate)?;
-    Ok(examined)
-}
 
 /// Judges the set of logs that the readers give as `judge` does, or as `judge_run` where programs are
 /// given, and gives back what the verdict stands on beside it: the logs where a core's log breaks a
@@ -70,24 +39,22 @@ pub fn examine<R: Threads + Sync, S: ByteSource, G: Gate + Sync>(
     ensures programs { IsErrOf result (BadConfig Programs)
         ↔ (IsInRange (length readers.old) × IsInRange workers
         × AreNotAsMany (length readers.old) (given programs.entry)) }
-    // No reader is read then, and after another refusal none after the file that it came at.
-    ensures later { (texts : List (List ℕ)) × TellEach S.remaining readers.old texts
-        × IfErr result (IsReadUpTo texts readers.old readers.new) }
-
-    // The readers tell texts. The verdict is that of the judge on the set that these spell, and what it
-    // stands on is that set's.
+    // The readers tell texts. After a bad count no reader is read, and after another refusal none after the
+    // file that it came at. The verdict is that of the judge on the set that the texts spell, and what it
+    // stands on is that set's. Where it is Yes, the set is sequentially consistent, and where programs are
+    // given a whole run of the flat machine performs just its operations.
     ensures exact { (texts : List (List ℕ)) × TellEach S.remaining readers.old texts
+        × IfErr result (IsReadUpTo texts readers.old readers.new)
+        × IsExaminedBy (given programs.entry) texts result
         × IsAnswerAgainst (given programs.entry) texts (verdict_in result)
-        × IsExaminedBy (given programs.entry) texts result }
+        × OnYes (verdict_in result) (SpellConsistentSet texts
+        × SpellFlatRunBy (given programs.entry) texts) }
     ensures read { TellsFailures S.failed readers.old readers.new result }
-
-    // Where it is Yes, the set is sequentially consistent, and a whole run of the flat machine performs
-    // just its operations where programs are given.
-    ensures sound { (texts : List (List ℕ)) × TellEach S.remaining readers.old texts
-        × IfOk result (λ examined. IsYes examined.verdict → SpellConsistentSet texts) }
-    ensures flat { (texts : List (List ℕ)) × TellEach S.remaining readers.old texts
-        × IfOk result (λ examined. IsYes examined.verdict
-        → SpellFlatRunBy (given programs.entry) texts) }
 {
-    examination(rt, alloc, programs, readers, workers, gate)
+    let files = readers.len();
+    check_counts(files, workers)?;
+    check_programs(programs, files)?;
+    let set = LogSet::read(rt, alloc, readers, workers)?;
+    let examined = examine_set(rt, alloc, programs, set, workers, gate)?;
+    Ok(examined)
 }

@@ -37,8 +37,7 @@ impl Display for Fault {
     ghost output = { λ fault. Some (fault_text fault) };
 
     fn fmt<W: fmt::Write>(&self, f: &mut fmt::Formatter<W>) -> fmt::Result {
-        let (core, index) = (self.id.core.get(), self.id.index.get());
-        write!(f, "{}.{} {}", core, index, self.rule)
+        write!(f, "{} {}", self.id, self.rule)
     }
 }
 

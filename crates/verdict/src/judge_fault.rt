@@ -4,6 +4,7 @@ ghost use Rattle.std.specs.Prelude.{◌≡◌};
 ghost use Rattle.verdict.specs.declared.judge_fault.JudgeFault.TheVariants.{OutOfMemory};
 ghost use Rattle.verdict.specs.SetFaults.{from_set};
 
+use fault_names::FaultName;
 use log_file::{FormatFault, LogFault, SetFault};
 use std::alloc::AllocError;
 use std::fmt;
@@ -63,12 +64,12 @@ impl Display for JudgeFault {
 
     fn fmt<W: fmt::Write>(&self, f: &mut fmt::Formatter<W>) -> fmt::Result {
         match self {
-            JudgeFault::BadConfig(count) => write!(f, "6 BadConfig {}", count),
+            JudgeFault::BadConfig(count) => write!(f, "{} {}", FaultName::BadConfig, count),
             JudgeFault::Log { file, line, fault } => {
                 write!(f, "file {} line {}: {}", file, line, fault)
             }
-            JudgeFault::OutOfMemory => f.write_str("10 OutOfMemory"),
-            JudgeFault::Read { file } => write!(f, "file {}: 28 Read", file),
+            JudgeFault::OutOfMemory => write!(f, "{}", FaultName::OutOfMemory),
+            JudgeFault::Read { file } => write!(f, "file {}: {}", file, FaultName::Read),
         }
     }
 }

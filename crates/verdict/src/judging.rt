@@ -1,9 +1,9 @@
 //! The judge of a set of log files.
 
-ghost use Rattle.std.specs.Prelude.{◌≡◌, ◌↔◌, ℕ, List, length, IfErr, IfOk, IsErrOf};
+ghost use Rattle.std.specs.Prelude.{◌≡◌, ◌↔◌, ℕ, List, length, IfErr, IsErrOf};
 ghost use Rattle.log_file.specs.Sets.{TellEach};
 ghost use Rattle.verdict.specs.Counts.{IsInRange, IsOutOfRange};
-ghost use Rattle.verdict.specs.Judgement.{IsAnswerTo, IsReadUpTo, IsYes, SpellConsistentSet, TellsFailures};
+ghost use Rattle.verdict.specs.Judgement.{IsAnswerTo, IsReadUpTo, OnYes, SpellConsistentSet, TellsFailures};
 ghost use Rattle.verdict.specs.declared.judge_fault.Count.TheVariants.{Files, Workers, Programs};
 ghost use Rattle.verdict.specs.declared.judge_fault.JudgeFault.TheVariants.{BadConfig};
 
@@ -38,21 +38,15 @@ pub fn judge<R: Threads + Sync, S: ByteSource, G: Gate + Sync>(
     ensures workers { IsErrOf result (BadConfig Workers)
         ↔ (IsInRange (length readers.old) × IsOutOfRange workers) }
     ensures programs { ¬ (IsErrOf result (BadConfig Programs)) }
-    // No reader is read then, and after another refusal none after the file that it came at.
-    ensures later { (texts : List (List ℕ)) × TellEach S.remaining readers.old texts
-        × IfErr result (IsReadUpTo texts readers.old readers.new) }
-
-    // The readers tell texts, and the answer is the verdict on the set that these spell, or their
-    // first fault. It names no number of workers.
+    // The readers tell texts. After a bad count no reader is read, and after another refusal none after the
+    // file that it came at. The answer is the verdict on the set that the texts spell, or their first fault;
+    // it names no number of workers. Where it is Yes, the set's operations have one order that keeps each
+    // core's program order and in which each load answers the last earlier store to its address, or 0.
     ensures exact { (texts : List (List ℕ)) × TellEach S.remaining readers.old texts
-        × IsAnswerTo texts result }
+        × IfErr result (IsReadUpTo texts readers.old readers.new)
+        × IsAnswerTo texts result
+        × OnYes result (SpellConsistentSet texts) }
     ensures read { TellsFailures S.failed readers.old readers.new result }
-
-    // The readers tell texts, and where the answer is Yes, these spell a set whose operations have
-    // one order that keeps each core's program order and in which each load answers the last
-    // earlier store to its address, or 0.
-    ensures sound { (texts : List (List ℕ)) × TellEach S.remaining readers.old texts
-        × IfOk result (λ verdict. IsYes verdict → SpellConsistentSet texts) }
 {
     match examine(rt, alloc, None, readers, workers, gate) {
         Ok(examined) => Ok(examined.verdict),

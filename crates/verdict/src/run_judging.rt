@@ -1,10 +1,10 @@
 //! The judge of a set of log files against the programs of its cores.
 
-ghost use Rattle.std.specs.Prelude.{◌≡◌, ◌≢◌, ◌↔◌, ℕ, List, All, length, IfErr, IfOk, IsErrOf};
+ghost use Rattle.std.specs.Prelude.{◌≡◌, ◌≢◌, ◌↔◌, ℕ, List, All, length, IfErr, IsErrOf};
 ghost use Rattle.core_program.specs.Shape.{IsProgram};
 ghost use Rattle.log_file.specs.Sets.{TellEach};
 ghost use Rattle.verdict.specs.Counts.{IsInRange, IsOutOfRange};
-ghost use Rattle.verdict.specs.Judgement.{IsReadUpTo, IsRunAnswerTo, IsYes, SpellConsistentSet, SpellFlatRun, TellsFailures};
+ghost use Rattle.verdict.specs.Judgement.{IsReadUpTo, IsRunAnswerTo, OnYes, SpellConsistentSet, SpellFlatRun, TellsFailures};
 ghost use Rattle.verdict.specs.declared.judge_fault.Count.TheVariants.{Files, Workers, Programs};
 ghost use Rattle.verdict.specs.declared.judge_fault.JudgeFault.TheVariants.{BadConfig};
 
@@ -41,26 +41,17 @@ pub fn judge_run<R: Threads + Sync, S: ByteSource, G: Gate + Sync>(
     ensures programs { IsErrOf result (BadConfig Programs)
         ↔ (IsInRange (length readers.old) × IsInRange workers
         × (length programs.now.programs ≢ length readers.old)) }
-    // No reader is read then, and after another refusal none after the file that it came at.
-    ensures later { (texts : List (List ℕ)) × TellEach S.remaining readers.old texts
-        × IfErr result (IsReadUpTo texts readers.old readers.new) }
-
-    // The readers tell texts, and the answer is the verdict on the set that these spell, against the
-    // programs, or their first fault. It names no number of workers.
-    ensures exact { (texts : List (List ℕ)) × TellEach S.remaining readers.old texts
-        × IsRunAnswerTo programs.now.programs texts result }
-    ensures read { TellsFailures S.failed readers.old readers.new result }
-
-    // Where the answer is Yes, the set that the texts spell is sequentially consistent.
-    ensures sound { (texts : List (List ℕ)) × TellEach S.remaining readers.old texts
-        × IfOk result (λ verdict. IsYes verdict → SpellConsistentSet texts) }
-
     // The programs are programs, so a PROGRAM fault is where a log differs from what its program issues.
     ensures are_programs { All IsProgram programs.now.programs }
-
-    // And some whole run of the flat machine performs just its operations, each with its answer.
-    ensures flat { (texts : List (List ℕ)) × TellEach S.remaining readers.old texts
-        × IfOk result (λ verdict. IsYes verdict → SpellFlatRun programs.now.programs texts) }
+    // The readers tell texts. After a bad count no reader is read, and after another refusal none after the
+    // file that it came at. The answer is the verdict on the set that the texts spell, against the programs,
+    // or their first fault; it names no number of workers. Where it is Yes, the set is sequentially
+    // consistent, and some whole run of the flat machine performs just its operations, each with its answer.
+    ensures exact { (texts : List (List ℕ)) × TellEach S.remaining readers.old texts
+        × IfErr result (IsReadUpTo texts readers.old readers.new)
+        × IsRunAnswerTo programs.now.programs texts result
+        × OnYes result (SpellConsistentSet texts × SpellFlatRun programs.now.programs texts) }
+    ensures read { TellsFailures S.failed readers.old readers.new result }
 {
     // The set tells with its length that its programs are programs.
     programs.len();

@@ -112,12 +112,13 @@ impl<'a, R: Threads + Wait + Sync + Print> Again<'a, R> {
         if have(self.words, "--workers") {
             return Ok(true);
         }
-        let mut is_good = true;
-        for option in ["--workers=1", "--workers=2", "--workers=64"] {
-            let words = other_call(self.alloc, "check", Some(option), self.words)?;
-            is_good = self.does(words.as_slice(), self.given, SOUND, &self.expected)? && is_good;
-        }
-        Ok(is_good)
+        Ok(self.by("--workers=1")? && self.by("--workers=2")? && self.by("--workers=64")?)
+    }
+
+    /// Whether a check does what it should with an option more.
+    fn by(&self, option: &'a str) -> Result<bool, RowsFault> {
+        let words = other_call(self.alloc, "check", Some(option), self.words)?;
+        self.does(words.as_slice(), self.given, SOUND, &self.expected)
     }
 
     /// Where an order is written the verdict goes to standard error, and only with a Yes the order is whole.
@@ -178,21 +179,27 @@ impl<'a, R: Threads + Wait + Sync + Print> Again<'a, R> {
     fn cut_off_in(&self, number: usize, file: &File) -> Result<bool, RowsFault> {
         let mut is_good = true;
         for length in 0..file.bytes.len().min(LONGEST_CUT) {
-            let told = told_of_beginning(self.alloc, number, &file.bytes[..length])?;
-            let files = with_beginning(self.alloc, self.given.files, file.name.as_str(), length)?;
-            let given = Given {
-                files: files.as_slice(),
-                ..self.given
-            };
-            let wanted = Expected {
-                status: 2,
-                printed: "",
-                told: told.as_str(),
-                ..self.expected
-            };
-            is_good = self.does(self.words, given, SOUND, &wanted)? && is_good;
+            is_good = self.cut_off_at(number, file, length)? && is_good;
         }
         Ok(is_good)
+    }
+
+    /// So is the one of this length.
+    fn cut_off_at(&self, number: usize, file: &File, length: usize) -> Result<bool, RowsFault> {
+        let beginning = file.bytes.get(..length).unwrap_or(&[]);
+        let told = told_of_beginning(self.alloc, number, beginning)?;
+        let files = with_beginning(self.alloc, self.given.files, file.name.as_str(), length)?;
+        let given = Given {
+            files: files.as_slice(),
+            ..self.given
+        };
+        let wanted = Expected {
+            status: 2,
+            printed: "",
+            told: told.as_str(),
+            ..self.expected
+        };
+        self.does(self.words, given, SOUND, &wanted)
     }
 
     /// The logs of a run that is done get Yes against its programs.
@@ -323,12 +330,8 @@ fn failing_at(write: usize) -> [Step; WRITES]
 
 /// What is told of a file that has only this beginning of a log.
 fn told_of_beginning(alloc: Global, file: usize, beginning: &[u8]) -> Result<String, RowsFault> {
-    let mut line: u64 = 1;
-    for byte in beginning {
-        if *byte == b'\n' {
-            line = line.saturating_add(1);
-        }
-    }
+    let feeds = beginning.iter().filter(|byte| **byte == b'\n').count();
+    let line = feeds.saturating_add(1);
     Ok(format!(in alloc; "refused: file {file} line {line}: 26 Truncated\n")?)
 }
 
@@ -357,16 +360,19 @@ fn with_beginning(
 
 /// Whether a refusal names the place of a file among the logs, in a call that has no options and reads logs alone.
 fn names_log(alloc: Global, words: &[&str], told: &str, file: &File) -> Result<bool, RowsFault> {
-    if have(words, "--") || !have_word(words, "check") && !have_word(words, "order") {
+    let reads_logs_alone = match words.get(1) {
+        Some(command) => *command == "check" || *command == "order",
+        None => false,
+    };
+    if have(words, "--") || !reads_logs_alone {
         return Ok(true);
     }
-    let mut number: u64 = 0;
-    for name in words.iter().skip(2) {
-        if *name == file.name.as_str() {
-            break;
-        }
-        number = number.saturating_add(1);
-    }
+    let name = file.name.as_str();
+    let number = words
+        .iter()
+        .skip(2)
+        .take_while(|word| **word != name)
+        .count();
     let wanted = format!(in alloc; "refused: file {number}: 28 Read\n")?;
     Ok(told == wanted.as_str())
 }

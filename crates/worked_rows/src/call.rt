@@ -3,12 +3,12 @@
 ghost use Rattle.std.specs.Prelude.{◌≡◌, [], IfOk};
 ghost use Rattle.command_line.specs.Asking.{texts};
 ghost use Rattle.memory_folder.specs.Files.{told_of};
-ghost use Rattle.memory_folder.specs.Held.{files_held};
 ghost use Rattle.tardis_command.specs.Endings.{AreConsistent, AskFor};
 
 use super::fault::{RowsFault, text_of};
 use super::watch::Counting;
-use log_file::{MemSink, Step};
+use call_devices::Folder;
+use log_file::{ByteSink, MemSink, Step};
 use memory_folder::{File, Given, MemoryFolder};
 use std::alloc::Global;
 use std::sync::Wait;
@@ -43,19 +43,19 @@ pub(crate) struct Done {
     pub(crate) seen: (u64, u64),
 }
 
-/// Calls the program over a folder in memory. Where a verdict was asked for and the answer is 0, the files of the folder
-/// spell a set of logs whose operations are sequentially consistent.
-fn call_over<R: Threads + Wait + Sync>(
+/// Calls the program. Where a verdict was asked for and the answer is 0, the files of the folder spell a set of logs whose operations
+/// are sequentially consistent. It says no more of what `command` says, and that of any folder: so its callers are proved sooner.
+fn call_over<R: Threads + Wait + Sync, F: Folder, O: ByteSink, E: ByteSink>(
     rt: &R,
     alloc: Global,
     words: &[&str],
     watch: &Counting,
-    folder: &mut MemoryFolder<'_>,
-    out: &mut MemSink<'_>,
-    err: &mut MemSink<'_>,
+    folder: &mut F,
+    out: &mut O,
+    err: &mut E,
 ) -> u8
     ensures sound { result ≡ 0 → AskFor (texts words.entry.now)
-        (AreConsistent (files_held folder.old).told) }
+        (AreConsistent (F.files folder.old).told) }
 {
     command(rt, alloc, words, watch, folder, out, err)
 }

@@ -51,12 +51,12 @@ pub(crate) fn compare<R: Print>(
         && is_like(expected.printed, done.printed.as_str())
         && is_like(expected.told, done.told.as_str());
     if !is_good {
-        println!(rt; "line {line}: {words:?} ended with {}", done.status)?;
-        println!(rt; "it printed {:?}", done.printed)?;
-        println!(rt; "and told {:?}", done.told)?;
-        println!(rt; "in place of {}", expected.status)?;
-        println!(rt; "and {:?}", expected.printed)?;
-        println!(rt; "and {:?}", expected.told)?;
+        println!(rt;
+            "line {line}: {words:?} ended with {}, not {}",
+            done.status, expected.status
+        )?;
+        println!(rt; "it printed {:?}, not {:?}", done.printed, expected.printed)?;
+        println!(rt; "and told {:?}, not {:?}", done.told, expected.told)?;
     }
     Ok(is_good)
 }

@@ -1,5 +1,6 @@
 //! Why rows can't be replayed.
 
+use row_text::RowFault;
 use std::alloc::{AllocError, AllocFailed};
 use std::io;
 
@@ -16,6 +17,15 @@ pub(crate) enum RowsFault {
     OutOfMemory,
     /// Some call did another thing than its row says.
     Wrong,
+}
+
+impl From<RowFault> for RowsFault {
+    fn from(fault: RowFault) -> RowsFault {
+        match fault {
+            RowFault::BadLine => RowsFault::BadLine,
+            RowFault::OutOfMemory => RowsFault::OutOfMemory,
+        }
+    }
 }
 
 impl<T: Drop> From<AllocFailed<T>> for RowsFault {

@@ -7,9 +7,7 @@ mod again;
 mod call;
 mod compare;
 mod fault;
-mod lines;
 mod replay;
-mod row;
 mod watch;
 mod words;
 

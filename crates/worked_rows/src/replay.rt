@@ -4,10 +4,9 @@ use super::again::wrong_again;
 use super::call::{SOUND, call};
 use super::compare::{Expected, compare, compare_files};
 use super::fault::RowsFault;
-use super::lines::{Line, read};
-use super::row::{Row, Wanted};
-use super::words::{calls_of, texts_of, words_of};
+use super::words::texts_of;
 use memory_folder::{File, Given};
+use row_text::{Row, RowFault, Wanted, calls_of, read, words_of};
 use std::alloc::Global;
 use std::sync::Wait;
 use std::thread::Threads;
@@ -69,14 +68,6 @@ fn finish<R: Threads + Wait + Sync + Print>(
     Ok(())
 }
 
-/// Whether a call is whole before this line.
-fn ends_call(line: &Line<'_>) -> bool {
-    matches!(
-        line,
-        Line::Row | Line::File(_) | Line::Files(_) | Line::Room(_) | Line::Call(_)
-    )
-}
-
 /// Replays the rows of a text.
 pub(crate) fn replay<R: Threads + Wait + Sync + Print>(
     rt: &R,
@@ -86,8 +77,8 @@ pub(crate) fn replay<R: Threads + Wait + Sync + Print>(
     let mut row = Row::new(alloc);
     let mut tally = Tally { calls: 0, wrong: 0 };
     for (at, text) in text.lines().enumerate() {
-        let line = read(text).ok_or(RowsFault::BadLine)?;
-        if ends_call(&line) {
+        let line = read(text).ok_or(RowFault::BadLine)?;
+        if line.ends_call() {
             finish(rt, alloc, &mut row, &mut tally)?;
         }
         row.take(at.saturating_add(1), line)?;

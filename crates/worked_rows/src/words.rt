@@ -1,54 +1,9 @@
-//! The words of calls.
+//! The words of calls that are made again.
 
-use super::fault::RowsFault;
-use std::alloc::Global;
-
-/// A line before a range of numbers, its first and its last, and the line after it.
-fn range_in(line: &str) -> Option<(&str, u64, u64, &str)> {
-    let (before, rest) = line.split_once('{')?;
-    let (range, after) = rest.split_once('}')?;
-    let (first, last) = range.split_once("..")?;
-    Some((before, first.parse().ok()?, last.parse().ok()?, after))
-}
-
-/// The calls that a line stands for: where it has `{A..B}` one for each number from `A` to `B`.
-pub(crate) fn calls_of(alloc: Global, line: &str) -> Result<Vec<String>, RowsFault> {
-    let mut calls = Vec::new(alloc);
-    match range_in(line) {
-        Some((before, first, last, after)) => {
-            for number in first..last.saturating_add(1) {
-                calls.push(format!(in alloc; "{before}{number}{after}")?)?;
-            }
-        }
-        None => calls.push(String::from_str(alloc, line)?)?,
-    }
-    Ok(calls)
-}
-
-/// The first and the last of `A...B`.
-fn ends_of(word: &str) -> Option<(u64, u64)> {
-    let (first, last) = word.split_once("...")?;
-    Some((first.parse().ok()?, last.parse().ok()?))
-}
-
-/// The words of a call; `A...B` are all numbers from `A` to `B`.
-pub(crate) fn words_of(alloc: Global, line: &str) -> Result<Vec<String>, RowsFault> {
-    let mut words = Vec::new(alloc);
-    for word in line.split_whitespace() {
-        match ends_of(word) {
-            Some((first, last)) => {
-                for number in first..last.saturating_add(1) {
-                    words.push(format!(in alloc; "{number}")?)?;
-                }
-            }
-            None => words.push(String::from_str(alloc, word)?)?,
-        }
-    }
-    Ok(words)
-}
+use std::alloc::{AllocError, Global};
 
 /// The texts of words.
-pub(crate) fn texts_of(alloc: Global, words: &[String]) -> Result<Vec<&str>, RowsFault> {
+pub(crate) fn texts_of(alloc: Global, words: &[String]) -> Result<Vec<&str>, AllocError> {
     let mut texts = Vec::new(alloc);
     for word in words {
         texts.push(word.as_str())?;
@@ -58,22 +13,12 @@ pub(crate) fn texts_of(alloc: Global, words: &[String]) -> Result<Vec<&str>, Row
 
 /// Whether one of the words begins so.
 pub(crate) fn have(words: &[&str], beginning: &str) -> bool {
-    for word in words {
-        if word.starts_with(beginning) {
-            return true;
-        }
-    }
-    false
+    words.iter().any(|word| word.starts_with(beginning))
 }
 
 /// Whether this is one of the words.
 pub(crate) fn have_word(words: &[&str], wanted: &str) -> bool {
-    for word in words {
-        if *word == wanted {
-            return true;
-        }
-    }
-    false
+    words.iter().any(|word| *word == wanted)
 }
 
 /// The call of another command, with an option where there is one, on what these words name.
@@ -82,7 +27,7 @@ pub(crate) fn other_call<'a>(
     command: &'a str,
     option: Option<&'a str>,
     words: &[&'a str],
-) -> Result<Vec<&'a str>, RowsFault> {
+) -> Result<Vec<&'a str>, AllocError> {
     let mut call = Vec::new(alloc);
     call.push("tardis")?;
     call.push(command)?;

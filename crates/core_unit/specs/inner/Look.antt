@@ -1,8 +1,11 @@
 -- What a core's line makes of an operation.
-use Rattle.std.specs.Prelude.{Option, Some, None}
+use Rattle.std.specs.Prelude.{◌≡◌, Option, Some, None, Result, MatchResult}
 use Rattle.mem_op.specs.declared.id.Op.{Op}
+use Rattle.line_stamps.specs.declared.fault.StampFault.{StampFault}
+use Rattle.private_cache.specs.Answers.{hit_fault}
 use Rattle.private_cache.specs.Table.{Hit}
-use Rattle.core_unit.specs.Core.{Core, next_request, record_of}
+use Rattle.core_unit.specs.Core.{Core, next_request, record_of, tries}
+use Rattle.core_unit.specs.Parts.{UnitParts, core_of}
 use Rattle.core_unit.specs.declared.operation.Look.{Look}
 use Rattle.core_unit.specs.declared.operation.Look.TheVariants as look
 
@@ -10,3 +13,10 @@ use Rattle.core_unit.specs.declared.operation.Look.TheVariants as look
 abbrev pub look_of : Core → Op → Option Hit → Look
 look_of u x None = look.Miss (next_request u x)
 look_of u x (Some hit) = look.Hit (record_of x hit)
+
+-- this is what the line makes of the operation, or why its hit is refused
+abbrev pub IsLook : UnitParts → Op → Result Look StampFault → Type 0
+IsLook p x result =
+    let u = core_of p None in
+    let hit = tries p.core u x in
+    MatchResult result (λ look. (look ≡ look_of u x hit) × (hit_fault hit ≡ None)) (λ fault. hit_fault hit ≡ Some fault)

@@ -2,11 +2,11 @@
 use Rattle.std.specs.Prelude.{◌≡◌, ℕ, List}
 use Rattle.call_devices.specs.Sinks.{HasFailed, Sink, TakesBeginning}
 use Rattle.tardis_command.specs.declared.fault.CommandFault.{CommandFault}
-use Rattle.tardis_command.specs.declared.fault.CommandFault.TheVariants.{Judging, Running, Output, OutOfMemory}
+use Rattle.tardis_command.specs.declared.fault.CommandFault.TheVariants.{Call}
+use Rattle.call_devices.specs.declared.call_fault.CallFault.TheVariants.{Output, OutOfMemory}
 
 -- the sink failed after a beginning of the line, or there was no memory and it is as it was
 abbrev pub IsUnprinted : Sink → Sink → List ℕ → CommandFault → Type 0
-IsUnprinted old new line Output = HasFailed old new × TakesBeginning old new line
-IsUnprinted old new line OutOfMemory = new ≡ old
-IsUnprinted old new line (Judging fault) = ⊥
-IsUnprinted old new line (Running fault) = ⊥
+IsUnprinted old new line (Call Output) = HasFailed old new × TakesBeginning old new line
+IsUnprinted old new line (Call OutOfMemory) = new ≡ old
+IsUnprinted old new line other = ⊥

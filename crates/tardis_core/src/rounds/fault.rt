@@ -1,6 +1,7 @@
 //! Why a round, an operation or a program isn't ended.
 
 use core_machine::CoreFault;
+use fault_names::FaultName;
 use mem_op::CoreId;
 use std::fmt;
 use std::fmt::Display;
@@ -23,7 +24,7 @@ impl Display for RoundCause {
 
     fn fmt<W: fmt::Write>(&self, f: &mut fmt::Formatter<W>) -> fmt::Result {
         match self {
-            RoundCause::GaveUp => f.write_str("30 GaveUp"),
+            RoundCause::GaveUp => write!(f, "{}", FaultName::GaveUp),
             RoundCause::Core(fault) => write!(f, "{fault}"),
         }
     }

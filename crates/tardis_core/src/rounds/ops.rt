@@ -12,7 +12,7 @@ use crate::machine::Core;
 use mem_op::CoreId;
 
 /// How many rounds are made for one operation at most.
-const ROUND_LIMIT: usize = 1_000;
+pub const MAX_ROUNDS_PER_OPERATION: u16 = 1_000;
 
 /// Makes a round of a core: a turn where it has no message in hand; then, where it has one without a
 /// reply, that is served; then, where it has one with its reply, the reply is taken; and where that
@@ -71,7 +71,7 @@ fn perform_next(machine: &mut Core, core: CoreId) -> Result<(), RoundFault>
         (λ fault. IsOpFault core machine.old machine.new fault) }
     ensures run { IsRunTo machine.old machine.new }
 {
-    for _ in 0..ROUND_LIMIT {
+    for _ in 0..MAX_ROUNDS_PER_OPERATION {
         if make_round(machine, core)? {
             return Ok(());
         }

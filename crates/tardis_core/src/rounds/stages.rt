@@ -3,7 +3,7 @@
 ghost use Rattle.std.specs.Prelude.{◌≡◌, ℕ, Some, MatchResult};
 ghost use Rattle.core_machine.specs.Machine.{core_event};
 ghost use Rattle.core_machine.specs.Parts.{world};
-ghost use Rattle.tardis_core.specs.Rounds.{IsCauseOf, IsMade, IsPart, IsRefusedRound, IsRound, IsStopped, Over, ToRecall, ToServe, ToTake, ToTurn, stage_of, told_by};
+ghost use Rattle.tardis_core.specs.Rounds.{IsCauseOf, EventLeadsTelling, IsPart, IsRefusedRound, IsRound, IsStopped, Over, ToRecall, ToServe, ToTake, ToTurn, stage_of, told_by};
 ghost use Rattle.core_machine.specs.Steps.{step_outcome};
 ghost use Rattle.tardis_core.specs.Hands.{Worked};
 
@@ -40,12 +40,12 @@ fn told_by(outcome: &Outcome) -> Told
     }
 }
 
-// Makes an event of a core.
+// Makes an event of a core, and tells what a round looks at in its outcome.
 #[inline(always)]
-fn make(machine: &mut Core, core: CoreId, event: Event) -> Result<Told, RoundFault>
+fn step_told(machine: &mut Core, core: CoreId, event: Event) -> Result<Told, RoundFault>
     requires own { core_event event ≡ Some core }
     ensures { MatchResult result
-        (λ told. IsMade machine.old event told machine.new)
+        (λ told. EventLeadsTelling machine.old event told machine.new)
         (λ fault. (machine.new ≡ machine.old) × (fault.core ≡ core)
         × IsCauseOf (step_outcome machine.old event) fault.fault) }
 {
@@ -67,7 +67,7 @@ fn turn(machine: &mut Core, core: CoreId) -> Result<bool, RoundFault>
 {
     match hand_at(machine, core) {
         Hand::Empty => {
-            let told = make(machine, core, Event::Turn(core))?;
+            let told = step_told(machine, core, Event::Turn(core))?;
             Ok(matches!(told, Told::Performed))
         }
         _ => Ok(false),
@@ -82,7 +82,7 @@ fn serve(machine: &mut Core, core: CoreId) -> Result<(), RoundFault>
 {
     match hand_at(machine, core) {
         Hand::Asking => {
-            make(machine, core, Event::Serve(core))?;
+            step_told(machine, core, Event::Serve(core))?;
             Ok(())
         }
         _ => Ok(()),
@@ -97,7 +97,7 @@ fn take(machine: &mut Core, core: CoreId) -> Result<Told, RoundFault>
 {
     match hand_at(machine, core) {
         Hand::Answered => {
-            let told = make(machine, core, Event::Take(core))?;
+            let told = step_told(machine, core, Event::Take(core))?;
             Ok(told)
         }
         _ => Ok(Told::Other),
@@ -111,10 +111,10 @@ fn offer(machine: &mut Core, recall: &Recall) -> Result<(), RoundFault>
         (λ fault. (c : ℕ) → IsStopped c (ToRecall recall.now) machine.old machine.new fault) }
 {
     let owner = recall.owner;
-    match make(machine, owner, Event::Recall(owner, *recall))? {
+    match step_told(machine, owner, Event::Recall(owner, *recall))? {
         Told::Gave => {
-            make(machine, owner, Event::Serve(owner))?;
-            make(machine, owner, Event::Take(owner))?;
+            step_told(machine, owner, Event::Serve(owner))?;
+            step_told(machine, owner, Event::Take(owner))?;
             Ok(())
         }
         _ => Ok(()),

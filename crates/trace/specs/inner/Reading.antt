@@ -4,7 +4,7 @@ use Rattle.std.specs.Prelude.{ℕ, ◌*◌, ◌+◌, ◌^◌, Bool, true, false,
 use Rattle.decimal_text.specs.Reading.{◌>>=◌, after}
 use Rattle.mem_op.specs.Consistency.{Operation, Loaded, Stored, Swapped}
 use Rattle.trace.specs.declared.line.TraceLine.{TraceLine}
-use Rattle.trace.specs.declared.line.TraceLine.TheVariants.{Blank, Sync, Performs}
+use Rattle.trace.specs.declared.line.TraceLine.TheVariants.{Nothing, Performs}
 use Rattle.trace.specs.Grammar.{is_blank, digit_value, is_alphanumeric}
 
 -- the bytes after the blanks at the front
@@ -99,7 +99,7 @@ is_ended bytes = if is_over bytes then true else are_times (mark_at (codes "@") 
 unfoldable pub said_of : ℕ → List ℕ → Option TraceLine
 said_of core bytes =
     if is_some (mark_at (codes "sync") bytes)
-    then (mark_at (codes "sync") bytes >>= λ rest. if is_ended rest then Some (Sync core) else None)
+    then (mark_at (codes "sync") bytes >>= λ rest. if is_ended rest then Some Nothing else None)
     else (operation_at_front bytes >>= λ x. if is_ended x.1 then Some (Performs core x.0) else None)
 
 -- `T:`
@@ -108,4 +108,4 @@ core_at bytes = number_at bytes >>= λ core. mark_at (codes ":") core.1 >>= λ r
 
 -- what a line says
 unfoldable pub line_of : List ℕ → Option TraceLine
-line_of line = if is_over line then Some Blank else (core_at line >>= λ core. said_of core.0 core.1)
+line_of line = if is_over line then Some Nothing else (core_at line >>= λ core. said_of core.0 core.1)

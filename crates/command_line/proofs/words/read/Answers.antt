@@ -1,4 +1,4 @@
-use Rattle.std.proofs.Common.{◌≡◌, ◌∙◌, ap, sym, Bool, true, false, inl, inr}
+use Rattle.std.proofs.Common.{◌≡◌, ◌∙◌, ap, rules, sym, Bool, true, false, inl, inr, Err}
 use Rattle.std.specs.Prelude.{codes}
 use Rattle.std.specs.Str.{bytes_eq}
 use Rattle.std.proofs.lemmas.Slice.Eq.{bytes_eq-Decides}
@@ -6,7 +6,7 @@ use Rattle.clap.specs.Faults.{fault_of, is_simple_and_free}
 use Rattle.clap.specs.Words.{App, Text}
 use Rattle.command_line.specs.Asking.{texts}
 use Rattle.command_line.proofs.Numbers.{numbers_named}
-use Rattle.command_line.proofs.Reading.{refused}
+use Rattle.command_line.proofs.Reading.{refused, stray}
 use Rattle.command_line.proofs.Subcommands.{found_named, names_own}
 use Rattle.command_line.proofs.words.read.Goals as goal
 
@@ -75,6 +75,40 @@ check_of-requires c =
     c.in-Some.ensures.name c.in-Some.ensures.rows in
     numbers_named (texts c.args.words.now) _ words.0 words.1
 
+pub search_of-requires : goal.search_of-requires
+search_of-requires c =
+    let words = found_named _ (texts c.args.words.now) c.in-Ok.matches c.in-Some.name.now _ c.in_ok-tardis.ensures.app c.in-Ok.ensures.matches c.in-Ok.ensures.kinds
+    c.in-Some.ensures.name c.in-Some.ensures.rows in
+    numbers_named (texts c.args.words.now) _ words.0 words.1
+
+pub returns-in_err-search_of-clause-usage : goal.returns-in_err-search_of-clause-usage
+returns-in_err-search_of-clause-usage c =
+    let words = found_named _ (texts c.args.words.now) c.in-Ok.matches c.in-Some.name.now _ c.in_ok-tardis.ensures.app c.in-Ok.ensures.matches c.in-Ok.ensures.kinds
+    c.in-Some.ensures.name c.in-Some.ensures.rows in
+    let named : c.in-Some.name.now ≡ codes "search" = (bytes_eq-Decides c.in-Some.name.now (codes "search")).0 (sym c.eq-7.ensures ∙ c.if-eq-7.true) in
+    let is : c.from_residual-in_err-search_of.result ≡ Err c.in_err-search_of.field-0.0 = search rules in
+    rw is (stray (texts c.args.words.now) _ c.in_err-search_of.field-0.0 words.1 (inl named) c.in_err-search_of.ensures.usage)
+
+pub returns-then-eq-7-clause-request : goal.returns-then-eq-7-clause-request
+returns-then-eq-7-clause-request c =
+    let words = found_named _ (texts c.args.words.now) c.in-Ok.matches c.in-Some.name.now _ c.in_ok-tardis.ensures.app c.in-Ok.ensures.matches c.in-Ok.ensures.kinds
+    c.in-Some.ensures.name c.in-Some.ensures.rows in
+    (words.0, (_, words.1, ((bytes_eq-Decides c.in-Some.name.now (codes "search")).0 (sym c.eq-7.ensures ∙ c.if-eq-7.true), c.in_ok-search_of.ensures.search)))
+
+pub returns-in_err-confirm_of-clause-usage : goal.returns-in_err-confirm_of-clause-usage
+returns-in_err-confirm_of-clause-usage c =
+    let words = found_named _ (texts c.args.words.now) c.in-Ok.matches c.in-Some.name.now _ c.in_ok-tardis.ensures.app c.in-Ok.ensures.matches c.in-Ok.ensures.kinds
+    c.in-Some.ensures.name c.in-Some.ensures.rows in
+    let named : c.in-Some.name.now ≡ codes "confirm" = (bytes_eq-Decides c.in-Some.name.now (codes "confirm")).0 (sym c.eq-8.ensures ∙ c.if-eq-8.true) in
+    let is : c.from_residual-in_err-confirm_of.result ≡ Err c.in_err-confirm_of.field-0.0 = search rules in
+    rw is (stray (texts c.args.words.now) _ c.in_err-confirm_of.field-0.0 words.1 (inr named) c.in_err-confirm_of.ensures.usage)
+
+pub returns-then-eq-8-clause-request : goal.returns-then-eq-8-clause-request
+returns-then-eq-8-clause-request c =
+    let words = found_named _ (texts c.args.words.now) c.in-Ok.matches c.in-Some.name.now _ c.in_ok-tardis.ensures.app c.in-Ok.ensures.matches c.in-Ok.ensures.kinds
+    c.in-Some.ensures.name c.in-Some.ensures.rows in
+    (words.0, (_, words.1, ((bytes_eq-Decides c.in-Some.name.now (codes "confirm")).0 (sym c.eq-8.ensures ∙ c.if-eq-8.true), c.in_ok-confirm_of.ensures.confirm)))
+
 -- a name that was looked for isn't there
 other : (name own : Text) (b : Bool) → b ≡ bytes_eq name own → b ≡ false → name ≡ own → ⊥
 other name own b is off same = let wrong : true ≡ false = sym ((bytes_eq-Decides name own).1 same) ∙ sym is ∙ off in absurd cc
@@ -91,6 +125,8 @@ returns-clause-request c =
       | inr (inr (inr (inr (inl is)))) ↦ absurd (other c.in-Some.name.now (codes "run") _ c.eq-2.ensures c.if-eq-2.false is)
       | inr (inr (inr (inr (inr (inl is))))) ↦ absurd (other c.in-Some.name.now (codes "litmus") _ c.eq-4.ensures c.if-eq-4.false is)
       | inr (inr (inr (inr (inr (inr (inl is)))))) ↦ absurd (other c.in-Some.name.now (codes "upgrade") _ c.eq-6.ensures c.if-eq-6.false is)
-      | inr (inr (inr (inr (inr (inr (inr never)))))) ↦ absurd never
+      | inr (inr (inr (inr (inr (inr (inr (inl is))))))) ↦ absurd (other c.in-Some.name.now (codes "search") _ c.eq-7.ensures c.if-eq-7.false is)
+      | inr (inr (inr (inr (inr (inr (inr (inr (inl is)))))))) ↦ absurd (other c.in-Some.name.now (codes "confirm") _ c.eq-8.ensures c.if-eq-8.false is)
+      | inr (inr (inr (inr (inr (inr (inr (inr (inr never)))))))) ↦ absurd never
     ] in
     (words.0, (_, words.1, (is_check, c.in_ok-check_of.ensures)))

@@ -11,7 +11,7 @@ use Rattle.call_devices.specs.Logs.{ArePut, ArePutUpTo, IsUnwritten, KeepsOthers
 use Rattle.log_record.specs.declared.format.Format.TheVariants.{Two}
 use Rattle.judge_commands.specs.inner.Reading.{read_log_of}
 use Rattle.judge_commands.proofs.Upgrades.{keeps_unspelled, not_counted, not_read, not_written, written}
-use Rattle.judge_commands.specs.declared.fault.JudgingFault.TheVariants.{Logs}
+use Rattle.judge_commands.specs.declared.fault.JudgingFault.TheVariants.{Call}
 use Rattle.judge_commands.proofs.upgrade_files.upgrade.Goals as goal
 
 pub returns-in_err-check_counts-clause-exact : goal.returns-in_err-check_counts-clause-exact
@@ -58,7 +58,7 @@ returns-in_err-write_logs-clause-exact g c =
     let read = read_logs old.told _ _ _ _ c.as_slice.ensures.value (sym c.as_slice-logs.ensures.value) c.in_ok-read.ensures.ok in
     let unwritten = subst (λ (f : Files). IsUnwritten (ArePutUpTo Two f new c.args.asked.now.out.now (length c.as_slice-logs.result.now) (read_log_of c.as_slice-logs.result.now)) c.in_err-write_logs.field-0.0)
     c.in_ok-read.ensures.quiet c.in_err-write_logs.ensures.err in
-    let is : c.from_residual-in_err-write_logs.result ≡ Err (Logs c.in_err-write_logs.field-0.0) = search rules in
+    let is : c.from_residual-in_err-write_logs.result ≡ Err (Call c.in_err-write_logs.field-0.0) = search rules in
     rw is (not_written old new (IsUnread g.F.Source.ByteSource.remaining g.F.Source.ByteSource.failed old new) c.args.asked.now c.as_slice-logs.result.now (length c.as_slice-logs.result.now) many range read
     c.in_err-write_logs.field-0.0 unwritten)
 

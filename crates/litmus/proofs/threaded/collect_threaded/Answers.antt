@@ -1,6 +1,7 @@
 -- One more run, and its outcome counted.
 use Rattle.std.proofs.Common.{rules, ◌≡◌, []}
-use Rattle.litmus.specs.Runs.{ThreadEnd, IsThreadRun, left}
+use Rattle.litmus_outcome.specs.Ends.{ThreadEnd, left}
+use Rattle.litmus.specs.Runs.{IsThreadRun}
 use Rattle.litmus.proofs.CollectedRuns.{none_so_far, one_more_run}
 use Rattle.litmus.proofs.threaded.collect_threaded.Goals as goal
 

@@ -1,8 +1,5 @@
-use Rattle.std.proofs.Common.{◌≡◌, ap, sym, ◌∙◌, rules, Option, Some, None, List, ℕ, ◌++◌, ◌∷◌, [], get_or, take, subst, option_map, string_bytes, true, false}
-use Rattle.std.specs.Borrow.{Bor}
-use Rattle.memory_folder.specs.declared.file.File.{File}
-use Rattle.memory_folder.specs.Files.{told_in}
-use Rattle.memory_folder.proofs.Told.{named, next_named, next_other, other_named}
+use Rattle.std.proofs.Common.{rules, true}
+use Rattle.memory_folder.proofs.Told.{next_named, next_other}
 use Rattle.memory_folder.proofs.file.find.Goals as goal
 use Rattle.memory_folder.proofs.file.find.Goals.{then-eq, else-eq}
 

@@ -12,12 +12,7 @@ use Rattle.merge_judge.proofs.judging.merge_judge.Goals as goal
 pub returns-clause-exact : goal.returns-clause-exact
 returns-clause-exact g c =
     let b = c.merged.ensures.exact in
-    (b.texts, (b.tells, b.answers, (b.written, b.appends, b.writes)))
-
-pub returns-clause-stops : goal.returns-clause-stops
-returns-clause-stops g c =
-    let b = c.merged.ensures.exact in
-    (b.texts, (b.tells, (b.written, b.appends, b.stops)))
+    (b.texts, b.tells, b.answers, (b.written, b.appends, b.writes, b.stops))
 
 pub returns-clause-read : goal.returns-clause-read
 returns-clause-read g c = c.merged.ensures.exact.read
@@ -25,14 +20,11 @@ returns-clause-read g c = c.merged.ensures.exact.read
 pub returns-in_err-check_counts-clause-exact : goal.returns-in_err-check_counts-clause-exact
 returns-in_err-check_counts-clause-exact g c =
     let p = err_from_is_err_and c.from_residual.result c.from_residual.ensures.1 in
+    let fault = c.in_err-check_counts.field-0.0 in
+    let bad = c.in_err-check_counts.ensures.err in
     let texts = map (λ reader. told (g.S.ByteSource.remaining reader)) c.args.readers.now in
-    rw (p.1, p.2) (texts, (each_tells g.S.ByteSource.remaining c.args.readers.now, bad_count_answers verdict_of texts c.in_err-check_counts.field-0.0 c.in_err-check_counts.ensures.err, ([], appends_none (g.W.ByteSink.contents c.args.order_out.now), lacks_end [] [] [] refl)))
-
-pub returns-in_err-check_counts-clause-stops : goal.returns-in_err-check_counts-clause-stops
-returns-in_err-check_counts-clause-stops g c =
-    let p = err_from_is_err_and c.from_residual.result c.from_residual.ensures.1 in
-    let texts = map (λ reader. told (g.S.ByteSource.remaining reader)) c.args.readers.now in
-    rw (p.1, p.2) (texts, (each_tells g.S.ByteSource.remaining c.args.readers.now, ([], appends_none (g.W.ByteSink.contents c.args.order_out.now), nothing_after texts c.in_err-check_counts.field-0.0 c.in_err-check_counts.ensures.err)))
+    let nothing = appends_none (g.W.ByteSink.contents c.args.order_out.now) in
+    rw (p.1, p.2) (texts, each_tells g.S.ByteSource.remaining c.args.readers.now, bad_count_answers verdict_of texts fault bad, ([], nothing, lacks_end [] [] [] refl, nothing_after texts fault bad))
 
 pub returns-in_err-check_counts-clause-read : goal.returns-in_err-check_counts-clause-read
 returns-in_err-check_counts-clause-read g c =

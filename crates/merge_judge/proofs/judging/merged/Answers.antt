@@ -1,5 +1,5 @@
 -- What is answered and written.
-use Rattle.std.proofs.Common.{◌++◌, ◌∷◌, [], Ok, Err, arith, length, sym, ap, subst, ◌∙◌, refl}
+use Rattle.std.proofs.Common.{◌++◌, ◌∷◌, [], Ok, Err, arith, rules, length, sym, ap, subst, ◌∙◌, refl}
 use Rattle.std.specs.Prelude.{is_none, ◌&&◌}
 use Rattle.std.specs.Option.{option_or}
 use Rattle.std.proofs.lemmas.Result.{err_from_is_err_and}
@@ -7,11 +7,11 @@ use Rattle.std.proofs.lemmas.List.{length_push}
 use Rattle.log_file.proofs.Devices.{appends_more}
 use Rattle.merge_judge.specs.inner.Lanes.{add}
 use Rattle.merge_judge.specs.inner.Judging.{line_where}
-use Rattle.merge_judge.specs.inner.Settling.{Settles}
-use Rattle.merge_judge.specs.inner.Words.{fault_after}
+use Rattle.merge_judge.specs.inner.FinalVerdict.{IsFinalVerdict}
+use Rattle.merge_judge.specs.inner.Memory.{fault_after}
 use Rattle.merge_judge.specs.OrderText.{id_lines}
 use Rattle.merge_judge.proofs.Along.{first_along-push}
-use Rattle.merge_judge.proofs.Judged.{end_fails, look_fails, no_memory, settled_fault, settled_no, settled_yes, wrote}
+use Rattle.merge_judge.proofs.Judged.{end_fails, look_fails, no_memory, merged_fault, merged_no, merged_yes, wrote}
 use Rattle.merge_judge.proofs.MergeSoFar.{all_where, few_done, joined, lines_where}
 use Rattle.merge_judge.proofs.Shown.{order_where, shown_after, shown_more, shown_none}
 use Rattle.merge_judge.proofs.WritingFacts.{appends_none}
@@ -88,7 +88,7 @@ loop-entry-preserved g c =
       lines = ap (λ xs. (s.written ++ w.0) ++ xs) (sym w.1.3) ∙ joined s.written c.loop-entry.order w.0 w.1.0 (line_where yes e.id) (id_lines s.order) s.lines w.1.2 ∙ sym (lines_where yes s.order e.id);
       shown = shown_more g.S.ByteSource.remaining g.S.ByteSource.failed c.args.readers.now c.take_first.new.readers c.take_first.new.self.lanes.items c.take_first.new.self.fronts s.merged s.done s.order e c.look.new.fault c.take_first.new.self.clean c.loop-entry.merge.lanes.items c.in-Some.ensures.taken s.shown merged first all;
       all = all;
-      quiet = l.quiet (λ x. cc) ∙ s.quiet;
+      quiet = l.failures.1 (λ x. cc) ∙ s.quiet;
     }
 
 pub returns-in_err-look-clause-exact : goal.returns-in_err-look-clause-exact
@@ -110,45 +110,45 @@ returns-in_err-fault-clause-exact g c =
     let p = err_from_is_err_and c.from_residual-in_err-fault.result c.from_residual-in_err-fault.ensures.1 in
     let s = c.loop-entry.invariant in
     let t = c.in_default.ensures.merged c.args.readers.now s.merged s.done s.is_merged in
-    let st = c.settle.ensures.answer c.args.readers.now s.merged s.done t.1 (λ steady. s.first) s.counted in
-    rw (p.1, p.2) (settled_fault g.S.ByteSource.remaining g.S.ByteSource.failed (g.W.ByteSink.contents c.args.order_out.now) (g.W.ByteSink.contents c.loop-entry.order_out) c.args.readers.now c.take_first.new.readers c.take_first.new.self.lanes.items s.merged s.done
-    s.written c.loop-entry.order s.order (shown_after s.order s.merged s.done _ _ c.in_default.ensures.taken s.shown) s.appends s.lines c.in_err-fault.field-0.0 c.in_err-fault.ensures.fault (subst (λ r. Settles g.S.ByteSource.remaining g.S.ByteSource.failed c.args.readers.now c.take_first.new.readers c.take_first.new.self.lanes.items s.merged r) c.in_err-fault.was st))
+    let st = c.final_verdict.ensures.answer c.args.readers.now s.merged s.done t.1 (λ steady. s.first) s.counted in
+    rw (p.1, p.2) (merged_fault g.S.ByteSource.remaining g.S.ByteSource.failed (g.W.ByteSink.contents c.args.order_out.now) (g.W.ByteSink.contents c.loop-entry.order_out) c.args.readers.now c.take_first.new.readers c.take_first.new.self.lanes.items s.merged s.done
+    s.written c.loop-entry.order s.order (shown_after s.order s.merged s.done _ _ c.in_default.ensures.taken s.shown) s.appends s.lines c.in_err-fault.field-0.0 c.in_err-fault.ensures.fault (subst (λ r. IsFinalVerdict g.S.ByteSource.remaining g.S.ByteSource.failed c.args.readers.now c.take_first.new.readers c.take_first.new.self.lanes.items s.merged r) c.in_err-fault.was st))
 
 pub returns-in-No-clause-exact : goal.returns-in-No-clause-exact
 returns-in-No-clause-exact g c =
     let s = c.loop-entry.invariant in
     let t = c.in_default.ensures.merged c.args.readers.now s.merged s.done s.is_merged in
-    let st = c.settle.ensures.answer c.args.readers.now s.merged s.done t.1 (λ steady. s.first) s.counted in
-    settled_no g.S.ByteSource.remaining g.S.ByteSource.failed (g.W.ByteSink.contents c.args.order_out.now) (g.W.ByteSink.contents c.loop-entry.order_out) c.args.readers.now c.take_first.new.readers c.take_first.new.self.lanes.items s.merged s.done
-    s.written c.loop-entry.order s.order (shown_after s.order s.merged s.done _ _ c.in_default.ensures.taken s.shown) s.appends s.lines c.in-No.fault t.1.by_key_so_far (subst (λ r. Settles g.S.ByteSource.remaining g.S.ByteSource.failed c.args.readers.now c.take_first.new.readers c.take_first.new.self.lanes.items s.merged r) (c.in_ok-fault.was ∙ ap (λ v. Ok v) c.in-No.is) st)
+    let st = c.final_verdict.ensures.answer c.args.readers.now s.merged s.done t.1 (λ steady. s.first) s.counted in
+    merged_no g.S.ByteSource.remaining g.S.ByteSource.failed (g.W.ByteSink.contents c.args.order_out.now) (g.W.ByteSink.contents c.loop-entry.order_out) c.args.readers.now c.take_first.new.readers c.take_first.new.self.lanes.items s.merged s.done
+    s.written c.loop-entry.order s.order (shown_after s.order s.merged s.done _ _ c.in_default.ensures.taken s.shown) s.appends s.lines c.in-No.fault t.1.by_key_so_far (subst (λ r. IsFinalVerdict g.S.ByteSource.remaining g.S.ByteSource.failed c.args.readers.now c.take_first.new.readers c.take_first.new.self.lanes.items s.merged r) (c.in_ok-fault.was ∙ ap (λ v. Ok v) c.in-No.is) st)
 
 pub returns-in_err-end-in-Yes-clause-exact : goal.returns-in_err-end-in-Yes-clause-exact
 returns-in_err-end-in-Yes-clause-exact g c =
     let p = err_from_is_err_and c.from_residual-in_err-end-in-Yes.result c.from_residual-in_err-end-in-Yes.ensures.1 in
     let s = c.loop-entry.invariant in
     let t = c.in_default.ensures.merged c.args.readers.now s.merged s.done s.is_merged in
-    let st = c.settle.ensures.answer c.args.readers.now s.merged s.done t.1 (λ steady. s.first) s.counted in
+    let st = c.final_verdict.ensures.answer c.args.readers.now s.merged s.done t.1 (λ steady. s.first) s.counted in
     let is = c.in_ok-fault.was ∙ ap (λ v. Ok v) c.in-Yes.is in
-    let yes = c.settle.ensures.yes c.in-Yes.count is in
+    let yes = c.final_verdict.ensures.yes c.in-Yes.count is in
     rw (p.1, p.2) (end_fails g.S.ByteSource.remaining g.S.ByteSource.failed (g.W.ByteSink.contents c.args.order_out.now) (g.W.ByteSink.contents c.loop-entry.order_out) (g.W.ByteSink.contents c.end.new.out) c.args.readers.now c.take_first.new.readers c.take_first.new.self s.merged s.done
-    s.written c.loop-entry.order [] s.order c.in-Yes.count t.1 s.appends s.lines (subst (λ r. Settles g.S.ByteSource.remaining g.S.ByteSource.failed c.args.readers.now c.take_first.new.readers c.take_first.new.self.lanes.items s.merged r) is st) (yes.1 ∙ s.counted) (λ clean. s.all yes.0 (c.in_default.ensures.clean clean)) c.in_err-end-in-Yes.field-0.0 c.in_err-end-in-Yes.ensures.written)
+    s.written c.loop-entry.order [] s.order c.in-Yes.count t.1 s.appends s.lines (subst (λ r. IsFinalVerdict g.S.ByteSource.remaining g.S.ByteSource.failed c.args.readers.now c.take_first.new.readers c.take_first.new.self.lanes.items s.merged r) is st) (yes.1 ∙ s.counted) (λ clean. s.all yes.0 (c.in_default.ensures.clean clean)) c.in_err-end-in-Yes.field-0.0 c.in_err-end-in-Yes.ensures.written)
 
 pub returns-clause-exact : goal.returns-clause-exact
 returns-clause-exact g c =
     let s = c.loop-entry.invariant in
     let t = c.in_default.ensures.merged c.args.readers.now s.merged s.done s.is_merged in
-    let st = c.settle.ensures.answer c.args.readers.now s.merged s.done t.1 (λ steady. s.first) s.counted in
+    let st = c.final_verdict.ensures.answer c.args.readers.now s.merged s.done t.1 (λ steady. s.first) s.counted in
     let is = c.in_ok-fault.was ∙ ap (λ v. Ok v) c.in-Yes.is in
-    let yes = c.settle.ensures.yes c.in-Yes.count is in
-    settled_yes g.S.ByteSource.remaining g.S.ByteSource.failed (g.W.ByteSink.contents c.args.order_out.now) (g.W.ByteSink.contents c.loop-entry.order_out) (g.W.ByteSink.contents c.end.new.out) c.args.readers.now c.take_first.new.readers c.take_first.new.self s.merged s.done
-    s.written c.loop-entry.order [] s.order c.in-Yes.count t.1 s.appends s.lines (subst (λ r. Settles g.S.ByteSource.remaining g.S.ByteSource.failed c.args.readers.now c.take_first.new.readers c.take_first.new.self.lanes.items s.merged r) is st) (yes.1 ∙ s.counted) (λ clean. s.all yes.0 (c.in_default.ensures.clean clean)) c.in_ok-end-in-Yes.ensures.written refl
+    let yes = c.final_verdict.ensures.yes c.in-Yes.count is in
+    merged_yes g.S.ByteSource.remaining g.S.ByteSource.failed (g.W.ByteSink.contents c.args.order_out.now) (g.W.ByteSink.contents c.loop-entry.order_out) (g.W.ByteSink.contents c.end.new.out) c.args.readers.now c.take_first.new.readers c.take_first.new.self s.merged s.done
+    s.written c.loop-entry.order [] s.order c.in-Yes.count t.1 s.appends s.lines (subst (λ r. IsFinalVerdict g.S.ByteSource.remaining g.S.ByteSource.failed c.args.readers.now c.take_first.new.readers c.take_first.new.self.lanes.items s.merged r) is st) (yes.1 ∙ s.counted) (λ clean. s.all yes.0 (c.in_default.ensures.clean clean)) c.in_ok-end-in-Yes.ensures.written refl
 
-pub returns-in_err-look-clause-quiet : goal.returns-in_err-look-clause-quiet
-returns-in_err-look-clause-quiet g c = λ other.
+pub returns-in_err-look-clause-failures : goal.returns-in_err-look-clause-failures
+returns-in_err-look-clause-failures g c =
     let p = err_from_is_err_and c.from_residual-in_err-look.result c.from_residual-in_err-look.ensures.1 in
-    c.in_err-look.ensures.quiet (λ e. other (p.1 ∙ ap (λ x. Err x) (p.2 ∙ wrote c.in_err-look.field-0.0 e))) ∙ c.loop-entry.invariant.quiet
+    (search rules, λ other. c.in_err-look.ensures.failures.1 (λ e. other (p.1 ∙ ap (λ x. Err x) (p.2 ∙ wrote c.in_err-look.field-0.0 e))) ∙ c.loop-entry.invariant.quiet)
 
-pub returns-in_err-end-in-Yes-clause-quiet : goal.returns-in_err-end-in-Yes-clause-quiet
-returns-in_err-end-in-Yes-clause-quiet g c = λ other.
+pub returns-in_err-end-in-Yes-clause-failures : goal.returns-in_err-end-in-Yes-clause-failures
+returns-in_err-end-in-Yes-clause-failures g c =
     let p = err_from_is_err_and c.from_residual-in_err-end-in-Yes.result c.from_residual-in_err-end-in-Yes.ensures.1 in
-    c.in_err-end-in-Yes.ensures.quiet (λ e. other (p.1 ∙ ap (λ x. Err x) (p.2 ∙ wrote c.in_err-end-in-Yes.field-0.0 e))) ∙ c.loop-entry.invariant.quiet
+    (search rules, λ other. c.in_err-end-in-Yes.ensures.failures.1 (λ e. other (p.1 ∙ ap (λ x. Err x) (p.2 ∙ wrote c.in_err-end-in-Yes.field-0.0 e))) ∙ c.loop-entry.invariant.quiet)

@@ -1,18 +1,24 @@
-use Rattle.std.proofs.Common.{◌≡◌, ◌∙◌, ℕ, List, length, Option, None, Err, subst, rules}
+use Rattle.std.proofs.Common.{◌≡◌, ◌∙◌, inl, inr, ℕ, List, length, Option, None, Err, subst, rules}
 use Rattle.lease_rule.specs.Ranges.{first_bad}
 use Rattle.simulation.specs.Simulating.{IsSimulated, IsSimulationFault}
 use Rattle.core_machine.specs.Opening.{opening_parts}
 use Rattle.core_machine.specs.Parts.{world}
 use Rattle.core_machine.specs.Works.{log_at}
-use Rattle.call_devices.specs.Files.{Files, IsOnlyRead, IsUnread}
+use Rattle.call_devices.specs.Files.{Files, IsUnread}
 use Rattle.call_devices.specs.Logs.{ArePut, ArePutAsFar, ArePutUpTo, IsUnwritten, KeepsOthers}
 use Rattle.call_devices.specs.Programs.{AreProgramsIn}
 use Rattle.call_devices.proofs.Files.{keeps_others, only_read_after}
 use Rattle.run_commands.proofs.Runs.{ended, faulted, not_written, unscheduled}
 use Rattle.run_commands.specs.Programmed.{config_of, log_format}
 use Rattle.run_commands.specs.Simulating.{AreCommandsOf}
-use Rattle.run_commands.specs.declared.fault.RunningFault.TheVariants.{Logs, Simulation}
+use Rattle.run_commands.specs.declared.fault.RunningFault.TheVariants.{Call, Simulation}
 use Rattle.run_commands.proofs.simulated.sim.Goals as goal
+
+pub returns-in_err-programs-clause-exact : goal.returns-in_err-programs-clause-exact
+returns-in_err-programs-clause-exact g c =
+    let sound : first_bad (config_of c.args.asked.now.limits) ≡ None = search rules in
+    let is : c.from_residual-in_err-programs.result ≡ Err (Call c.in_err-programs.field-0.0) = search rules in
+    rw is (inr (inl (sound, c.in_err-programs.ensures.err)))
 
 pub returns-in_err-programs-clause-files : goal.returns-in_err-programs-clause-files
 returns-in_err-programs-clause-files g c = keeps_others _ _ c.args.asked.now.out.now 64 c.in_err-programs.ensures.read
@@ -78,7 +84,7 @@ returns-in_err-written-clause-exact g c =
     subst (λ (f : Files). AreCommandsOf f.told asked.schedule (length set.programs) commands) c.in_ok-programs.ensures.quiet (search rules) in
     let simulated : IsSimulated commands asked.seed (opening_parts set.programs (config_of asked.limits)) q = search rules in
     let unwritten : IsUnwritten (ArePutUpTo (log_format set.format) now new asked.out.now (length set.programs) (log_at (world q))) c.in_err-written.field-0.0 = search rules in
-    let is : c.from_residual-in_err-written.result ≡ Err (Logs c.in_err-written.field-0.0) = search rules in
+    let is : c.from_residual-in_err-written.result ≡ Err (Call c.in_err-written.field-0.0) = search rules in
     rw is (not_written old new unread asked set commands q sound read parsed simulated c.in_err-written.field-0.0
     (subst (λ (f : Files). IsUnwritten (ArePutUpTo (log_format set.format) f new asked.out.now (length set.programs) (log_at (world q))) c.in_err-written.field-0.0) as_it_was unwritten))
 

@@ -1,4 +1,4 @@
-use Rattle.std.proofs.Common.{◌≡◌, ℕ, List, length, Option, None, Err, subst, rules}
+use Rattle.std.proofs.Common.{◌≡◌, inl, inr, ℕ, List, length, Option, None, Err, subst, rules}
 use Rattle.lease_rule.specs.Ranges.{first_bad}
 use Rattle.audit.specs.Runs.{IsRun, kept_log}
 use Rattle.machine.specs.Runs.{IsMachineRun}
@@ -8,8 +8,14 @@ use Rattle.call_devices.specs.Programs.{AreProgramsIn}
 use Rattle.call_devices.proofs.Files.{keeps_others}
 use Rattle.run_commands.proofs.ThreadRuns.{left, left_by, not_written, whole}
 use Rattle.run_commands.specs.Programmed.{config_of, log_format}
-use Rattle.run_commands.specs.declared.fault.RunningFault.TheVariants.{Logs}
+use Rattle.run_commands.specs.declared.fault.RunningFault.TheVariants.{Call}
 use Rattle.run_commands.proofs.threaded.run.Goals as goal
+
+pub returns-in_err-programs-clause-exact : goal.returns-in_err-programs-clause-exact
+returns-in_err-programs-clause-exact g c =
+    let sound : first_bad (config_of c.args.asked.now.limits) ≡ None = search rules in
+    let is : c.from_residual-in_err-programs.result ≡ Err (Call c.in_err-programs.field-0.0) = search rules in
+    rw is (inr (inl (sound, c.in_err-programs.ensures.err)))
 
 pub returns-in_err-programs-clause-files : goal.returns-in_err-programs-clause-files
 returns-in_err-programs-clause-files g c = keeps_others _ _ c.args.asked.now.out.now 64 c.in_err-programs.ensures.read
@@ -29,7 +35,7 @@ returns-in_err-written-in-Ok-clause-exact g c =
     let ss = c.in-Ok.end.slices.items in
     let run : IsRun set.programs (config_of asked.limits) us ss = search rules in
     let events : IsMachineRun set.programs (config_of asked.limits) us ss = search rules in
-    let is : c.from_residual-in_err-written-in-Ok.result ≡ Err (Logs c.in_err-written-in-Ok.field-0.0) = search rules in
+    let is : c.from_residual-in_err-written-in-Ok.result ≡ Err (Call c.in_err-written-in-Ok.field-0.0) = search rules in
     let unwritten : IsUnwritten (ArePutUpTo (log_format set.format) now new asked.out.now (length set.programs) (kept_log us)) c.in_err-written-in-Ok.field-0.0 = search rules in
     rw is (not_written old new unread asked set us sound read ss run events c.in_err-written-in-Ok.field-0.0
     (subst (λ (f : Files). IsUnwritten (ArePutUpTo (log_format set.format) f new asked.out.now (length set.programs) (kept_log us)) c.in_err-written-in-Ok.field-0.0) c.in_ok-programs.ensures.quiet unwritten))

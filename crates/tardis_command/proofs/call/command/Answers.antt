@@ -1,6 +1,6 @@
 use Rattle.std.proofs.Common.{◌∙◌, refl, subst, sym}
 use Rattle.command_line.specs.Asking.{IsRefusalOf, texts}
-use Rattle.tardis_command.proofs.Ends.{ends_answered, ends_misused, ends_refused, ends_unread}
+use Rattle.tardis_command.proofs.Ends.{ends_answered, ends_misused, ends_refused, ends_unread, told_no}
 use Rattle.tardis_command.specs.Endings.{Misused}
 use Rattle.tardis_command.proofs.call.command.Goals as goal
 
@@ -26,6 +26,15 @@ returns-in-Ok-perform-clause-ends g c =
 pub returns-in-Ok-perform-clause-sound : goal.returns-in-Ok-perform-clause-sound
 returns-in-Ok-perform-clause-sound g c zero =
     (c.in-Ok.request, c.in-Ok.ensures.request, c.in-Ok-perform.ensures.sound (sym c.tell_answer.ensures.status ∙ zero))
+
+pub returns-in-Ok-perform-clause-refuted : goal.returns-in-Ok-perform-clause-refuted
+returns-in-Ok-perform-clause-refuted g c one =
+    (c.in-Ok.request, c.in-Ok.ensures.request, c.in-Ok-perform.ensures.refuted (sym c.tell_answer.ensures.status ∙ one))
+
+pub returns-clause-refuted : goal.returns-clause-refuted
+returns-clause-refuted g c one =
+    let (told, which, takes, status) = c.refuse-in-Err.ensures in
+    (c.in-Ok.request, c.in-Ok.ensures.request, told_no _ c.in-Err.fault told _ c.in-Err.ensures.refuted which status one)
 
 pub returns-in-Ok-perform-clause-order : goal.returns-in-Ok-perform-clause-order
 returns-in-Ok-perform-clause-order g c zero =

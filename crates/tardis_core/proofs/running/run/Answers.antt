@@ -17,7 +17,7 @@ returns-in-Err-step-clause-refused c =
 pub loop-at-preserved : goal.loop-at-preserved
 loop-at-preserved c =
     reached_next c.args.programs.now.programs c.args.config.now c.args.events.now c.loop-at.at c.index-events-at.result c.loop-at-test.true c.index-events-at.is
-    c.loop-at.machine c.step.new.self c.loop-at.invariant c.in_default.field-0 c.in_default.ensures.outcome c.in_default.ensures.goes
+    c.loop-at.machine c.step.new.self c.loop-at.invariant c.in_default.field-0 c.in_default.ensures.outcome c.in_default.ensures.leads
 
 pub returns-clause-yes : goal.returns-clause-yes
 returns-clause-yes c = c.runs_get_yes.ensures.yes c.args.programs.now.programs c.args.config.now _ (_, c.loop-at.invariant.run)

@@ -1,6 +1,6 @@
 use Rattle.std.proofs.Common.{◌≡◌, ◌∙◌, Some, None, sym, subst, rules}
 use Rattle.core_unit.specs.Core.{next_of, tries}
-use Rattle.core_unit.specs.Outcomes.{Meets, UnitOutcome}
+use Rattle.core_unit.specs.Outcomes.{OutcomeLeads, UnitOutcome}
 use Rattle.core_unit.specs.Parts.{UnitParts, core_of}
 use Rattle.core_unit.proofs.Turns.{hit_acts, missed, turn_of_miss}
 use Rattle.core_unit.proofs.unit.CoreUnit.turn.Goals as goal
@@ -18,4 +18,4 @@ returns-in-Ok-Miss-clause-outcome c =
     let next : next_of (core_of p None) ≡ Some c.in-Some.op = search rules in
     let told = rw c.in-Ok-Miss.is at c.look.ensures in
     let misses = missed (core_of p None) c.in-Some.op (tries p.core (core_of p None) c.in-Some.op) c.in-Ok-Miss.request (sym (rw c.in-Ok-Miss.is at c.in-Ok-Miss.field-0-is) ∙ told.0) in
-    subst (λ (o : UnitOutcome). Meets o c.ask.result p c.ask.new.self) (sym (turn_of_miss p c.in-Some.op free next misses)) c.ask.ensures.outcome
+    subst (λ (o : UnitOutcome). OutcomeLeads o c.ask.result p c.ask.new.self) (sym (turn_of_miss p c.in-Some.op free next misses)) c.ask.ensures.outcome

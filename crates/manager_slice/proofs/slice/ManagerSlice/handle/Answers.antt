@@ -1,5 +1,5 @@
 use Rattle.std.proofs.Common.{Ok, rules}
-use Rattle.manager_slice.specs.Outcome.{Meets, handle_outcome}
+use Rattle.manager_slice.specs.Outcome.{OutcomeLeads, handle_outcome}
 use Rattle.manager_slice.specs.Parts.{SliceParts}
 use Rattle.manager_slice.specs.Replay.{IsKept}
 use Rattle.manager_slice.proofs.Kept.{handled_busy, busy_exactly}
@@ -13,5 +13,5 @@ returns-in-Ok-Recalled-clause-table c =
 pub returns-in_ok-answer-in-Ok-Answered-clause-busy : goal.returns-in_ok-answer-in-Ok-Answered-clause-busy
 returns-in_ok-answer-in-Ok-Answered-clause-busy c =
     let kept : IsKept c.args.self.now = rw (← c.self.view_is) c.self.invariant in
-    let met : Meets (handle_outcome c.args.self.now c.args.from c.args.message.now) (Ok c.in-Ok-Answered.reply) c.args.self.now c.answer.new.self = search rules in
+    let met : OutcomeLeads (handle_outcome c.args.self.now c.args.from c.args.message.now) (Ok c.in-Ok-Answered.reply) c.args.self.now c.answer.new.self = search rules in
     busy_exactly c.args.self.now kept c.args.from c.args.message.now c.answer.new.self (Ok c.in-Ok-Answered.reply) met

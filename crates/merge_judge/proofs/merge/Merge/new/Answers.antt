@@ -20,12 +20,12 @@ loop-core-preserved g c =
     let loop = c.loop-core in
     let core = loop.core in
     let readers = loop.readers in
-    let lane = c.in_ok-log.field-0 in
+    let lane = c.in_ok-lane.lane in
     let source = get_or readers core c.index-readers-core.result in
     let inv = loop.invariant in
     let source_is : slice_get readers core ≡ Some source = slice_get_read readers (length readers) core c.index-readers-core.result refl (omega (arith, loop.auto.readers, c.loop-core-test.true)) c.index-readers-core.is ∙ ap (λ s. Some s) c.index-readers-core.is in
     let at : IsLaneAt g.S.ByteSource.remaining g.S.ByteSource.failed core (length c.args.readers.now) source c.new.new.source lane [] =
-    subst (λ n. IsLaneAt g.S.ByteSource.remaining g.S.ByteSource.failed n (length c.args.readers.now) source c.new.new.source lane []) c.at.ensures c.in_ok-log.ensures.at in
+    subst (λ n. IsLaneAt g.S.ByteSource.remaining g.S.ByteSource.failed n (length c.args.readers.now) source c.new.new.source lane []) c.at.ensures c.in_ok-lane.ensures.at in
     let found : c.if-clean.clean ≡ false → (loop.clean ≡ false) ⊎ IsFaulty lane =
     (λ h. elim c.if-clean.branch [ then-clean w ↦ inr (is_faulty lane w.is_none-clean.result w.is_none-clean.ensures (sym w.clean-is ∙ h)) | else-clean w ↦ inl w.if-clean.false ]) in
     let kept : c.if-clean.clean ≡ true → (loop.clean ≡ true) × (lane.fault ≡ None) =
@@ -33,7 +33,7 @@ loop-core-preserved g c =
       | then-clean w ↦ (w.if-clean.true, is_whole lane w.is_none-clean.result w.is_none-clean.ensures (sym w.clean-is ∙ h))
       | else-clean w ↦ absurd (let a : loop.clean ≡ true = sym w.clean-is ∙ h in let b : loop.clean ≡ false = w.if-clean.false in cc)
     ]) in
-    let more = opened_more g.S.ByteSource.remaining g.S.ByteSource.failed c.args.readers.now readers core loop.lanes.items loop.numbers.items loop.clean inv.opened source c.new.new.source source_is lane c.front_number.result c.if-clean.clean at c.front_number.ensures found c.in_ok-log.ensures.steady kept in
+    let more = opened_more g.S.ByteSource.remaining g.S.ByteSource.failed c.args.readers.now readers core loop.lanes.items loop.numbers.items loop.clean inv.opened source c.new.new.source source_is lane c.front_number.result c.if-clean.clean at c.front_number.ensures found c.in_ok-lane.ensures.steady kept in
     let h = c.in_ok-push-2.ensures.items in
     let h2 = c.in_ok-push.ensures.items in
     record {

@@ -5,7 +5,7 @@ pub returns-clause-before : goal.returns-clause-before
 returns-clause-before c = yes_before c.runs_get_yes.ensures.yes c.args.self.now c.keeps.ensures.reached
 
 pub returns-clause-after : goal.returns-clause-after
-returns-clause-after c = yes_after c.runs_get_yes.ensures.yes c.args.event c.args.self.now c.make.result c.make.new.self c.keeps.ensures.reached c.make.ensures.goes
+returns-clause-after c = yes_after c.runs_get_yes.ensures.yes c.args.event c.args.self.now c.apply.result c.apply.new.self c.keeps.ensures.reached c.apply.ensures.leads
 
 pub returns-clause-passes : goal.returns-clause-passes
-returns-clause-passes c = passes c.never_refused.ensures.passes c.args.event c.args.self.now c.make.result c.make.new.self c.keeps.ensures c.make.ensures.outcome
+returns-clause-passes c = passes c.never_refused.ensures.passes c.args.event c.args.self.now c.apply.result c.apply.new.self c.keeps.ensures c.apply.ensures.outcome

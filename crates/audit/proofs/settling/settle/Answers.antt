@@ -1,4 +1,0 @@
-use Rattle.audit.proofs.settling.settle.Goals as goal
-
-pub returns-in-Some-clause-short : goal.returns-in-Some-clause-short
-returns-in-Some-clause-short c = λ h. rw (← c.deref.ensures.value) (c.in-Some.ensures.reports.short h)

@@ -1,0 +1,262 @@
+//! What the units and slices that threads gave back are found to be.
+
+ghost use Rattle.std.specs.Prelude.{◌≡◌, ◌≢◌, ◌<◌, ◌≤◌, ◌⊎◌, length, slice_get, Some, IfSome, IfOk, IfErr, OnOk, MatchBool, MatchOption, MatchResult};
+ghost use Rattle.audit.specs.Runs.{AllEnded, AllNumbered, HasEnded, IsAuditCause, IsFirstReport, IsNumbered, IsRun, IsShort, NoneReports, Reports, StoppedShort};
+ghost use Rattle.audit.specs.declared.machine_fault.Cause.{Cause};
+ghost use Rattle.audit.specs.declared.machine_fault.Cause.TheVariants.{GaveUp, Stopped};
+
+use super::auditing::audit;
+use super::fault::AuditFault;
+use super::machine_fault::{Cause, MachineFault, RunEnd};
+use core_program::{Program, ProgramSet};
+use core_unit::CoreUnit;
+use core_unit::laws::logs_are_fronts;
+use lease_rule::Config;
+use manager_slice::ManagerSlice;
+use mem_op::CoreId;
+
+// Whether two configurations are the same.
+fn is_config(one: &Config, other: &Config) -> bool
+    ensures { MatchBool result (one.now ≡ other.now) (one.now ≢ other.now) }
+{
+    one == other
+}
+
+// The program of a core, which is there.
+fn program_at(programs: &ProgramSet, core: usize) -> &Program
+    requires { core < length programs.now.programs }
+    ensures { slice_get programs.now.programs core ≡ Some result.now }
+{
+    let _count = programs.len();
+    programs.get(CoreId::new(core as u64).unwrap()).unwrap()
+}
+
+// Whether a unit has run a core's program to its end.
+fn has_ended(unit: &CoreUnit, core: usize, programs: &ProgramSet, config: &Config) -> bool
+    requires { core < length programs.now.programs }
+    ensures { MatchBool result
+        (HasEnded programs.now.programs config.now core unit.now)
+        (¬ HasEnded programs.now.programs config.now core unit.now) }
+{
+    unit.replays();
+    logs_are_fronts();
+    let program = program_at(programs, core);
+    let _shape = program.instructions();
+    if unit.core().get() as usize != core {
+        return false;
+    }
+    if !unit.program().is_same(program) {
+        return false;
+    }
+    if !is_config(unit.config(), config) {
+        return false;
+    }
+    if unit.in_hand().is_some() {
+        return false;
+    }
+    if unit.program_state().next_op(program).is_some() {
+        return false;
+    }
+    true
+}
+
+// Whether a unit is of this core and its program, and has operations left.
+fn is_short(unit: &CoreUnit, core: usize, programs: &ProgramSet) -> bool
+    requires { core < length programs.now.programs }
+    ensures { MatchBool result
+        (IsShort programs.now.programs core unit.now)
+        (¬ IsShort programs.now.programs core unit.now) }
+{
+    unit.replays();
+    logs_are_fronts();
+    let program = program_at(programs, core);
+    let _shape = program.instructions();
+    if unit.core().get() as usize != core {
+        return false;
+    }
+    if !unit.program().is_same(program) {
+        return false;
+    }
+    if unit.program_state().next_op(program).is_none() {
+        return false;
+    }
+    true
+}
+
+// Whether a slice has this number and configuration.
+fn is_numbered(slice: &ManagerSlice, number: usize, config: &Config) -> bool
+    ensures { MatchBool result
+        (IsNumbered config.now number slice.now)
+        (¬ IsNumbered config.now number slice.now) }
+{
+    slice.replays();
+    if slice.number() != number {
+        return false;
+    }
+    if !is_config(slice.config(), config) {
+        return false;
+    }
+    true
+}
+
+// Whether each unit has run its core's program to its end.
+fn all_ended(units: &[CoreUnit], programs: &ProgramSet, config: &Config) -> bool
+    requires { length units.now ≡ length programs.now.programs }
+    ensures { MatchBool result
+        (AllEnded programs.now.programs config.now units.now)
+        (¬ AllEnded programs.now.programs config.now units.now) }
+{
+    for core in 0..units.len() {
+        if !has_ended(&units[core], core, programs, config) {
+            return false;
+        }
+    }
+    true
+}
+
+// Whether each slice has its number and the configuration.
+fn all_numbered(slices: &[ManagerSlice], config: &Config) -> bool
+    ensures { MatchBool result
+        (AllNumbered config.now slices.now)
+        (¬ AllNumbered config.now slices.now) }
+{
+    for number in 0..slices.len() {
+        if !is_numbered(&slices[number], number, config) {
+            return false;
+        }
+    }
+    true
+}
+
+// A difference that has no place.
+fn nowhere() -> AuditFault
+    ensures { (result.core ≡ 0) × (result.slice ≡ 0) × (result.place ≡ 0) }
+{
+    AuditFault {
+        core: 0,
+        slice: 0,
+        place: 0,
+    }
+}
+
+// Whether these are the units and slices of one whole run of the programs.
+fn check_run(
+    programs: &ProgramSet,
+    config: &Config,
+    units: &[CoreUnit],
+    slices: &[ManagerSlice],
+) -> Result<(), AuditFault>
+    ensures { MatchResult result
+        (λ _. IsRun programs.now.programs config.now units.now slices.now)
+        (λ _. ¬ IsRun programs.now.programs config.now units.now slices.now) }
+{
+    if units.len() != programs.len() || slices.len() != config.slices() {
+        return Err(nowhere());
+    }
+    if !all_ended(units, programs, config) || !all_numbered(slices, config) {
+        return Err(nowhere());
+    }
+    audit(units, slices)
+}
+
+// Whether a core's unit has stopped before the end of the core's program.
+fn stopped_short(programs: &ProgramSet, units: &[CoreUnit], core: usize) -> bool
+    ensures { MatchBool result
+        (StoppedShort programs.now.programs units.now core)
+        (¬ StoppedShort programs.now.programs units.now core) }
+{
+    if core >= units.len() || core >= programs.len() {
+        return false;
+    }
+    if !is_short(&units[core], core, programs) {
+        return false;
+    }
+    true
+}
+
+// Whether a core's fault is one to report: 30 and 31 are only where its unit has stopped before the program's end.
+fn reports(programs: &ProgramSet, units: &[CoreUnit], core: usize, cause: Cause) -> bool
+    ensures { MatchBool result
+        ((cause ≡ GaveUp ⊎ cause ≡ Stopped) → StoppedShort programs.now.programs units.now core)
+        (¬ ((cause ≡ GaveUp ⊎ cause ≡ Stopped) → StoppedShort programs.now.programs units.now core)) }
+{
+    match cause {
+        Cause::GaveUp | Cause::Stopped => stopped_short(programs, units, core),
+        _ => true,
+    }
+}
+
+// The fault that a core has to report, if it has one.
+fn report_of(
+    programs: &ProgramSet,
+    units: &[CoreUnit],
+    faults: &[Option<Cause>],
+    core: usize,
+) -> Option<Cause>
+    requires { core < length faults.now }
+    ensures { MatchOption result
+        ((cause : Cause) → ¬ Reports programs.now.programs units.now faults.now core cause)
+        (λ cause. Reports programs.now.programs units.now faults.now core cause) }
+{
+    let cause = faults[core]?;
+    if !reports(programs, units, core, cause) {
+        return None;
+    }
+    Some(cause)
+}
+
+// The least core that has a fault to report.
+fn first_report(
+    programs: &ProgramSet,
+    units: &[CoreUnit],
+    faults: &[Option<Cause>],
+) -> Option<(usize, Cause)>
+    ensures { MatchOption result
+        (NoneReports programs.now.programs units.now faults.now)
+        (λ r. IsFirstReport programs.now.programs units.now faults.now r.0 r.1) }
+{
+    for core in 0..faults.len() {
+        if let Some(cause) = report_of(programs, units, faults, core) {
+            return Some((core, cause));
+        }
+    }
+    None
+}
+
+/// What a run of threads ends with, of what its threads gave back: at index c of `units` the unit of core c, and at index c of
+/// `faults` the fault that its thread met, if it did.
+///
+/// The fault is the least core's that has one; 30 and 31 are none of a unit that isn't of that core and its program, or has ended.
+/// Where no core has one, cores, programs, numbers and configurations are compared, each hand has to be empty and each
+/// program to have ended: a difference there is 33 at core 0, slice 0, place 0. Then comes what `audit` finds. Takes no memory.
+pub fn accept_run(
+    programs: &ProgramSet,
+    config: &Config,
+    units: Vec<CoreUnit>,
+    faults: &[Option<Cause>],
+    slices: Vec<ManagerSlice>,
+) -> Result<RunEnd, MachineFault>
+    ensures run { IfOk result (λ end. IsRun programs.now.programs config.now end.units.items end.slices.items) }
+    ensures none { OnOk result (NoneReports programs.now.programs units.items faults.now) }
+    ensures kept { IfOk result (λ end. (end.units.items ≡ units.items) × (end.slices.items ≡ slices.items)) }
+    ensures short { IfErr result (λ f. (f.cause ≡ GaveUp ⊎ f.cause ≡ Stopped) →
+        StoppedShort programs.now.programs f.units.items f.core) }
+    // Each refusal is the first report's, or 33 where there is none and the units and slices aren't those of a whole run.
+    ensures refused { IfErr result (λ f.
+        IsFirstReport programs.now.programs units.items faults.now f.core f.cause
+        ⊎ (NoneReports programs.now.programs units.items faults.now × IsAuditCause f.cause
+        × (¬ IsRun programs.now.programs config.now units.items slices.items))) }
+    ensures left { IfErr result (λ f. f.units.items ≡ units.items) }
+{
+    if let Some((core, cause)) = first_report(programs, &units, faults) {
+        return Err(MachineFault { core, cause, units });
+    }
+    match check_run(programs, config, &units, &slices) {
+        Ok(()) => Ok(RunEnd { units, slices }),
+        Err(fault) => Err(MachineFault {
+            core: fault.core,
+            cause: Cause::Audit(fault),
+            units,
+        }),
+    }
+}

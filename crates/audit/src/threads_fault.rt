@@ -1,0 +1,50 @@
+//! Why a run of threads isn't ended, as it is told.
+
+ghost use Rattle.std.specs.Prelude.{◌≡◌};
+
+use super::machine_fault::{Cause, MachineFault};
+use fault_names::FaultName;
+use std::fmt;
+use std::fmt::Display;
+use thiserror::Error;
+
+/// Why a run of threads isn't ended, without the units that it left.
+#[derive(Clone, Copy, Debug, PartialEq, Eq, Error)]
+pub struct ThreadsFault {
+    /// The core that the fault is of; of 33 its core.
+    pub core: usize,
+    /// Why.
+    pub cause: Cause,
+}
+
+impl ThreadsFault {
+    /// Why the run isn't ended that left this.
+    pub fn of(left: &MachineFault) -> ThreadsFault
+        ensures core { result.core ≡ left.now.core }
+        ensures cause { result.cause ≡ left.now.cause }
+    {
+        ThreadsFault {
+            core: left.core,
+            cause: left.cause,
+        }
+    }
+}
+
+impl Display for ThreadsFault {
+    ghost use Rattle.std.specs.Prelude.{Some};
+    ghost use Rattle.audit.specs.Faults.{fault_text};
+
+    ghost output = { λ fault. Some (fault_text fault.core fault.cause) };
+
+    fn fmt<W: fmt::Write>(&self, f: &mut fmt::Formatter<W>) -> fmt::Result {
+        match &self.cause {
+            Cause::GaveUp => write!(f, "core {}: {}", self.core, FaultName::GaveUp),
+            Cause::Stopped => write!(f, "core {}: {}", self.core, FaultName::Stopped),
+            Cause::Spawn => write!(f, "core {}: {}", self.core, FaultName::Spawn),
+            Cause::Audit(fault) => write!(f, "{fault}"),
+            Cause::Unit(fault) => write!(f, "core {}: {fault}", self.core),
+            Cause::Slice(fault) => write!(f, "core {}: {fault}", self.core),
+            Cause::OutOfMemory => write!(f, "{}", FaultName::OutOfMemory),
+        }
+    }
+}

@@ -1,0 +1,13 @@
+use Rattle.std.proofs.Common.{subst}
+use Rattle.std.specs.Prelude.{All}
+use Rattle.core_unit.specs.Kept.{Replays}
+use Rattle.machine.proofs.Judged.{yes_where_run}
+use Rattle.machine.proofs.Kept.{kept_after}
+use Rattle.machine.proofs.running.accepted.Goals as goal
+
+pub returns-clause-logs : goal.returns-clause-logs
+returns-clause-logs c =
+    kept_after c.accept_run.result _ (subst (All Replays) c.deref.ensures.value c.each_replays.ensures) c.accept_run.ensures.left
+
+pub returns-clause-yes : goal.returns-clause-yes
+returns-clause-yes c = yes_where_run c.merged_logs_get_yes.ensures.whole c.args.programs.now.programs c.args.config.now c.accept_run.result c.accept_run.ensures.run

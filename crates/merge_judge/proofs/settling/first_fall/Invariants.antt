@@ -1,6 +1,0 @@
--- None of the logs so far falls.
-use Rattle.merge_judge.specs.inner.Settling.{NoneFalls}
-use Rattle.merge_judge.proofs.settling.first_fall.Given as goal
-
-abbrev pub invariant-loop-core : goal.invariant-loop-core
-invariant-loop-core l = NoneFalls l.lanes l.core

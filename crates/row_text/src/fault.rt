@@ -1,0 +1,24 @@
+//! Why a text isn't rows.
+
+use std::alloc::{AllocError, AllocFailed};
+
+/// Why a text isn't rows.
+#[derive(Clone, Copy, Debug, PartialEq, Eq)]
+pub enum RowFault {
+    /// A line isn't one of rows, or doesn't fit where it stands.
+    BadLine,
+    /// A growth was refused.
+    OutOfMemory,
+}
+
+impl<T: Drop> From<AllocFailed<T>> for RowFault {
+    fn from(_: AllocFailed<T>) -> RowFault {
+        RowFault::OutOfMemory
+    }
+}
+
+impl From<AllocError> for RowFault {
+    fn from(_: AllocError) -> RowFault {
+        RowFault::OutOfMemory
+    }
+}

@@ -1,0 +1,9 @@
+mod Confirms
+pub mod Counts
+mod LogReads
+mod OrderLines
+mod OrderReplays
+mod Puts
+mod Readings
+mod Searches
+mod Sources

@@ -1,0 +1,140 @@
+//! Why a command that looks at a trace was refused.
+
+ghost use Rattle.std.specs.Prelude.{◌≡◌};
+ghost use Rattle.search_commands.specs.Faults.{from_certificate, from_logs, from_trace, searching_fault_status};
+ghost use Rattle.search_commands.specs.declared.fault.SearchingFault.TheVariants.{OutOfMemory, Output};
+
+use fault_names::FaultName;
+use log_file::WriteFailed;
+use refutation::CertificateFault;
+use std::alloc::AllocError;
+use std::fmt;
+use std::fmt::Display;
+use thiserror::Error;
+use trace::TraceFault;
+use verdict::JudgeFault;
+
+/// Why a command that looks at a trace was refused.
+#[derive(Clone, Copy, Debug, PartialEq, Eq, Error)]
+pub enum SearchingFault {
+    /// The text of the trace isn't one, and at which line it goes wrong.
+    Trace(TraceFault),
+    /// The file of the trace can't be opened, or a read of it failed.
+    TraceUnread,
+    /// There are no logs whose trace it could be.
+    Logs(JudgeFault),
+    /// The certificate doesn't hold, and at which line it goes wrong.
+    Certificate(CertificateFault),
+    /// The file of the certificate can't be opened, or a read of it failed.
+    CertificateUnread,
+    /// The search gave up.
+    Undecided,
+    /// The order can't be written.
+    OrderUnwritten,
+    /// The refutation can't be written.
+    RefutationUnwritten,
+    /// The picture of the refutation can't be written.
+    PictureUnwritten,
+    /// Standard output failed.
+    Output,
+    /// A growth was refused.
+    OutOfMemory,
+}
+
+impl SearchingFault {
+    /// The exit status: 2 where a file was refused for what it says, 3 where the number of files is out of range, else 4.
+    pub fn status(&self) -> u8
+        ensures { result ≡ searching_fault_status self.now }
+    {
+        match self {
+            SearchingFault::Trace(_) | SearchingFault::Certificate(_) => 2,
+            SearchingFault::Logs(JudgeFault::Log { .. }) => 2,
+            SearchingFault::Logs(JudgeFault::BadConfig(_)) => 3,
+            SearchingFault::Logs(JudgeFault::Read { .. } | JudgeFault::OutOfMemory) => 4,
+            SearchingFault::TraceUnread | SearchingFault::CertificateUnread => 4,
+            SearchingFault::OrderUnwritten | SearchingFault::RefutationUnwritten => 4,
+            SearchingFault::PictureUnwritten | SearchingFault::Output => 4,
+            SearchingFault::Undecided | SearchingFault::OutOfMemory => 4,
+        }
+    }
+}
+
+impl Display for SearchingFault {
+    ghost use Rattle.std.specs.Prelude.{Some};
+    ghost use Rattle.search_commands.specs.Faults.{searching_fault_text};
+
+    ghost output = { λ fault. Some (searching_fault_text fault) };
+
+    fn fmt<W: fmt::Write>(&self, f: &mut fmt::Formatter<W>) -> fmt::Result {
+        match self {
+            SearchingFault::Trace(fault) => write!(f, "refused: trace {fault}"),
+            SearchingFault::TraceUnread => write!(f, "refused: trace: {}", FaultName::Read),
+            SearchingFault::Logs(fault) => write!(f, "refused: {fault}"),
+            SearchingFault::Certificate(fault) => write!(f, "refused: certificate {fault}"),
+            SearchingFault::CertificateUnread => write!(
+                f,
+                "refused: certificate: {}",
+                FaultName::Read
+            ),
+            SearchingFault::Undecided => write!(f, "refused: {}", FaultName::Undecided),
+            SearchingFault::OrderUnwritten => write!(f, "refused: order: {}", FaultName::Write),
+            SearchingFault::RefutationUnwritten => write!(
+                f,
+                "refused: refutation: {}",
+                FaultName::Write
+            ),
+            SearchingFault::PictureUnwritten => write!(f, "refused: picture: {}", FaultName::Write),
+            SearchingFault::Output => write!(f, "refused: output: {}", FaultName::Write),
+            SearchingFault::OutOfMemory => write!(f, "refused: {}", FaultName::OutOfMemory),
+        }
+    }
+}
+
+impl From<TraceFault> for SearchingFault {
+    ghost from_gives = { λ reason fault. fault ≡ from_trace reason };
+
+    fn from(reason: TraceFault) -> SearchingFault {
+        match reason {
+            TraceFault::OutOfMemory => SearchingFault::OutOfMemory,
+            reason => SearchingFault::Trace(reason),
+        }
+    }
+}
+
+impl From<JudgeFault> for SearchingFault {
+    ghost from_gives = { λ reason fault. fault ≡ from_logs reason };
+
+    fn from(reason: JudgeFault) -> SearchingFault {
+        match reason {
+            JudgeFault::OutOfMemory => SearchingFault::OutOfMemory,
+            reason => SearchingFault::Logs(reason),
+        }
+    }
+}
+
+impl From<CertificateFault> for SearchingFault {
+    ghost from_gives = { λ reason fault. fault ≡ from_certificate reason };
+
+    fn from(reason: CertificateFault) -> SearchingFault {
+        match reason {
+            CertificateFault::OutOfMemory => SearchingFault::OutOfMemory,
+            reason => SearchingFault::Certificate(reason),
+        }
+    }
+}
+
+impl From<WriteFailed> for SearchingFault {
+    ghost from_gives = { λ _ fault. fault ≡ Output };
+
+    fn from(_failed: WriteFailed) -> SearchingFault {
+        SearchingFault::Output
+    }
+}
+
+impl From<AllocError> for SearchingFault {
+    ghost from_gives = { λ _ fault. fault ≡ OutOfMemory };
+
+    fn from(_error: AllocError) -> SearchingFault {
+        SearchingFault::OutOfMemory
+    }
+}

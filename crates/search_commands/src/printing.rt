@@ -1,0 +1,65 @@
+//! What is printed of an answer.
+
+ghost use Rattle.std.specs.Prelude.{◌≡◌, ◌++◌, ℕ, List, IfOk, string_bytes};
+ghost use Rattle.call_devices.specs.Sinks.{line};
+ghost use Rattle.search_commands.specs.Answers.{search_text};
+ghost use Rattle.search_commands.specs.Searching.{AnswersBy, TellsAnswer};
+
+use super::answer::SearchAnswer;
+use refutation::{Answer, Refutation};
+use refutation_text::tell;
+use std::alloc::{AllocError, Global};
+use trace::Trace;
+
+/// The line of an answer.
+pub(crate) fn answer_line(alloc: Global, answer: &SearchAnswer) -> Result<String, AllocError>
+    ensures { IfOk result (λ text. string_bytes text ≡ line (search_text answer.now)) }
+{
+    format!(in alloc; "{answer}\n")
+}
+
+/// What is told of a trace with the proof of its answer: the line of the answer, and after a no why it is so.
+pub(crate) fn print_proof(
+    alloc: Global,
+    trace: &Trace,
+    proof: &Answer,
+    answer: &SearchAnswer,
+) -> Result<String, AllocError>
+    requires { AnswersBy trace.now proof.now answer.now }
+    ensures { IfOk result (λ text. TellsAnswer answer.now (string_bytes text)) }
+{
+    let text = answer_line(alloc, answer)?;
+    match proof {
+        Answer::Refutation(refutation) => print_refutation(text, alloc, trace, refutation),
+        _ => Ok(text),
+    }
+}
+
+/// A text, and after it why no order exists: the argument without its first line, which is that of the answer.
+fn print_refutation(
+    text: String,
+    alloc: Global,
+    trace: &Trace,
+    refutation: &Refutation,
+) -> Result<String, AllocError>
+    ensures { IfOk result (λ whole. (more : List ℕ) × (string_bytes whole ≡ string_bytes text ++ more)) }
+{
+    let told = tell(alloc, trace, refutation)?;
+    joined(text, after_line(told.as_str()))
+}
+
+/// A text with more after it.
+fn joined(mut text: String, more: &str) -> Result<String, AllocError>
+    ensures { IfOk result (λ whole. (more : List ℕ) × (string_bytes whole ≡ string_bytes text ++ more)) }
+{
+    text.push_str(more)?;
+    Ok(text)
+}
+
+/// What comes after the first line of a text.
+fn after_line(text: &str) -> &str {
+    match text.split_once('\n') {
+        Some((_, more)) => more,
+        None => "",
+    }
+}

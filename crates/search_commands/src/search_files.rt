@@ -1,0 +1,49 @@
+//! The search of a trace.
+
+ghost use Rattle.std.specs.Prelude.{IfOk};
+ghost use Rattle.call_devices.specs.Files.{IsUnread, KeepsFiles};
+ghost use Rattle.call_devices.specs.Sinks.{sink_of};
+ghost use Rattle.search_commands.specs.Answers.{IsRightOf};
+ghost use Rattle.search_commands.specs.Searching as searching;
+ghost use Rattle.search_commands.specs.Traces.{TellsTrace};
+
+use super::answer::SearchAnswer;
+use super::fault::SearchingFault;
+use super::finding::{answer, find};
+use super::printing::print_proof;
+use super::putting::put_proof;
+use super::reading::read_files;
+use call_devices::Folder;
+use command_line::Search;
+use log_file::{ByteSink, write_all};
+use std::alloc::Global;
+use std::thread::Threads;
+
+/// Searches an order of the trace in files of the folder, or a refutation, puts what it finds where that was asked for, and prints
+/// the answer's line and why it is so. The answer, or why there is none: 29 of a file that can't be put comes before anything is
+/// printed, and 44 where the search gives up.
+pub fn search<R: Threads + Sync, F: Folder, O: ByteSink>(
+    rt: &R,
+    alloc: Global,
+    folder: &mut F,
+    asked: &Search<'_>,
+    out: &mut O,
+) -> Result<SearchAnswer, SearchingFault>
+    ensures exact { searching.IsSearched (F.files folder.old) (F.files folder.new)
+        (IsUnread F.Source.remaining F.Source.failed
+        (F.files folder.old) (F.files folder.new)) asked.now
+        (sink_of O.contents O.failed out.old)
+        (sink_of O.contents O.failed out.new) result }
+    ensures sound { IfOk result (λ answer. TellsTrace (F.files folder.old).told asked.now.trace
+        (λ cores. IsRightOf cores answer)) }
+    ensures files { KeepsFiles (F.files folder.old).told (F.files folder.new).told
+        (searching.IsOutputName asked.now) }
+{
+    let trace = read_files(rt, alloc, folder, &asked.trace)?;
+    let proof = find(alloc, &trace, asked.budget)?;
+    let answer = answer(&trace, &proof);
+    let text = print_proof(alloc, &trace, &proof, &answer)?;
+    put_proof(alloc, folder, asked, &trace, &proof)?;
+    write_all(out, text.as_bytes())?;
+    Ok(answer)
+}
