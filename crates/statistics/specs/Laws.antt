@@ -1,0 +1,39 @@
+-- What the numbers add up to.
+use Rattle.std.specs.Prelude.{◌≡◌, ℕ, ◌+◌, ◌<◌, Bool, false, ◌&&◌, ◌==◌, List, length, count_by}
+use Rattle.line_stamps.specs.Messages.{addr_of}
+use Rattle.line_stamps.specs.declared.message.Message.{Message}
+use Rattle.line_stamps.specs.declared.message.Reply.{Reply}
+use Rattle.manager_slice.specs.declared.managed.HistoryEntry.{HistoryEntry}
+use Rattle.manager_slice.specs.declared.managed.HistoryEntry.TheVariants.{Evicted, Served}
+use Rattle.core_unit.specs.Kept.{Replays}
+use Rattle.core_unit.specs.Parts.{UnitParts}
+use Rattle.core_unit.specs.declared.entry.CoreEntry.{CoreEntry}
+use Rattle.core_unit.specs.declared.entry.CoreEntry.TheVariants.{Performed, Dropped, Gave, Got, Bumped}
+use Rattle.audit.specs.Lists.{history_of, transcript_of}
+use Rattle.audit.specs.Pairs.{Agrees, slice_of}
+use Rattle.statistics.specs.Columns.{core_counts}
+
+-- the operations of a core are the records of its log, and each is a load, a store or a swap
+pub record IsCounted (p : UnitParts) : Type 0 where
+  pub operations : (core_counts p).operations ≡ length p.log
+  pub acts : (core_counts p).loads + (core_counts p).stores + (core_counts p).swaps ≡ length p.log
+
+abbrev pub LogsAreCounted : Type 0
+LogsAreCounted = (p : UnitParts) → Replays p → IsCounted p
+
+-- such a reply to such a message of slice s, of n
+abbrev pub is_got_from : ℕ → ℕ → (Message → Bool) → (Reply → Bool) → CoreEntry → Bool
+is_got_from n s asked answered (Got m r) = (slice_of n (addr_of m) == s) && (asked m && answered r)
+is_got_from n s asked answered other = false
+
+-- such a reply to such a message of core c
+abbrev pub is_served_to : ℕ → (Message → Bool) → (Reply → Bool) → HistoryEntry → Bool
+is_served_to c asked answered (Served d m r) = (d == c) && (asked m && answered r)
+is_served_to c asked answered (Evicted a) = false
+
+-- where core c and slice s tell the same of each other, as many such replies were got as served
+abbrev pub SumsAgree : Type 0
+SumsAgree =
+    (ts : List (List CoreEntry)) (hs : List (List HistoryEntry)) → Agrees ts hs → (c s : ℕ) → c < 64 → s < length hs
+    → (asked : Message → Bool) (answered : Reply → Bool)
+    → count_by (is_got_from (length hs) s asked answered) (transcript_of ts c) ≡ count_by (is_served_to c asked answered) (history_of hs s)
