@@ -16,7 +16,7 @@ module _ (es : List Entry) (k : ℕ) (load : Entry) (is : IsGroup (at_address lo
   abbrev group : List Entry
   group = at_address load.logged.addr es
 
-  up : AscendsByPlace group
+  pub up : AscendsByPlace group
   up i j d p q = by_key (get_or group i d) (get_or group j d) (is.one_address i j d p q) ∙ is.ascends i j d p q
 
   -- all stores of the group are at the load's address

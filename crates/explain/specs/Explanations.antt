@@ -10,6 +10,7 @@ use Rattle.verdict.specs.declared.answer.Verdict.TheVariants.{Yes, No}
 use Rattle.verdict.specs.declared.basis.Basis.{Basis}
 use Rattle.verdict.specs.declared.basis.Basis.TheVariants.{Logs, Index}
 use Rattle.explain.specs.Ends.{AreEnds}
+use Rattle.explain.specs.FaultCounts.{AreFalls}
 use Rattle.explain.specs.Kinds.{is_load, is_only_store, is_swap}
 use Rattle.explain.specs.LogFaults.{IsDepartureBy, IsFall}
 use Rattle.explain.specs.Pictures.{most_drawn}
@@ -48,7 +49,7 @@ LogHas logs core Holds = (log : List Record) × (slice_get logs core ≡ Some lo
 -- stands on the logs, and of all records with a Yes.
 abbrev pub Explains : Option (List (List Instruction)) → Verdict → Basis → Explanation → Type 0
 Explains programs (No fault) (Index es) (Load found) = IsWrongRead es fault.id fault.rule found
-Explains programs (No fault) (Logs logs) (CoreOrder fall) = (fault.rule ≡ OfCoreOrder) × LogHas logs fault.id.core (λ log. IsFall log fault.id fall)
+Explains programs (No fault) (Logs logs) (CoreOrder fall) = (fault.rule ≡ OfCoreOrder) × LogHas logs fault.id.core (λ log. IsFall log fault.id fall) × AreFalls logs fall.by_core.items
 Explains programs (No fault) (Logs logs) (Program departure) = (fault.rule ≡ OfProgram) × LogHas logs fault.id.core (λ log. IsDepartureBy programs log fault.id departure)
 Explains programs (Yes count) (Index es) (Summed summary) = IsSummary es summary
 Explains programs verdict basis explanation = ⊥

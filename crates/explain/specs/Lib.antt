@@ -1,9 +1,12 @@
+pub mod Context
 pub mod Ends
 pub mod Explanations
+pub mod FaultCounts
 pub mod Kinds
 pub mod LogFaults
 pub mod Pictures
 pub mod ProgramOf
+pub mod Times
 pub mod Uses
 pub mod Windows
 pub mod WrongReads

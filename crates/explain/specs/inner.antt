@@ -2,3 +2,4 @@
 pub mod CoreFault
 pub mod CoreLog
 pub mod Following
+pub mod Shifts

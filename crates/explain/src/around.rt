@@ -7,7 +7,7 @@ use log_record::Entry;
 use std::alloc::{AllocError, Global};
 
 /// How many rows to each side of a place are told.
-const ROWS_EACH_SIDE: usize = 8;
+pub(crate) const ROWS_EACH_SIDE: usize = 8;
 
 /// The first place that is told of.
 pub(crate) fn start_of(place: usize) -> usize

@@ -12,6 +12,7 @@ ghost use Rattle.verdict.specs.declared.basis.Basis.TheVariants.{Logs};
 use super::departure::departure;
 use super::explanation::Explanation;
 use super::fall::fall;
+use super::faults::falls;
 use super::summary::summary;
 use super::wrong_read::wrong_read;
 use core_program::ProgramSet;
@@ -35,7 +36,7 @@ fn log_fault(
         return Ok(None);
     };
     match fault.rule {
-        Rule::CoreOrder => match fall(alloc, log, fault.id)? {
+        Rule::CoreOrder => match fall(alloc, log, fault.id, falls(alloc, set)?)? {
             Some(found) => Ok(Some(Explanation::CoreOrder(found))),
             None => Ok(None),
         },

@@ -34,6 +34,35 @@ pub struct WrongRead {
     pub rows: Vec<Entry>,
     /// Its place among these.
     pub place: usize,
+    /// Whether it would break no rule just before the store that it should read.
+    pub is_right_earlier: bool,
+    /// The first store to its address after it.
+    pub next: Option<Entry>,
+    /// Whether it would break no rule just after that.
+    pub is_right_later: bool,
+    /// What its core did last at its address before it.
+    pub own_last: Option<Entry>,
+    /// What its core did around it, in program order.
+    pub own_rows: Vec<Entry>,
+    /// What the core of the store that it should read did around that, in program order; nothing where there is no such store.
+    pub right_rows: Vec<Entry>,
+    /// How many operations of the set break SOURCE or VALUE.
+    pub faults: FaultCounts,
+}
+
+/// How many operations of a set break SOURCE or VALUE, which the first of them may have brought about.
+#[derive(Drop)]
+pub struct FaultCounts {
+    /// How many break SOURCE.
+    pub source: usize,
+    /// How many break VALUE.
+    pub value: usize,
+    /// How many of each core, from core 0 on, break the one or the other.
+    pub by_core: Vec<usize>,
+    /// At how many addresses they are.
+    pub addresses: usize,
+    /// The addresses at which most are, five at most, and how many are there.
+    pub most: Vec<Use>,
 }
 
 /// Two records of a core of which the later has the lesser stamp and rank.
@@ -45,6 +74,8 @@ pub struct Fall {
     pub fault: Entry,
     /// The records of its core around it, in program order.
     pub rows: Vec<Entry>,
+    /// How many records of each core, from core 0 on, break the rule.
+    pub by_core: Vec<usize>,
 }
 
 /// A place at which a core's log isn't its program's.

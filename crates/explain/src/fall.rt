@@ -10,9 +10,15 @@ use log_record::Entry;
 use mem_op::OpId;
 use std::alloc::{AllocError, Global};
 
-/// The record of this id and the one before it; none where it is the first of its log, or isn't there.
-pub(crate) fn fall(alloc: Global, log: &[Entry], id: OpId) -> Result<Option<Fall>, AllocError>
+/// The record of this id and the one before it, with these counts; none where it is the first of its log, or isn't there.
+pub(crate) fn fall(
+    alloc: Global,
+    log: &[Entry],
+    id: OpId,
+    by_core: Vec<usize>,
+) -> Result<Option<Fall>, AllocError>
     requires { IsLogOf id.core log.now }
+    ensures counts { IfOk result (λ o. IfSome o (λ fall. fall.by_core ≡ by_core)) }
     ensures found { IfOk result (λ o. IfSome o (IsFall (records_of log.now) id)) }
     ensures explained { IfOk result (λ o. 0 < id.index → id.index < length log.now → IsSome o) }
 {
@@ -24,5 +30,6 @@ pub(crate) fn fall(alloc: Global, log: &[Entry], id: OpId) -> Result<Option<Fall
         before: log[index - 1],
         fault: log[index],
         rows: entries_around(alloc, log, index)?,
+        by_core,
     }))
 }

@@ -38,7 +38,7 @@ fn goes_on(entry: &Entry, next: Option<&Entry>) -> bool
 }
 
 /// How often each address is used, from the lowest.
-fn uses(alloc: Global, entries: &[Entry]) -> Result<Vec<Use>, AllocError>
+pub(crate) fn uses(alloc: Global, entries: &[Entry]) -> Result<Vec<Use>, AllocError>
     requires { AscendsByPlace entries.now }
     ensures { IfOk result (λ uses. AreUses entries.now uses.items) }
 {
@@ -149,7 +149,7 @@ fn rows(alloc: Global, entries: &[Entry]) -> Result<Option<Vec<Entry>>, AllocErr
 }
 
 /// The most used of the addresses, the most used first.
-fn most_used(uses: Vec<Use>) -> Result<Vec<Use>, AllocError>
+pub(crate) fn most_used(uses: Vec<Use>) -> Result<Vec<Use>, AllocError>
     ensures { IfOk result (λ most. AreFirst uses.items most.items) }
 {
     let mut most = uses;

@@ -2,13 +2,16 @@
 
 ghost use Rattle.std.specs.Prelude.{◌≡◌, ◌<◌, None, IfOk, IfSome, IsNone, length, option_and_then, slice_get};
 ghost use Rattle.mem_op.specs.Consistency.{is_same_id};
-ghost use Rattle.address_check.specs.LastStores.{last_store};
+ghost use Rattle.explain.specs.Context.{AreAround};
 ghost use Rattle.explain.specs.WrongReads.{IsWrongRead, named_id, of_id};
 
 use super::acts::named_id;
 use super::around::{entries_around, start_of};
+use super::context::{around, last_of_core};
 use super::explanation::WrongRead;
-use address_check::{AddressIndex, is_store};
+use super::faults::fault_counts;
+use super::times::{is_right_after, is_right_before, store_after, store_before};
+use address_check::AddressIndex;
 use log_record::Entry;
 use mem_op::OpId;
 use std::alloc::{AllocError, Global};
@@ -55,17 +58,25 @@ fn named(entries: &[Entry], load: &Entry) -> Option<Entry>
     }
 }
 
-/// The last store among entries.
-fn last_store(entries: &[Entry]) -> Option<Entry>
-    ensures { result ≡ last_store entries.now }
+/// The entry at a place, where there is a place.
+fn entry_at(entries: &[Entry], place: Option<usize>) -> Option<Entry>
+    ensures { result ≡ option_and_then (slice_get entries.now) place }
 {
-    let mut last = None;
-    for entry in entries {
-        if is_store(entry) {
-            last = Some(*entry);
-        }
+    entries.get(place?).copied()
+}
+
+/// What a core did around an operation, where there is one.
+fn rows_of(
+    alloc: Global,
+    entries: &[Entry],
+    entry: &Option<Entry>,
+) -> Result<Vec<Entry>, AllocError>
+    ensures { IfOk result (λ rows. IfSome entry.now (λ e. AreAround entries.now e.id rows.items)) }
+{
+    match entry {
+        Some(entry) => around(alloc, entries, entry.id()),
+        None => Ok(Vec::new(alloc)),
     }
-    last
 }
 
 /// Why the load or the swap of this id breaks a rule; none where no record has the id.
@@ -86,13 +97,22 @@ pub(crate) fn wrong_read(
     let Some(place) = place_of(group, id) else {
         return Ok(None);
     };
-    let rows = entries_around(alloc, group, place)?;
+    let right_place = store_before(group, place);
+    let right = entry_at(group, right_place);
+    let next = store_after(group, place);
     Ok(Some(WrongRead {
         rule,
         load,
-        right: last_store(&group[..place]),
+        right,
         named: named(all, &load),
-        rows,
+        rows: entries_around(alloc, group, place)?,
         place: place - start_of(place),
+        is_right_earlier: is_right_before(group, &load, right_place),
+        next,
+        is_right_later: is_right_after(&load, &next),
+        own_last: last_of_core(group, place, id.core),
+        own_rows: around(alloc, all, id)?,
+        right_rows: rows_of(alloc, all, &right)?,
+        faults: fault_counts(alloc, index)?,
     }))
 }

@@ -4,19 +4,21 @@ ghost use Rattle.std.specs.Prelude.{◌↔◌, IfOk, IfSome, IsSome};
 ghost use Rattle.explain.specs.Pictures.{IsDrawn};
 ghost use Rattle.explanation_picture.specs.Pictures.{IsPicture};
 
-use super::placing::Placing;
-use super::scene::{Scene, scene_of};
-use super::svg::{Svg, TextStyle};
+use super::placing::{Placing, Way};
+use super::scene::{Scene, Sign, scene_of};
+use super::svg::{Point, Svg, TextStyle};
 use explain::{Explanation, kind_name, place_of};
 use log_record::Entry;
 use mem_op::{CoreId, OpId};
 use std::alloc::{AllocError, Global};
 
-/// The picture of an explanation, in SVG: a column for each core, downward the operations in the order of their keys,
-/// with an arrow from each to the loads and swaps that name it. None where there is too much to be drawn.
+/// The picture of an explanation, in SVG: a title and a sentence, a column for each core, downward the operations in the order
+/// of their keys, with an arrow from each to the loads and swaps that name it, and a legend. None where there is too much to
+/// be drawn.
 pub fn draw(
     alloc: Global,
     title: &str,
+    sentence: &str,
     explanation: &Explanation,
 ) -> Result<Option<Vec<u8>>, AllocError>
     ensures picture { IfOk result (λ drawn. IfSome drawn (λ svg. IsPicture svg.items)) }
@@ -25,11 +27,11 @@ pub fn draw(
     let Some(scene) = scene_of(alloc, explanation)? else {
         return Ok(None);
     };
-    Ok(Some(paint(alloc, title, &scene)?))
+    Ok(Some(paint(alloc, title, sentence, &scene)?))
 }
 
 /// The picture of a scene.
-fn paint(alloc: Global, title: &str, scene: &Scene) -> Result<Vec<u8>, AllocError>
+fn paint(alloc: Global, title: &str, sentence: &str, scene: &Scene) -> Result<Vec<u8>, AllocError>
     ensures { IfOk result (λ svg. IsPicture svg.items) }
 {
     let notes = notes(alloc, scene.rows.as_slice())?;
@@ -38,9 +40,13 @@ fn paint(alloc: Global, title: &str, scene: &Scene) -> Result<Vec<u8>, AllocErro
         alloc,
         scene,
         cores: scene.cores(alloc)?,
+        legend: scene.legend(alloc)?,
         placing: Placing::new(longest(notes.as_slice()), longest(texts.as_slice())),
     };
-    canvas.paint(title, notes.as_slice(), texts.as_slice())
+    let mut svg = canvas.begin(title, sentence, texts.len())?;
+    canvas.parts(&mut svg, notes.as_slice(), texts.as_slice())?;
+    canvas.legend(&mut svg, texts.len())?;
+    svg.finish()
 }
 
 /// What is told at the side of each row: its stamp and rank.
@@ -79,24 +85,52 @@ fn longest(texts: &[String]) -> usize {
     longest
 }
 
+/// A point so far to the right of another and below it.
+fn right_of(at: Point, right: usize, below: usize) -> Point {
+    Point {
+        x: at.x.saturating_add(right),
+        y: at.y.saturating_add(below),
+    }
+}
+
 /// A picture that is painted.
 #[derive(Drop)]
 struct Canvas<'a> {
     alloc: Global,
     scene: &'a Scene,
     cores: Vec<CoreId>,
+    legend: Vec<Sign>,
     placing: Placing,
 }
 
 impl<'a> Canvas<'a> {
-    /// The picture, with these notes and these texts of its boxes.
-    fn paint(&self, title: &str, notes: &[String], texts: &[String]) -> Result<Vec<u8>, AllocError>
-        ensures { IfOk result (λ svg. IsPicture svg.items) }
-    {
-        let (width, height) = self.placing.size(self.cores.len(), texts.len());
+    /// A picture of this many rows, with its title and its sentence.
+    fn begin(&self, title: &str, sentence: &str, rows: usize) -> Result<Svg, AllocError> {
+        let (columns, lines) = (self.cores.len(), self.legend.len());
+        let (width, height) = self.placing.size(columns, rows, lines, sentence.len());
         let mut svg = Svg::new(self.alloc, width, height, title)?;
-        self.parts(&mut svg, notes, texts)?;
-        svg.finish()
+        svg.text(TextStyle::Title, self.placing.title(), title)?;
+        svg.text(TextStyle::Note, self.placing.sentence(), sentence)?;
+        Ok(svg)
+    }
+
+    /// The legend, below this many rows.
+    fn legend(&self, svg: &mut Svg, rows: usize) -> Result<(), AllocError> {
+        for (line, sign) in self.legend.iter().enumerate() {
+            let at = self.placing.legend(rows, line);
+            self.sign(svg, *sign, at)?;
+            svg.text(TextStyle::Note, right_of(at, 48, 11), sign.text())?;
+        }
+        Ok(())
+    }
+
+    /// The sign of a line of the legend.
+    fn sign(&self, svg: &mut Svg, sign: Sign, at: Point) -> Result<(), AllocError> {
+        if let Some(class) = sign.class() {
+            return svg.frame(class, at, 36, 14);
+        }
+        let (from, to) = (right_of(at, 0, 7), right_of(at, 36, 7));
+        svg.arrow(sign != Sign::Source, [from, from, from, to])
     }
 
     /// The parts of the picture.
@@ -164,7 +198,12 @@ impl<'a> Canvas<'a> {
             return Ok(());
         };
         let from = (self.column(entry.id().core), source);
-        svg.arrow(false, self.placing.arrow(from, to, true))
+        let way = Way {
+            is_red: false,
+            by_right: true,
+            row: source,
+        };
+        svg.arrow(false, self.placing.arrow(from, to, way))
     }
 
     /// The arrow from the operation that breaks a rule to the one that it should name.
@@ -175,7 +214,12 @@ impl<'a> Canvas<'a> {
         let (Some(from), Some(to)) = (self.place(faulty), self.place(wanted)) else {
             return Ok(());
         };
-        svg.arrow(true, self.placing.arrow(from, to, false))
+        let way = Way {
+            is_red: true,
+            by_right: false,
+            row: from.1,
+        };
+        svg.arrow(true, self.placing.arrow(from, to, way))
     }
 
     /// The boxes of the operations.

@@ -9,6 +9,55 @@ use log_record::Entry;
 use mem_op::{CoreId, OpId};
 use std::alloc::{AllocError, Global};
 
+/// What a line of the legend tells of.
+#[derive(Clone, Copy, PartialEq, Eq)]
+pub(crate) enum Sign {
+    /// The box of a store.
+    Store,
+    /// The box of a load.
+    Load,
+    /// The box of a swap.
+    Swap,
+    /// The box of the operation that breaks a rule.
+    Wrong,
+    /// The box of what was due.
+    Due,
+    /// An arrow from a store to what names it.
+    Source,
+    /// The red arrow to what should be read.
+    Right,
+    /// The red arrow to the operation before the one at which a log falls.
+    Before,
+}
+
+impl Sign {
+    /// The class of its box; none where it is an arrow.
+    pub(crate) fn class(self) -> Option<&'static str> {
+        match self {
+            Sign::Store => Some("store"),
+            Sign::Load => Some("load"),
+            Sign::Swap => Some("swap"),
+            Sign::Wrong => Some("wrong"),
+            Sign::Due => Some("due"),
+            Sign::Source | Sign::Right | Sign::Before => None,
+        }
+    }
+
+    /// What it is.
+    pub(crate) fn text(self) -> &'static str {
+        match self {
+            Sign::Store => "a store",
+            Sign::Load => "a load",
+            Sign::Swap => "a swap",
+            Sign::Wrong => "the operation that breaks a rule",
+            Sign::Due => "what was due",
+            Sign::Source => "from a store to what names it as its source",
+            Sign::Right => "to what it should read",
+            Sign::Before => "to the one before it in its log, which has a greater key",
+        }
+    }
+}
+
 /// What a picture shows.
 #[derive(Drop)]
 pub(crate) struct Scene {
@@ -18,6 +67,8 @@ pub(crate) struct Scene {
     pub(crate) faulty: Option<OpId>,
     /// The operation that it should name, or that it should come after.
     pub(crate) wanted: Option<OpId>,
+    /// What the arrow to that is.
+    wanted_sign: Sign,
     /// The core whose program has something due, and what.
     pub(crate) due: Option<(CoreId, String)>,
 }
@@ -47,6 +98,7 @@ fn of_all(alloc: Global, rows: &[Entry]) -> Result<Scene, AllocError> {
         rows: Vec::from_slice(alloc, rows)?,
         faulty: None,
         wanted: None,
+        wanted_sign: Sign::Right,
         due: None,
     })
 }
@@ -61,6 +113,7 @@ fn of_wrong_read(alloc: Global, found: &WrongRead) -> Result<Scene, AllocError> 
         rows,
         faulty: Some(found.load.id()),
         wanted: id_of(&found.right),
+        wanted_sign: Sign::Right,
         due: None,
     })
 }
@@ -82,6 +135,7 @@ fn of_fall(alloc: Global, fall: &Fall) -> Result<Scene, AllocError> {
         rows: by_key(alloc, fall.rows.as_slice())?,
         faulty: Some(fall.fault.id()),
         wanted: Some(fall.before.id()),
+        wanted_sign: Sign::Before,
         due: None,
     })
 }
@@ -92,6 +146,7 @@ fn of_departure(alloc: Global, departure: &Departure) -> Result<Scene, AllocErro
         rows: by_key(alloc, departure.rows.as_slice())?,
         faulty: id_of(&departure.found),
         wanted: None,
+        wanted_sign: Sign::Right,
         due: Some((departure.id.core, due_text(alloc, &departure.due)?)),
     })
 }
@@ -145,5 +200,33 @@ impl Scene {
     /// The row of the operation that another names as its source, if it is shown.
     pub(crate) fn source_row(&self, row: &Entry) -> Option<usize> {
         place_of(self.rows.as_slice(), named_id(row)?)
+    }
+
+    /// Whether an arrow to a source is shown.
+    fn has_source(&self) -> bool {
+        self.rows.iter().any(|row| self.source_row(row).is_some())
+    }
+
+    /// The legend: each kind of box and arrow that may be shown.
+    pub(crate) fn legend(&self, alloc: Global) -> Result<Vec<Sign>, AllocError> {
+        let mut legend = Vec::new(alloc);
+        legend.push(Sign::Store)?;
+        legend.push(Sign::Load)?;
+        if self.has_swap() {
+            legend.push(Sign::Swap)?;
+        }
+        if self.faulty.is_some() {
+            legend.push(Sign::Wrong)?;
+        }
+        if self.due.is_some() {
+            legend.push(Sign::Due)?;
+        }
+        if self.has_source() {
+            legend.push(Sign::Source)?;
+        }
+        if self.faulty.is_some() && self.wanted.is_some() {
+            legend.push(self.wanted_sign)?;
+        }
+        Ok(legend)
     }
 }

@@ -7,22 +7,24 @@ ghost use Rattle.explanation_picture.specs.Pictures.{IsPicture};
 use std::alloc::{AllocError, Global};
 use std::fmt;
 
-/// The colours, which serve on white and on dark: texts of boxes stand on the boxes' own light colours.
+/// The colours, on a light ground of its own, so that they serve on any page.
 const STYLE: &str = "<style>\
 text{font:13px monospace;fill:#1b1f24}\
-.note{font:12px sans-serif;fill:#767676}\
+.title{font:bold 15px sans-serif}\
+.note{font:12px sans-serif;fill:#57606a}\
+.ground{fill:#ffffff;stroke:none}\
 rect{stroke:#6b7a8c}\
 .load{fill:#e4f2e4}\
 .store{fill:#f6ecd8}\
 .wrong{fill:#ffe1dd;stroke:#d1242f;stroke-width:2}\
 .due{fill:none;stroke:#d1242f;stroke-width:2;stroke-dasharray:5 4}\
 .red{fill:#d1242f}\
-path{fill:none;stroke:#6f8fb3;stroke-width:1.5}\
+path{fill:none;stroke:#40658f;stroke-width:1.5;stroke-linejoin:round}\
 .right{stroke:#d1242f;stroke-width:2;stroke-dasharray:5 4}\
 </style>\n\
 <defs>\
 <marker id=\"tip\" markerWidth=\"8\" markerHeight=\"8\" refX=\"7\" refY=\"3\" orient=\"auto\" markerUnits=\"userSpaceOnUse\">\
-<path d=\"M0,0 L7,3 L0,6 z\" style=\"fill:#6f8fb3;stroke:none\"/></marker>\
+<path d=\"M0,0 L7,3 L0,6 z\" style=\"fill:#40658f;stroke:none\"/></marker>\
 <marker id=\"red\" markerWidth=\"10\" markerHeight=\"10\" refX=\"8\" refY=\"4\" orient=\"auto\" markerUnits=\"userSpaceOnUse\">\
 <path d=\"M0,0 L8,4 L0,8 z\" style=\"fill:#d1242f;stroke:none\"/></marker>\
 </defs>\n";
@@ -48,6 +50,8 @@ impl fmt::Display for Point {
 pub(crate) enum TextStyle {
     /// As the text of a box.
     Box,
+    /// As the title.
+    Title,
     /// As a note beside the boxes.
     Note,
     /// As what is wrong.
@@ -59,6 +63,7 @@ impl TextStyle {
     fn attribute(self) -> &'static str {
         match self {
             TextStyle::Box => "",
+            TextStyle::Title => " class=\"title\"",
             TextStyle::Note => " class=\"note\"",
             TextStyle::Red => " class=\"red\"",
         }
@@ -95,7 +100,8 @@ impl Svg {
         ))?;
         self.escaped(title)?;
         self.raw("</title>\n")?;
-        self.raw(STYLE)
+        self.raw(STYLE)?;
+        self.add(format_args!("<rect class=\"ground\" width=\"{width}\" height=\"{height}\"/>\n"))
     }
 
     /// Tells the colour of swaps.
@@ -129,16 +135,16 @@ impl Svg {
         ))
     }
 
-    /// A bent arrow: from a point, towards two others, to the last.
-    pub(crate) fn arrow(&mut self, is_right: bool, points: [Point; 4]) -> Result<(), AllocError> {
+    /// An arrow: from a point by two others to the last.
+    pub(crate) fn arrow(&mut self, is_red: bool, points: [Point; 4]) -> Result<(), AllocError> {
         let [a, b, c, d] = points;
-        let (class, tip) = if is_right {
+        let (class, tip) = if is_red {
             (" class=\"right\"", "red")
         } else {
             ("", "tip")
         };
         self.add(format_args!(
-            "<path{class} d=\"M{a} C{b} {c} {d}\" marker-end=\"url(#{tip})\"/>\n"
+            "<path{class} d=\"M{a} L{b} L{c} L{d}\" marker-end=\"url(#{tip})\"/>\n"
         ))
     }
 

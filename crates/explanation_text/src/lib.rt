@@ -6,5 +6,8 @@ mod printing;
 mod sentence;
 mod shown;
 mod table;
+mod times;
 
 pub use printing::print;
+pub use sentence::first_sentence;
+pub use shown::Plain;

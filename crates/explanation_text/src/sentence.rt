@@ -2,13 +2,25 @@
 
 use super::acts::{Deed, op_of};
 use address_check::is_store;
-use explain::{Departure, Fall, WrongRead, kind_name, named_id};
-use std::alloc::AllocError;
+use explain::{Departure, Explanation, Fall, WrongRead, kind_name, named_id};
+use std::alloc::{AllocError, Global};
 use std::fmt::Display;
 use verdict::Rule;
 
+/// The sentence that an explanation begins with: what is wrong, or that nothing is.
+pub fn first_sentence(alloc: Global, explanation: &Explanation) -> Result<String, AllocError> {
+    let mut text = String::new(alloc);
+    match explanation {
+        Explanation::Load(found) => push_wrong_read(&mut text, found),
+        Explanation::CoreOrder(fall) => push_fall(&mut text, fall),
+        Explanation::Program(departure) => push_departure(&mut text, departure),
+        Explanation::Summed(_) => text.push_str("No operation breaks a rule."),
+    }?;
+    Ok(text)
+}
+
 /// Adds what is wrong with a load, or with what a swap reads.
-pub(crate) fn push_wrong_read(text: &mut String, found: &WrongRead) -> Result<(), AllocError> {
+fn push_wrong_read(text: &mut String, found: &WrongRead) -> Result<(), AllocError> {
     if found.rule == Rule::Value {
         return push_wrong_value(text, found);
     }
@@ -113,7 +125,7 @@ fn push_right_store(text: &mut String, found: &WrongRead) -> Result<(), AllocErr
 }
 
 /// Adds what falls along a core's log.
-pub(crate) fn push_fall(text: &mut String, fall: &Fall) -> Result<(), AllocError> {
+fn push_fall(text: &mut String, fall: &Fall) -> Result<(), AllocError> {
     let id = fall.fault.id();
     let (before, after) = (fall.before.key(), fall.fault.key());
     let stamp = before.ts.get();
@@ -130,7 +142,7 @@ pub(crate) fn push_fall(text: &mut String, fall: &Fall) -> Result<(), AllocError
 }
 
 /// Adds what a core's log has in place of what its program does.
-pub(crate) fn push_departure(text: &mut String, departure: &Departure) -> Result<(), AllocError> {
+fn push_departure(text: &mut String, departure: &Departure) -> Result<(), AllocError> {
     push_found(text, departure)?;
     match &departure.due {
         Some(due) => write!(text, "{}", Deed(due.op)),

@@ -1,7 +1,7 @@
 //! The verdict on the logs of a set, and why it is so.
 
 ghost use Rattle.std.specs.Prelude.{◌≡◌, ◌↔◌, ◌++◌, List, IfErr, IfOk, IfSome, IsSome, IsTrue, OnOk, MatchResult, string_bytes};
-ghost use Rattle.explain.specs.Pictures.{HasPicture};
+ghost use Rattle.explain.specs.Pictures.{HasPicture, IsDrawn};
 ghost use Rattle.explanation_picture.specs.Pictures.{IsPicture};
 ghost use Rattle.log_record.specs.declared.record.Record.{Record};
 ghost use Rattle.verdict.specs.CoreFaultsOf.{given};
@@ -19,14 +19,15 @@ use command_line::{Check, Explain};
 use core_program::ProgramSet;
 use explain::{Explanation, explain as explained};
 use explanation_picture::draw;
-use explanation_text::print;
+use explanation_text::{first_sentence, print};
 use log_file::{ByteSink, write_all};
 use std::alloc::{AllocError, Global};
 use std::thread::Threads;
 use verdict::{Examined, Verdict};
 
 /// What is told where a picture is asked for and the set is too large for one.
-const NO_PICTURE: &str = "picture        none, of more than 200 operations\n";
+const NO_PICTURE: &str =
+    "picture        none, of more than 200 operations; a file of its name is an older one\n";
 
 /// What is told of a verdict.
 #[derive(Drop)]
@@ -120,18 +121,19 @@ fn tell<R: Threads + Sync, F: Folder>(
         alloc,
         &found.examined,
         found.programs.as_ref(),
-        asked.files.len(),
+        asked.files.as_slice(),
         is_drawn,
     )?;
     Ok(told)
 }
 
-/// The text of a verdict and of what there is to tell of it, and a picture where it is to be drawn and can be.
+/// The text of a verdict on the logs of these names and of what there is to tell of it, and a picture where it is to be drawn
+/// and can be.
 fn words(
     alloc: Global,
     examined: &Examined,
     programs: Option<&ProgramSet>,
-    cores: usize,
+    names: &[&str],
     is_drawn: bool,
 ) -> Result<Told, AllocError>
     requires { (logs : List (List Record)) × IsExaminationOf (given programs) logs examined.now }
@@ -143,15 +145,15 @@ fn words(
 {
     let verdict = examined.verdict;
     let line = format!(in alloc; "{verdict}\n")?;
-    let Some(why) = explained(alloc, examined, programs, cores)? else {
+    let Some(why) = explained(alloc, examined, programs, names.len())? else {
         unreachable!()
     };
     let picture = if is_drawn {
-        draw(alloc, line.as_str().trim_end(), &why)?
+        picture_of(alloc, line.as_str(), &why)?
     } else {
         None
     };
-    let more = more_text(alloc, &why, is_drawn && picture.is_none())?;
+    let more = more_text(alloc, names, &why, is_drawn && picture.is_none())?;
     Ok(Told {
         verdict,
         text: joined(line, more.as_str())?,
@@ -159,9 +161,23 @@ fn words(
     })
 }
 
+/// The picture of why a verdict of this line is so, where it can be drawn.
+fn picture_of(alloc: Global, line: &str, why: &Explanation) -> Result<Option<Vec<u8>>, AllocError>
+    ensures picture { IfOk result (λ drawn. IfSome drawn (λ svg. IsPicture svg.items)) }
+    ensures drawn { IfOk result (λ drawn. IsSome drawn ↔ IsDrawn why.now) }
+{
+    let sentence = first_sentence(alloc, why)?;
+    draw(alloc, line.trim_end(), sentence.as_str(), why)
+}
+
 /// What there is to tell after the line of a verdict, and whether a picture that was asked for is left out.
-fn more_text(alloc: Global, why: &Explanation, is_left_out: bool) -> Result<String, AllocError> {
-    let mut text = print(alloc, why)?;
+fn more_text(
+    alloc: Global,
+    names: &[&str],
+    why: &Explanation,
+    is_left_out: bool,
+) -> Result<String, AllocError> {
+    let mut text = print(alloc, names, why)?;
     if is_left_out {
         text.push_str(NO_PICTURE)?;
     }
