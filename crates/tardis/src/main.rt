@@ -3,17 +3,15 @@
 
 mod host;
 mod progress;
+mod shown;
 mod words;
 
-use call_devices::Folder;
 use host::HostFolder;
-use log_file::{ByteSink, FromWrite, write_all};
+use log_file::{FromWrite, write_all};
 use progress::Progress;
-use std::alloc::Global;
+use shown::Shown;
 use std::process::ExitCode;
-use std::sync::Wait;
-use std::thread::Threads;
-use tardis_command::{Watch, command};
+use tardis_command::serve;
 use words::{WordsFault, texts, words};
 
 /// Tells the user why the words can't be read, and answers the exit status.
@@ -22,20 +20,6 @@ fn refuse(rt: &HostRuntime, fault: WordsFault) -> u8 {
         let _ = write_all(&mut FromWrite::new(rt.stderr()), line.as_bytes());
     }
     fault.status()
-}
-
-/// Does what `command` does. It says nothing of that: the host's files and outputs tell no bytes, and with its clauses over them
-/// `main` would take many times as long to prove.
-fn serve<R: Threads + Wait + Sync, W: Watch + Sync, F: Folder, O: ByteSink, E: ByteSink>(
-    rt: &R,
-    alloc: Global,
-    words: &[&str],
-    watch: &W,
-    folder: &mut F,
-    out: &mut O,
-    err: &mut E,
-) -> u8 {
-    command(rt, alloc, words, watch, folder, out, err)
 }
 
 fn main(rt: HostRuntime) -> ExitCode {
@@ -47,14 +31,23 @@ fn main(rt: HostRuntime) -> ExitCode {
         Ok(words) => words,
         Err(fault) => return ExitCode::from(refuse(&rt, fault)),
     };
-    let status = serve(
+    let progress = &Progress::new(&rt);
+    let mut out = Shown {
+        device: FromWrite::new(rt.stdout()),
+        progress,
+    };
+    let mut err = Shown {
+        device: FromWrite::new(rt.stderr()),
+        progress,
+    };
+    let folder = &mut HostFolder::new(&rt, progress);
+    ExitCode::from(serve(
         &rt,
         rt.alloc(),
         words.as_slice(),
-        &Progress::new(&rt),
-        &mut HostFolder::new(&rt),
-        &mut FromWrite::new(rt.stdout()),
-        &mut FromWrite::new(rt.stderr()),
-    );
-    ExitCode::from(status)
+        progress,
+        folder,
+        &mut out,
+        &mut err,
+    ))
 }

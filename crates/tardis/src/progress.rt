@@ -1,8 +1,9 @@
-//! The line by which a run that lasts shows that it lives.
+//! The line by which work that lasts shows that it lives.
 
 use mem_op::CoreId;
+use memchr::memchr_iter;
 use std::io::IsTerminal;
-use std::sync::atomic::{AtomicU64, Ordering};
+use std::sync::atomic::{AtomicBool, AtomicU64, Ordering};
 use std::time::Clock;
 use tardis_command::Watch;
 
@@ -12,17 +13,20 @@ const OPERATIONS: u64 = 64;
 /// As many turns without an operation are made between two looks at the clock.
 const TURNS: u64 = 65_536;
 
-/// A watch that tells a run's operations so far on standard error, in one line that is written anew each second; nothing where
-/// standard error is no terminal, or the run takes less than a second.
+/// Tells on standard error how many lines were read so far, or how many operations a run has performed, in one line that is written
+/// anew each second; nothing where standard error is no terminal, or the work takes less than a second.
 #[derive(Drop)]
 pub(crate) struct Progress<'a> {
     rt: &'a HostRuntime,
     is_terminal: bool,
     // The second of the clock at which the program began.
     begun: u64,
+    lines: AtomicU64,
     operations: AtomicU64,
     // How many seconds have been told.
     told: AtomicU64,
+    // Whether the line stands there.
+    is_shown: AtomicBool,
 }
 
 impl<'a> Progress<'a> {
@@ -32,19 +36,38 @@ impl<'a> Progress<'a> {
             rt,
             is_terminal: rt.stderr().is_terminal(),
             begun: seconds(rt),
+            lines: AtomicU64::new(0),
             operations: AtomicU64::new(0),
             told: AtomicU64::new(0),
+            is_shown: AtomicBool::new(false),
         }
     }
 
-    // Tells how far the run is, where another second has passed. A write that fails is passed over.
-    fn tell(&self) {
+    /// Counts the lines that end in these bytes, which were read.
+    pub(crate) fn read(&self, bytes: &[u8]) {
+        if !self.is_terminal {
+            return;
+        }
+        let ended = memchr_iter(b'\n', bytes).count() as u64;
+        let _ = self.lines.fetch_add(ended, Ordering::SeqCst);
+        self.tell(&self.lines, "lines read");
+    }
+
+    /// Takes the line away, where it stands. A write that fails is passed over.
+    pub(crate) fn wipe(&self) {
+        if self.is_shown.swap(false, Ordering::SeqCst) {
+            let _ = eprint!(self.rt; "\r                                        \r");
+        }
+    }
+
+    // Tells how far the work is, where another second has passed. A write that fails is passed over.
+    fn tell(&self, count: &AtomicU64, what: &str) {
         let passed = seconds(self.rt).saturating_sub(self.begun);
         if self.told.fetch_max(passed, Ordering::SeqCst) >= passed {
             return;
         }
-        let operations = self.operations.load(Ordering::SeqCst);
-        let _ = eprint!(self.rt; "\r{operations} operations");
+        self.is_shown.store(true, Ordering::SeqCst);
+        let _ = eprint!(self.rt; "\r{} {what}", count.load(Ordering::SeqCst));
     }
 }
 
@@ -63,15 +86,13 @@ impl<'a> Watch for Progress<'a> {
         }
         if turn == 0 && done > 0 && done as u64 % OPERATIONS == 0 {
             let _ = self.operations.fetch_add(OPERATIONS, Ordering::SeqCst);
-            self.tell();
+            self.tell(&self.operations, "operations");
         } else if turn % TURNS == TURNS - 1 {
-            self.tell();
+            self.tell(&self.operations, "operations");
         }
     }
 
     fn over(&self) {
-        if self.told.load(Ordering::SeqCst) > 0 {
-            let _ = eprint!(self.rt; "\r                                        \r");
-        }
+        self.wipe();
     }
 }

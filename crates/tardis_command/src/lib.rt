@@ -2,12 +2,14 @@
 #![tactic(auto)]
 
 mod answer;
+mod brief;
 mod call;
 mod fault;
 mod output;
 mod verdict_line;
 
 pub use answer::Answer;
+pub use brief::serve;
 pub use call::command;
 pub use call_devices::Folder;
 pub use fault::CommandFault;

@@ -7,13 +7,12 @@ ghost use Rattle.tardis_command.specs.Endings.{AreConsistent, AskFor};
 
 use super::fault::{RowsFault, text_of};
 use super::watch::Counting;
-use call_devices::Folder;
-use log_file::{ByteSink, MemSink, Step};
+use log_file::{MemSink, Step};
 use memory_folder::{File, Given, MemoryFolder};
 use std::alloc::Global;
 use std::sync::Wait;
 use std::thread::Threads;
-use tardis_command::command;
+use tardis_command::serve;
 
 /// How the writes of a call go.
 #[derive(Clone, Copy)]
@@ -43,24 +42,8 @@ pub(crate) struct Done {
     pub(crate) seen: (u64, u64),
 }
 
-/// Calls the program. Where a verdict was asked for and the answer is 0, the files of the folder spell a set of logs whose operations
-/// are sequentially consistent. It says no more of what `command` says, and that of any folder: so its callers are proved sooner.
-fn call_over<R: Threads + Wait + Sync, F: Folder, O: ByteSink, E: ByteSink>(
-    rt: &R,
-    alloc: Global,
-    words: &[&str],
-    watch: &Counting,
-    folder: &mut F,
-    out: &mut O,
-    err: &mut E,
-) -> u8
-    ensures sound { result ≡ 0 → AskFor (texts words.entry.now)
-        (AreConsistent (F.files folder.old).told) }
-{
-    command(rt, alloc, words, watch, folder, out, err)
-}
-
-/// Calls the program.
+/// Calls the program. Where a verdict was asked for and the answer is 0, the given files spell a set of logs whose operations are
+/// sequentially consistent.
 pub(crate) fn call<R: Threads + Wait + Sync>(
     rt: &R,
     alloc: Global,
@@ -75,7 +58,7 @@ pub(crate) fn call<R: Threads + Wait + Sync>(
     let mut out = MemSink::new(alloc, outputs.writes);
     let mut err = MemSink::new(alloc, outputs.complaints);
     let watch = Counting::new();
-    let status = call_over(rt, alloc, words, &watch, &mut folder, &mut out, &mut err);
+    let status = serve(rt, alloc, words, &watch, &mut folder, &mut out, &mut err);
     Ok(Done {
         status,
         printed: text_of(Vec::from_slice(alloc, out.bytes())?)?,
