@@ -30,7 +30,7 @@ use Rattle.verdict.proofs.ProgramOrder.{less_index}
 use Rattle.verdict.specs.Counts.{IsBadCount}
 use Rattle.verdict.specs.Judgement.{IsAnswerTo}
 use Rattle.verdict.specs.SetFaults.{from_set}
-use Rattle.merge_judge.specs.declared.lane.Lane.{Lane}
+use Rattle.merge_judge.specs.LaneParts.{LaneParts}
 use Rattle.merge_judge.specs.inner.Lanes.{AllEnded, IsMerged, IsStage, NoFalls, front_list, log_at}
 use Rattle.merge_judge.specs.Begun.{BeginsLog}
 use Rattle.merge_judge.specs.inner.FinalVerdict.{AreBegun, NoneFaulty, NoneFalls, IsFinalVerdict}
@@ -93,12 +93,12 @@ no_count file (At line f) h = h
 no_count file OutOfMemory h = h
 no_count file Read h = h
 
-module _ {S : Type 0} (remaining : S → Option (List ℕ)) (failed : S → ℕ) (before after : List S) (lanes : List Lane) (numbers : List ℕ) (clean : Bool) (merged : List (List Record)) (done : List Entry)
+module _ {S : Type 0} (remaining : S → Option (List ℕ)) (failed : S → ℕ) (before after : List S) (lanes : List LaneParts) (numbers : List ℕ) (clean : Bool) (merged : List (List Record)) (done : List Entry)
     (m : IsMerged remaining failed before after lanes numbers clean merged done) (ended : AllEnded lanes) where
   -- what a reader told of a log: the log of these records, or its fault
   abbrev IsTextOf : ℕ → S → List ℕ → Type 0
   IsTextOf k b text =
-      Tells (remaining b) text × ((l : Lane) → slice_get lanes k ≡ Some l →
+      Tells (remaining b) text × ((l : LaneParts) → slice_get lanes k ≡ Some l →
       (l.fault ≡ None → Spells k (length before) text (log_at merged k)) × ((f : LogFault) → l.fault ≡ Some f → IsFaultOrDevice k (length before) text f))
       × BeginsLog k (length before) text (log_at merged k)
 
@@ -110,10 +110,10 @@ module _ {S : Type 0} (remaining : S → Option (List ℕ)) (failed : S → ℕ)
       let at = m.lane k b a.0 l.0 hb a.1 l.1 in
       go l.0 l.1 a.0 l.0.fault refl (subst (λ o. IsStage k (length before) (remaining b) (remaining a.0) l.0.log (log_at merged k) o l.0.fault) (ended k l.0 l.1) at.stage)
     where
-      go : (l : Lane) → slice_get lanes k ≡ Some l → (a : S) → (o : Option LogFault) → l.fault ≡ o → IsStage k (length before) (remaining b) (remaining a) l.log (log_at merged k) None l.fault → (text : List ℕ) × IsTextOf k b text
+      go : (l : LaneParts) → slice_get lanes k ≡ Some l → (a : S) → (o : Option LogFault) → l.fault ≡ o → IsStage k (length before) (remaining b) (remaining a) l.log (log_at merged k) None l.fault → (text : List ℕ) × IsTextOf k b text
       go l hl a None e stage =
           let t = subst (λ o. IsStage k (length before) (remaining b) (remaining a) l.log (log_at merged k) None o) e stage in
-          (t.text, (t.tells, λ x hx. ((λ none. t.spells), λ f some. absurd (let q : l ≡ x = one (slice_get lanes k) l x hl hx in let z : x.fault ≡ None = ap (λ (y : Lane). y.fault) (sym q) ∙ e in cc)), begins_whole k (length before) t.text (log_at merged k) t.spells))
+          (t.text, (t.tells, λ x hx. ((λ none. t.spells), λ f some. absurd (let q : l ≡ x = one (slice_get lanes k) l x hl hx in let z : x.fault ≡ None = ap (λ (y : LaneParts). y.fault) (sym q) ∙ e in cc)), begins_whole k (length before) t.text (log_at merged k) t.spells))
       go l hl a (Some f) e stage =
           let t = subst (λ o. IsStage k (length before) (remaining b) (remaining a) l.log (log_at merged k) None o) e stage in (
             t.text,
@@ -121,7 +121,7 @@ module _ {S : Type 0} (remaining : S → Option (List ℕ)) (failed : S → ℕ)
               t.tells,
               λ x hx. (
                   let q : l ≡ x = one (slice_get lanes k) l x hl hx in
-                  let z : x.fault ≡ Some f = ap (λ (y : Lane). y.fault) (sym q) ∙ e in
+                  let z : x.fault ≡ Some f = ap (λ (y : LaneParts). y.fault) (sym q) ∙ e in
                   (λ none. absurd cc, λ h some. (let same : f ≡ h = cc in subst (λ y. IsFaultOrDevice k (length before) t.text y) same t.holds))),
               t.begins,
             ),
@@ -142,7 +142,7 @@ module _ {S : Type 0} (remaining : S → Option (List ℕ)) (failed : S → ℕ)
   pub tells : TellEach remaining before texts
   tells = tell_each remaining before texts long (λ k b h. (is_text k b h).0)
 
-  within : (k : ℕ) (l : Lane) → slice_get lanes k ≡ Some l → k < length before
+  within : (k : ℕ) (l : LaneParts) → slice_get lanes k ≡ Some l → k < length before
   within k l hl = let w = slice_get_within lanes k l hl in omega (arith, w, m.many)
 
   begun : AreBegun texts lanes merged
@@ -156,7 +156,7 @@ module _ {S : Type 0} (remaining : S → Option (List ℕ)) (failed : S → ℕ)
     whole = λ k l hl none sound. (let b = there before k (within k l hl) in subst (λ n. Spells k n (text_at texts k) (log_at merged k)) (sym long) (((is_text k b.0 b.1).1 l hl).0 sound));
   }
 
-  spelled : (k : ℕ) → k < length before → ((l : Lane) → slice_get lanes k ≡ Some l → l.fault ≡ None) → Spells k (length texts) (text_at texts k) (log_at merged k)
+  spelled : (k : ℕ) → k < length before → ((l : LaneParts) → slice_get lanes k ≡ Some l → l.fault ≡ None) → Spells k (length texts) (text_at texts k) (log_at merged k)
   spelled k w none =
       let b = there before k w in
       let l = there lanes k (let a = m.many in omega (arith, w, a)) in
@@ -166,7 +166,7 @@ module _ {S : Type 0} (remaining : S → Option (List ℕ)) (failed : S → ℕ)
   spelled_before file w none k low = (log_at merged k, spelled k (omega (arith, w, low)) (λ l hl. none k l low hl))
 
   -- the first fault of the set
-  pub set_fault : (file : ℕ) (fault : LogFault) (l : Lane) → slice_get lanes file ≡ Some l → l.fault ≡ Some fault → NoneFaulty lanes file → IsAnswerTo texts (Err (from_set file fault))
+  pub set_fault : (file : ℕ) (fault : LogFault) (l : LaneParts) → slice_get lanes file ≡ Some l → l.fault ≡ Some fault → NoneFaulty lanes file → IsAnswerTo texts (Err (from_set file fault))
   set_fault file fault l hl some none = go fault ((is_text file b.0 b.1).1 l hl).1 some
     where
       w : file < length before
@@ -191,7 +191,7 @@ module _ {S : Type 0} (remaining : S → Option (List ℕ)) (failed : S → ℕ)
 
   -- ---- faults of core order
 
-  fall_of : (k : ℕ) (l : Lane) → slice_get lanes k ≡ Some l → IsLeastWhere (is_core_fault (log_at merged k)) l.falls
+  fall_of : (k : ℕ) (l : LaneParts) → slice_get lanes k ≡ Some l → IsLeastWhere (is_core_fault (log_at merged k)) l.falls
   fall_of k l hl =
       let w = slice_get_within lanes k l hl in
       let b = there before k (let a = m.many in omega (arith, w, a)) in
@@ -217,7 +217,7 @@ module _ {S : Type 0} (remaining : S → Option (List ℕ)) (failed : S → ℕ)
       let h : IsLeastWhere (is_core_fault (log_at merged f.id.core)) None = subst (λ o. IsLeastWhere (is_core_fault (log_at merged f.id.core)) o) (none f.id.core l.0 t.0 l.1) (fall_of f.id.core l.0 l.1) in
       let no_fall = h f.id.index in let falls_here = t.1 in cc))
 
-  pub first_falls : (core index : ℕ) (l : Lane) → slice_get lanes core ≡ Some l → l.falls ≡ Some index → NoneFalls lanes core → Some (order_fault (record { core = core; index = index })) ≡ least_core_fault merged
+  pub first_falls : (core index : ℕ) (l : LaneParts) → slice_get lanes core ≡ Some l → l.falls ≡ Some index → NoneFalls lanes core → Some (order_fault (record { core = core; index = index })) ≡ least_core_fault merged
   first_falls core index l hl some none = is_the_least (Some fault) (fault_of_log merged (record { core = core; index = index }) (log_at merged core) (log_there merged core w) least.0, above)
     where
       fault : RuleFault
@@ -249,7 +249,7 @@ module _ {S : Type 0} (remaining : S → Option (List ℕ)) (failed : S → ℕ)
       above f p = false_from_ne_true (is_lt (core_fault_cmp f fault)) (not_of f (fault_in_log merged f p))
 
   -- the index of a fall is that of a record
-  pub fall_within : (core index : ℕ) (l : Lane) → slice_get lanes core ≡ Some l → l.falls ≡ Some index → (core < 64) × (index < operation_limit)
+  pub fall_within : (core index : ℕ) (l : LaneParts) → slice_get lanes core ≡ Some l → l.falls ≡ Some index → (core < 64) × (index < operation_limit)
   fall_within core index l hl some =
       let w = slice_get_within lanes core l hl in
       let least : IsLeastWhere (is_core_fault (log_at merged core)) (Some index) = subst (λ o. IsLeastWhere (is_core_fault (log_at merged core)) o) some (fall_of core l hl) in
@@ -260,7 +260,7 @@ module _ {S : Type 0} (remaining : S → Option (List ℕ)) (failed : S → ℕ)
       let few = (m.lane core b.0 a.0 l b.1 a.1 hl).few in
       ((let f = m.few in let n = m.many in omega (arith, w, f, n)), omega (arith, i, few))
 
-  pub reader_failed : (file : ℕ) (l : Lane) → slice_get lanes file ≡ Some l → l.fault ≡ Some Read → ReaderFailed failed before after file
+  pub reader_failed : (file : ℕ) (l : LaneParts) → slice_get lanes file ≡ Some l → l.fault ≡ Some Read → ReaderFailed failed before after file
   reader_failed file l hl some =
       let w = slice_get_within lanes file l hl in
       let b = there before file (let a = m.many in omega (arith, w, a)) in
@@ -272,7 +272,7 @@ module _ {S : Type 0} (remaining : S → Option (List ℕ)) (failed : S → ℕ)
   only_read file other OutOfMemory h = absurd cc
   only_read file other Read h = (refl, (let e : file ≡ other = cc in e))
 
-  pub final_fault : (file : ℕ) (fault : LogFault) (l : Lane) → slice_get lanes file ≡ Some l → l.fault ≡ Some fault → NoneFaulty lanes file → IsFinalVerdict remaining failed before after lanes merged (Err (from_set file fault))
+  pub final_fault : (file : ℕ) (fault : LogFault) (l : LaneParts) → slice_get lanes file ≡ Some l → l.fault ≡ Some fault → NoneFaulty lanes file → IsFinalVerdict remaining failed before after lanes merged (Err (from_set file fault))
   final_fault file fault l hl some none = record {
     texts = texts;
     tells = tells;
@@ -283,7 +283,7 @@ module _ {S : Type 0} (remaining : S → Option (List ℕ)) (failed : S → ℕ)
         subst (λ k. ReaderFailed failed before after k) t.1 (reader_failed file l hl (some ∙ ap (λ f. Some f) t.0)));
   }
 
-  pub final_fall : (core index : ℕ) (l : Lane) → slice_get lanes core ≡ Some l → l.falls ≡ Some index → NoneFalls lanes core → NoneFaulty lanes (length lanes)
+  pub final_fall : (core index : ℕ) (l : LaneParts) → slice_get lanes core ≡ Some l → l.falls ≡ Some index → NoneFalls lanes core → NoneFaulty lanes (length lanes)
       → IsFinalVerdict remaining failed before after lanes merged (Ok (No (record { id = record { core = core; index = index }; rule = CoreOrder })))
   final_fall core index l hl some none whole = record {
     texts = texts;

@@ -26,10 +26,11 @@ use Rattle.log_record.specs.declared.record.Record.{Record}
 use Rattle.log_record.specs.declared.record.Entry.{Entry}
 use Rattle.log_record.specs.Entries.{operations_of}
 use Rattle.log_file.proofs.Devices.{appends_more}
+use Rattle.verdict.specs.declared.answer.Verdict.{Verdict}
 use Rattle.verdict.specs.declared.answer.Verdict.TheVariants.{Yes, No}
 use Rattle.verdict.specs.FaultParts.{FaultParts}
 use Rattle.verdict.proofs.Bridge.{yes_is_sequential}
-use Rattle.merge_judge.specs.declared.lane.Lane.{Lane}
+use Rattle.merge_judge.specs.LaneParts.{LaneParts}
 use Rattle.merge_judge.specs.declared.merge.Merge.{Merge}
 use Rattle.merge_judge.specs.inner.Merging.{HasMerged}
 use Rattle.merge_judge.specs.inner.FinalVerdict.{IsFinalVerdict}
@@ -62,6 +63,11 @@ pub wrote : (f : WriteFault) → ◌≡◌ {A = Result (Unit {0}) WriteFault} (E
 wrote NoMemory h = absurd cc
 wrote WriteFailed h = refl
 
+-- and only a failed write is told as one
+pub write_failed : (f : WriteFault) (r : Result Verdict MergeFault) (fault : MergeFault) → r ≡ Err fault → fault ≡ from_write f → r ≡ Err Write → ◌≡◌ {A = Result (Unit {0}) WriteFault} (Err f) (Err WriteFailed)
+write_failed NoMemory r fault is from told = absurd cc
+write_failed WriteFailed r fault is from told = refl
+
 pub no_memory : {S : Type 0} (remaining : S → Option (List ℕ)) (failed : S → ℕ) (old : Option (List ℕ)) (before after : List S) → IsMergedBy remaining failed old old before after (Err (Judge OutOfMemory))
 no_memory remaining failed old before after =
     let texts = map (λ reader. told (remaining reader)) before in
@@ -73,7 +79,7 @@ no_end_before NoMemory texts logs = tt
 no_end_before WriteFailed texts logs = tt
 
 -- a write that fails at a record
-pub look_fails : {S : Type 0} (remaining : S → Option (List ℕ)) (failed : S → ℕ) (old mid new : Option (List ℕ)) (before after : List S) (lanes : List Lane) (numbers : List ℕ) (clean : Bool) (merged : List (List Record)) (done : List Entry) (written kept kept_new : List ℕ) (order : List OpId) (on : Bool) (id : OpId) (f : WriteFault)
+pub look_fails : {S : Type 0} (remaining : S → Option (List ℕ)) (failed : S → ℕ) (old mid new : Option (List ℕ)) (before after : List S) (lanes : List LaneParts) (numbers : List ℕ) (clean : Bool) (merged : List (List Record)) (done : List Entry) (written kept kept_new : List ℕ) (order : List OpId) (on : Bool) (id : OpId) (f : WriteFault)
     → IsMerged remaining failed before after lanes numbers clean merged done → IsShown (order_where on order id) merged done lanes
     → Appends old mid written → written ++ kept ≡ id_lines order → IsWritten mid new (kept ++ line_where on id) (Err f) kept_new → IsMergedBy remaining failed old new before after (Err (from_write f))
 look_fails remaining failed old mid new before after lanes numbers clean merged done written kept kept_new order on id f m shown appends lines w =
@@ -83,7 +89,7 @@ look_fails remaining failed old mid new before after lanes numbers clean merged 
     (inl (begins_order t.0 (Err (from_write f)) (order_where on order id) merged done lanes (written ++ w.0) w.1.0 shown t.1.1 all (no_end_before f t.0 shown.logs)))
 
 -- a set without a verdict, and one with a No
-module _ {S : Type 0} (remaining : S → Option (List ℕ)) (failed : S → ℕ) (old new : Option (List ℕ)) (before after : List S) (lanes : List Lane) (merged : List (List Record)) (done : List Entry) (written kept : List ℕ) (order : List OpId)
+module _ {S : Type 0} (remaining : S → Option (List ℕ)) (failed : S → ℕ) (old new : Option (List ℕ)) (before after : List S) (lanes : List LaneParts) (merged : List (List Record)) (done : List Entry) (written kept : List ℕ) (order : List OpId)
     (shown : IsShown order merged done lanes) (appends : Appends old new written) (lines : written ++ kept ≡ id_lines order) where
   pub merged_fault : (fault : JudgeFault) → (IsBadCount fault → ⊥) → IsFinalVerdict remaining failed before after lanes merged (Err fault) → IsMergedBy remaining failed old new before after (Err (Judge fault))
   merged_fault fault counts s = record {
@@ -116,7 +122,7 @@ module _ {S : Type 0} (remaining : S → Option (List ℕ)) (failed : S → ℕ)
   }
 
 -- a Yes: all records were merged without a fault, and their order is written
-module _ {S : Type 0} (remaining : S → Option (List ℕ)) (failed : S → ℕ) (old mid new : Option (List ℕ)) (before after : List S) (merge : Merge) (merged : List (List Record)) (done : List Entry) (written kept kept_new : List ℕ) (order : List OpId) (count : ℕ)
+module _ {S L : Type 0} (remaining : S → Option (List ℕ)) (failed : S → ℕ) (old mid new : Option (List ℕ)) (before after : List S) (merge : Merge L) (merged : List (List Record)) (done : List Entry) (written kept kept_new : List ℕ) (order : List OpId) (count : ℕ)
     (m : HasMerged remaining failed before after merge merged done) (appends : Appends old mid written) (lines : written ++ kept ≡ id_lines order)
     (s : IsFinalVerdict remaining failed before after merge.lanes.items merged (Ok (Yes count))) (counted : count ≡ length done) (all : merge.clean ≡ true → order ≡ ids done) where
   steady : merge.clean ≡ true

@@ -14,3 +14,4 @@ pub mod Shown
 pub mod MergeSoFar
 pub mod Stopped
 pub mod Judged
+pub mod Slices

@@ -20,7 +20,7 @@ use Rattle.merge_judge.proofs.Added.{entries_few}
 use Rattle.merge_judge.proofs.Shown.{IsShown, ids, order_where}
 use Rattle.merge_judge.proofs.WritingFacts.{end_line_some}
 
-pub record MergeSoFar {S : Type 0} (remaining : S → Option (List ℕ)) (failed : S → ℕ) (old new : Option (List ℕ)) (failed_before failed_now : ℕ) (before after : List S) (merge : Merge) (values : List ℕ) (sources : List Source) (kept : List ℕ) (fault : Option AddressFault) (count : ℕ) : Type 0 where
+pub record MergeSoFar {S L : Type 0} (remaining : S → Option (List ℕ)) (failed : S → ℕ) (old new : Option (List ℕ)) (failed_before failed_now : ℕ) (before after : List S) (merge : Merge L) (values : List ℕ) (sources : List Source) (kept : List ℕ) (fault : Option AddressFault) (count : ℕ) : Type 0 where
   pub merged : List (List Record)
   pub done : List Entry
   pub is_merged : HasMerged remaining failed before after merge merged done
@@ -44,7 +44,7 @@ there [] n l = absurd (omega arith)
 there (x ∷ xs) zero l = (x, refl)
 there (x ∷ xs) (suc n) l = there xs n (omega arith)
 
-pub few_done : {S : Type 0} (remaining : S → Option (List ℕ)) (failed : S → ℕ) (before after : List S) (merge : Merge) (merged : List (List Record)) (done : List Entry) → HasMerged remaining failed before after merge merged done → length done ≤ 67108864
+pub few_done : {S L : Type 0} (remaining : S → Option (List ℕ)) (failed : S → ℕ) (before after : List S) (merge : Merge L) (merged : List (List Record)) (done : List Entry) → HasMerged remaining failed before after merge merged done → length done ≤ 67108864
 few_done remaining failed before after merge merged done m =
     let few = entries_few 0 1048576 merged (λ k w.
     let b = there before k (omega (arith, w, m.logs)) in

@@ -21,13 +21,13 @@ use Rattle.verdict.specs.ByKey.{by_key}
 use Rattle.verdict.proofs.Lists.{set_here, set_elsewhere}
 use Rattle.verdict.proofs.ProgramOrder.{less_index}
 use Rattle.verdict.proofs.SerialOrder.{tied_id}
-use Rattle.merge_judge.specs.declared.lane.Lane.{Lane}
+use Rattle.merge_judge.specs.LaneParts.{LaneParts}
 use Rattle.merge_judge.specs.inner.Matches.{IsLeastAt}
 use Rattle.merge_judge.specs.inner.Lanes.{AllEnded, ComeBefore, IsFaulty, IsFrontNumber, IsLaneAt, IsMerged, IsStage, IsTaken, NoFalls, NoFaults, SomeFaulty, add, entry_at, falls_after, front_list, log_at}
 use Rattle.merge_judge.proofs.Added.{add_here, add_long, add_other, by_key_more, entries_more}
 use Rattle.merge_judge.proofs.Falls.{fall_here_is}
 use Rattle.merge_judge.proofs.LaneFacts.{few_answered}
-use Rattle.merge_judge.specs.inner.Following.{Follows}
+use Rattle.merge_judge.specs.inner.Following.{FollowsOn}
 use Rattle.log_file.specs.Answering.{IsFaultless}
 use Rattle.mem_op.specs.Limits.{operation_limit}
 
@@ -111,7 +111,7 @@ there (x ∷ xs) (suc n) l = there xs n (omega arith)
 one : {X : Type 0} (o : Option X) (a b : X) → o ≡ Some a → o ≡ Some b → a ≡ b
 one o a b p q = cc
 
-pub taken_there : (lanes : List Lane) (core : ℕ) (lane lane_new : Lane) (r : Record) → slice_get lanes core ≡ Some lane → lane.front ≡ Some r → IsTaken core r lanes (slice_set lanes core lane_new)
+pub taken_there : (lanes : List LaneParts) (core : ℕ) (lane lane_new : LaneParts) (r : Record) → slice_get lanes core ≡ Some lane → lane.front ≡ Some r → IsTaken core r lanes (slice_set lanes core lane_new)
 taken_there lanes core lane lane_new r lane_is front_is = record {
   many = length-set lanes core lane_new;
   front = (lane, lane_is, front_is);
@@ -120,8 +120,8 @@ taken_there lanes core lane lane_new r lane_is front_is = record {
 
 -- ---- the merge
 
-module _ {S : Type 0} (remaining : S → Option (List ℕ)) (failed : S → ℕ) (before after : List S) (lanes : List Lane) (numbers : List ℕ) (clean : Bool) (merged : List (List Record)) (done : List Entry)
-    (m : IsMerged remaining failed before after lanes numbers clean merged done) (core : ℕ) (inside : core < length numbers) (least : IsLeastAt numbers core) (lane : Lane) (lane_is : slice_get lanes core ≡ Some lane) where
+module _ {S : Type 0} (remaining : S → Option (List ℕ)) (failed : S → ℕ) (before after : List S) (lanes : List LaneParts) (numbers : List ℕ) (clean : Bool) (merged : List (List Record)) (done : List Entry)
+    (m : IsMerged remaining failed before after lanes numbers clean merged done) (core : ℕ) (inside : core < length numbers) (least : IsLeastAt numbers core) (lane : LaneParts) (lane_is : slice_get lanes core ≡ Some lane) where
   -- where the least front is none, all logs have ended
   pub all_ended : lane.front ≡ None → AllEnded lanes
   all_ended none k l h = go l.front refl
@@ -149,19 +149,19 @@ module _ {S : Type 0} (remaining : S → Option (List ℕ)) (failed : S → ℕ)
     lane_now : IsLaneAt remaining failed core (length before) source_at.0 after_at.0 lane (log_at merged core)
     lane_now = m.lane core source_at.0 after_at.0 lane source_at.1 after_at.1 lane_is
 
-    stage : (lane.fault ≡ None) × Follows core (length before) (remaining source_at.0) (remaining after_at.0) lane.log (log_at merged core ++ r ∷ [])
+    stage : (lane.fault ≡ None) × FollowsOn core (length before) (remaining source_at.0) (remaining after_at.0) lane.log (log_at merged core ++ r ∷ [])
     stage = subst (λ o. IsStage core (length before) (remaining source_at.0) (remaining after_at.0) lane.log (log_at merged core) o lane.fault) front_is lane_now.stage
 
-    pub faultless : IsFaultless lane.log.reader
-    faultless = (stage.1.bytes, (log_at merged core ++ r ∷ [], stage.1.answered))
+    pub faultless : IsFaultless lane.log.log.reader
+    faultless = (stage.1.0.bytes, (log_at merged core ++ r ∷ [], stage.1.0.answered))
 
     pub room : lane.merged < operation_limit
-    room = let few = few_answered lane.log.reader stage.1.bytes (log_at merged core ++ r ∷ []) stage.1.answered in omega (arith, few, lane_now.count, length_push (log_at merged core) r)
+    room = let few = few_answered lane.log.log.reader stage.1.0.bytes (log_at merged core ++ r ∷ []) stage.1.0.answered in omega (arith, few, lane_now.count, length_push (log_at merged core) r)
 
     pub count_is : lane.merged ≡ length (log_at merged core)
     count_is = lane_now.count
 
-    module _ (source source_new : S) (source_is : slice_get after core ≡ Some source) (lane_new : Lane) (n : ℕ) (clean_new : Bool)
+    module _ (source source_new : S) (source_is : slice_get after core ≡ Some source) (lane_new : LaneParts) (n : ℕ) (clean_new : Bool)
         (advanced : (c cs : ℕ) (b : S) (rs : List Record) → lane.front ≡ Some r → IsLaneAt remaining failed c cs b source lane rs → IsLaneAt remaining failed c cs b source_new lane_new (rs ++ r ∷ []))
         (falls : lane_new.falls ≡ None → lane.falls ≡ None)
         (faulty : IsFaulty lane → IsFaulty lane_new)
@@ -171,7 +171,7 @@ module _ {S : Type 0} (remaining : S → Option (List ℕ)) (failed : S → ℕ)
       abbrev e : Entry
       e = entry_at core (length (log_at merged core)) r
 
-      abbrev lanes_new : List Lane
+      abbrev lanes_new : List LaneParts
       lanes_new = slice_set lanes core lane_new
 
       in_lanes : core < length lanes
@@ -189,7 +189,7 @@ module _ {S : Type 0} (remaining : S → Option (List ℕ)) (failed : S → ℕ)
       logs_here : log_at (add merged core r) core ≡ log_at merged core ++ r ∷ []
       logs_here = add_here merged core r in_logs
 
-      lane_at : (k : ℕ) (b a : S) (l : Lane) → slice_get before k ≡ Some b → slice_get (slice_set after core source_new) k ≡ Some a → slice_get lanes_new k ≡ Some l
+      lane_at : (k : ℕ) (b a : S) (l : LaneParts) → slice_get before k ≡ Some b → slice_get (slice_set after core source_new) k ≡ Some a → slice_get lanes_new k ≡ Some l
           → IsLaneAt remaining failed k (length before) b a l (log_at (add merged core r) k)
       lane_at k b a l hb ha hl = elim (cases_eq k core) [
         | inl q ↦ (let w : core < length after = slice_get_within after core source source_is in
@@ -205,19 +205,19 @@ module _ {S : Type 0} (remaining : S → Option (List ℕ)) (failed : S → ℕ)
             (m.lane k b a l hb (sym (set_elsewhere after core k source_new q) ∙ ha) (sym (elsewhere k q) ∙ hl))
       ]
 
-      number_at : (k : ℕ) (l : Lane) → slice_get lanes_new k ≡ Some l → IsFrontNumber k l.front (slice_index (slice_set numbers core n) k)
+      number_at : (k : ℕ) (l : LaneParts) → slice_get lanes_new k ≡ Some l → IsFrontNumber k l.front (slice_index (slice_set numbers core n) k)
       number_at k l hl = elim (cases_eq k core) [
         | inl q ↦ (let l_is : lane_new ≡ l = one (slice_get lanes_new core) lane_new l here (subst (λ j. slice_get lanes_new j ≡ Some l) q hl) in
             subst (λ j. IsFrontNumber j l.front (slice_index (slice_set numbers core n) j)) (sym q)
             (subst (λ x. IsFrontNumber core l.front x) (sym (get_or-set_same numbers core n 0 inside))
-            (subst (λ (x : Lane). IsFrontNumber core x.front n) l_is number_new)))
+            (subst (λ (x : LaneParts). IsFrontNumber core x.front n) l_is number_new)))
         | inr q ↦ subst (λ x. IsFrontNumber k l.front x) (sym (get_or-set_other numbers core k n 0 q)) (m.number k l (sym (elsewhere k q) ∙ hl))
       ]
 
       none_fell : NoFalls lanes_new → NoFalls lanes
       none_fell h k l hl = elim (cases_eq k core) [
         | inl q ↦ (let l_is : lane ≡ l = one (slice_get lanes core) lane l lane_is (subst (λ j. slice_get lanes j ≡ Some l) q hl) in
-            subst (λ (x : Lane). x.falls ≡ None) l_is (falls (h core lane_new here)))
+            subst (λ (x : LaneParts). x.falls ≡ None) l_is (falls (h core lane_new here)))
         | inr q ↦ h k l (elsewhere k q ∙ hl)
       ]
 
@@ -227,14 +227,14 @@ module _ {S : Type 0} (remaining : S → Option (List ℕ)) (failed : S → ℕ)
       by_key_new : NoFalls lanes_new → done ++ e ∷ [] ≡ by_key (add merged core r)
       by_key_new h = ap (λ es. es ++ e ∷ []) (m.by_key_so_far (none_fell h)) ∙ sym (by_key_more merged core r in_logs (all_before (none_fell h)))
 
-      numbers_of : (c : ℕ) (l : Lane) (f : Record) → slice_get lanes c ≡ Some l → l.front ≡ Some f → IsFrontNumber c (Some f) (slice_index numbers c)
+      numbers_of : (c : ℕ) (l : LaneParts) (f : Record) → slice_get lanes c ≡ Some l → l.front ≡ Some f → IsFrontNumber c (Some f) (slice_index numbers c)
       numbers_of c l f hl hf = subst (λ o. IsFrontNumber c o (slice_index numbers c)) hf (m.number c l hl)
 
       -- the record that was taken comes before each front
-      taken_before : NoFalls lanes_new → (k : ℕ) (l : Lane) (f : Record) → slice_get lanes_new k ≡ Some l → l.front ≡ Some f → is_lt (entry_cmp e (entry_at k (length (log_at (add merged core r) k)) f)) ≡ true
+      taken_before : NoFalls lanes_new → (k : ℕ) (l : LaneParts) (f : Record) → slice_get lanes_new k ≡ Some l → l.front ≡ Some f → is_lt (entry_cmp e (entry_at k (length (log_at (add merged core r) k)) f)) ≡ true
       taken_before h k l f hl hf = elim (cases_eq k core) [
         | inl q ↦ (let l_is : lane_new ≡ l = one (slice_get lanes_new core) lane_new l here (subst (λ j. slice_get lanes_new j ≡ Some l) q hl) in
-            let new_front : lane_new.front ≡ Some f = subst (λ (x : Lane). x.front ≡ Some f) (sym l_is) hf in
+            let new_front : lane_new.front ≡ Some f = subst (λ (x : LaneParts). x.front ≡ Some f) (sym l_is) hf in
             let s = source_at in
             let at = advanced core (length before) s.0 (log_at merged core) front_is (m.lane core s.0 source lane s.1 source_is lane_is) in
             let steady : falls_after r f ≡ false = fall_here_is (log_at merged core) r f lane_new.falls (subst (λ o. IsLeastWhere (is_core_fault ((log_at merged core ++ r ∷ []) ++ front_list o)) lane_new.falls) new_front at.first_fall) (h core lane_new here) in
@@ -276,14 +276,14 @@ module _ {S : Type 0} (remaining : S → Option (List ℕ)) (failed : S → ℕ)
       steady_new : clean_new ≡ true → NoFalls lanes_new
       steady_new h k l hl = elim (cases_eq k core) [
         | inl q ↦ (let l_is : lane_new ≡ l = one (slice_get lanes_new core) lane_new l here (subst (λ j. slice_get lanes_new j ≡ Some l) q hl) in
-            subst (λ (x : Lane). x.falls ≡ None) l_is ((kept h).1 (m.steady (kept h).0 core lane lane_is)))
+            subst (λ (x : LaneParts). x.falls ≡ None) l_is ((kept h).1 (m.steady (kept h).0 core lane lane_is)))
         | inr q ↦ m.steady (kept h).0 k l (sym (elsewhere k q) ∙ hl)
       ]
 
       whole_new : clean_new ≡ true → NoFaults lanes_new
       whole_new h k l hl = elim (cases_eq k core) [
         | inl q ↦ (let l_is : lane_new ≡ l = one (slice_get lanes_new core) lane_new l here (subst (λ j. slice_get lanes_new j ≡ Some l) q hl) in
-            subst (λ (x : Lane). x.fault ≡ None) l_is ((kept h).2 (m.whole (kept h).0 core lane lane_is)))
+            subst (λ (x : LaneParts). x.fault ≡ None) l_is ((kept h).2 (m.whole (kept h).0 core lane lane_is)))
         | inr q ↦ m.whole (kept h).0 k l (sym (elsewhere k q) ∙ hl)
       ]
 

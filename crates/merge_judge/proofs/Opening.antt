@@ -7,16 +7,16 @@ use Rattle.std.proofs.lemmas.Option.{slice_get_within}
 use Rattle.log_record.specs.Entries.{entry_cmp, entries_from}
 use Rattle.line_stamps.specs.Ordered.{sorted}
 use Rattle.verdict.proofs.Lists.{set_here, set_elsewhere}
-use Rattle.merge_judge.specs.declared.lane.Lane.{Lane}
+use Rattle.merge_judge.specs.LaneParts.{LaneParts}
 use Rattle.merge_judge.specs.inner.Lanes.{IsFaulty, IsFrontNumber, IsLaneAt, IsMerged, NoFalls, NoFaults, SomeFaulty, log_at}
 
 -- the first record of each of the first n logs was read
-pub record Opened {S : Type 0} (remaining : S → Option (List ℕ)) (failed : S → ℕ) (before after : List S) (n : ℕ) (lanes : List Lane) (numbers : List ℕ) (clean : Bool) : Type 0 where
+pub record Opened {S : Type 0} (remaining : S → Option (List ℕ)) (failed : S → ℕ) (before after : List S) (n : ℕ) (lanes : List LaneParts) (numbers : List ℕ) (clean : Bool) : Type 0 where
   pub readers : length after ≡ length before
   pub many : length lanes ≡ n
   pub fronts : length numbers ≡ n
-  pub lane : (k : ℕ) (b a : S) (l : Lane) → slice_get before k ≡ Some b → slice_get after k ≡ Some a → slice_get lanes k ≡ Some l → IsLaneAt remaining failed k (length before) b a l []
-  pub number : (k : ℕ) (l : Lane) → slice_get lanes k ≡ Some l → IsFrontNumber k l.front (slice_index numbers k)
+  pub lane : (k : ℕ) (b a : S) (l : LaneParts) → slice_get before k ≡ Some b → slice_get after k ≡ Some a → slice_get lanes k ≡ Some l → IsLaneAt remaining failed k (length before) b a l []
+  pub number : (k : ℕ) (l : LaneParts) → slice_get lanes k ≡ Some l → IsFrontNumber k l.front (slice_index numbers k)
   pub faulty : clean ≡ false → SomeFaulty lanes
   pub steady : NoFalls lanes
   pub whole : clean ≡ true → NoFaults lanes
@@ -59,14 +59,14 @@ one : {X : Type 0} (o : Option X) (a b : X) → o ≡ Some a → o ≡ Some b �
 one o a b p q = cc
 
 -- one more
-module _ {S : Type 0} (remaining : S → Option (List ℕ)) (failed : S → ℕ) (before after : List S) (n : ℕ) (lanes : List Lane) (numbers : List ℕ) (clean : Bool) (h : Opened remaining failed before after n lanes numbers clean)
-    (source source_new : S) (source_is : slice_get after n ≡ Some source) (lane : Lane) (number : ℕ) (clean_new : Bool)
+module _ {S : Type 0} (remaining : S → Option (List ℕ)) (failed : S → ℕ) (before after : List S) (n : ℕ) (lanes : List LaneParts) (numbers : List ℕ) (clean : Bool) (h : Opened remaining failed before after n lanes numbers clean)
+    (source source_new : S) (source_is : slice_get after n ≡ Some source) (lane : LaneParts) (number : ℕ) (clean_new : Bool)
     (at : IsLaneAt remaining failed n (length before) source source_new lane []) (number_is : IsFrontNumber n lane.front number) (found : clean_new ≡ false → (clean ≡ false) ⊎ IsFaulty lane) (steady : lane.falls ≡ None)
     (kept : clean_new ≡ true → (clean ≡ true) × (lane.fault ≡ None)) where
   before_is : slice_get before n ≡ Some source
   before_is = sym (h.rest n (omega arith)) ∙ source_is
 
-  split : (k : ℕ) (l : Lane) → slice_get (lanes ++ lane ∷ []) k ≡ Some l → ((k < n) × (slice_get lanes k ≡ Some l)) ⊎ ((k ≡ n) × (lane ≡ l))
+  split : (k : ℕ) (l : LaneParts) → slice_get (lanes ++ lane ∷ []) k ≡ Some l → ((k < n) × (slice_get lanes k ≡ Some l)) ⊎ ((k ≡ n) × (lane ≡ l))
   split k l hl = elim (cases_lt k n) [
     | inl low ↦ inl (low, sym (get_left lanes (lane ∷ []) k (omega (arith, low, h.many))) ∙ hl)
     | inr high ↦ (let w = slice_get_within (lanes ++ lane ∷ []) k l hl in let e : k ≡ n = omega (arith, high, w, length_push lanes lane, h.many) in
@@ -92,14 +92,14 @@ module _ {S : Type 0} (remaining : S → Option (List ℕ)) (failed : S → ℕ)
       | inl p ↦ subst (λ x. IsFrontNumber k l.front x) (sym (index_left numbers (number ∷ []) k (let m = p.0 in omega (arith, m, h.fronts)))) (h.number k l p.1)
       | inr p ↦ subst (λ j. IsFrontNumber j l.front (slice_index (numbers ++ number ∷ []) j)) (sym p.0)
           (subst (λ x. IsFrontNumber n l.front x) (sym (index_last numbers number n h.fronts))
-          (subst (λ (x : Lane). IsFrontNumber n x.front number) p.1 number_is))
+          (subst (λ (x : LaneParts). IsFrontNumber n x.front number) p.1 number_is))
     ];
     faulty = λ e. elim (found e) [
       | inl old ↦ (let t = h.faulty old in (t.0, (t.1.0, get_left lanes (lane ∷ []) t.0 (slice_get_within lanes t.0 t.1.0 t.1.1) ∙ t.1.1, t.1.2)))
       | inr now ↦ (n, (lane, get_last lanes lane n h.many, now))
     ];
-    steady = λ k l hl. elim (split k l hl) [ inl p ↦ h.steady k l p.1 | inr p ↦ subst (λ (x : Lane). x.falls ≡ None) p.1 steady ];
-    whole = λ e k l hl. elim (split k l hl) [ inl p ↦ h.whole (kept e).0 k l p.1 | inr p ↦ subst (λ (x : Lane). x.fault ≡ None) p.1 (kept e).1 ];
+    steady = λ k l hl. elim (split k l hl) [ inl p ↦ h.steady k l p.1 | inr p ↦ subst (λ (x : LaneParts). x.falls ≡ None) p.1 steady ];
+    whole = λ e k l hl. elim (split k l hl) [ inl p ↦ h.whole (kept e).0 k l p.1 | inr p ↦ subst (λ (x : LaneParts). x.fault ≡ None) p.1 (kept e).1 ];
     rest = λ k l. set_elsewhere after n k source_new (λ e. omega (arith, l, e)) ∙ h.rest k (omega (arith, l));
   }
 
@@ -117,7 +117,7 @@ pub replicate_long : {X : Type 0} (n : ℕ) (x : X) → length (replicate n x) �
 replicate_long zero x = refl
 replicate_long (suc n) x = ap suc (replicate_long n x)
 
-pub all_opened : {S : Type 0} (remaining : S → Option (List ℕ)) (failed : S → ℕ) (before after : List S) (n : ℕ) (lanes : List Lane) (numbers : List ℕ) (clean : Bool) → Opened remaining failed before after n lanes numbers clean
+pub all_opened : {S : Type 0} (remaining : S → Option (List ℕ)) (failed : S → ℕ) (before after : List S) (n : ℕ) (lanes : List LaneParts) (numbers : List ℕ) (clean : Bool) → Opened remaining failed before after n lanes numbers clean
     → n ≡ length before → 0 < length before → length before ≤ 64 → IsMerged remaining failed before after lanes numbers clean (replicate (length before) []) []
 all_opened remaining failed before after n lanes numbers clean h all some few = record {
   readers = h.readers;
@@ -136,12 +136,12 @@ all_opened remaining failed before after n lanes numbers clean h all some few = 
   whole = h.whole;
 }
 
-pub is_faulty : (lane : Lane) (b : Bool) → is_some lane.fault ≡ not b → b ≡ false → IsFaulty lane
+pub is_faulty : (lane : LaneParts) (b : Bool) → is_some lane.fault ≡ not b → b ≡ false → IsFaulty lane
 is_faulty lane b e h = inr (λ none. let t : false ≡ not b = sym (ap is_some none) ∙ e in let u : false ≡ true = t ∙ ap not h in cc)
 
 is_nothing : {X : Type 0} (o : Option X) → is_some o ≡ false → o ≡ None
 is_nothing None h = refl
 is_nothing (Some x) h = absurd cc
 
-pub is_whole : (lane : Lane) (b : Bool) → is_some lane.fault ≡ not b → b ≡ true → lane.fault ≡ None
+pub is_whole : (lane : LaneParts) (b : Bool) → is_some lane.fault ≡ not b → b ≡ true → lane.fault ≡ None
 is_whole lane b e h = is_nothing lane.fault (e ∙ ap not h)

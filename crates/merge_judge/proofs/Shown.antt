@@ -23,7 +23,7 @@ use Rattle.verdict.specs.ByKey.{by_key, ids_by_key}
 use Rattle.verdict.specs.declared.answer.Verdict.TheVariants.{Yes, No}
 use Rattle.verdict.specs.Faults.{from_address}
 use Rattle.verdict.specs.VerdictOf.{verdict_of, verdict_with}
-use Rattle.merge_judge.specs.declared.lane.Lane.{Lane}
+use Rattle.merge_judge.specs.LaneParts.{LaneParts}
 use Rattle.merge_judge.specs.inner.Lanes.{IsMerged, IsTaken, add, entry_at, front_list, log_at}
 use Rattle.merge_judge.specs.inner.Memory.{first_along}
 use Rattle.merge_judge.proofs.Added.{add_here, add_long, add_other}
@@ -59,16 +59,16 @@ yes_where logs rises right =
 
 -- After the shown records of a core its log has ended without a fault; or one more was read, which comes after all of them; or
 -- none are shown.
-abbrev pub EndsHere : List (List Record) → List (List Record) → ℕ → Lane → Type 0
+abbrev pub EndsHere : List (List Record) → List (List Record) → ℕ → LaneParts → Type 0
 EndsHere logs merged k lane = (lane.front ≡ None) × (lane.fault ≡ None) × (log_at logs k ≡ log_at merged k)
 
-abbrev pub GoesOn : List (List Record) → List (List Record) → ℕ → Lane → Type 0
+abbrev pub GoesOn : List (List Record) → List (List Record) → ℕ → LaneParts → Type 0
 GoesOn logs merged k lane =
     (r : Record) × ((rest : List Record) × (log_at logs k ++ r ∷ rest ≡ log_at merged k ++ front_list lane.front)
     × ((x : Entry) → In x (entries logs) → is_lt (entry_cmp x (entry_at k (length (log_at logs k)) r)) ≡ true))
 
 -- The ids are those of these first records of the logs that were merged, and of the entries that were done. None has a fault.
-pub record IsShown (order : List OpId) (merged : List (List Record)) (done : List Entry) (lanes : List Lane) : Type 0 where
+pub record IsShown (order : List OpId) (merged : List (List Record)) (done : List Entry) (lanes : List LaneParts) : Type 0 where
   pub logs : List (List Record)
   pub many : length logs ≡ length merged
   pub begins : (k : ℕ) → (rest : List Record) × (log_at logs k ++ rest ≡ log_at merged k)
@@ -76,7 +76,7 @@ pub record IsShown (order : List OpId) (merged : List (List Record)) (done : Lis
   pub right : least_address_fault (entries logs) ≡ None
   pub order_is : order ≡ ids_by_key logs
   pub first : (later : List Entry) × (by_key logs ++ later ≡ done)
-  pub next : (k : ℕ) (lane : Lane) → slice_get lanes k ≡ Some lane → EndsHere logs merged k lane ⊎ (GoesOn logs merged k lane ⊎ (entries logs ≡ []))
+  pub next : (k : ℕ) (lane : LaneParts) → slice_get lanes k ≡ Some lane → EndsHere logs merged k lane ⊎ (GoesOn logs merged k lane ⊎ (entries logs ≡ []))
 
 -- ---- at first
 
@@ -85,7 +85,7 @@ nothing_rises zero k log h i = absurd cc
 nothing_rises (suc n) zero log h i = let e : [] ≡ log = cc in subst (λ rs. is_core_fault rs i ≡ false) e (fall_past [] i (omega arith))
 nothing_rises (suc n) (suc k) log h i = nothing_rises n k log h i
 
-pub shown_none : (n : ℕ) (lanes : List Lane) → IsShown [] (replicate n []) [] lanes
+pub shown_none : (n : ℕ) (lanes : List LaneParts) → IsShown [] (replicate n []) [] lanes
 shown_none n lanes = record {
   logs = replicate n [];
   many = refl;
@@ -109,12 +109,12 @@ grows (log ∷ logs) zero (suc k) r = ([], append-nil (log_at logs k))
 grows (log ∷ logs) (suc core) zero r = ([], append-nil log)
 grows (log ∷ logs) (suc core) (suc k) r = grows logs core k r
 
-module _ (order : List OpId) (merged : List (List Record)) (done : List Entry) (e : Entry) (old new : List Lane) (taken : IsTaken e.id.core e.logged old new) (inside : e.id.core < length merged) (h : IsShown order merged done old) where
+module _ (order : List OpId) (merged : List (List Record)) (done : List Entry) (e : Entry) (old new : List LaneParts) (taken : IsTaken e.id.core e.logged old new) (inside : e.id.core < length merged) (h : IsShown order merged done old) where
   abbrev merged_new : List (List Record)
   merged_new = add merged e.id.core e.logged
 
   -- the record that was taken was a front
-  at_core : (lane : Lane) → EndsHere h.logs merged e.id.core taken.front.0 ⊎ (GoesOn h.logs merged e.id.core taken.front.0 ⊎ (entries h.logs ≡ []))
+  at_core : (lane : LaneParts) → EndsHere h.logs merged e.id.core taken.front.0 ⊎ (GoesOn h.logs merged e.id.core taken.front.0 ⊎ (entries h.logs ≡ []))
       → EndsHere h.logs merged_new e.id.core lane ⊎ (GoesOn h.logs merged_new e.id.core lane ⊎ (entries h.logs ≡ []))
   at_core lane (inl ends) = absurd (let a = ends.0 in let b = taken.front.2 in cc)
   at_core lane (inr (inl (r, (rest, is, after)))) = inr (inl (
@@ -128,13 +128,13 @@ module _ (order : List OpId) (merged : List (List Record)) (done : List Entry) (
   ))
   at_core lane (inr (inr none)) = inr (inr none)
 
-  elsewhere : (k : ℕ) (lane : Lane) → (k ≡ e.id.core → ⊥) → EndsHere h.logs merged k lane ⊎ (GoesOn h.logs merged k lane ⊎ (entries h.logs ≡ []))
+  elsewhere : (k : ℕ) (lane : LaneParts) → (k ≡ e.id.core → ⊥) → EndsHere h.logs merged k lane ⊎ (GoesOn h.logs merged k lane ⊎ (entries h.logs ≡ []))
       → EndsHere h.logs merged_new k lane ⊎ (GoesOn h.logs merged_new k lane ⊎ (entries h.logs ≡ []))
   elsewhere k lane other (inl ends) = inl (ends.0, ends.1, ends.2 ∙ sym (add_other merged e.id.core k e.logged other))
   elsewhere k lane other (inr (inl (r, (rest, is, after)))) = inr (inl (r, (rest, is ∙ ap (λ rs. rs ++ front_list lane.front) (sym (add_other merged e.id.core k e.logged other)), after)))
   elsewhere k lane other (inr (inr none)) = inr (inr none)
 
-  next_still : (k : ℕ) (lane : Lane) → slice_get new k ≡ Some lane → EndsHere h.logs merged_new k lane ⊎ (GoesOn h.logs merged_new k lane ⊎ (entries h.logs ≡ []))
+  next_still : (k : ℕ) (lane : LaneParts) → slice_get new k ≡ Some lane → EndsHere h.logs merged_new k lane ⊎ (GoesOn h.logs merged_new k lane ⊎ (entries h.logs ≡ []))
   next_still k lane hl = elim (cases_eq k e.id.core) [
     | inl q ↦ subst (λ j. EndsHere h.logs merged_new j lane ⊎ (GoesOn h.logs merged_new j lane ⊎ (entries h.logs ≡ []))) (sym q) (at_core lane (h.next e.id.core taken.front.0 taken.front.1))
     | inr q ↦ elsewhere k lane q (h.next k lane (sym (taken.others k q) ∙ hl))
@@ -153,7 +153,7 @@ module _ (order : List OpId) (merged : List (List Record)) (done : List Entry) (
     next = next_still;
   }
 
-module _ {S : Type 0} (remaining : S → Option (List ℕ)) (failed : S → ℕ) (before after : List S) (lanes : List Lane) (numbers : List ℕ) where
+module _ {S : Type 0} (remaining : S → Option (List ℕ)) (failed : S → ℕ) (before after : List S) (lanes : List LaneParts) (numbers : List ℕ) where
   shown_now : (merged : List (List Record)) (done : List Entry) (order : List OpId) → IsMerged remaining failed before after lanes numbers true merged done → None ≡ first_along [] done → order ≡ ids done → IsShown order merged done lanes
   shown_now merged done order m none is = record {
     logs = merged;
@@ -169,7 +169,7 @@ module _ {S : Type 0} (remaining : S → Option (List ℕ)) (failed : S → ℕ)
       sorted_is : done ≡ by_key merged
       sorted_is = m.by_key_so_far (m.steady refl)
 
-      goes_on : (k : ℕ) (l : Lane) → slice_get lanes k ≡ Some l → (o : Option Record) → l.front ≡ o → EndsHere merged merged k l ⊎ (GoesOn merged merged k l ⊎ (entries merged ≡ []))
+      goes_on : (k : ℕ) (l : LaneParts) → slice_get lanes k ≡ Some l → (o : Option Record) → l.front ≡ o → EndsHere merged merged k l ⊎ (GoesOn merged merged k l ⊎ (entries merged ≡ []))
       goes_on k l hl None q = inl (q, m.whole refl k l hl, refl)
       goes_on k l hl (Some r) q = inr (inl (
         r,
@@ -192,14 +192,14 @@ module _ {S : Type 0} (remaining : S → Option (List ℕ)) (failed : S → ℕ)
           let same : log_at merged k ≡ log = one (slice_get merged k) (log_at merged k) log (log_there merged k w) h in
           subst (λ rs. (i : ℕ) → is_core_fault rs i ≡ false) same (never_front (log_at merged k) (front_list l.0.front) none_falls)
 
-  in_merged : (merged : List (List Record)) (done : List Entry) (e : Entry) (clean : Bool) (old : List Lane) → IsTaken e.id.core e.logged old lanes
+  in_merged : (merged : List (List Record)) (done : List Entry) (e : Entry) (clean : Bool) (old : List LaneParts) → IsTaken e.id.core e.logged old lanes
       → IsMerged remaining failed before after lanes numbers clean (add merged e.id.core e.logged) (done ++ e ∷ []) → e.id.core < length merged
   in_merged merged done e clean old taken m =
       let w = slice_get_within old e.id.core taken.front.0 taken.front.1 in
       omega (arith, w, taken.many, m.many, m.logs, add_long merged e.id.core e.logged)
 
   pub shown_more : (merged : List (List Record)) (done : List Entry) (order : List OpId) (e : Entry) (fault : Option AddressFault) (clean : Bool)
-      → (old : List Lane) → IsTaken e.id.core e.logged old lanes → IsShown order merged done old → IsMerged remaining failed before after lanes numbers clean (add merged e.id.core e.logged) (done ++ e ∷ [])
+      → (old : List LaneParts) → IsTaken e.id.core e.logged old lanes → IsShown order merged done old → IsMerged remaining failed before after lanes numbers clean (add merged e.id.core e.logged) (done ++ e ∷ [])
       → fault ≡ first_along [] (done ++ e ∷ []) → (fault ≡ None → clean ≡ true → order_where (is_none fault && clean) order e.id ≡ ids (done ++ e ∷ []))
       → IsShown (order_where (is_none fault && clean) order e.id) (add merged e.id.core e.logged) (done ++ e ∷ []) lanes
   shown_more merged done order e None true old taken h m first all = shown_now (add merged e.id.core e.logged) (done ++ e ∷ []) (order ++ e.id ∷ []) m first (all refl refl)
@@ -207,5 +207,5 @@ module _ {S : Type 0} (remaining : S → Option (List ℕ)) (failed : S → ℕ)
   shown_more merged done order e (Some f) clean old taken h m first all = shown_still order merged done e old lanes taken (in_merged merged done e clean old taken m) h
 
 -- where no front was left
-pub shown_after : (order : List OpId) (merged : List (List Record)) (done : List Entry) (old new : List Lane) → new ≡ old → IsShown order merged done old → IsShown order merged done new
+pub shown_after : (order : List OpId) (merged : List (List Record)) (done : List Entry) (old new : List LaneParts) → new ≡ old → IsShown order merged done old → IsShown order merged done new
 shown_after order merged done old new same h = subst (λ lanes. IsShown order merged done lanes) (sym same) h

@@ -32,8 +32,7 @@ use Rattle.verdict.specs.Judgement.{IsYes}
 use Rattle.verdict.proofs.Told.{told}
 use Rattle.merge_judge.specs.Begun.{BeginsLog, BeginsOrder, EndBefore}
 use Rattle.merge_judge.specs.OrderText.{id_lines}
-use Rattle.merge_judge.specs.OpenedLog.{OpenedLog}
-use Rattle.merge_judge.specs.declared.lane.Lane.{Lane}
+use Rattle.merge_judge.specs.LaneParts.{KeptLog, LaneParts}
 use Rattle.merge_judge.specs.inner.Lanes.{IsMerged, IsStage, NoFalls, front_list, log_at}
 use Rattle.merge_judge.specs.inner.FinalVerdict.{AreBegun, IsFaultIn}
 use Rattle.log_file.specs.Log.{Spells}
@@ -47,7 +46,7 @@ use Rattle.merge_judge.proofs.FinalVerdict.{gather, log_there, one, tell_each, t
 use Rattle.merge_judge.proofs.Shown.{IsShown, none_yes, yes_where}
 
 -- what is written of the ids that are shown
-pub begins_order : (texts : List (List ℕ)) (result : Result Verdict MergeFault) (order : List OpId) (merged : List (List Record)) (done : List Entry) (lanes : List Lane) (written kept : List ℕ) → (s : IsShown order merged done lanes) → AreBegun texts lanes merged → written ++ kept ≡ id_lines order
+pub begins_order : (texts : List (List ℕ)) (result : Result Verdict MergeFault) (order : List OpId) (merged : List (List Record)) (done : List Entry) (lanes : List LaneParts) (written kept : List ℕ) → (s : IsShown order merged done lanes) → AreBegun texts lanes merged → written ++ kept ≡ id_lines order
     → EndBefore texts result s.logs → BeginsOrder texts result written
 begins_order texts result order merged done lanes written kept s begun lines before = record {
   logs = s.logs;
@@ -81,16 +80,16 @@ begins_order texts result order merged done lanes written kept s begun lines bef
 abbrev IsBegun : ℕ → ℕ → List ℕ → List Record → Option Record → Option LogFault → Type 0
 IsBegun core cores text merged front fault = BeginsLog core cores text (merged ++ front_list front) × (front ≡ None → fault ≡ None → Spells core cores text merged)
 
-begun_stage : (core cores : ℕ) (first still : Option (List ℕ)) (log : OpenedLog) (merged : List Record) (front : Option Record) (fault : Option LogFault) → IsStage core cores first still log merged front fault → (text : List ℕ) × (Tells first text × IsBegun core cores text merged front fault)
+begun_stage : (core cores : ℕ) (first still : Option (List ℕ)) (log : KeptLog) (merged : List Record) (front : Option Record) (fault : Option LogFault) → IsStage core cores first still log merged front fault → (text : List ℕ) × (Tells first text × IsBegun core cores text merged front fault)
 begun_stage core cores first still log merged (Some r) fault h =
-    let t = begun_text core cores first still log (merged ++ r ∷ []) h.1 in
+    let t = begun_text core cores first still log.log (merged ++ r ∷ []) h.1.0 in
     (t.0, (t.1, (t.2, λ none. absurd cc)))
 begun_stage core cores first still log merged None None h =
     (h.text, (h.tells, (subst (λ rs. BeginsLog core cores h.text rs) (sym (append-nil merged)) (begins_whole core cores h.text merged h.spells), λ none sound. h.spells)))
 begun_stage core cores first still log merged None (Some f) h =
     (h.text, (h.tells, (subst (λ rs. BeginsLog core cores h.text rs) (sym (append-nil merged)) h.begins, λ none sound. absurd cc)))
 
-pub begun_texts : {S : Type 0} (remaining : S → Option (List ℕ)) (failed : S → ℕ) (before after : List S) (lanes : List Lane) (numbers : List ℕ) (clean : Bool) (merged : List (List Record)) (done : List Entry)
+pub begun_texts : {S : Type 0} (remaining : S → Option (List ℕ)) (failed : S → ℕ) (before after : List S) (lanes : List LaneParts) (numbers : List ℕ) (clean : Bool) (merged : List (List Record)) (done : List Entry)
     → IsMerged remaining failed before after lanes numbers clean merged done → (texts : List (List ℕ)) × (TellEach remaining before texts × AreBegun texts lanes merged)
 begun_texts {S} remaining failed before after lanes numbers clean merged done m = (
   all.0,
@@ -106,9 +105,9 @@ begun_texts {S} remaining failed before after lanes numbers clean merged done m 
 )
   where
     IsTextOf : ℕ → S → List ℕ → Type 0
-    IsTextOf k b text = Tells (remaining b) text × ((l : Lane) → slice_get lanes k ≡ Some l → IsBegun k (length before) text (log_at merged k) l.front l.fault)
+    IsTextOf k b text = Tells (remaining b) text × ((l : LaneParts) → slice_get lanes k ≡ Some l → IsBegun k (length before) text (log_at merged k) l.front l.fault)
 
-    within : (k : ℕ) (l : Lane) → slice_get lanes k ≡ Some l → k < length before
+    within : (k : ℕ) (l : LaneParts) → slice_get lanes k ≡ Some l → k < length before
     within k l hl = let w = slice_get_within lanes k l hl in omega (arith, w, m.many)
 
     all : (texts : List (List ℕ)) × ((length texts ≡ length before) × ((k : ℕ) (b : S) → slice_get before k ≡ Some b → IsTextOf k b (text_at texts k)))
@@ -117,7 +116,7 @@ begun_texts {S} remaining failed before after lanes numbers clean merged done m 
         let a = there after k (omega (arith, w, m.readers)) in
         let l = there lanes k (omega (arith, w, m.many)) in
         let t = begun_stage k (length before) (remaining b) (remaining a.0) l.0.log (log_at merged k) l.0.front l.0.fault (m.lane k b a.0 l.0 hb a.1 l.1).stage in
-        (t.0, (t.1.0, λ x hx. subst (λ (y : Lane). IsBegun k (length before) t.0 (log_at merged k) y.front y.fault) (one (slice_get lanes k) l.0 x l.1 hx) t.1.1)))
+        (t.0, (t.1.0, λ x hx. subst (λ (y : LaneParts). IsBegun k (length before) t.0 (log_at merged k) y.front y.fault) (one (slice_get lanes k) l.0 x l.1 hx) t.1.1)))
 
 -- no record of the texts
 pub none_begins : {S : Type 0} (remaining : S → Option (List ℕ)) (readers : List S) (f : JudgeFault) → BeginsOrder (map (λ reader. told (remaining reader)) readers) (Err (Judge f)) []
@@ -150,7 +149,7 @@ nothing_there : (o : Option Record) → ((r : Record) → o ≡ Some r → ⊥) 
 nothing_there None h = refl
 nothing_there (Some r) h = absurd (h r refl)
 
-module _ (order : List OpId) (merged : List (List Record)) (done : List Entry) (lanes : List Lane) (s : IsShown order merged done lanes) where
+module _ (order : List OpId) (merged : List (List Record)) (done : List Entry) (lanes : List LaneParts) (s : IsShown order merged done lanes) where
   -- a record that falls isn't shown
   fall_not_shown : (id : OpId) → is_core_fault (log_at merged id.core) id.index ≡ true → (r : Record) → record_at s.logs id ≡ Some r → ⊥
   fall_not_shown id fall r h =

@@ -1,9 +1,11 @@
 pub mod Answer
 pub mod Begun
 pub mod Kept
+pub mod LaneParts
 pub mod LogKept
 pub mod OpenedLog
 pub mod OrderText
+pub mod Records
 pub mod Texts
 pub mod WriteFaults
 pub mod inner

@@ -1,5 +1,6 @@
 -- Definitions that serve private contracts alone.
 pub mod Following
+pub mod Given
 pub mod Judging
 pub mod Lanes
 pub mod Matches

@@ -12,17 +12,18 @@ ghost use Rattle.merge_judge.specs.inner.Memory.{first_along};
 
 use super::lane::Lane;
 use super::merge::Merge;
+use super::record_source::{Reading, RecordSource};
 use address_check::AddressFault;
-use log_file::{ByteSource, SetFault};
+use log_file::SetFault;
 use mem_op::{CoreId, OpId, OpIndex};
 use verdict::{Fault, JudgeFault, Rule, Verdict};
 
 /// The fault of the least file that has one.
-fn first_faulty(lanes: &[Lane]) -> Option<SetFault>
+fn first_faulty<L: Reading>(lanes: &[Lane<L>]) -> Option<SetFault>
     ensures { MatchOption result (NoneFaulty lanes.now (length lanes.now)) (IsFirstFaulty lanes.now) }
 {
     for (file, lane) in lanes.iter().enumerate() {
-        if let Some(fault) = lane.fault {
+        if let Some(fault) = lane.fault() {
             return Some(SetFault { file, fault });
         }
     }
@@ -30,22 +31,22 @@ fn first_faulty(lanes: &[Lane]) -> Option<SetFault>
 }
 
 /// The least core whose log falls, and the first index at which it does.
-fn first_fall(lanes: &[Lane]) -> Option<(usize, usize)>
+fn first_fall<L: Reading>(lanes: &[Lane<L>]) -> Option<(usize, usize)>
     ensures { MatchOption result (NoneFalls lanes.now (length lanes.now)) (IsFirstFall lanes.now) }
 {
     for (core, lane) in lanes.iter().enumerate() {
-        if let Some(index) = lane.falls {
+        if let Some(index) = lane.falls() {
             return Some((core, index));
         }
     }
     None
 }
 
-impl Merge {
+impl<L: Reading> Merge<L> {
     /// The verdict on logs that were merged to their ends, of which no core falling this is the first
     /// fault along the order of keys, and this the number of records; or the fault of the least log
     /// that has one.
-    pub(crate) fn final_verdict<S: ByteSource>(
+    pub(crate) fn final_verdict<S: RecordSource<L>>(
         &self,
         readers: &[S],
         address: Option<AddressFault>,

@@ -15,25 +15,30 @@ ghost use Rattle.std.specs.Option.{option_or};
 ghost use Rattle.log_record.specs.declared.record.Entry.{Entry};
 ghost use Rattle.merge_judge.specs.inner.Judging.{IsMergedBy, IsNoCount, line_where};
 ghost use Rattle.merge_judge.specs.inner.Memory.{Holds, fault_after};
+ghost use Rattle.merge_judge.specs.inner.Merging.{Fit};
 ghost use Rattle.merge_judge.specs.inner.Writing.{IsWritten};
 
 use super::merge::Merge;
 use super::merge_fault::MergeFault;
+use super::nowhere::Nowhere;
+use super::open_log::OpenLog;
+use super::order::Order;
 use super::order_text::OrderText;
+use super::record_source::{Reading, RecordSource};
 use super::sourced_memory::SourcedMemory;
 use address_check::AddressFault;
 use log_file::{ByteSink, ByteSource, WriteFault};
 use log_record::Entry;
 use std::alloc::Global;
-use verdict::{Verdict, check_counts};
+use verdict::{JudgeFault, Verdict, check_counts};
 
 /// Looks at a record that was merged, and writes its id where no fault was found up to it.
-fn look<W: ByteSink>(
+fn look<W: ByteSink, O: Order<W>>(
     entry: &Entry,
     clean: bool,
     words: &mut SourcedMemory,
     fault: &mut Option<AddressFault>,
-    order: &mut OrderText,
+    order: &mut O,
     order_out: &mut W,
 ) -> Result<(), WriteFault>
     requires words { length words.old.values.items ≡ 65536 }
@@ -47,7 +52,7 @@ fn look<W: ByteSink>(
         → (fault.old ≡ None → Holds words.old.values.items words.old.sources.items done)
         → fault.new ≡ option_or fault.old (fault_after done entry.now) }
     ensures written { IsWritten (W.contents order_out.old) (W.contents order_out.new)
-        (order.old ++ line_where (is_none fault.new && clean) entry.now.id) result order.new }
+        (O.kept order.old ++ line_where (is_none fault.new && clean) entry.now.id) result (O.kept order.new) }
     ensures failures { TellsFailure (IsErrOf result WriteFault.Write)
         (W.failed order_out.old) (W.failed order_out.new) }
 {
@@ -64,22 +69,25 @@ fn look<W: ByteSink>(
     order.add(order_out, entry.id())
 }
 
-/// What `merge_judge` answers and writes, where the number of files is in range.
-fn merged<S: ByteSource, W: ByteSink>(
+/// What `merge_judge` answers and writes, where the number of files is in range and this becomes of the
+/// ids of the order.
+pub(crate) fn merged<L: Reading, S: RecordSource<L>, W: ByteSink, O: Order<W>>(
     alloc: Global,
     readers: &mut [S],
     order_out: &mut W,
+    mut order: O,
 ) -> Result<Verdict, MergeFault>
     requires some { 0 < length readers.old }
     requires few { length readers.old ≤ 64 }
+    requires fit { Fit S.fits readers.old }
+    requires none { O.kept order ≡ [] }
     ensures counted { IfErr result IsNoCount }
     ensures exact { IsMergedBy S.remaining S.failed (W.contents order_out.old) (W.contents order_out.new)
         readers.old readers.new result }
     ensures failures { TellsFailure (IsErrOf result Write) (W.failed order_out.old) (W.failed order_out.new) }
 {
-    let mut merge = Merge::new(alloc, readers)?;
+    let mut merge: Merge<L> = Merge::new(alloc, readers)?;
     let mut words = SourcedMemory::new(alloc)?;
-    let mut order = OrderText::new(alloc)?;
     let mut fault = None;
     let mut count: usize = 0;
     while let Some(entry) = merge.take_first(readers) {
@@ -132,5 +140,32 @@ pub fn merge_judge<S: ByteSource, W: ByteSink>(
     ensures failures { TellsFailure (IsErrOf result Write) (W.failed order_out.old) (W.failed order_out.new) }
 {
     check_counts(readers.len(), 1)?;
-    merged(alloc, readers, order_out)
+    let order = OrderText::new(alloc)?;
+    merged::<OpenLog, S, W, OrderText>(alloc, readers, order_out, order)
+}
+
+/// The verdict on the set of logs that the readers give, as `merge_judge` answers it, without an order.
+///
+/// Refusals: those of `merge_judge` but 29.
+pub fn merged_verdict<S: ByteSource>(
+    alloc: Global,
+    readers: &mut [S],
+) -> Result<Verdict, JudgeFault>
+    // 6 comes exactly where the number of files is out of range, and nothing is read then.
+    ensures files { IsErrOf result (BadConfig Files) ↔ IsOutOfRange (length readers.old) }
+    ensures unread { IsErrOf result (BadConfig Files) → readers.new ≡ readers.old }
+    ensures workers { ¬ IsErrOf result (BadConfig Workers) }
+    ensures programs { ¬ IsErrOf result (BadConfig Programs) }
+    // The readers tell texts, and the answer is that of the judge to these.
+    ensures exact { (texts : List (List ℕ)) × TellEach S.remaining readers.old texts
+        × IsAnswerTo texts result }
+    ensures read { IfErr result (λ fault. (file : ℕ) → fault ≡ Read file
+        → ReaderFailed S.failed readers.old readers.new file) }
+{
+    check_counts(readers.len(), 1)?;
+    match merged::<OpenLog, S, Nowhere, Nowhere>(alloc, readers, &mut Nowhere, Nowhere) {
+        Ok(verdict) => Ok(verdict),
+        Err(MergeFault::Judge(fault)) => Err(fault),
+        Err(MergeFault::Write) => unreachable!(),
+    }
 }

@@ -6,25 +6,34 @@ ghost use Rattle.log_record.specs.declared.record.Record.{Record};
 ghost use Rattle.log_file.specs.Answering.{IsFaultless};
 ghost use Rattle.merge_judge.specs.inner.Lanes.{IsFaulty, IsLaneAt, falls_now};
 
-use super::open_log::OpenLog;
-use log_file::{ByteSource, LogFault};
+use super::record_source::{Reading, RecordSource};
+use log_file::LogFault;
 use log_record::Record;
 use mem_op::CoreId;
 use std::alloc::{AllocError, Global};
+use std::marker::Model;
 
 /// How far the log of one core was merged.
 #[derive(Drop)]
-pub(crate) struct Lane {
+pub(crate) struct Lane<L: Reading> {
     /// The log, of which all records up to the front were read.
-    pub(crate) log: OpenLog,
+    log: L,
     /// The first record that wasn't merged, if there is one.
-    pub(crate) front: Option<Record>,
+    front: Option<Record>,
     /// How many records were merged.
-    pub(crate) merged: usize,
+    merged: usize,
     /// The first index at which `(ts, rank)` is less than at the index before.
-    pub(crate) falls: Option<usize>,
+    falls: Option<usize>,
     /// Why the log has no more records, where it isn't whole.
-    pub(crate) fault: Option<LogFault>,
+    fault: Option<LogFault>,
+}
+
+impl<L: Reading> Model for Lane<L> {
+    ghost use Rattle.merge_judge.specs.LaneParts.{LaneParts};
+
+    ghost Value = { LaneParts };
+
+    ghost view = { λ a. record { log = L.kept a.log; front = a.front; merged = a.merged; falls = a.falls; fault = a.fault } };
 }
 
 /// Whether `(ts, rank)` falls from one record to the next, for the first time.
@@ -37,23 +46,24 @@ fn falls_now(known: Option<usize>, earlier: &Record, later: &Record) -> bool
     }
 }
 
-impl Lane {
+impl<L: Reading> Lane<L> {
     /// The log of this core of `cores`, of which the first record was read. Err where memory was refused.
-    pub(crate) fn new<S: ByteSource>(
+    pub(crate) fn new<S: RecordSource<L>>(
         alloc: Global,
         core: CoreId,
         cores: u64,
         source: &mut S,
-    ) -> Result<Lane, AllocError>
+    ) -> Result<Lane<L>, AllocError>
         requires core { core < cores }
         requires cores { cores ≤ 64 }
+        requires fits { S.fits core cores source.old }
         ensures at { IfOk result (λ lane.
             IsLaneAt S.remaining S.failed core cores source.old source.new lane []) }
         ensures merged { IfOk result (λ lane. lane.merged ≡ 0) }
         ensures steady { IfOk result (λ lane. lane.falls ≡ None) }
     {
-        let mut log = OpenLog::new(alloc, core, cores)?;
-        match log.next(source) {
+        let mut log = source.open(alloc, core, cores)?;
+        match source.next(&mut log) {
             Ok(front) => Ok(Lane {
                 log,
                 front,
@@ -71,9 +81,37 @@ impl Lane {
         }
     }
 
+    /// The first record that wasn't merged, if there is one.
+    pub(crate) fn front(&self) -> Option<Record>
+        ensures { result ≡ self.now.front }
+    {
+        self.front
+    }
+
+    /// How many records were merged.
+    pub(crate) fn merged(&self) -> usize
+        ensures { result ≡ self.now.merged }
+    {
+        self.merged
+    }
+
+    /// The first index at which `(ts, rank)` is less than at the index before.
+    pub(crate) fn falls(&self) -> Option<usize>
+        ensures { result ≡ self.now.falls }
+    {
+        self.falls
+    }
+
+    /// Why the log has no more records, where it isn't whole.
+    pub(crate) fn fault(&self) -> Option<LogFault>
+        ensures { result ≡ self.now.fault }
+    {
+        self.fault
+    }
+
     /// Merges the front, and reads the next record. False where that one falls, or the log has a fault.
-    pub(crate) fn advance<S: ByteSource>(&mut self, source: &mut S, front: &Record) -> bool
-        requires faultless { IsFaultless self.old.log.reader }
+    pub(crate) fn advance<S: RecordSource<L>>(&mut self, source: &mut S, front: &Record) -> bool
+        requires faultless { IsFaultless self.old.log.log.reader }
         requires room { self.old.merged < operation_limit }
         ensures advanced { (core cores : ℕ) (before : S) (merged : List Record)
             → self.old.front ≡ Some front.now
@@ -87,7 +125,7 @@ impl Lane {
         ensures found { result ≡ false → IsFaulty self.new }
     {
         self.merged += 1;
-        match self.log.next(source) {
+        match source.next(&mut self.log) {
             Ok(Some(next)) => {
                 self.front = Some(next);
                 if falls_now(self.falls, front, &next) {

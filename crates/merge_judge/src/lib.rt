@@ -6,10 +6,17 @@ mod judging;
 mod lane;
 mod merge;
 mod merge_fault;
+mod nowhere;
 mod open_log;
+mod order;
 mod order_text;
+mod record_judging;
+mod record_slice;
+mod record_source;
 mod sourced_memory;
 mod tournament;
 
-pub use judging::merge_judge;
+pub use judging::{merge_judge, merged_verdict};
 pub use merge_fault::MergeFault;
+pub use record_judging::records_verdict;
+pub use record_slice::{RecordSlice, Recorded};

@@ -4,20 +4,20 @@ ghost use Rattle.std.specs.Prelude.{◌≡◌, ◌<◌, ◌≤◌, ◌∷◌, �
 ghost use Rattle.log_record.specs.declared.record.Record.{Record};
 ghost use Rattle.log_record.specs.declared.record.Entry.{Entry};
 ghost use Rattle.merge_judge.specs.inner.Lanes.{AllEnded, IsFrontNumber, IsTaken, add};
-ghost use Rattle.merge_judge.specs.inner.Merging.{HasMerged, IsMerging, none_of};
+ghost use Rattle.merge_judge.specs.inner.Merging.{Fit, HasMerged, IsMerging, none_of};
 
 use super::lane::Lane;
+use super::record_source::{Reading, RecordSource};
 use super::tournament::Tournament;
-use log_file::ByteSource;
 use log_record::{Entry, Record};
 use mem_op::{CoreId, OpId, OpIndex};
 use std::alloc::{AllocError, Global};
 
 /// How far the logs of a set were merged.
 #[derive(Drop)]
-pub(crate) struct Merge {
+pub(crate) struct Merge<L: Reading> {
     /// The logs, one a core.
-    pub(crate) lanes: Vec<Lane>,
+    pub(crate) lanes: Vec<Lane<L>>,
     /// The numbers of their fronts.
     pub(crate) fronts: Tournament,
     /// Whether no fault was found in any of them.
@@ -40,11 +40,15 @@ fn front_number(front: &Option<Record>, core: usize) -> u128
     }
 }
 
-impl Merge {
+impl<L: Reading> Merge<L> {
     /// The logs of a set, of each of which the first record was read. Err where memory was refused.
-    pub(crate) fn new<S: ByteSource>(alloc: Global, readers: &mut [S]) -> Result<Merge, AllocError>
+    pub(crate) fn new<S: RecordSource<L>>(
+        alloc: Global,
+        readers: &mut [S],
+    ) -> Result<Merge<L>, AllocError>
         requires some { 0 < length readers.old }
         requires few { length readers.old ≤ 64 }
+        requires fit { Fit S.fits readers.old }
         ensures { IfOk result (λ merge. HasMerged S.remaining S.failed readers.old readers.new merge
             (none_of readers.old) []) }
     {
@@ -54,8 +58,8 @@ impl Merge {
         let mut clean = true;
         for (core, reader) in readers.iter_mut().enumerate() {
             let lane = Lane::new(alloc, CoreId::at(core), cores, reader)?;
-            clean = clean && lane.fault.is_none();
-            numbers.push(front_number(&lane.front, core))?;
+            clean = clean && lane.fault().is_none();
+            numbers.push(front_number(&lane.front(), core))?;
             lanes.push(lane)?;
         }
         let fronts = Tournament::new(alloc, numbers)?;
@@ -67,7 +71,7 @@ impl Merge {
     }
 
     /// Takes the front of least key, and reads the record after it; None where all logs have ended.
-    pub(crate) fn take_first<S: ByteSource>(&mut self, readers: &mut [S]) -> Option<Entry>
+    pub(crate) fn take_first<S: RecordSource<L>>(&mut self, readers: &mut [S]) -> Option<Entry>
         requires { IsMerging S.remaining S.failed readers.old self.old }
         ensures clean { self.new.clean ≡ true → self.old.clean ≡ true }
         ensures taken { MatchOption result (self.new.lanes.items ≡ self.old.lanes.items)
@@ -82,13 +86,13 @@ impl Merge {
     {
         let core = self.fronts.first();
         let lane = &mut self.lanes[core];
-        let Some(logged) = lane.front else {
+        let Some(logged) = lane.front() else {
             return None;
         };
-        let (place, index) = (CoreId::at(core), OpIndex::at(lane.merged));
+        let (place, index) = (CoreId::at(core), OpIndex::at(lane.merged()));
         let entry = Entry::new(OpId { core: place, index }, &logged);
         let clean = lane.advance(&mut readers[core], &logged);
-        self.fronts.set(core, front_number(&lane.front, core));
+        self.fronts.set(core, front_number(&lane.front(), core));
         self.clean = self.clean && clean;
         Some(entry)
     }

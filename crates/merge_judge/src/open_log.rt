@@ -7,6 +7,7 @@ ghost use Rattle.log_file.specs.Answering.{HasAnswered, IsFaultless};
 ghost use Rattle.log_file.specs.Devices.{CountsFailure, Failed};
 ghost use Rattle.merge_judge.specs.inner.Following.{Follows, IsNext, TakesOne};
 
+use super::record_source::{Reading, RecordSource};
 use log_file::{ByteSource, LogFault, ReadFailed, RecordReader};
 use log_record::Record;
 use mem_op::CoreId;
@@ -48,7 +49,7 @@ fn room(alloc: Global) -> Result<Vec<u8>, AllocError>
 
 impl OpenLog {
     /// The log of this core of `cores`, of which nothing was read. Err where memory was refused.
-    pub(crate) fn new(alloc: Global, core: CoreId, cores: u64) -> Result<OpenLog, AllocError>
+    fn new(alloc: Global, core: CoreId, cores: u64) -> Result<OpenLog, AllocError>
         requires core { core < cores }
         requires cores { cores ≤ 64 }
         ensures core { IfOk result (λ log. log.reader.core ≡ core) }
@@ -96,7 +97,7 @@ impl OpenLog {
 
     /// The next record of the log; None where it has ended, whole. Else its first fault, or Read where
     /// the source failed.
-    pub(crate) fn next<S: ByteSource>(&mut self, source: &mut S) -> Result<Option<Record>, LogFault>
+    fn next<S: ByteSource>(&mut self, source: &mut S) -> Result<Option<Record>, LogFault>
         requires { IsFaultless self.old.reader }
         ensures core { self.new.reader.core ≡ self.old.reader.core }
         ensures cores { self.new.reader.cores ≡ self.old.reader.cores }
@@ -122,5 +123,27 @@ impl OpenLog {
             }
             reads += 1;
         }
+    }
+}
+
+impl Reading for OpenLog {
+    ghost use Rattle.std.specs.Prelude.{false};
+
+    ghost kept = { λ log. record { log = log; whole = false } };
+}
+
+impl<S: ByteSource> RecordSource<OpenLog> for S {
+    ghost remaining = { S.remaining };
+
+    ghost failed = { S.failed };
+
+    ghost fits = { λ core cores source. Unit {0} };
+
+    fn open(&mut self, alloc: Global, core: CoreId, cores: u64) -> Result<OpenLog, AllocError> {
+        OpenLog::new(alloc, core, cores)
+    }
+
+    fn next(&mut self, log: &mut OpenLog) -> Result<Option<Record>, LogFault> {
+        log.next(self)
     }
 }

@@ -6,6 +6,7 @@ ghost use Rattle.log_file.specs.Devices.{TellsFailure};
 ghost use Rattle.merge_judge.specs.OrderText.{end_line, id_line};
 ghost use Rattle.merge_judge.specs.inner.Writing.{IsWritten};
 
+use super::order::Order;
 use log_file::{ByteSink, WriteFault, write_all};
 use mem_op::OpId;
 use std::alloc::{AllocError, Global};
@@ -14,7 +15,8 @@ use std::marker::Model;
 /// How many bytes are written at once, or a line more.
 const ORDER_PIECE_BYTES: usize = 65_536;
 
-/// The lines of an order that weren't written yet.
+/// The lines of an order that weren't written yet. They are written where they are enough for a piece, and
+/// at the end.
 #[derive(Drop)]
 pub(crate) struct OrderText {
     text: String,
@@ -62,13 +64,12 @@ impl OrderText {
         self.text.clear();
         Ok(())
     }
+}
 
-    /// Adds the line of an id, and writes the lines where they are enough for a piece.
-    pub(crate) fn add<W: ByteSink>(&mut self, out: &mut W, id: OpId) -> Result<(), WriteFault>
-        ensures written { IsWritten (W.contents out.old) (W.contents out.new) (self.old ++ id_line id)
-            result self.new }
-        ensures failures { TellsFailure (IsErrOf result WriteFault.Write) (W.failed out.old) (W.failed out.new) }
-    {
+impl<W: ByteSink> Order<W> for OrderText {
+    ghost kept = { λ order. order };
+
+    fn add(&mut self, out: &mut W, id: OpId) -> Result<(), WriteFault> {
         push_id(&mut self.text, id)?;
         if self.text.len() < ORDER_PIECE_BYTES {
             return Ok(());
@@ -76,12 +77,7 @@ impl OrderText {
         self.flush(out)
     }
 
-    /// Adds the last line, and writes all of the lines.
-    pub(crate) fn end<W: ByteSink>(mut self, out: &mut W, count: u64) -> Result<(), WriteFault>
-        ensures written { IsWritten (W.contents out.old) (W.contents out.new) (self ++ end_line count)
-            result [] }
-        ensures failures { TellsFailure (IsErrOf result WriteFault.Write) (W.failed out.old) (W.failed out.new) }
-    {
+    fn end(mut self, out: &mut W, count: u64) -> Result<(), WriteFault> {
         push_end(&mut self.text, count)?;
         self.flush(out)
     }

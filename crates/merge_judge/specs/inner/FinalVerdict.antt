@@ -18,48 +18,48 @@ use Rattle.verdict.specs.Faults.{from_address}
 use Rattle.verdict.specs.declared.rule.Rule.TheVariants.{CoreOrder}
 use Rattle.merge_judge.specs.inner.Lanes.{NoFalls, front_list, log_at}
 use Rattle.log_file.specs.declared.fault.SetFault.{SetFault}
-use Rattle.merge_judge.specs.declared.lane.Lane.{Lane}
+use Rattle.merge_judge.specs.LaneParts.{LaneParts}
 use Rattle.merge_judge.specs.Begun.{BeginsLog}
 
 -- none of the first n logs has a fault
-abbrev pub NoneFaulty : List Lane → ℕ → Type 0
-NoneFaulty lanes n = (k : ℕ) (lane : Lane) → k < n → slice_get lanes k ≡ Some lane → lane.fault ≡ None
+abbrev pub NoneFaulty : List LaneParts → ℕ → Type 0
+NoneFaulty lanes n = (k : ℕ) (lane : LaneParts) → k < n → slice_get lanes k ≡ Some lane → lane.fault ≡ None
 
 -- none of the first n logs falls
-abbrev pub NoneFalls : List Lane → ℕ → Type 0
-NoneFalls lanes n = (k : ℕ) (lane : Lane) → k < n → slice_get lanes k ≡ Some lane → lane.falls ≡ None
+abbrev pub NoneFalls : List LaneParts → ℕ → Type 0
+NoneFalls lanes n = (k : ℕ) (lane : LaneParts) → k < n → slice_get lanes k ≡ Some lane → lane.falls ≡ None
 
-abbrev pub IsFirstFaulty : List Lane → SetFault → Type 0
+abbrev pub IsFirstFaulty : List LaneParts → SetFault → Type 0
 IsFirstFaulty lanes e =
-    ((lane : Lane) × (slice_get lanes e.file ≡ Some lane) × (lane.fault ≡ Some e.fault)) × NoneFaulty lanes e.file
+    ((lane : LaneParts) × (slice_get lanes e.file ≡ Some lane) × (lane.fault ≡ Some e.fault)) × NoneFaulty lanes e.file
 
-abbrev pub IsFirstFall : List Lane → (ℕ × ℕ) → Type 0
+abbrev pub IsFirstFall : List LaneParts → (ℕ × ℕ) → Type 0
 IsFirstFall lanes at =
-    ((lane : Lane) × (slice_get lanes at.0 ≡ Some lane) × (lane.falls ≡ Some at.1)) × NoneFalls lanes at.0
+    ((lane : LaneParts) × (slice_get lanes at.0 ≡ Some lane) × (lane.falls ≡ Some at.1)) × NoneFalls lanes at.0
 
 -- the record at this fault falls, or no log does and the fault is the least of the addresses
-abbrev pub IsFaultIn : List Lane → List (List Record) → FaultParts → Type 0
+abbrev pub IsFaultIn : List LaneParts → List (List Record) → FaultParts → Type 0
 IsFaultIn lanes merged fault =
     ((fault.rule ≡ CoreOrder) × (is_core_fault (log_at merged fault.id.core) fault.id.index ≡ true))
     ⊎ (NoFalls lanes × ((f : AddressFault) × (least_address_fault (entries merged) ≡ Some f) × (fault ≡ from_address f)))
 
 -- Yes comes where no log has a fault or falls, and is the verdict on the set of these records
-abbrev pub IsClean : List Lane → List (List Record) → List (List ℕ) → Result Verdict JudgeFault → Type 0
+abbrev pub IsClean : List LaneParts → List (List Record) → List (List ℕ) → Result Verdict JudgeFault → Type 0
 IsClean lanes merged texts (Ok (Yes count)) =
-    SpellSet texts merged × (Yes count ≡ verdict_of merged) × ((k : ℕ) (lane : Lane) → slice_get lanes k ≡ Some lane → (lane.falls ≡ None) × (lane.fault ≡ None))
+    SpellSet texts merged × (Yes count ≡ verdict_of merged) × ((k : ℕ) (lane : LaneParts) → slice_get lanes k ≡ Some lane → (lane.falls ≡ None) × (lane.fault ≡ None))
 IsClean lanes merged texts (Ok (No fault)) = SpellSet texts merged × IsFaultIn lanes merged fault
 IsClean lanes merged texts (Err fault) = Unit {0}
 
 -- Each text begins with the records of its log that were merged, and the front; or it spells these, where the log has ended
 -- without a fault.
-pub record AreBegun (texts : List (List ℕ)) (lanes : List Lane) (merged : List (List Record)) : Type 0 where
+pub record AreBegun (texts : List (List ℕ)) (lanes : List LaneParts) (merged : List (List Record)) : Type 0 where
   pub many : length merged ≡ length texts
   pub lanes_many : length lanes ≡ length texts
-  pub each : (k : ℕ) (lane : Lane) → slice_get lanes k ≡ Some lane → BeginsLog k (length texts) (text_at texts k) (log_at merged k ++ front_list lane.front)
-  pub whole : (k : ℕ) (lane : Lane) → slice_get lanes k ≡ Some lane → lane.front ≡ None → lane.fault ≡ None → Spells k (length texts) (text_at texts k) (log_at merged k)
+  pub each : (k : ℕ) (lane : LaneParts) → slice_get lanes k ≡ Some lane → BeginsLog k (length texts) (text_at texts k) (log_at merged k ++ front_list lane.front)
+  pub whole : (k : ℕ) (lane : LaneParts) → slice_get lanes k ≡ Some lane → lane.front ≡ None → lane.fault ≡ None → Spells k (length texts) (text_at texts k) (log_at merged k)
 
 -- the answer to the texts that the readers told
-pub record IsFinalVerdict {S : Type 0} (remaining : S → Option (List ℕ)) (failed : S → ℕ) (before after : List S) (lanes : List Lane) (merged : List (List Record)) (result : Result Verdict JudgeFault) : Type 0 where
+pub record IsFinalVerdict {S : Type 0} (remaining : S → Option (List ℕ)) (failed : S → ℕ) (before after : List S) (lanes : List LaneParts) (merged : List (List Record)) (result : Result Verdict JudgeFault) : Type 0 where
   pub texts : List (List ℕ)
   pub tells : TellEach remaining before texts
   pub answers : IsAnswerTo texts result

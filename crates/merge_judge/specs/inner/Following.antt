@@ -1,6 +1,6 @@
 -- The records of a source's log, one after another.
-use Rattle.std.specs.Prelude.{◌≡◌, ℕ, List, [], ◌∷◌, ◌++◌, Option, None, Some, Result, Ok, Err}
-use Rattle.std.specs.Io.KnownBytes.{Consumes}
+use Rattle.std.specs.Prelude.{◌≡◌, ℕ, true, List, [], ◌∷◌, ◌++◌, Option, None, Some, Result, Ok, Err}
+use Rattle.std.specs.Io.KnownBytes.{Consumes, IsAtEnd}
 use Rattle.log_record.specs.declared.record.Record.{Record}
 use Rattle.log_file.specs.declared.fault.LogFault.{LogFault}
 use Rattle.log_file.specs.Answering.{HasAnswered}
@@ -9,6 +9,7 @@ use Rattle.log_file.specs.Devices.{Tells}
 use Rattle.log_file.specs.Feeding.{IsSettled}
 use Rattle.log_file.specs.Log.{Spells}
 use Rattle.merge_judge.specs.Begun.{BeginsLog}
+use Rattle.merge_judge.specs.LaneParts.{KeptLog}
 use Rattle.merge_judge.specs.OpenedLog.{OpenedLog}
 
 -- what taking a record from the bytes that were read answers
@@ -43,3 +44,14 @@ abbrev pub IsNext : ℕ → ℕ → Option (List ℕ) → List Record → Result
 IsNext core cores first records (Ok (Some r)) still new = Follows core cores first still new (records ++ r ∷ [])
 IsNext core cores first records (Ok None) still new = EndsWhole core cores first records
 IsNext core cores first records (Err fault) still new = EndsAt core cores first records fault
+
+-- ---- a log that may hold all bytes that come
+
+abbrev pub FollowsOn : ℕ → ℕ → Option (List ℕ) → Option (List ℕ) → KeptLog → List Record → Type 0
+FollowsOn core cores first still kept records =
+    Follows core cores first still kept.log records × (kept.whole ≡ true → IsAtEnd still)
+
+abbrev pub IsNextOn : ℕ → ℕ → Option (List ℕ) → List Record → Result (Option Record) LogFault → Option (List ℕ) → KeptLog → Type 0
+IsNextOn core cores first records (Ok (Some r)) still new = FollowsOn core cores first still new (records ++ r ∷ [])
+IsNextOn core cores first records (Ok None) still new = EndsWhole core cores first records
+IsNextOn core cores first records (Err fault) still new = EndsAt core cores first records fault

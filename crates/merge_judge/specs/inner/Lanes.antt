@@ -12,9 +12,8 @@ use Rattle.log_file.specs.declared.fault.LogFault.{LogFault}
 use Rattle.log_file.specs.declared.fault.LogFault.TheVariants.{Read}
 use Rattle.log_file.specs.Devices.{Failed}
 use Rattle.verdict.specs.ByKey.{by_key}
-use Rattle.merge_judge.specs.declared.lane.Lane.{Lane}
-use Rattle.merge_judge.specs.OpenedLog.{OpenedLog}
-use Rattle.merge_judge.specs.inner.Following.{EndsAt, EndsWhole, Follows}
+use Rattle.merge_judge.specs.LaneParts.{KeptLog, LaneParts}
+use Rattle.merge_judge.specs.inner.Following.{EndsAt, EndsWhole, FollowsOn}
 
 -- ---- one log
 
@@ -32,17 +31,17 @@ falls_now None earlier later = falls_after earlier later
 falls_now (Some i) earlier later = false
 
 -- a fault was found in the log
-abbrev pub IsFaulty : Lane → Type 0
+abbrev pub IsFaulty : LaneParts → Type 0
 IsFaulty lane = (lane.falls ≢ None) ⊎ (lane.fault ≢ None)
 
 -- where a log stands: before a record that was read, or at its end
-abbrev pub IsStage : ℕ → ℕ → Option (List ℕ) → Option (List ℕ) → OpenedLog → List Record → Option Record → Option LogFault → Type 0
-IsStage core cores first still log merged (Some r) fault = (fault ≡ None) × Follows core cores first still log (merged ++ r ∷ [])
+abbrev pub IsStage : ℕ → ℕ → Option (List ℕ) → Option (List ℕ) → KeptLog → List Record → Option Record → Option LogFault → Type 0
+IsStage core cores first still log merged (Some r) fault = (fault ≡ None) × FollowsOn core cores first still log (merged ++ r ∷ [])
 IsStage core cores first still log merged None None = EndsWhole core cores first merged
 IsStage core cores first still log merged None (Some fault) = EndsAt core cores first merged fault
 
 -- the log of this core was merged up to these records
-pub record IsLaneAt {S : Type 0} (remaining : S → Option (List ℕ)) (failed : S → ℕ) (core cores : ℕ) (before after : S) (lane : Lane) (merged : List Record) : Type 0 where
+pub record IsLaneAt {S : Type 0} (remaining : S → Option (List ℕ)) (failed : S → ℕ) (core cores : ℕ) (before after : S) (lane : LaneParts) (merged : List Record) : Type 0 where
   pub stage : IsStage core cores (remaining before) (remaining after) lane.log merged lane.front lane.fault
   pub first_fall : IsLeastWhere (is_core_fault (merged ++ front_list lane.front)) lane.falls
   pub count : lane.merged ≡ length merged
@@ -70,42 +69,42 @@ IsFrontNumber core None n = n ≡ 340282366920938463463374607431768211455
 IsFrontNumber core (Some r) n = (n ≡ (r.ts * 4294967296 + r.rank) * 64 + core) × (r.ts ≤ 281474976710656) × (r.rank < 4294967296)
 
 -- no log falls
-abbrev pub NoFalls : List Lane → Type 0
-NoFalls lanes = (k : ℕ) (lane : Lane) → slice_get lanes k ≡ Some lane → lane.falls ≡ None
+abbrev pub NoFalls : List LaneParts → Type 0
+NoFalls lanes = (k : ℕ) (lane : LaneParts) → slice_get lanes k ≡ Some lane → lane.falls ≡ None
 
 -- no log has a fault that isn't one of its order
-abbrev pub NoFaults : List Lane → Type 0
-NoFaults lanes = (k : ℕ) (lane : Lane) → slice_get lanes k ≡ Some lane → lane.fault ≡ None
+abbrev pub NoFaults : List LaneParts → Type 0
+NoFaults lanes = (k : ℕ) (lane : LaneParts) → slice_get lanes k ≡ Some lane → lane.fault ≡ None
 
 -- the front of this core was taken, and no other log was touched
-pub record IsTaken (core : ℕ) (r : Record) (old new : List Lane) : Type 0 where
+pub record IsTaken (core : ℕ) (r : Record) (old new : List LaneParts) : Type 0 where
   pub many : length new ≡ length old
-  pub front : (l : Lane) × (slice_get old core ≡ Some l) × (l.front ≡ Some r)
+  pub front : (l : LaneParts) × (slice_get old core ≡ Some l) × (l.front ≡ Some r)
   pub others : (k : ℕ) → (k ≡ core → ⊥) → slice_get new k ≡ slice_get old k
 
 -- what was done comes before each front
-abbrev pub ComeBefore : List Entry → List Lane → List (List Record) → Type 0
+abbrev pub ComeBefore : List Entry → List LaneParts → List (List Record) → Type 0
 ComeBefore done lanes merged =
-    (x : Entry) → In x done → (k : ℕ) (lane : Lane) (r : Record) → slice_get lanes k ≡ Some lane → lane.front ≡ Some r
+    (x : Entry) → In x done → (k : ℕ) (lane : LaneParts) (r : Record) → slice_get lanes k ≡ Some lane → lane.front ≡ Some r
     → is_lt (entry_cmp x (entry_at k (length (log_at merged k)) r)) ≡ true
 
-abbrev pub SomeFaulty : List Lane → Type 0
-SomeFaulty lanes = (k : ℕ) × ((lane : Lane) × (slice_get lanes k ≡ Some lane) × IsFaulty lane)
+abbrev pub SomeFaulty : List LaneParts → Type 0
+SomeFaulty lanes = (k : ℕ) × ((lane : LaneParts) × (slice_get lanes k ≡ Some lane) × IsFaulty lane)
 
 -- all logs have ended
-abbrev pub AllEnded : List Lane → Type 0
-AllEnded lanes = (k : ℕ) (lane : Lane) → slice_get lanes k ≡ Some lane → lane.front ≡ None
+abbrev pub AllEnded : List LaneParts → Type 0
+AllEnded lanes = (k : ℕ) (lane : LaneParts) → slice_get lanes k ≡ Some lane → lane.front ≡ None
 
 -- the logs were merged up to these records; where none falls, they were done in the order of their keys
-pub record IsMerged {S : Type 0} (remaining : S → Option (List ℕ)) (failed : S → ℕ) (before after : List S) (lanes : List Lane) (numbers : List ℕ) (clean : Bool) (merged : List (List Record)) (done : List Entry) : Type 0 where
+pub record IsMerged {S : Type 0} (remaining : S → Option (List ℕ)) (failed : S → ℕ) (before after : List S) (lanes : List LaneParts) (numbers : List ℕ) (clean : Bool) (merged : List (List Record)) (done : List Entry) : Type 0 where
   pub readers : length after ≡ length before
   pub many : length lanes ≡ length before
   pub logs : length merged ≡ length before
   pub fronts : length numbers ≡ length before
   pub some : 0 < length before
   pub few : length before ≤ 64
-  pub lane : (k : ℕ) (b a : S) (l : Lane) → slice_get before k ≡ Some b → slice_get after k ≡ Some a → slice_get lanes k ≡ Some l → IsLaneAt remaining failed k (length before) b a l (log_at merged k)
-  pub number : (k : ℕ) (l : Lane) → slice_get lanes k ≡ Some l → IsFrontNumber k l.front (slice_index numbers k)
+  pub lane : (k : ℕ) (b a : S) (l : LaneParts) → slice_get before k ≡ Some b → slice_get after k ≡ Some a → slice_get lanes k ≡ Some l → IsLaneAt remaining failed k (length before) b a l (log_at merged k)
+  pub number : (k : ℕ) (l : LaneParts) → slice_get lanes k ≡ Some l → IsFrontNumber k l.front (slice_index numbers k)
   pub total : length done ≡ length (entries merged)
   pub by_key_so_far : NoFalls lanes → done ≡ by_key merged
   pub come_before : NoFalls lanes → ComeBefore done lanes merged

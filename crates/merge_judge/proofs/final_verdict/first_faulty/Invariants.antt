@@ -3,4 +3,4 @@ use Rattle.merge_judge.specs.inner.FinalVerdict.{NoneFaulty}
 use Rattle.merge_judge.proofs.final_verdict.first_faulty.Given as goal
 
 abbrev pub invariant-loop-file : goal.invariant-loop-file
-invariant-loop-file l = NoneFaulty l.lanes l.file
+invariant-loop-file g l = NoneFaulty l.lanes l.file

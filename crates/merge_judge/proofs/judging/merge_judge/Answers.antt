@@ -4,7 +4,7 @@ use Rattle.std.proofs.lemmas.Result.{err_from_is_err_and}
 use Rattle.verdict.specs.VerdictOf.{verdict_of}
 use Rattle.verdict.proofs.Soundness.{bad_count_answers}
 use Rattle.verdict.proofs.Told.{each_tells, told}
-use Rattle.merge_judge.proofs.Judged.{bad_no_read, nothing_after}
+use Rattle.merge_judge.proofs.Judged.{bad_no_read, no_memory, nothing_after}
 use Rattle.merge_judge.proofs.MergeSoFar.{lacks_end}
 use Rattle.merge_judge.proofs.WritingFacts.{appends_none}
 use Rattle.merge_judge.proofs.judging.merge_judge.Goals as goal
@@ -30,3 +30,9 @@ pub returns-in_err-check_counts-clause-read : goal.returns-in_err-check_counts-c
 returns-in_err-check_counts-clause-read g c =
     let p = err_from_is_err_and c.from_residual.result c.from_residual.ensures.1 in
     rw (p.1, p.2) (λ file h. absurd (bad_no_read c.in_err-check_counts.field-0.0 file c.in_err-check_counts.ensures.err h))
+
+pub returns-in_err-order-clause-exact : goal.returns-in_err-order-clause-exact
+returns-in_err-order-clause-exact g c =
+    let p = err_from_is_err_and c.from_residual-in_err-order.result c.from_residual-in_err-order.ensures.1 in
+    let b = no_memory g.S.ByteSource.remaining g.S.ByteSource.failed (g.W.ByteSink.contents c.args.order_out.now) c.args.readers.now c.args.readers.now in
+    rw (p.1, p.2) (b.texts, b.tells, b.answers, (b.written, b.appends, b.writes, b.stops))

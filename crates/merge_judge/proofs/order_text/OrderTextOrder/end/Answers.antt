@@ -3,7 +3,7 @@ use Rattle.std.proofs.Common.{[]}
 use Rattle.std.proofs.lemmas.Result.{err_from_is_err_and}
 use Rattle.merge_judge.specs.OrderText.{end_line}
 use Rattle.merge_judge.proofs.WritingFacts.{none_written, end_line_some}
-use Rattle.merge_judge.proofs.order_text.OrderText.end.Goals as goal
+use Rattle.merge_judge.proofs.order_text.OrderTextOrder.end.Goals as goal
 
 pub returns-in_err-push_end-clause-written : goal.returns-in_err-push_end-clause-written
 returns-in_err-push_end-clause-written g c =

@@ -3,7 +3,7 @@ use Rattle.std.proofs.Common.{[]}
 use Rattle.std.proofs.lemmas.Result.{err_from_is_err_and}
 use Rattle.merge_judge.specs.OrderText.{id_line}
 use Rattle.merge_judge.proofs.WritingFacts.{none_written, id_line_some}
-use Rattle.merge_judge.proofs.order_text.OrderText.add.Goals as goal
+use Rattle.merge_judge.proofs.order_text.OrderTextOrder.add.Goals as goal
 
 pub returns-in_err-push_id-clause-written : goal.returns-in_err-push_id-clause-written
 returns-in_err-push_id-clause-written g c =

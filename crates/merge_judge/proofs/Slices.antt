@@ -1,0 +1,234 @@
+-- Logs whose records are there, as texts that sources tell.
+use Rattle.std.specs.Prelude.{◌≡◌, ◌==◌, ◌<◌, ◌≤◌, ◌⊎◌, All, drop, ℕ, zero, suc, ◌+◌, true, false, List, [], ◌∷◌, ◌++◌, refl, Option, None, Some, Result, Ok, Err, IfErr, IfSome, MatchResult, get_or, length, map, slice_get}
+use Rattle.std.specs.List.{AllZip, AllByRecursion}
+use Rattle.std.proofs.Common.{sym, ◌∙◌, ap, subst, arith, inl, inr, append_assoc, append-nil, length-append}
+use Rattle.std.specs.Io.KnownBytes.{Consumes}
+use Rattle.std.proofs.lemmas.Grind.{flat_map-append}
+use Rattle.std.proofs.lemmas.List.{drop_all, length-map}
+use Rattle.std.proofs.lemmas.List.Elements.{All-cons, All-get_or, All-head, All-nil, All-tail}
+use Rattle.std.proofs.lemmas.Option.{slice_get-get_or, slice_get_within}
+use Rattle.mem_op.specs.Limits.{operation_limit}
+use Rattle.log_record.specs.declared.format.Format.TheVariants.{Two}
+use Rattle.log_record.specs.declared.record.Record.{Record}
+use Rattle.log_record.specs.Line.{FitsIn, end_text, record_text}
+use Rattle.log_file.specs.Devices.{Failed, Tells}
+use Rattle.log_file.specs.Log.{Spells, begun, spelling, text_of, with_lf}
+use Rattle.log_file.specs.Sets.{ReaderFailed, SpellFrom, SpellSet}
+use Rattle.log_file.proofs.Devices.{consumes_end}
+use Rattle.log_file.proofs.Lines.{begun_push, fits_push, spelling_is}
+use Rattle.verdict.specs.Counts.{IsBadCount}
+use Rattle.verdict.specs.Judgement.{IsAnswerTo}
+use Rattle.verdict.specs.VerdictOf.{verdict_of}
+use Rattle.verdict.specs.declared.answer.Verdict.{Verdict}
+use Rattle.verdict.specs.declared.judge_fault.Count.{Count}
+use Rattle.verdict.specs.declared.judge_fault.Count.TheVariants.{Files}
+use Rattle.verdict.specs.declared.judge_fault.JudgeFault.{JudgeFault}
+use Rattle.verdict.specs.declared.judge_fault.JudgeFault.TheVariants.{BadConfig, Log, OutOfMemory, Read}
+use Rattle.verdict.proofs.OneAnswer.{one_answer}
+use Rattle.merge_judge.specs.Records.{AreOfLog, GivenLog, logs_from, records_of}
+use Rattle.merge_judge.specs.inner.Following.{EndsWhole, FollowsOn, IsNextOn}
+use Rattle.merge_judge.specs.inner.Given.{kept_at, lines_from, text_left}
+use Rattle.merge_judge.specs.Answer.{judged}
+use Rattle.merge_judge.specs.declared.merge_fault.MergeFault.{MergeFault}
+use Rattle.merge_judge.specs.declared.merge_fault.MergeFault.TheVariants.{Judge, Write}
+use Rattle.merge_judge.specs.inner.Judging.{IsMergedBy, IsNoCount}
+
+-- ---- one record of a log
+
+-- the line of the record at an index, and those after it
+lines_more : (records : List Record) (at : ℕ) (r : Record) → slice_get records at ≡ Some r → lines_from records at ≡ with_lf (record_text r) ++ lines_from records (at + 1)
+lines_more records at r there =
+    subst (λ n. lines_from records at ≡ with_lf (record_text r) ++ (text_of (map record_text (drop n records)) ++ end)) (let e : suc at ≡ at + 1 = omega arith in e) (go records at there)
+  where
+    end : List ℕ
+    end = text_of (end_text (length records) ∷ [])
+
+    go : (rs : List Record) (k : ℕ) → slice_get rs k ≡ Some r → text_of (map record_text (drop k rs)) ++ end ≡ with_lf (record_text r) ++ (text_of (map record_text (drop (suc k) rs)) ++ end)
+    go [] zero h = absurd cc
+    go [] (suc k) h = absurd cc
+    go (q ∷ rs) zero h = let e : q ≡ r = cc in ap (λ (x : Record). text_of (record_text x ∷ map record_text rs) ++ end) e ∙ append_assoc (with_lf (record_text r)) (text_of (map record_text rs)) end
+    go (q ∷ rs) (suc k) h = go rs k h
+
+module _ (core cores own_core own_cores : ℕ) (first still : Option (List ℕ)) (records : List Record) (at : ℕ) (answered : List Record) (h : FollowsOn core cores first still (kept_at own_core own_cores records at) answered) where
+  pub given_more : (r : Record) → slice_get records at ≡ Some r → FitsIn Two r → at + 1 ≤ operation_limit → IsNextOn core cores first answered (Ok (Some r)) still (kept_at own_core own_cores records (at + 1))
+  given_more r there fits few = (
+    record {
+      core_is = h.0.core_is;
+      cores_is = h.0.cores_is;
+      bytes = h.0.bytes ++ with_lf (record_text r);
+      answered = record {
+        faultless = refl;
+        text = ap (λ bs. bs ++ with_lf (record_text r)) (h.0.answered.text ∙ append-nil (text_of (begun Two own_core own_cores answered)))
+            ∙ sym (begun_push Two own_core own_cores answered r) ∙ sym (append-nil (text_of (begun Two own_core own_cores (answered ++ r ∷ []))));
+        sound = record {
+          core_fits = h.0.answered.sound.core_fits;
+          cores_fit = h.0.answered.sound.cores_fit;
+          few = (let count = h.0.answered.count in omega (arith, few, count, length-append answered (r ∷ [])));
+          each_fits = fits_push Two answered r h.0.answered.sound.each_fits fits;
+        };
+        count = (let count = h.0.answered.count in omega (arith, count, length-append answered (r ∷ [])));
+        one = h.0.answered.one;
+        short = h.0.answered.short;
+      };
+      given = subst (λ bs. Consumes first still bs) (ap (λ bs. h.0.bytes ++ bs) (lines_more records at r there) ∙ sym (append_assoc h.0.bytes (with_lf (record_text r)) (lines_from records (at + 1)))) h.0.given;
+    },
+    h.1,
+  )
+
+  pub given_all : at ≡ length records → EndsWhole core cores first answered
+  given_all all = record {
+    text = h.0.bytes ++ lines_from records at;
+    tells = consumes_end first still (h.0.bytes ++ lines_from records at) h.0.given (h.1 refl);
+    spells = subst (λ c. Spells core c (h.0.bytes ++ lines_from records at) answered) h.0.cores_is (subst (λ c. Spells c own_cores (h.0.bytes ++ lines_from records at) answered) h.0.core_is (Two, (h.0.answered.sound, spelled)));
+  }
+    where
+      last : lines_from records at ≡ with_lf (end_text (length answered))
+      last = ap (λ (rs : List Record). text_of (map record_text rs) ++ text_of (end_text (length records) ∷ [])) (drop_all at records (omega (arith, all)))
+          ∙ append-nil (with_lf (end_text (length records)))
+          ∙ ap (λ n. with_lf (end_text n)) (sym all ∙ h.0.answered.count)
+
+      spelled : h.0.bytes ++ lines_from records at ≡ spelling Two own_core own_cores answered
+      spelled = ap (λ bs. bs ++ lines_from records at) (h.0.answered.text ∙ append-nil (text_of (begun Two own_core own_cores answered)))
+          ∙ ap (λ bs. text_of (begun Two own_core own_cores answered) ++ bs) last ∙ sym (spelling_is Two own_core own_cores answered)
+
+-- the log as it is opened
+given_first : (core cores : ℕ) (records : List Record) → core < cores → cores ≤ 64 → FollowsOn core cores (Some (text_left core cores records false)) (Some (text_left core cores records true)) (kept_at core cores records 0) []
+given_first core cores records core_fits cores_fit = (
+  record {
+    core_is = refl;
+    cores_is = refl;
+    bytes = text_of (begun Two core cores []);
+    answered = record {
+      faultless = refl;
+      text = sym (append-nil (text_of (begun Two core cores [])));
+      sound = record { core_fits = core_fits; cores_fit = cores_fit; few = omega arith; each_fits = tt };
+      count = refl;
+      one = All-nil (λ b. (b == 10) ≡ false);
+      short = omega arith;
+    };
+    given = whole;
+  },
+  λ all. refl,
+)
+  where
+    whole : spelling Two core cores records ≡ (text_of (begun Two core cores []) ++ lines_from records 0) ++ []
+    whole = simp (flat_map-append, append_assoc, append-nil)
+
+pub handed_over : (core cores : ℕ) (s : GivenLog) → core < cores → cores ≤ 64 → s.core ≡ core → s.cores ≡ cores → s.given ≡ false
+    → FollowsOn core cores (Some (text_left s.core s.cores s.records s.given)) (Some (text_left s.core s.cores s.records true)) (kept_at core cores s.records 0) []
+handed_over core cores s core_fits cores_fit core_is cores_is none =
+    let is : text_left s.core s.cores s.records s.given ≡ text_left core cores s.records false =
+    ap (λ n. text_left n s.cores s.records s.given) core_is ∙ ap (λ n. text_left core n s.records s.given) cores_is ∙ ap (text_left core cores s.records) none in
+    subst (λ text. FollowsOn core cores (Some text) (Some []) (kept_at core cores s.records 0) []) (sym is) (given_first core cores s.records core_fits cores_fit)
+
+-- nothing stands past the end alone
+pub nothing_from : {X : Type 0} (items : List X) (at : ℕ) → slice_get items at ≡ None → length items ≤ at
+nothing_from [] at h = omega arith
+nothing_from (x ∷ items) zero h = absurd cc
+nothing_from (x ∷ items) (suc at) h = let later = nothing_from items at h in omega (arith, later)
+
+-- what stands at an index, in the records
+pub record_there : {X : Type 0} (recorded : X → Record) (items : List X) (at : ℕ) (x : X) → slice_get items at ≡ Some x → slice_get (map recorded items) at ≡ Some (recorded x)
+record_there recorded [] zero x h = absurd cc
+record_there recorded [] (suc at) x h = absurd cc
+record_there recorded (y ∷ items) zero x h = let e : y ≡ x = cc in ap (λ z. Some (recorded z)) e
+record_there recorded (y ∷ items) (suc at) x h = record_there recorded items at x h
+
+pub fits_there : (records : List Record) (at : ℕ) (r : Record) → AllByRecursion (FitsIn Two) records → slice_get records at ≡ Some r → FitsIn Two r
+fits_there [] zero r all h = absurd cc
+fits_there [] (suc at) r all h = absurd cc
+fits_there (q ∷ records) zero r all h = let e : q ≡ r = cc in subst (FitsIn Two) e all.0
+fits_there (q ∷ records) (suc at) r all h = fits_there records at r all.1 h
+
+-- ---- the sources of all logs
+
+-- each is the source of its core
+source_fits : (core cores k : ℕ) (records : List (List Record)) (s : GivenLog) → slice_get (logs_from core cores records) k ≡ Some s → (s.core ≡ core + k) × (s.cores ≡ cores) × (s.given ≡ false)
+source_fits core cores zero [] s h = absurd cc
+source_fits core cores (suc k) [] s h = absurd cc
+source_fits core cores zero (log ∷ records) s h =
+    let e : record { core = core; cores = cores; records = log; given = false } ≡ s = cc in
+    subst (λ (x : GivenLog). (x.core ≡ core + 0) × (x.cores ≡ cores) × (x.given ≡ false)) e ((let z : core ≡ core + 0 = omega arith in z), refl, refl)
+source_fits core cores (suc k) (log ∷ records) s h =
+    let t = source_fits (core + 1) cores k records s h in
+    (t.0 ∙ (let e : (core + 1) + k ≡ core + suc k = omega arith in e), t.1, t.2)
+
+pub all_fit : (sources : List GivenLog) → sources ≡ logs_from 0 (length sources) (records_of sources) → All (λ (log : GivenLog). AreOfLog log.records) sources
+    → (core : ℕ) (s : GivenLog) → slice_get sources core ≡ Some s → (s.core ≡ core) × (s.cores ≡ length sources) × AreOfLog s.records × (s.given ≡ false)
+all_fit sources is good core s there =
+    let t = source_fits 0 (length sources) core (records_of sources) s (ap (λ ss. slice_get ss core) (sym is) ∙ there) in
+    let within = slice_get_within sources core s there in
+    let e : get_or sources core s ≡ s = (let h : Some (get_or sources core s) ≡ Some s = sym (slice_get-get_or sources core s within) ∙ there in cc) in
+    (t.0 ∙ (let z : 0 + core ≡ core = omega arith in z), t.1, subst (λ (x : GivenLog). AreOfLog x.records) e (All-get_or (λ (log : GivenLog). AreOfLog log.records) sources core s within good), t.2)
+
+-- the texts that they tell spell these logs
+texts_spell : (core cores : ℕ) (records : List (List Record)) (texts : List (List ℕ)) → All AreOfLog records
+    → core + length records ≡ cores → cores ≤ 64 → AllZip (λ (s : GivenLog) text. Tells (Some (text_left s.core s.cores s.records s.given)) text) (logs_from core cores records) texts
+    → SpellFrom core cores texts records
+texts_spell core cores [] [] good many few tells = tt
+texts_spell core cores [] (t ∷ texts) good many few tells = absurd tells
+texts_spell core cores (log ∷ records) [] good many few tells = absurd tells
+texts_spell core cores (log ∷ records) (t ∷ texts) good many few tells =
+    let first = All-head AreOfLog log records good in
+    let later = texts_spell (core + 1) cores records texts (All-tail AreOfLog log records good) (omega (arith, many)) few tells.1 in
+    ((Two, (record { core_fits = omega (arith, many); cores_fit = few; few = first.few; each_fits = first.fit }, sym tells.0)), later)
+
+all_records : (sources : List GivenLog) → All (λ (log : GivenLog). AreOfLog log.records) sources → All AreOfLog (records_of sources)
+all_records [] good = All-nil AreOfLog
+all_records (s ∷ sources) good = All-cons AreOfLog s.records (records_of sources) (All-head (λ (log : GivenLog). AreOfLog log.records) s sources good) (all_records sources (All-tail (λ (log : GivenLog). AreOfLog log.records) s sources good))
+
+zip_many : {X Y : Type 0} (R : X → Y → Type 0) (xs : List X) (ys : List Y) → AllZip R xs ys → length ys ≡ length xs
+zip_many R [] [] zip = refl
+zip_many R [] (y ∷ ys) zip = absurd zip
+zip_many R (x ∷ xs) [] zip = absurd zip
+zip_many R (x ∷ xs) (y ∷ ys) zip = ap suc (zip_many R xs ys zip.1)
+
+-- ---- the answer
+
+-- what is answered to texts that spell these logs is the verdict on them, where no reader fails
+pub answered_so : (texts : List (List ℕ)) (logs : List (List Record)) (r : Result Verdict JudgeFault) → SpellSet texts logs → IsAnswerTo texts r → ((file : ℕ) → r ≡ Err (Read file) → ⊥) → ((count : Count) → r ≡ Err (BadConfig count) → ⊥)
+    → MatchResult r (λ verdict. verdict ≡ verdict_of logs) (λ fault. (fault ≡ BadConfig Files) ⊎ (fault ≡ OutOfMemory))
+answered_so texts logs (Ok verdict) spell answer unread counts =
+    let is = one_answer verdict_of texts (Ok verdict) (Ok (verdict_of logs)) tt tt answer (logs, spell, refl) in cc
+answered_so texts logs (Err (Log file line f)) spell answer unread counts =
+    let is = one_answer verdict_of texts (Err (Log file line f)) (Ok (verdict_of logs)) tt tt answer (logs, spell, refl) in cc
+answered_so texts logs (Err (Read file)) spell answer unread counts = absurd (unread file refl)
+answered_so texts logs (Err (BadConfig count)) spell answer unread counts = absurd (counts count refl)
+answered_so texts logs (Err OutOfMemory) spell answer unread counts = inr refl
+
+-- no read of what never fails is told as failed, nor is a count
+never_read : {S : Type 0} (before after : List S) (result : Result Verdict MergeFault) (r : Result Verdict JudgeFault) (file : ℕ) → IfErr result (λ fault. (k : ℕ) → fault ≡ Judge (Read k) → ReaderFailed {S = S} (λ _. 0) before after k)
+    → judged result ≡ Some r → r ≡ Err (Read file) → ⊥
+never_read before after (Ok v) r file read is h = cc
+never_read before after (Err Write) r file read is h = cc
+never_read before after (Err (Judge f)) r file read is h =
+    let e : f ≡ Read file = cc in
+    let t = read file (ap (λ x. Judge x) e) in
+    failed_not t.1.3
+  where
+    failed_not : Failed 0 0 → ⊥
+    failed_not (inl less) = omega (arith, less)
+    failed_not (inr most) = omega (arith, most)
+
+never_count : (result : Result Verdict MergeFault) (r : Result Verdict JudgeFault) (count : Count) → IfErr result IsNoCount → judged result ≡ Some r → r ≡ Err (BadConfig count) → ⊥
+never_count (Ok v) r count counted is h = cc
+never_count (Err Write) r count counted is h = cc
+never_count (Err (Judge f)) r count counted is h = let e : f ≡ BadConfig count = cc in counted (subst IsBadCount (sym e) tt)
+
+pub verdict_so : (sources after : List GivenLog) (old new : Option (List ℕ)) (result : Result Verdict MergeFault) (r : Result Verdict JudgeFault)
+    → sources ≡ logs_from 0 (length sources) (records_of sources) → All (λ (log : GivenLog). AreOfLog log.records) sources → length sources ≤ 64
+    → IsMergedBy (λ (s : GivenLog). Some (text_left s.core s.cores s.records s.given)) (λ _. 0) old new sources after result → IfErr result IsNoCount → judged result ≡ Some r
+    → MatchResult r (λ verdict. verdict ≡ verdict_of (records_of sources)) (λ fault. (fault ≡ BadConfig Files) ⊎ (fault ≡ OutOfMemory))
+verdict_so sources after old new result r is good few b counted told =
+    answered_so b.texts (records_of sources) r spell (subst (λ o. IfSome o (IsAnswerTo b.texts)) told b.answers)
+    (λ file h. never_read sources after result r file b.read told h) (λ count h. never_count result r count counted told h)
+  where
+    tells_in : GivenLog → List ℕ → Type 0
+    tells_in s text = Tells (Some (text_left s.core s.cores s.records s.given)) text
+
+    many : length b.texts ≡ length sources
+    many = zip_many tells_in sources b.texts b.tells
+
+    spell : SpellSet b.texts (records_of sources)
+    spell = subst (λ n. SpellFrom 0 n b.texts (records_of sources)) (sym many) (texts_spell 0 (length sources) (records_of sources) b.texts (all_records sources good)
+        (omega (arith, length-map sources (λ (log : GivenLog). log.records))) few (subst (λ ss. AllZip tells_in ss b.texts) is b.tells))

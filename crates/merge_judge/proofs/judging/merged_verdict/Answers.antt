@@ -1,0 +1,29 @@
+-- What is merged is answered; and where the number of files is out of range, nothing is read.
+use Rattle.std.proofs.Common.{Ok, Err, map, subst}
+use Rattle.std.specs.Prelude.{IfSome}
+use Rattle.std.proofs.lemmas.Result.{err_from_is_err_and}
+use Rattle.verdict.specs.Judgement.{IsAnswerTo}
+use Rattle.verdict.specs.VerdictOf.{verdict_of}
+use Rattle.verdict.proofs.Soundness.{bad_count_answers}
+use Rattle.verdict.proofs.Told.{each_tells, told}
+use Rattle.merge_judge.specs.Answer.{judged}
+use Rattle.merge_judge.specs.declared.merge_fault.MergeFault.{MergeFault}
+use Rattle.merge_judge.proofs.judging.merged_verdict.Goals as goal
+
+pub returns-in-Ok-clause-exact : goal.returns-in-Ok-clause-exact
+returns-in-Ok-clause-exact g c =
+    let b = c.in-Ok.ensures.exact in
+    (b.texts, b.tells, b.answers)
+
+pub returns-in-Err-Judge-clause-exact : goal.returns-in-Err-Judge-clause-exact
+returns-in-Err-Judge-clause-exact g c =
+    let b = c.in-Err-Judge.ensures.exact in
+    (b.texts, b.tells, subst (λ (e : MergeFault). IfSome (judged (Err e)) (IsAnswerTo b.texts)) c.in-Err-Judge.field-0-is b.answers)
+
+pub returns-in_err-check_counts-clause-exact : goal.returns-in_err-check_counts-clause-exact
+returns-in_err-check_counts-clause-exact g c =
+    let p = err_from_is_err_and c.from_residual.result c.from_residual.ensures.1 in
+    let fault = c.in_err-check_counts.field-0.0 in
+    let bad = c.in_err-check_counts.ensures.err in
+    let texts = map (λ reader. told (g.S.ByteSource.remaining reader)) c.args.readers.now in
+    rw (p.1, p.2) (texts, each_tells g.S.ByteSource.remaining c.args.readers.now, bad_count_answers verdict_of texts fault bad)
