@@ -1,7 +1,7 @@
 //! Which stores can have given a read its word.
 
 use super::operations::{Operation, Operations};
-use super::stop::{Place, Stop, at, put, short};
+use super::stop::{Place, START, Stop, Tried, at, part, short};
 use mem_op::Word;
 use std::alloc::Global;
 use trace::{Access, Address};
@@ -17,17 +17,8 @@ pub(crate) struct Candidates {
     pub(crate) words: u32,
 }
 
-impl Candidates {
-    /// The stores of a class.
-    pub(crate) fn of(&self, class: u32) -> Result<&[Place], Stop> {
-        let from = at(&self.starts, class)? as usize;
-        let to = at(&self.starts, class.saturating_add(1))? as usize;
-        self.stores.get(from..to).ok_or(Stop::GivenUp)
-    }
-}
-
 /// What an operation did at an address: it read a word there, or it stored one.
-#[derive(Clone, Copy)]
+#[derive(Clone, Copy, PartialEq, Eq, PartialOrd, Ord)]
 struct Touch {
     addr: Address,
     word: Word,
@@ -36,91 +27,69 @@ struct Touch {
 }
 
 /// Numbers the addresses and classes of these cores' operations. Gives the operations and the stores of each class.
-pub(crate) fn number(
-    alloc: Global,
-    cores: &[Vec<Access>],
-) -> Result<(Operations, Candidates), Stop> {
+pub(crate) fn number(alloc: Global, cores: &[Vec<Access>]) -> Tried<(Operations, Candidates)> {
     let mut operations = Operations::new(alloc, cores)?;
-    let mut touches = touches(alloc, cores)?;
-    touches.sort_unstable_by_key(|touch| (touch.addr, touch.word, touch.place));
-    let candidates = classes(alloc, &touches, &mut operations.all)?;
+    let mut touches = Vec::new(alloc);
+    for (access, place) in cores.iter().flatten().zip(1..=u32::MAX) {
+        push_touches(&mut touches, access, place)?;
+    }
+    touches.sort_unstable();
+    let mut candidates = Candidates {
+        starts: Vec::new(alloc),
+        stores: Vec::new(alloc),
+        words: 0,
+    };
+    let mut last = None;
+    for touch in touches {
+        candidates.enter(last, touch, &mut operations.all)?;
+        last = Some(touch);
+    }
+    candidates.starts.push(short(candidates.stores.len())?)?;
     Ok((operations, candidates))
 }
 
-/// What the operations of these cores did.
-fn touches(alloc: Global, cores: &[Vec<Access>]) -> Result<Vec<Touch>, Stop> {
-    let mut touches = Vec::new(alloc);
-    let mut place = 0u32;
-    for own in cores {
-        for access in own {
-            push_touches(&mut touches, access, place)?;
-            place = place.saturating_add(1);
-        }
-    }
-    Ok(touches)
-}
-
 /// Appends what an operation did.
-fn push_touches(touches: &mut Vec<Touch>, access: &Access, place: Place) -> Result<(), Stop> {
+fn push_touches(touches: &mut Vec<Touch>, access: &Access, place: Place) -> Tried<()> {
     let addr = access.addr();
-    if let Some(word) = access.read() {
+    let read = access.read().map(|word| (word, false));
+    let stored = access.is_store_to(addr).then(|| (access.word_left(), true));
+    for (word, stores) in read.into_iter().chain(stored) {
         touches.push(Touch {
             addr,
             word,
             place,
-            stores: false,
-        })?;
-    }
-    if access.is_store_to(addr) {
-        touches.push(Touch {
-            addr,
-            word: access.word_left(),
-            place,
-            stores: true,
+            stores,
         })?;
     }
     Ok(())
 }
 
-/// Numbers addresses and classes along the touches, which are sorted by address, word and place.
-fn classes(
-    alloc: Global,
-    touches: &[Touch],
-    operations: &mut [Operation],
-) -> Result<Candidates, Stop> {
-    let mut starts = Vec::new(alloc);
-    let mut stores = Vec::new(alloc);
-    let mut words = 0u32;
-    let mut last: Option<Touch> = None;
-    for touch in touches {
-        let is_new_word = last.is_none_or(|last| last.addr != touch.addr);
-        if is_new_word {
-            words = words.saturating_add(1);
-        }
-        if is_new_word || last.is_none_or(|last| last.word != touch.word) {
-            starts.push(short(stores.len())?)?;
-        }
-        if touch.stores {
-            stores.push(touch.place)?;
-        }
-        let class = short(starts.len())?.saturating_sub(1);
-        enter(operations, touch, words.saturating_sub(1), class)?;
-        last = Some(*touch);
+impl Candidates {
+    /// The stores of a class, what comes before all operations among them where the word is 0.
+    pub(crate) fn of(&self, class: u32) -> &[Place] {
+        let (starts, next) = (&self.starts, class.saturating_add(1));
+        part(&self.stores, at(starts, class), at(starts, next))
     }
-    starts.push(short(stores.len())?)?;
-    Ok(Candidates {
-        starts,
-        stores,
-        words,
-    })
-}
 
-/// Gives an operation the numbers of a touch.
-fn enter(operations: &mut [Operation], touch: &Touch, word: u32, class: u32) -> Result<(), Stop> {
-    let mut operation = at(operations, touch.place)?;
-    operation.word = word;
-    if !touch.stores {
-        operation.class = class;
+    /// Enters a touch after the last one, in the order of addresses, words and places.
+    fn enter(&mut self, last: Option<Touch>, touch: Touch, all: &mut [Operation]) -> Tried<()> {
+        if last.is_none_or(|last| last.addr != touch.addr) {
+            self.words = self.words.saturating_add(1);
+        }
+        if last.is_none_or(|last| last.addr != touch.addr || last.word != touch.word) {
+            self.starts.push(short(self.stores.len())?)?;
+            if touch.word == 0 {
+                self.stores.push(START)?;
+            }
+        }
+        let operation = all.get_mut(touch.place as usize);
+        let operation = operation.ok_or(Stop::GivenUp)?;
+        operation.word = self.words.saturating_sub(1);
+        if touch.stores {
+            self.stores.push(touch.place)?;
+        } else {
+            operation.class = short(self.starts.len())?.saturating_sub(1);
+        }
+        Ok(())
     }
-    put(operations, touch.place, operation)
 }

@@ -1,8 +1,10 @@
 //! Chains of facts that lead from one operation to another.
 
+use super::facts::Fact;
 use super::knowledge::Knowledge;
-use super::stop::{NONE, Place, START, Stop, at, put, short};
+use super::stop::{NONE, Place, Tried, at, put};
 use std::alloc::Global;
+use std::iter::successors;
 
 /// A place that a walk came to, by a fact from one that it had come to before.
 #[derive(Clone, Copy)]
@@ -12,7 +14,7 @@ struct Hop {
     until: Place,
     /// The fact, or NONE where the walk begins.
     fact: u32,
-    /// The number of the hop from which the fact leads.
+    /// The number of the hop from which the fact leads, or NONE.
     from: u32,
 }
 
@@ -22,7 +24,6 @@ struct Walk {
     hops: Vec<Hop>,
     /// Of each core the place from which on the walk came to all, or that is too late to lead to the end.
     reached: Vec<Place>,
-    end: Place,
     end_core: u32,
     /// Facts of this number and above aren't used.
     limit: u32,
@@ -30,26 +31,20 @@ struct Walk {
 
 impl Knowledge {
     /// A shortest chain of facts below `limit` by which one operation is before another.
-    pub(crate) fn chain(
-        &self,
-        from: Place,
-        to: Place,
-        limit: u32,
-    ) -> Result<Option<Vec<u32>>, Stop> {
-        if self.operations.reaches(from, to)? {
+    pub(crate) fn chain(&self, from: Place, to: Place, limit: u32) -> Tried<Option<Vec<u32>>> {
+        if self.operations.reaches(from, to) {
             return Ok(Some(Vec::new(self.alloc)));
         }
-        if to == START || !self.is_before(from, to)? {
+        if !self.is_before(from, to) {
             return Ok(None);
         }
         let mut walk = Walk {
             hops: Vec::new(self.alloc),
-            reached: self.clocks.of(to)?.to_vec(self.alloc)?,
-            end: to,
-            end_core: self.operations.core(to)?,
+            reached: self.clocks.of(to).to_vec(self.alloc)?,
+            end_core: self.operations.core(to),
             limit,
         };
-        walk.hop(from, self.operations.core(from)?, NONE, NONE)?;
+        walk.hop(from, self.operations.core(from), NONE, NONE)?;
         for number in 0..u32::MAX {
             let Some(hop) = walk.hops.get(number as usize).copied() else {
                 break;
@@ -61,29 +56,13 @@ impl Knowledge {
         Ok(None)
     }
 
-    /// Goes on from the places of a hop. Says whether the end was reached.
-    fn walk_from(&self, walk: &mut Walk, number: u32, hop: Hop) -> Result<bool, Stop> {
-        for place in hop.place..hop.until {
-            if self.walk_on(walk, number, place)? {
+    /// Goes on by the facts that lead from the places of a hop. Says whether the end was reached.
+    fn walk_from(&self, walk: &mut Walk, from: u32, hop: Hop) -> Tried<bool> {
+        let facts = (hop.place..hop.until).flat_map(|place| self.facts.of(place));
+        for (number, Fact { later, .. }) in facts {
+            if number < walk.limit && walk.hop(later, self.operations.core(later), number, from)? {
                 return Ok(true);
             }
-        }
-        Ok(false)
-    }
-
-    /// Goes on by the facts in which an operation is the earlier one. Says whether the end was reached.
-    fn walk_on(&self, walk: &mut Walk, from: u32, place: Place) -> Result<bool, Stop> {
-        let mut number = self.facts.latest(place)?;
-        for _ in 0..self.facts.len() {
-            let Some(fact) = self.facts.get(number) else {
-                break;
-            };
-            if number < walk.limit
-                && walk.hop(fact.later, self.operations.core(fact.later)?, number, from)?
-            {
-                return Ok(true);
-            }
-            number = fact.next;
         }
         Ok(false)
     }
@@ -91,8 +70,8 @@ impl Knowledge {
 
 impl Walk {
     /// Comes to a place of a core by a fact, where it wasn't come to. Says whether it leads to the end.
-    fn hop(&mut self, place: Place, core: u32, fact: u32, from: u32) -> Result<bool, Stop> {
-        let until = at(&self.reached, core)?;
+    fn hop(&mut self, place: Place, core: u32, fact: u32, from: u32) -> Tried<bool> {
+        let until = at(&self.reached, core);
         if place >= until {
             return Ok(false);
         }
@@ -103,22 +82,15 @@ impl Walk {
             from,
         })?;
         put(&mut self.reached, core, place)?;
-        Ok(core == self.end_core && place <= self.end)
+        Ok(core == self.end_core)
     }
 
     /// The facts that lead to the last hop, in their order.
-    fn chain(&self, alloc: Global) -> Result<Vec<u32>, Stop> {
-        let mut facts = Vec::new(alloc);
-        let mut number = short(self.hops.len())?.saturating_sub(1);
-        for _ in 0..self.hops.len() {
-            let hop = at(&self.hops, number)?;
-            if hop.fact == NONE {
-                break;
-            }
-            facts.push(hop.fact)?;
-            number = hop.from;
-        }
-        facts.reverse();
-        Ok(facts)
+    fn chain(&self, alloc: Global) -> Tried<Vec<u32>> {
+        let hops = successors(self.hops.last(), |hop| self.hops.get(hop.from as usize));
+        let facts = hops.take(self.hops.len()).map(|hop| hop.fact);
+        let mut chain: Vec<u32> = facts.filter(|fact| *fact != NONE).collect(alloc)?;
+        chain.reverse();
+        Ok(chain)
     }
 }

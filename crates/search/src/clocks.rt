@@ -2,12 +2,12 @@
 
 use super::core_set::CoreSet;
 use super::operations::Operations;
-use super::stop::{Place, Stop};
+use super::stop::{Place, Stop, Tried};
 use std::alloc::Global;
 
 /// An entry that rose, and what it was.
 #[derive(Clone, Copy)]
-struct Rise {
+pub(crate) struct Rise {
     entry: usize,
     before: Place,
 }
@@ -18,26 +18,26 @@ pub(crate) struct Clocks {
     cores: usize,
     entries: Vec<Place>,
     /// What rose since the trail is kept.
-    trail: Vec<Rise>,
-    is_trailed: bool,
+    pub(crate) trail: Vec<Rise>,
+    pub(crate) is_trailed: bool,
 }
 
 impl Clocks {
     /// Clocks that know of no order but of each operation itself.
-    pub(crate) fn new(alloc: Global, operations: &Operations) -> Result<Clocks, Stop> {
-        let starts = operations.starts();
-        let length = operations.len().saturating_mul(starts.len());
+    pub(crate) fn new(alloc: Global, operations: &Operations) -> Tried<Clocks> {
+        let cores = operations.starts.len();
+        let length = operations.all.len().saturating_mul(cores);
         let mut entries = Vec::with_capacity(alloc, length)?;
-        let mut place = 0u32;
-        for operation in &operations.all {
+        for (operation, next) in operations.all.iter().zip(1..=u32::MAX) {
             let row = entries.len();
-            entries.extend_from_slice(starts)?;
-            place = place.saturating_add(1);
-            let own = row.saturating_add(operation.core as usize);
-            *entries.get_mut(own).ok_or(Stop::GivenUp)? = place;
+            entries.extend_from_slice(&operations.starts)?;
+            let own = row.saturating_add(operation.core() as usize);
+            if let Some(own) = entries.get_mut(own) {
+                *own = next;
+            }
         }
         Ok(Clocks {
-            cores: starts.len(),
+            cores,
             entries,
             trail: Vec::new(alloc),
             is_trailed: false,
@@ -50,79 +50,50 @@ impl Clocks {
     }
 
     /// The entry of an operation for a core.
-    pub(crate) fn entry(&self, place: Place, core: u32) -> Result<Place, Stop> {
+    pub(crate) fn entry(&self, place: Place, core: u32) -> Place {
         let entry = self.row(place).saturating_add(core as usize);
-        self.entries.get(entry).copied().ok_or(Stop::GivenUp)
-    }
-
-    /// Whether an operation of a core is an operation, or before it.
-    pub(crate) fn is_past(&self, place: Place, core: u32, earlier: Place) -> bool {
-        self.entry(place, core).is_ok_and(|entry| entry > earlier)
+        self.entries.get(entry).copied().unwrap_or(0)
     }
 
     /// The clock of an operation.
-    pub(crate) fn of(&self, place: Place) -> Result<&[Place], Stop> {
+    pub(crate) fn of(&self, place: Place) -> &[Place] {
         let row = self.row(place);
         self.entries
             .get(row..row.saturating_add(self.cores))
-            .ok_or(Stop::GivenUp)
+            .unwrap_or(&[])
     }
 
     /// What is before one operation is before another: gives the cores whose entries rose.
-    pub(crate) fn join(&mut self, earlier: Place, later: Place) -> Result<CoreSet, Stop> {
+    pub(crate) fn join(&mut self, earlier: Place, later: Place) -> Tried<CoreSet> {
         let (from, to) = (self.row(earlier), self.row(later));
-        let cores = self.cores;
         if self.is_trailed {
-            self.keep(earlier, later)?;
+            self.keep(from, to)?;
         }
-        let (lower, upper) = if from < to {
-            let (front, back) = self.entries.split_at_mut_checked(to).ok_or(Stop::GivenUp)?;
-            (
-                front.get(from..from.saturating_add(cores)),
-                back.get_mut(..cores),
-            )
-        } else {
-            let (front, back) = self
-                .entries
-                .split_at_mut_checked(from)
-                .ok_or(Stop::GivenUp)?;
-            (
-                back.get(..cores),
-                front.get_mut(to..to.saturating_add(cores)),
-            )
+        let (low, cores) = (from.min(to), self.cores);
+        let Some((front, back)) = self.entries.split_at_mut_checked(from.max(to)) else {
+            return Err(Stop::GivenUp);
         };
-        match (lower, upper) {
-            (Some(lower), Some(upper)) => Ok(raise(lower, upper)),
+        let front = front.get_mut(low..low.saturating_add(cores));
+        match (front, back.get_mut(..cores)) {
+            (Some(front), Some(back)) if from < to => Ok(raise(front, back)),
+            (Some(front), Some(back)) => Ok(raise(back, front)),
             _ => Err(Stop::GivenUp),
         }
     }
 
-    /// Notes in the trail the entries that are to rise.
-    fn keep(&mut self, earlier: Place, later: Place) -> Result<(), Stop> {
-        let mut entry = self.row(later);
-        for core in 0..self.cores {
-            let least = self.entries.get(self.row(earlier).saturating_add(core));
+    /// Notes in the trail the entries of the row at `to` that are to rise to those of the row at `from`.
+    fn keep(&mut self, from: usize, to: usize) -> Tried<()> {
+        for (from, entry) in (from..).zip(to..to.saturating_add(self.cores)) {
             let before = self.entries.get(entry).copied().ok_or(Stop::GivenUp)?;
-            if least.is_some_and(|least| before < *least) {
+            if self.entries.get(from).is_some_and(|least| before < *least) {
                 self.trail.push(Rise { entry, before })?;
             }
-            entry = entry.saturating_add(1);
         }
         Ok(())
     }
 
-    /// From here on what rises can be taken back.
-    pub(crate) fn keep_trail(&mut self) {
-        self.is_trailed = true;
-    }
-
-    /// How many rises the trail has.
-    pub(crate) fn mark(&self) -> usize {
-        self.trail.len()
-    }
-
     /// Takes back what rose since the trail had this many rises.
-    pub(crate) fn undo(&mut self, mark: usize) -> Result<(), Stop> {
+    pub(crate) fn undo(&mut self, mark: usize) -> Tried<()> {
         for rise in self.trail.iter().skip(mark).rev() {
             *self.entries.get_mut(rise.entry).ok_or(Stop::GivenUp)? = rise.before;
         }

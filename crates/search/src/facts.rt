@@ -1,6 +1,6 @@
 //! What is known to be before what, and why.
 
-use super::stop::{NONE, Place, START, Stop, at, put, short};
+use super::stop::{NONE, Place, Stop, Tried, at, put, short};
 use std::alloc::Global;
 
 /// By which rule a fact holds.
@@ -18,7 +18,7 @@ pub(crate) enum Rule {
     WriteOrder,
 }
 
-/// That one operation is before another. It takes 16 bytes.
+/// That one operation is before another. It takes 20 bytes.
 #[derive(Clone, Copy)]
 pub(crate) struct Fact {
     pub(crate) earlier: Place,
@@ -27,37 +27,63 @@ pub(crate) struct Fact {
     pub(crate) next: u32,
     /// The fact that says where the read's source is, by which a from-read or a write-order holds; else NONE.
     pub(crate) basis: u32,
+    pub(crate) rule: Rule,
+}
+
+impl Fact {
+    /// Whether it says where a read's source is.
+    pub(crate) fn is_source(&self) -> bool {
+        matches!(self.rule, Rule::Source | Rule::AssumedSource)
+    }
 }
 
 /// All facts, numbered in the order in which they were found.
 #[derive(Drop)]
 pub(crate) struct Facts {
-    all: Vec<Fact>,
-    rules: Vec<Rule>,
+    pub(crate) all: Vec<Fact>,
     /// Of each operation the last fact in which it is the earlier one, or NONE.
-    latest: Vec<u32>,
+    pub(crate) latest: Vec<u32>,
     /// Of each read the fact that says where its source is, or NONE.
-    sources: Vec<u32>,
+    pub(crate) sources: Vec<u32>,
+}
+
+/// The facts in which one operation is the earlier one, with their numbers, from the last one on.
+#[derive(Drop)]
+pub(crate) struct FactsOf<'a> {
+    /// Those up to the next one, at least.
+    facts: &'a [Fact],
+    next: u32,
+}
+
+impl Iterator for FactsOf<'_> {
+    ghost use Rattle.std.specs.Prelude.{length};
+    ghost use Rattle.std.specs.Iterator.{at_most};
+
+    type Item = (u32, Fact);
+
+    ghost remaining = { λ s. at_most (length s.facts.now) };
+
+    fn next(&mut self) -> Option<(u32, Fact)> {
+        let number = self.next;
+        let fact = *self.facts.get(number as usize)?;
+        self.facts = self.facts.get(..number as usize)?;
+        self.next = fact.next;
+        Some((number, fact))
+    }
 }
 
 impl Facts {
     /// No facts about this many operations.
-    pub(crate) fn new(alloc: Global, operations: usize) -> Result<Facts, Stop> {
+    pub(crate) fn new(alloc: Global, operations: usize) -> Tried<Facts> {
         Ok(Facts {
             all: Vec::new(alloc),
-            rules: Vec::new(alloc),
             latest: vec![in alloc; NONE; operations]?,
             sources: vec![in alloc; NONE; operations]?,
         })
     }
 
-    /// How many there are.
-    pub(crate) fn len(&self) -> usize {
-        self.all.len()
-    }
-
     /// The number that the next one will have.
-    pub(crate) fn mark(&self) -> Result<u32, Stop> {
+    pub(crate) fn mark(&self) -> Tried<u32> {
         short(self.all.len())
     }
 
@@ -66,35 +92,11 @@ impl Facts {
         self.all.get(number as usize).copied()
     }
 
-    /// By which rule a fact holds.
-    pub(crate) fn rule(&self, number: u32) -> Result<Rule, Stop> {
-        at(&self.rules, number)
-    }
-
-    /// Whether a fact says where a read's source is.
-    pub(crate) fn is_source(&self, number: u32) -> bool {
-        matches!(
-            self.rules.get(number as usize),
-            Some(Rule::Source | Rule::AssumedSource)
-        )
-    }
-
-    /// The last fact in which an operation is the earlier one, or NONE.
-    pub(crate) fn latest(&self, earlier: Place) -> Result<u32, Stop> {
-        at(&self.latest, earlier)
-    }
-
-    /// The fact that says where a read's source is, or NONE.
-    pub(crate) fn source_fact(&self, read: Place) -> Result<u32, Stop> {
-        at(&self.sources, read)
-    }
-
-    /// The source of a read, where it is known.
-    pub(crate) fn source(&self, read: Place) -> Result<Option<Place>, Stop> {
-        let number = self.source_fact(read)?;
-        match self.get(number) {
-            Some(fact) => Ok(Some(fact.earlier)),
-            None => Ok(None),
+    /// Those in which an operation is the earlier one, from the last one on.
+    pub(crate) fn of(&self, earlier: Place) -> FactsOf<'_> {
+        FactsOf {
+            facts: &self.all,
+            next: at(&self.latest, earlier),
         }
     }
 
@@ -105,47 +107,31 @@ impl Facts {
         later: Place,
         basis: u32,
         rule: Rule,
-    ) -> Result<u32, Stop> {
-        let number = short(self.all.len())?;
-        let next = if earlier == START {
-            NONE
-        } else {
-            self.latest(earlier)?
-        };
-        self.all.push(Fact {
+    ) -> Tried<u32> {
+        let number = self.mark()?;
+        let fact = Fact {
             earlier,
             later,
-            next,
+            next: at(&self.latest, earlier),
             basis,
-        })?;
-        self.rules.push(rule)?;
-        if earlier != START {
-            put(&mut self.latest, earlier, number)?;
-        }
-        if rule == Rule::Source || rule == Rule::AssumedSource {
+            rule,
+        };
+        self.all.push(fact)?;
+        put(&mut self.latest, earlier, number)?;
+        if fact.is_source() {
             put(&mut self.sources, later, number)?;
         }
         Ok(number)
     }
 
     /// Takes back the facts from this one on.
-    pub(crate) fn undo(&mut self, mark: u32) -> Result<(), Stop> {
+    pub(crate) fn undo(&mut self, mark: u32) -> Tried<()> {
         for _ in mark as usize..self.all.len() {
-            self.undo_last()?;
-        }
-        Ok(())
-    }
-
-    /// Takes back the last fact.
-    fn undo_last(&mut self) -> Result<(), Stop> {
-        let (Some(fact), Some(rule)) = (self.all.pop(), self.rules.pop()) else {
-            return Err(Stop::GivenUp);
-        };
-        if fact.earlier != START {
+            let fact = self.all.pop().ok_or(Stop::GivenUp)?;
             put(&mut self.latest, fact.earlier, fact.next)?;
-        }
-        if rule == Rule::Source || rule == Rule::AssumedSource {
-            put(&mut self.sources, fact.later, NONE)?;
+            if fact.is_source() {
+                put(&mut self.sources, fact.later, NONE)?;
+            }
         }
         Ok(())
     }

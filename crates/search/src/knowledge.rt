@@ -4,8 +4,8 @@ use super::candidates::{Candidates, number};
 use super::clocks::Clocks;
 use super::core_set::CoreSet;
 use super::facts::{Facts, Rule};
-use super::operations::{Operation, Operations};
-use super::stop::{Conflict, Place, START, Stop, at};
+use super::operations::Operations;
+use super::stop::{Conflict, Place, Stop, Tried, at};
 use super::stores::{Stores, last_below};
 use std::alloc::Global;
 use std::collections::VecDeque;
@@ -39,14 +39,14 @@ pub(crate) struct Knowledge {
 
 impl Knowledge {
     /// Nothing is known, and no operation has come in. The search may make so many steps.
-    pub(crate) fn new(alloc: Global, cores: &[Vec<Access>], left: u64) -> Result<Knowledge, Stop> {
+    pub(crate) fn new(alloc: Global, cores: &[Vec<Access>], left: u64) -> Tried<Knowledge> {
         let (operations, candidates) = number(alloc, cores)?;
         Ok(Knowledge {
             alloc,
             stores: Stores::new(alloc, &operations, candidates.words)?,
             clocks: Clocks::new(alloc, &operations)?,
-            facts: Facts::new(alloc, operations.len())?,
-            entered: operations.starts().to_vec(alloc)?,
+            facts: Facts::new(alloc, operations.all.len())?,
+            entered: operations.starts.to_vec(alloc)?,
             open: Vec::new(alloc),
             risen: VecDeque::new(alloc),
             left,
@@ -56,57 +56,38 @@ impl Knowledge {
     }
 
     /// Makes steps of the search, which gives up where not so many are left.
-    pub(crate) fn spend(&mut self, steps: u64) -> Result<(), Stop> {
+    pub(crate) fn spend(&mut self, steps: u64) -> Tried<()> {
         self.left = self.left.checked_sub(steps).ok_or(Stop::GivenUp)?;
         Ok(())
     }
 
     /// Whether an operation has come in.
-    pub(crate) fn has_entered(&self, place: Place) -> Result<bool, Stop> {
-        Ok(place < at(&self.entered, self.operations.core(place)?)?)
+    pub(crate) fn has_entered(&self, place: Place) -> bool {
+        place < at(&self.entered, self.operations.core(place))
     }
 
     /// Whether one place is another, or is known to be before it.
-    pub(crate) fn is_before(&self, earlier: Place, later: Place) -> Result<bool, Stop> {
-        if earlier == START {
-            return Ok(true);
-        }
-        let core = self.operations.core(earlier)?;
-        Ok(later != START && self.clocks.entry(later, core)? > earlier)
+    pub(crate) fn is_before(&self, earlier: Place, later: Place) -> bool {
+        self.clocks.entry(later, self.operations.core(earlier)) > earlier
     }
 
     /// The last store of a core to the address of an operation at a place that is known to be before it.
-    pub(crate) fn last_store(
-        &self,
-        place: Place,
-        operation: &Operation,
-        core: u32,
-    ) -> Result<Option<Place>, Stop> {
-        let bound = if core == u32::from(operation.core) {
+    pub(crate) fn last_store(&self, place: Place, core: u32) -> Option<Place> {
+        let operation = self.operations.get(place);
+        let bound = if core == operation.core() {
             place
         } else {
-            self.clocks.entry(place, core)?
+            self.clocks.entry(place, core)
         };
-        let active = self.stores.active(self.stores.slot(operation.word, core))?;
-        Ok(last_below(active, bound))
+        last_below(self.stores.active(operation.word, core), bound)
     }
 
-    /// Whether a read can have its word from a store, or from the start.
-    pub(crate) fn can_read(
-        &self,
-        read: Place,
-        operation: &Operation,
-        store: Place,
-    ) -> Result<bool, Stop> {
-        match self.facts.source(read)? {
-            Some(source) => Ok(source == store),
-            None if store == START => Ok(operation.reads_zero),
-            None => Ok(
-                self.candidates
-                    .of(operation.class)?
-                    .binary_search(&store)
-                    .is_ok(),
-            ),
+    /// Whether an operation reads, and can have its word from a store to its address.
+    pub(crate) fn can_read(&self, read: Place, store: Place) -> bool {
+        let class = self.operations.get(read).class;
+        match self.facts.get(at(&self.facts.sources, read)) {
+            Some(fact) => fact.earlier == store,
+            None => self.candidates.of(class).binary_search(&store).is_ok(),
         }
     }
 
@@ -117,41 +98,39 @@ impl Knowledge {
         later: Place,
         basis: u32,
         rule: Rule,
-    ) -> Result<u32, Stop> {
+    ) -> Tried<u32> {
         let number = self.facts.push(earlier, later, basis, rule)?;
-        if earlier != START {
-            self.flow(earlier, later, number)?;
-        }
+        self.flow(earlier, later, number)?;
         Ok(number)
     }
 
     /// What is before one operation is before another, by a fact. The case is closed where the second is before the
     /// first.
-    pub(crate) fn flow(&mut self, earlier: Place, later: Place, fact: u32) -> Result<(), Stop> {
-        if self.is_before(later, earlier)? {
+    pub(crate) fn flow(&mut self, earlier: Place, later: Place, fact: u32) -> Tried<()> {
+        if self.is_before(later, earlier) {
             return Err(Stop::Closed(Conflict::Cycle(fact)));
         }
+        self.raise(earlier, later)
+    }
+
+    /// What is before one operation is before another.
+    pub(crate) fn raise(&mut self, earlier: Place, later: Place) -> Tried<()> {
         let cores = self.clocks.join(earlier, later)?;
-        if cores.is_empty() {
-            return Ok(());
-        }
         self.note(later, cores)
     }
 
-    /// Notes that the clock of an operation rose for some cores.
-    pub(crate) fn note(&mut self, place: Place, cores: CoreSet) -> Result<(), Stop> {
-        if let Some(last) = self.risen.back_mut()
-            && last.place == place
-        {
-            last.cores.extend(cores);
-            return Ok(());
+    /// Notes that the clock of an operation rose for some cores, if for any.
+    pub(crate) fn note(&mut self, place: Place, cores: CoreSet) -> Tried<()> {
+        match self.risen.back_mut() {
+            _ if cores.is_empty() => {}
+            Some(last) if last.place == place => last.cores.extend(cores),
+            _ => self.risen.push_back(Risen { place, cores })?,
         }
-        self.risen.push_back(Risen { place, cores })?;
         Ok(())
     }
 
     /// Takes back what was found since the trail of the clocks and the facts were as long as this.
-    pub(crate) fn undo(&mut self, trail: usize, facts: u32) -> Result<(), Stop> {
+    pub(crate) fn undo(&mut self, trail: usize, facts: u32) -> Tried<()> {
         self.risen.clear();
         self.clocks.undo(trail)?;
         self.facts.undo(facts)

@@ -1,45 +1,35 @@
 //! A proof that no order exists as a refutation, whose facts are named by their places among those in force.
 
+use super::facts::Rule;
 use super::operations::Operations;
 use super::proof::{Derived, Line, Part};
-use super::stop::{Place, START, Stop, at};
+use super::stop::{Place, START, Stop, Tried};
 use mem_op::{CoreId, OpId, OpIndex};
 use refutation::{Path, Point, Range, Ranges, Refutation, Step};
 use std::alloc::Global;
-
-/// A case that waits, and how many facts it stands on.
-#[derive(Clone, Copy)]
-struct Waiting {
-    below: usize,
-    fact: u32,
-}
 
 /// What the steps of a refutation are made with.
 #[derive(Drop)]
 struct Numbering<'a> {
     alloc: Global,
     operations: &'a Operations,
-    /// The places in the whole trace of the operations that the lines name.
-    places: &'a [Place],
     /// The facts in force.
     facts: Vec<u32>,
-    waiting: Vec<Waiting>,
+    /// The facts of the cases that wait, each with how many facts it stands on.
+    waiting: Vec<(u32, usize)>,
 }
 
-/// The refutation that the lines of a proof are, last one first, which name operations by their places in a list.
+/// The refutation that the lines of a proof are, last one first.
 pub(crate) fn refutation(
     alloc: Global,
     operations: &Operations,
     reversed: &[Line],
-    places: &[Place],
-) -> Result<Refutation, Stop> {
-    let (facts, waiting) = (Vec::new(alloc), Vec::new(alloc));
+) -> Tried<Refutation> {
     let mut numbering = Numbering {
         alloc,
         operations,
-        places,
-        facts,
-        waiting,
+        facts: Vec::new(alloc),
+        waiting: Vec::new(alloc),
     };
     let mut steps = Vec::new(alloc);
     for line in reversed.iter().rev() {
@@ -50,9 +40,8 @@ pub(crate) fn refutation(
 }
 
 /// The id of the operation at a place.
-pub(crate) fn id(operations: &Operations, place: Place) -> Result<OpId, Stop> {
-    let core = operations.core(place)?;
-    let index = place.saturating_sub(operations.start(core)?);
+pub(crate) fn id(operations: &Operations, place: Place) -> Tried<OpId> {
+    let (core, index) = operations.position(place);
     match (CoreId::new(u64::from(core)), OpIndex::new(u64::from(index))) {
         (Ok(core), Ok(index)) => Ok(OpId { core, index }),
         _ => Err(Stop::GivenUp),
@@ -61,100 +50,91 @@ pub(crate) fn id(operations: &Operations, place: Place) -> Result<OpId, Stop> {
 
 impl Numbering<'_> {
     /// The step that a line is, where these facts are in force.
-    fn step(&self, line: &Line) -> Result<Step, Stop> {
+    fn step(&self, line: &Line) -> Tried<Step> {
         Ok(match line {
             Line::Read(read, parts) => Step::Read {
-                read: self.id(*read)?,
+                read: id(self.operations, *read)?,
                 ranges: self.ranges(parts)?,
             },
-            Line::Order([one, other], _) => Step::Order {
-                one: self.id(*one)?,
-                other: self.id(*other)?,
+            Line::Order(one, other, _) => Step::Order {
+                one: id(self.operations, *one)?,
+                other: id(self.operations, *other)?,
             },
-            Line::FromRead(derived) => Step::FromRead {
-                source: self.number(derived.source)?,
-                write: self.id(derived.store)?,
-                path: self.path(&derived.path)?,
-            },
-            Line::WriteOrder(derived) => Step::WriteOrder {
-                source: self.number(derived.source)?,
-                write: self.id(derived.store)?,
-                path: self.path(&derived.path)?,
-            },
+            Line::Derived(derived) => self.derived(derived)?,
             Line::Cycle(path) => Step::Cycle {
                 path: self.path(path)?,
             },
         })
     }
 
-    /// The id of an operation that a line names.
-    fn id(&self, place: Place) -> Result<OpId, Stop> {
-        id(self.operations, at(self.places, place)?)
+    /// The step of from-read or of write-order.
+    fn derived(&self, derived: &Derived) -> Tried<Step> {
+        let source = self.number(derived.source)?;
+        let write = id(self.operations, derived.store)?;
+        let path = self.path(&derived.path)?;
+        Ok(match derived.rule {
+            Rule::WriteOrder => Step::WriteOrder {
+                source,
+                write,
+                path,
+            },
+            _ => Step::FromRead {
+                source,
+                write,
+                path,
+            },
+        })
     }
 
     /// The point of a place that a line names.
-    fn point(&self, place: Place) -> Result<Point, Stop> {
+    fn point(&self, place: Place) -> Tried<Point> {
         if place == START {
             return Ok(Point::Init);
         }
-        Ok(Point::At(self.id(place)?))
+        Ok(Point::At(id(self.operations, place)?))
+    }
+
+    /// The range of a case of a read.
+    fn range(&self, part: &Part) -> Tried<Range> {
+        let (first, last) = (self.point(part.first)?, self.point(part.last)?);
+        Ok(Range { first, last })
     }
 
     /// The ranges of the cases of a read.
-    fn ranges(&self, parts: &[Part]) -> Result<Ranges, Stop> {
-        let mut ranges = Vec::new(self.alloc);
-        for part in parts {
-            let (first, last) = (self.point(part.first)?, self.point(part.last)?);
-            ranges.push(Range { first, last })?;
-        }
-        Ok(Ranges::new(ranges))
+    fn ranges(&self, parts: &[Part]) -> Tried<Ranges> {
+        let ranges = parts.iter().map(|part| self.range(part));
+        Ok(Ranges::new(ranges.try_collect(self.alloc)?))
     }
 
     /// The place of a fact among those in force.
-    fn number(&self, fact: u32) -> Result<usize, Stop> {
-        self.facts
-            .iter()
+    fn number(&self, fact: u32) -> Tried<usize> {
+        let mut facts = self.facts.iter();
+        facts
             .rposition(|number| *number == fact)
             .ok_or(Stop::GivenUp)
     }
 
     /// The path by these facts.
-    fn path(&self, facts: &[u32]) -> Result<Path, Stop> {
-        let mut numbers = Vec::new(self.alloc);
-        for fact in facts {
-            numbers.push(self.number(*fact)?)?;
-        }
-        Ok(Path::new(numbers))
-    }
-
-    /// Lets the cases of a read wait, the first one in front.
-    fn wait(&mut self, parts: &[Part]) -> Result<(), Stop> {
-        let below = self.facts.len();
-        for part in parts.iter().rev() {
-            let fact = part.fact;
-            self.waiting.push(Waiting { below, fact })?;
-        }
-        Ok(())
+    fn path(&self, facts: &[u32]) -> Tried<Path> {
+        let numbers = facts.iter().map(|fact| self.number(*fact));
+        Ok(Path::new(numbers.try_collect(self.alloc)?))
     }
 
     /// Goes on to the facts that are in force after a line.
-    fn follow(&mut self, line: &Line) -> Result<(), Stop> {
+    fn follow(&mut self, line: &Line) -> Tried<()> {
         let below = self.facts.len();
         match line {
-            Line::FromRead(Derived { fact, .. }) | Line::WriteOrder(Derived { fact, .. }) => {
-                self.facts.push(*fact)?;
-                return Ok(());
+            Line::Derived(derived) => return Ok(self.facts.push(derived.fact)?),
+            Line::Read(_, parts) => {
+                self.waiting
+                    .extend(parts.iter().rev().map(|part| (part.fact, below)))?;
             }
-            Line::Read(_, parts) => self.wait(parts)?,
-            Line::Order(_, fact) => {
-                self.waiting.push(Waiting { below, fact: *fact })?;
-                self.waiting.push(Waiting { below, fact: *fact })?;
-            }
+            Line::Order(_, _, fact) => self.waiting.extend_from_slice(&[(*fact, below); 2])?,
             Line::Cycle(_) => {}
         }
-        if let Some(case) = self.waiting.pop() {
-            self.facts.truncate(case.below);
-            self.facts.push(case.fact)?;
+        if let Some((fact, below)) = self.waiting.pop() {
+            self.facts.truncate(below);
+            self.facts.push(fact)?;
         }
         Ok(())
     }

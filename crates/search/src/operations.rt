@@ -1,7 +1,8 @@
 //! The operations of all cores in one list.
 
-use super::stop::{NONE, Place, START, Stop, at, short};
+use super::stop::{NONE, Place, START, Tried, at, short};
 use std::alloc::Global;
+use std::ops::Range;
 use trace::Access;
 
 /// What the search knows of an operation. It takes 12 bytes.
@@ -11,95 +12,86 @@ pub(crate) struct Operation {
     pub(crate) word: u32,
     /// The class of the words that a load or a swap may have read; NONE of a store.
     pub(crate) class: u32,
-    pub(crate) core: u8,
-    /// Whether it read 0.
-    pub(crate) reads_zero: bool,
+    core: u8,
     /// Whether it is a store or a swap.
     pub(crate) stores: bool,
 }
+
+/// What comes before every operation.
+const BEGINNING: Operation = Operation {
+    word: NONE,
+    class: NONE,
+    core: 0,
+    stores: false,
+};
 
 impl Operation {
     /// Whether it is a load or a swap.
     pub(crate) fn reads(&self) -> bool {
         self.class != NONE
     }
+
+    /// The number of its core.
+    pub(crate) fn core(&self) -> u32 {
+        u32::from(self.core)
+    }
 }
 
-/// The operations of all cores.
+/// The operations of all cores, behind what comes before them.
 #[derive(Drop)]
 pub(crate) struct Operations {
     pub(crate) all: Vec<Operation>,
-    /// Where each core's begin, and where the last ones end.
-    starts: Vec<Place>,
+    /// Where each core's begin.
+    pub(crate) starts: Vec<Place>,
 }
 
 impl Operations {
     /// The operations of these cores, with words and classes that are still to be numbered.
-    pub(crate) fn new(alloc: Global, cores: &[Vec<Access>]) -> Result<Operations, Stop> {
-        let mut all = Vec::new(alloc);
+    pub(crate) fn new(alloc: Global, cores: &[Vec<Access>]) -> Tried<Operations> {
+        let mut all = vec![in alloc; BEGINNING; 1]?;
         let mut starts = Vec::new(alloc);
-        for (core, own) in cores.iter().enumerate() {
+        for (core, own) in (0..=u8::MAX).zip(cores) {
             starts.push(short(all.len())?)?;
-            push_core(&mut all, u8::try_from(core).unwrap_or(u8::MAX), own)?;
+            all.extend(
+                own.iter().map(|access| Operation {
+                    core,
+                    stores: access.is_store_to(access.addr()),
+                    ..BEGINNING
+                }),
+            )?;
         }
-        starts.push(short(all.len())?)?;
         Ok(Operations { all, starts })
     }
 
-    /// How many there are.
-    pub(crate) fn len(&self) -> usize {
-        self.all.len()
+    /// The numbers of the cores.
+    pub(crate) fn cores(&self) -> Range<u32> {
+        0..u32::try_from(self.starts.len()).unwrap_or(0)
     }
 
-    /// How many cores there are.
-    pub(crate) fn cores(&self) -> u32 {
-        u32::try_from(self.starts().len()).unwrap_or(0)
-    }
-
-    /// The operation at a place.
-    pub(crate) fn get(&self, place: Place) -> Result<Operation, Stop> {
-        at(&self.all, place)
+    /// The operation at a place. Where none is, what comes before them all.
+    pub(crate) fn get(&self, place: Place) -> Operation {
+        self.all.get(place as usize).copied().unwrap_or(BEGINNING)
     }
 
     /// The core of the operation at a place.
-    pub(crate) fn core(&self, place: Place) -> Result<u32, Stop> {
-        Ok(u32::from(self.get(place)?.core))
+    pub(crate) fn core(&self, place: Place) -> u32 {
+        self.get(place).core()
     }
 
-    /// Where a core's operations begin.
-    pub(crate) fn start(&self, core: u32) -> Result<Place, Stop> {
-        at(&self.starts, core)
+    /// The core of the operation at a place, and which of its core it is, from 0.
+    pub(crate) fn position(&self, place: Place) -> (u32, u32) {
+        let core = self.core(place);
+        (core, place.saturating_sub(at(&self.starts, core)))
     }
 
-    /// Where a core's operations end.
-    pub(crate) fn end(&self, core: u32) -> Result<Place, Stop> {
-        at(&self.starts, core.saturating_add(1))
-    }
-
-    /// Where each core's operations begin.
-    pub(crate) fn starts(&self) -> &[Place] {
-        match self.starts.split_last() {
-            Some((_, starts)) => starts,
-            None => &[],
-        }
+    /// The operation at a place, where it is one of this core.
+    pub(crate) fn of_core(&self, core: u32, place: Place) -> Option<Operation> {
+        let operation = self.all.get(place as usize).copied();
+        operation.filter(|operation| operation.core() == core)
     }
 
     /// Whether one place is another, or before it in program order.
-    pub(crate) fn reaches(&self, from: Place, to: Place) -> Result<bool, Stop> {
-        Ok(from == START || to != START && from <= to && self.core(from)? == self.core(to)?)
+    pub(crate) fn reaches(&self, from: Place, to: Place) -> bool {
+        from == START || from <= to && self.core(from) == self.core(to)
     }
-}
-
-/// Appends the operations of a core.
-fn push_core(all: &mut Vec<Operation>, core: u8, own: &[Access]) -> Result<(), Stop> {
-    for access in own {
-        all.push(Operation {
-            word: 0,
-            class: NONE,
-            core,
-            reads_zero: access.read() == Some(0),
-            stores: access.is_store_to(access.addr()),
-        })?;
-    }
-    Ok(())
 }

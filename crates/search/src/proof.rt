@@ -1,8 +1,9 @@
 //! Proofs that a case is closed, which grow from their end.
 
-use super::stop::{Place, Stop};
+use super::facts::Rule;
+use super::stop::{Place, Tried, at};
 use std::alloc::Global;
-use std::collections::BinaryHeap;
+use std::collections::BTreeSet;
 
 /// A range of candidates of a read, with the number of the fact that its case begins with.
 #[derive(Clone, Copy)]
@@ -12,9 +13,17 @@ pub(crate) struct Part {
     pub(crate) fact: u32,
 }
 
+impl Part {
+    pub(crate) fn new(first: Place, last: Place, fact: u32) -> Part {
+        Part { first, last, fact }
+    }
+}
+
 /// How a fact follows from the source of a read and a path.
 #[derive(Drop)]
 pub(crate) struct Derived {
+    /// From-read or write-order.
+    pub(crate) rule: Rule,
     /// The fact that says where the source is.
     pub(crate) source: u32,
     /// A store other than the source: the path leads from the source to it, or from it to the read.
@@ -30,20 +39,40 @@ pub(crate) enum Line {
     /// The source of a read lies in one of these ranges: a case for each.
     Read(Place, Vec<Part>),
     /// One of two operations is before the other: two cases, both of which begin with a fact of this number.
-    Order([Place; 2], u32),
-    /// A read is before a store that is after its source.
-    FromRead(Derived),
-    /// A store before a read is before its source.
-    WriteOrder(Derived),
+    Order(Place, Place, u32),
+    /// A fact follows.
+    Derived(Derived),
     /// These facts lead back to where they begin, so the case is closed.
     Cycle(Vec<u32>),
+}
+
+impl Line {
+    /// The line, where the operations that it names by their numbers in a list are those of the list.
+    pub(crate) fn among(mut self, places: &[Place]) -> Line {
+        match &mut self {
+            Line::Read(read, parts) => {
+                *read = at(places, *read);
+                for part in parts {
+                    part.first = at(places, part.first);
+                    part.last = at(places, part.last);
+                }
+            }
+            Line::Order(one, other, _) => {
+                *one = at(places, *one);
+                *other = at(places, *other);
+            }
+            Line::Derived(derived) => derived.store = at(places, derived.store),
+            Line::Cycle(_) => {}
+        }
+        self
+    }
 }
 
 /// The lines that close a case, last one first, and the facts that they need and that aren't shown by them.
 #[derive(Drop)]
 pub(crate) struct Proof {
     pub(crate) reversed: Vec<Line>,
-    needs: BinaryHeap<u32>,
+    needs: BTreeSet<u32>,
 }
 
 impl Proof {
@@ -51,51 +80,31 @@ impl Proof {
     pub(crate) fn new(alloc: Global) -> Proof {
         Proof {
             reversed: Vec::new(alloc),
-            needs: BinaryHeap::new(alloc),
+            needs: BTreeSet::new(alloc),
         }
     }
 
     /// Puts a line before the others.
-    pub(crate) fn prepend(&mut self, line: Line) -> Result<(), Stop> {
-        self.reversed.push(line)?;
-        Ok(())
-    }
-
-    /// Puts lines before the others.
-    pub(crate) fn prepend_all(&mut self, lines: Vec<Line>) -> Result<(), Stop> {
-        for line in lines.into_iter().rev() {
-            self.reversed.push(line)?;
-        }
-        Ok(())
+    pub(crate) fn prepend(&mut self, line: Line) -> Tried<()> {
+        Ok(self.reversed.push(line)?)
     }
 
     /// Puts another proof before this one.
-    pub(crate) fn prepend_proof(&mut self, mut other: Proof) -> Result<(), Stop> {
+    pub(crate) fn prepend_proof(&mut self, mut other: Proof) -> Tried<()> {
         self.needs.append(&mut other.needs)?;
-        self.reversed.append(&mut other.reversed)?;
-        Ok(())
+        Ok(self.reversed.append(&mut other.reversed)?)
     }
 
     /// Needs facts.
-    pub(crate) fn need(&mut self, facts: &[u32]) -> Result<(), Stop> {
-        for fact in facts {
-            self.needs.push(*fact)?;
-        }
-        Ok(())
+    pub(crate) fn need(&mut self, facts: &[u32]) -> Tried<()> {
+        Ok(self.needs.extend(facts)?)
     }
 
     /// Takes the last fact that is needed away, where its number isn't below this one.
     pub(crate) fn take_need(&mut self, least: u32) -> Option<u32> {
-        let last = *self.needs.peek()?;
-        if last < least {
+        if *self.needs.last()? < least {
             return None;
         }
-        for _ in 0..self.needs.len() {
-            if self.needs.peek() != Some(&last) {
-                break;
-            }
-            self.needs.pop();
-        }
-        Some(last)
+        self.needs.pop_last()
     }
 }

@@ -4,10 +4,9 @@ ghost use Rattle.std.specs.Prelude.{IfOk};
 ghost use Rattle.refutation.specs.Answers.{IsRight};
 
 use super::numbering::{id, refutation};
-use super::operations::Operations;
 use super::shrinking::shrink;
 use super::splits::{Outcome, Search};
-use super::stop::{Place, Stop};
+use super::stop::{Stop, Tried};
 use mem_op::OpId;
 use refutation::{Answer, confirm};
 use std::alloc::{AllocError, Global};
@@ -32,27 +31,19 @@ pub fn guess(alloc: Global, trace: &Trace, budget: u64) -> Result<Answer, AllocE
 }
 
 /// An order, or a refutation. The search may give up.
-fn find(alloc: Global, trace: &Trace, budget: u64) -> Result<Answer, Stop> {
+fn find(alloc: Global, trace: &Trace, budget: u64) -> Tried<Answer> {
     let mut search = Search::new(alloc, trace.cores(), budget)?;
     match search.run()? {
         Outcome::Order(places) => {
             let operations = search.into_operations();
-            Ok(Answer::Order(ids(alloc, &operations, &places)?))
+            let ids = places.iter().skip(1).map(|place| id(&operations, *place));
+            let ids: Vec<OpId> = ids.try_collect(alloc)?;
+            Ok(Answer::Order(ids))
         }
         Outcome::Proof(reversed) => {
-            let small = shrink(trace.cores(), &mut search.known, reversed)?;
+            let lines = shrink(trace.cores(), &mut search.known, reversed)?;
             let operations = search.into_operations();
-            let (lines, places) = (&small.reversed, &small.places);
-            Ok(Answer::Refutation(refutation(alloc, &operations, lines, places)?))
+            Ok(Answer::Refutation(refutation(alloc, &operations, &lines)?))
         }
     }
-}
-
-/// The ids of the operations at some places.
-fn ids(alloc: Global, operations: &Operations, places: &[Place]) -> Result<Vec<OpId>, Stop> {
-    let mut ids = Vec::new(alloc);
-    for place in places {
-        ids.push(id(operations, *place)?)?;
-    }
-    Ok(ids)
 }

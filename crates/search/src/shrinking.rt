@@ -5,7 +5,7 @@
 use super::knowledge::Knowledge;
 use super::proof::Line;
 use super::splits::{Outcome, Search};
-use super::stop::{Place, Stop, at, short};
+use super::stop::{Place, START, Stop, Tried};
 use std::alloc::Global;
 use trace::Access;
 
@@ -17,19 +17,13 @@ const STEPS: u64 = 2000;
 
 const STEPS_EACH: u64 = 20;
 
-/// A proof of a small trace: its lines, last one first, and the places in the whole trace of its operations.
-#[derive(Drop)]
-pub(crate) struct Small {
-    pub(crate) reversed: Vec<Line>,
-    pub(crate) places: Vec<Place>,
-}
-
-/// The operations of a trace of which some are tried, the shortest proof so far, and the operations that it names.
+/// The operations of a trace of which some are tried, the lines of the shortest proof so far, last one first, and the
+/// operations that it names.
 #[derive(Drop)]
 struct Shrinking<'a> {
     cores: &'a [Vec<Access>],
     known: &'a mut Knowledge,
-    best: Small,
+    best: Vec<Line>,
     named: Vec<Place>,
 }
 
@@ -37,18 +31,15 @@ struct Shrinking<'a> {
 pub(crate) fn shrink(
     cores: &[Vec<Access>],
     known: &mut Knowledge,
-    reversed: Vec<Line>,
-) -> Result<Small, Stop> {
-    let places = (0..short(known.operations.len())?).collect(known.alloc)?;
-    let best = Small { reversed, places };
-    let named = named(known.alloc, &best)?;
+    best: Vec<Line>,
+) -> Tried<Vec<Line>> {
     let mut shrinking = Shrinking {
         cores,
+        named: named(known.alloc, &best)?,
         known,
         best,
-        named,
     };
-    for _ in 0..shrinking.best.reversed.len() {
+    for _ in 0..shrinking.best.len() {
         if !shrinking.leave_out_each()? {
             break;
         }
@@ -57,18 +48,13 @@ pub(crate) fn shrink(
 }
 
 /// The operations that a proof names, but for those of ranges.
-fn named(alloc: Global, proof: &Small) -> Result<Vec<Place>, Stop> {
-    let places = &proof.places;
+fn named(alloc: Global, proof: &[Line]) -> Tried<Vec<Place>> {
     let mut named = Vec::new(alloc);
-    for line in &proof.reversed {
+    for line in proof {
         match line {
-            Line::Read(read, _) => named.push(at(places, *read)?)?,
-            Line::FromRead(derived) | Line::WriteOrder(derived) => {
-                named.push(at(places, derived.store)?)?;
-            }
-            Line::Order([one, other], _) => {
-                named.extend_from_slice(&[at(places, *one)?, at(places, *other)?])?;
-            }
+            Line::Read(place, _) => named.push(*place)?,
+            Line::Derived(derived) => named.push(derived.store)?,
+            Line::Order(one, other, _) => named.extend_from_slice(&[*one, *other])?,
             Line::Cycle(_) => {}
         }
     }
@@ -80,8 +66,8 @@ fn named(alloc: Global, proof: &Small) -> Result<Vec<Place>, Stop> {
 impl Shrinking<'_> {
     /// Leaves out each operation that is named, where the rest has a proof that isn't longer; first it leaves out
     /// all that aren't named. Says whether some proof was shorter.
-    fn leave_out_each(&mut self) -> Result<bool, Stop> {
-        let length = self.best.reversed.len();
+    fn leave_out_each(&mut self) -> Tried<bool> {
+        let length = self.best.len();
         let before = self.named.to_vec(self.known.alloc)?;
         self.attempt(&before)?;
         for place in &before {
@@ -91,16 +77,15 @@ impl Shrinking<'_> {
                 self.attempt(&others)?;
             }
         }
-        Ok(self.best.reversed.len() < length)
+        Ok(self.best.len() < length)
     }
 
     /// Takes a proof that some operations have no order, with all candidates of their reads, if one is found that
     /// isn't longer.
-    fn attempt(&mut self, kept: &[Place]) -> Result<(), Stop> {
-        let Some(proof) = self.refute(kept)? else {
-            return Ok(());
-        };
-        if proof.reversed.len() <= self.best.reversed.len() {
+    fn attempt(&mut self, kept: &[Place]) -> Tried<()> {
+        if let Some(proof) = self.refute(kept)?
+            && proof.len() <= self.best.len()
+        {
             self.named = named(self.known.alloc, &proof)?;
             self.named.retain(|place| kept.binary_search(place).is_ok());
             self.best = proof;
@@ -109,11 +94,9 @@ impl Shrinking<'_> {
     }
 
     /// A proof that some operations have no order, with all candidates of their reads.
-    fn refute(&mut self, kept: &[Place]) -> Result<Option<Small>, Stop> {
+    fn refute(&mut self, kept: &[Place]) -> Tried<Option<Vec<Line>>> {
         let places = self.with_candidates(kept)?;
-        let steps = (places.len() as u64)
-            .saturating_mul(STEPS_EACH)
-            .saturating_add(STEPS);
+        let steps = STEPS.saturating_add(STEPS_EACH.saturating_mul(places.len() as u64));
         if places.len() > LIMIT || self.known.left < steps {
             return Ok(None);
         }
@@ -122,51 +105,43 @@ impl Shrinking<'_> {
         let found = search.run();
         self.known.spend(steps.saturating_sub(search.known.left))?;
         match found {
-            Ok(Outcome::Proof(reversed)) => Ok(Some(Small { reversed, places })),
+            Ok(Outcome::Proof(lines)) => {
+                let lines = lines.into_iter().map(|line| line.among(&places));
+                Ok(Some(lines.collect(self.known.alloc)?))
+            }
             Err(Stop::Refused) => Err(Stop::Refused),
             _ => Ok(None),
         }
     }
 
-    /// Some operations with all candidates of their reads, in the order of their places.
-    fn with_candidates(&self, kept: &[Place]) -> Result<Vec<Place>, Stop> {
+    /// What comes before all operations, and some of them with all candidates of their reads, in the order of places.
+    fn with_candidates(&self, kept: &[Place]) -> Tried<Vec<Place>> {
         let mut places = kept.to_vec(self.known.alloc)?;
+        places.push(START)?;
         for place in kept {
-            let operation = self.known.operations.get(*place)?;
-            if operation.reads() {
-                places.extend_from_slice(self.known.candidates.of(operation.class)?)?;
-            }
+            let class = self.known.operations.get(*place).class;
+            places.extend(self.known.candidates.of(class))?;
         }
         places.sort_unstable();
         places.dedup();
         Ok(places)
     }
 
-    /// The trace of the operations at these places.
-    fn small_trace(&self, places: &[Place], kept: &[Place]) -> Result<Vec<Vec<Access>>, Stop> {
+    /// The trace of the operations at these places. A swap that isn't kept is there for what it stores alone.
+    fn small_trace(&self, places: &[Place], kept: &[Place]) -> Tried<Vec<Vec<Access>>> {
         let alloc = self.known.alloc;
-        let mut trace: Vec<Vec<Access>> = self
-            .cores
-            .iter()
-            .map(|_| Vec::new(alloc))
-            .collect(alloc)?;
-        for place in places {
-            let core = self.known.operations.core(*place)?;
-            let access = self.access(core, *place, kept)?;
-            let own = trace.get_mut(core as usize).ok_or(Stop::GivenUp)?;
-            own.push(access)?;
+        let none = self.cores.iter().map(|_| Vec::new(alloc));
+        let mut trace: Vec<Vec<Access>> = none.collect(alloc)?;
+        for place in places.iter().copied().filter(|place| *place != START) {
+            let (core, index) = self.known.operations.position(place);
+            let own = self.cores.get(core as usize).ok_or(Stop::GivenUp)?;
+            let mut access = *own.get(index as usize).ok_or(Stop::GivenUp)?;
+            if kept.binary_search(&place).is_err() {
+                access = Access::store(access.addr(), access.word_left());
+            }
+            let small = trace.get_mut(core as usize).ok_or(Stop::GivenUp)?;
+            small.push(access)?;
         }
         Ok(trace)
-    }
-
-    /// The operation at a place. A swap that isn't kept is there for what it stores alone.
-    fn access(&self, core: u32, place: Place, kept: &[Place]) -> Result<Access, Stop> {
-        let index = place.saturating_sub(self.known.operations.start(core)?);
-        let own = self.cores.get(core as usize).ok_or(Stop::GivenUp)?;
-        let access = at(own, index)?;
-        if kept.binary_search(&place).is_ok() {
-            return Ok(access);
-        }
-        Ok(Access::store(access.addr(), access.word_left()))
     }
 }

@@ -5,10 +5,10 @@ use std::alloc::{AllocError, AllocFailed};
 /// The place of an operation among those of all cores: core 0's come first, each core's in program order.
 pub(crate) type Place = u32;
 
-/// The place of the initial 0 of each address, which is before every operation.
-pub(crate) const START: Place = u32::MAX;
+/// The place of what comes before every operation and stores a 0 to each address. It counts as the first of core 0.
+pub(crate) const START: Place = 0;
 
-/// The number of no fact, and of no class.
+/// The number of nothing: of no fact, of no class.
 pub(crate) const NONE: u32 = u32::MAX;
 
 /// Why no order has all that is known.
@@ -31,6 +31,9 @@ pub(crate) enum Stop {
     Refused,
 }
 
+/// What a step of the search gives, or why it wasn't made.
+pub(crate) type Tried<T> = Result<T, Stop>;
+
 impl From<AllocError> for Stop {
     fn from(_error: AllocError) -> Stop {
         Stop::Refused
@@ -43,15 +46,20 @@ impl<T: Drop> From<AllocFailed<T>> for Stop {
     }
 }
 
-/// The entry of a list at a place. The search gives up where there is none.
-pub(crate) fn at<T: Copy>(list: &[T], place: u32) -> Result<T, Stop> {
-    list.get(place as usize).copied().ok_or(Stop::GivenUp)
+/// The entry of a list at a place; NONE where there is none.
+pub(crate) fn at(list: &[u32], place: u32) -> u32 {
+    list.get(place as usize).copied().unwrap_or(NONE)
 }
 
 /// Writes the entry of a list at a place. The search gives up where there is none.
-pub(crate) fn put<T: Copy>(list: &mut [T], place: u32, entry: T) -> Result<(), Stop> {
+pub(crate) fn put(list: &mut [u32], place: u32, entry: u32) -> Result<(), Stop> {
     *list.get_mut(place as usize).ok_or(Stop::GivenUp)? = entry;
     Ok(())
+}
+
+/// The entries of a list from one place up to another; none where the list doesn't have them all.
+pub(crate) fn part(list: &[u32], from: u32, to: u32) -> &[u32] {
+    list.get(from as usize..to as usize).unwrap_or(&[])
 }
 
 /// A length as a place. The search gives up where it has no 32 bits.
