@@ -1,14 +1,16 @@
 -- What the reading of the words gives, by the cases of its parts.
-use Rattle.std.proofs.Common.{◌≡◌, ◌∙◌, ◌⊎◌, ap, codes, subst, refl, ℕ, List, [], Option, None, Some, Result, Ok, Err, Bor, inl, inr, option_map}
+use Rattle.std.proofs.Common.{arith, ◌≡◌, ◌∙◌, ◌⊎◌, ◌↔◌, ◌∷◌, ◌≤◌, ◌<◌, ap, sym, codes, subst, refl, ℕ, Bool, IsTrue, length, slice_index_or, List, [], Option, None, Some, Result, Ok, Err, Bor, inl, inr, option_map}
 use Rattle.std.specs.Prelude.{unwrap_or}
+use Rattle.std.specs.Str.{bytes_eq}
 use Rattle.std.specs.Str.Parse.{ParsesUnsigned}
+use Rattle.std.proofs.lemmas.Slice.Eq.{bytes_eq-Decides}
 use Rattle.clap.specs.Faults.{fault_of}
 use Rattle.clap.specs.Kinds.{Kinds, HasKind, IsAmong}
 use Rattle.clap.specs.Matches.{ReadsOne}
 use Rattle.clap.specs.Words.{Row, Text, kind_of, subcommand_of}
 use Rattle.clap.specs.declared.error.Error.{Error}
 use Rattle.clap.specs.declared.error.kind.ErrorKind.TheVariants as kind
-use Rattle.command_line.specs.Asking.{IsNumber, IsNumberOf, IsRefusalOf, IsStrayIn, texts}
+use Rattle.command_line.specs.Asking.{AskVersion, IsNumber, IsNumberOf, IsRefusalOf, IsStrayIn, texts}
 use Rattle.command_line.specs.Grammar.{tardis}
 use Rattle.command_line.specs.declared.refusal.Refusal.{Refusal}
 use Rattle.command_line.specs.declared.refusal.Refusal.TheVariants.{Usage, OutOfMemory}
@@ -45,3 +47,17 @@ pub texts_or_none : (found : Option (Bor (List (Bor Text)))) (none : Bor (List (
     → texts (unwrap_or found none).now ≡ unwrap_or (option_map (λ s. texts s.now) found) []
 texts_or_none None none empty = ap texts empty
 texts_or_none (Some s) none empty = refl
+
+-- of two words the second asks for the version, or doesn't
+pub version_asked : (words : List (Bor Text)) (none : Bor Text) (b : Bool) → 2 ≤ length words → length words < 3
+    → b ≡ bytes_eq (slice_index_or words 1 none).now (codes "--version") → IsTrue b ↔ AskVersion (texts words)
+version_asked [] none b least below is = absurd (omega arith)
+version_asked (a ∷ []) none b least below is = absurd (omega arith)
+version_asked (a ∷ w ∷ []) none b least below is = (
+  λ yes. (a.now, ap (λ (t : Text). a.now ∷ t ∷ []) ((bytes_eq-Decides w.now (codes "--version")).0 (sym is ∙ yes))),
+  λ asked.
+      let (name, same) = asked in
+      let version : w.now ≡ codes "--version" = cc in
+      is ∙ (bytes_eq-Decides w.now (codes "--version")).1 version,
+)
+version_asked (a ∷ w ∷ x ∷ more) none b least below is = absurd (omega arith)

@@ -143,13 +143,20 @@ IsAskedBy named (request.Run run) = (named.0 ≡ codes "run") × IsThreaded name
 IsAskedBy named (request.Litmus litmus) = (named.0 ≡ codes "litmus") × IsLitmus named.1 litmus
 IsAskedBy named (request.Search search) = (named.0 ≡ codes "search") × IsSearch named.1 search
 IsAskedBy named (request.Confirm confirm) = (named.0 ≡ codes "confirm") × IsConfirm named.1 confirm
+IsAskedBy named request.Version = ⊥
 
 -- the words are a command line of the program: none is unknown, missing or one too many, and each option has what it takes
 abbrev pub IsCommandLine : List Text → Type 0
 IsCommandLine words = fault_of tardis words ≡ []
 
--- the words are a command line, and the request is that of the subcommand that they name, by its arguments there
+-- `--version` is the only word after the program's own name
+abbrev pub AskVersion : List Text → Type 0
+AskVersion words = (name : Text) × (words ≡ name ∷ codes "--version" ∷ [])
+
+-- the words ask for the version, or they are a command line, and the request is that of the subcommand that they name, by its arguments
+-- there
 abbrev pub Asks : List Text → Request → Type 0
+Asks words request.Version = AskVersion words
 Asks words asked =
     IsCommandLine words × ((named : Text × List Row) × (subcommand_of tardis words ≡ Some named) × IsAskedBy named asked)
 

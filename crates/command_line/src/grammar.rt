@@ -27,7 +27,7 @@ fn judging<'a>(alloc: Global) -> Result<Command<'a>, AllocError>
         alloc,
         "tardis",
         "Judges the logs of a multiprocessor for sequential consistency, and runs one",
-        "Example: tardis check log.0 log.1",
+        "Example: tardis check log.0 log.1\n\n'tardis --version' tells the version, and with what it was proved",
     )
     .subcommand_required(true);
     let command = with_command(Ok(command), check(alloc));
@@ -55,7 +55,10 @@ fn check<'a>(alloc: Global) -> Result<Command<'a>, AllocError>
         "Example: tardis check --workers 4 log.0 log.1",
     );
     let arguments = [
-        Argument::number("workers", "How many workers judge at once [default: 1]"),
+        Argument::number(
+            "workers",
+            "How many workers judge at once, 1 to 64 [default: 1]",
+        ),
         Argument::file("program", "The programs whose logs these have to be"),
         Argument::files(LOGS_HELP),
     ];
@@ -113,7 +116,7 @@ fn sim<'a>(alloc: Global) -> Result<Command<'a>, AllocError>
         ),
         Argument::number(
             "seed",
-            "What the rounds after it are drawn from [default: no draws, core 0 first]",
+            "What the rounds after it are drawn from, 0 to 18446744073709551615 [default: no draws, core 0 first]",
         ),
         Argument::name("PROGRAMS", PROGRAMS_HELP),
         Argument::name("OUT", OUT_HELP),
@@ -169,10 +172,13 @@ fn litmus<'a>(alloc: Global) -> Result<Command<'a>, AllocError>
         "Example: tardis litmus --runs 1000 examples/litmus/SB.litmus",
     );
     let arguments = [
-        Argument::number("runs", "How many runs there are [default: 100]"),
+        Argument::number(
+            "runs",
+            "How many runs there are, 1 to 100000 [default: 100]",
+        ),
         Argument::number(
             "seed",
-            "What the rounds of the first run are drawn from; one more for each run after it [default: 1]",
+            "What the rounds of the first run are drawn from, 0 to 18446744073709551615; one more for each run after it [default: 1]",
         ),
         Argument::flag(
             "threads",
@@ -197,7 +203,7 @@ fn search<'a>(alloc: Global) -> Result<Command<'a>, AllocError>
         Argument::flag("logs", "Reads logs, and leaves their times out"),
         Argument::number(
             "budget",
-            "How many steps the search may make [default: 100000000, and 100 for each operation]",
+            "How many steps the search may make, 0 to 18446744073709551615 [default: 100000000, and 100 for each operation]",
         ),
         Argument::file("order", "The file that an order goes to [default: none]"),
         Argument::file(
@@ -245,20 +251,26 @@ fn with_limits<'a>(alloc: Global, command: Command<'a>) -> Result<Command<'a>, A
     ensures { IfOk result (λ made. app_of made ≡ grammar.with_limits (app_of command.entry)) }
 {
     let arguments = [
-        Argument::number("slices", "How many slices memory has [default: 1]"),
-        Argument::number("lease", "How many stamps a lease lasts [default: 10]"),
+        Argument::number("slices", "How many slices memory has, 1 to 16 [default: 1]"),
+        Argument::number(
+            "lease",
+            "How many stamps a lease lasts, 1 to 1000 [default: 10]",
+        ),
         Argument::number(
             "period",
-            "How many operations until a core's stamp goes up by itself [default: 100]",
+            "How many operations until a core's stamp goes up by itself, 1 to 1000000 [default: 100]",
         ),
         Argument::number(
             "cache",
-            "How many lines a private cache holds [default: 64]",
+            "How many lines a private cache holds, 1 to 4096 [default: 64]",
         ),
-        Argument::number("slice-lines", "How many lines a slice holds [default: 64]"),
+        Argument::number(
+            "slice-lines",
+            "How many lines a slice holds, 1 to 65536 [default: 64]",
+        ),
         Argument::number(
             "inbox",
-            "How many recalls an inbox holds; no effect on sim [default: 8]",
+            "How many recalls an inbox holds, 1 to 1024; no effect on sim [default: 8]",
         ),
     ];
     with_arguments(alloc, command, &arguments)

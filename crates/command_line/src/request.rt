@@ -21,6 +21,8 @@ pub enum Request<'a> {
     Search(Search<'a>),
     /// Whether a trace is consistent, by a certificate alone.
     Confirm(Confirm<'a>),
+    /// The version of the program, and what it was proved with.
+    Version,
 }
 
 /// Asks for the verdict on a set of logs.

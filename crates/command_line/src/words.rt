@@ -1,6 +1,6 @@
 //! Reads the words of a command line.
 
-ghost use Rattle.std.specs.Prelude.{◌≡◌, ◌∷◌, IfErr, IfOk, IsTrue, [], codes, false, unwrap_or};
+ghost use Rattle.std.specs.Prelude.{◌≡◌, ◌∷◌, ◌↔◌, IfErr, IfOk, IsTrue, [], codes, false, unwrap_or};
 ghost use Rattle.clap.specs.Words.{all_of, first_of, found_of, kind_of, one_of, rows_of};
 ghost use Rattle.clap.specs.declared.error.kind.ErrorKind.TheVariants as kind;
 ghost use Rattle.command_line.specs.Asking as asking;
@@ -21,6 +21,9 @@ pub fn read<'a>(alloc: Global, words: &'a [&'a str]) -> Result<Request<'a>, Refu
     ensures request { IfOk result (asking.Asks (asking.texts words.entry.now)) }
     ensures usage { IfErr result (asking.IsRefusalOf (asking.texts words.entry.now)) }
 {
+    if asks_version(words) {
+        return Ok(Request::Version);
+    }
     let matches = match tardis(alloc)?.try_get_matches_from(words) {
         Ok(matches) => matches,
         Err(error) => return Err(refusal(alloc, &error)),
@@ -53,6 +56,16 @@ pub fn read<'a>(alloc: Global, words: &'a [&'a str]) -> Result<Request<'a>, Refu
         return Ok(Request::Confirm(confirm_of(alloc, asked)?));
     }
     Ok(Request::Check(check_of(alloc, asked)?))
+}
+
+/// Whether `--version` is the only word after the program's own name.
+fn asks_version(words: &[&str]) -> bool
+    ensures { IsTrue result ↔ asking.AskVersion (asking.texts words.now) }
+{
+    match words {
+        [_, word] => *word == "--version",
+        _ => false,
+    }
 }
 
 /// What the words after `check` ask for.

@@ -1,11 +1,13 @@
 //! The program: its commands over the host's files, standard output and standard error.
 #![tactic(auto)]
 
+mod hint;
 mod host;
 mod progress;
 mod shown;
 mod words;
 
+use hint::{Noted, tell_after};
 use host::HostFolder;
 use log_file::{FromWrite, write_all};
 use progress::Progress;
@@ -36,12 +38,12 @@ fn main(rt: HostRuntime) -> ExitCode {
         device: FromWrite::new(rt.stdout()),
         progress,
     };
-    let mut err = Shown {
+    let mut err = Noted::new(Shown {
         device: FromWrite::new(rt.stderr()),
         progress,
-    };
+    });
     let folder = &mut HostFolder::new(&rt, progress);
-    ExitCode::from(serve(
+    let status = serve(
         &rt,
         rt.alloc(),
         words.as_slice(),
@@ -49,5 +51,7 @@ fn main(rt: HostRuntime) -> ExitCode {
         folder,
         &mut out,
         &mut err,
-    ))
+    );
+    tell_after(&rt, words.as_slice(), status, err.is_used());
+    ExitCode::from(status)
 }

@@ -1,13 +1,15 @@
 -- How a call ends, from what its parts answer.
-use Rattle.std.proofs.Common.{◌≡◌, ◌⊎◌, ◌∙◌, ap, subst, sym, refl, ℕ, List, Option, Result, Ok, Err, inl, inr}
+use Rattle.std.proofs.Common.{◌≡◌, ◌⊎◌, ◌∙◌, ap, subst, sym, refl, ℕ, Bor, [], None, Some, List, Option, Result, Ok, Err, inl, inr}
 use Rattle.std.specs.Prelude.{IfOk, OnOk, IfErr}
 use Rattle.std.specs.Io.KnownBytes.{Appends, Keeps}
-use Rattle.std.proofs.KnownBytes.{Keeps-refl}
+use Rattle.std.proofs.KnownBytes.{Appends-nil, Keeps-refl}
 use Rattle.command_line.specs.Asking.{Asks, IsCommandLine, LackLogs}
+use Rattle.command_line.specs.declared.request.Check.{Check}
 use Rattle.command_line.specs.declared.request.Explain.{Explain}
 use Rattle.command_line.specs.declared.request.Litmus.{Litmus}
 use Rattle.command_line.specs.declared.request.Request.{Request}
 use Rattle.command_line.specs.declared.request.Request.TheVariants as request
+use Rattle.core_program.specs.declared.fault.ProgramFault.{ProgramFault}
 use Rattle.verdict.specs.Judgement.{IsYes}
 use Rattle.verdict.specs.declared.answer.Verdict.{Verdict}
 use Rattle.verdict.specs.declared.answer.Verdict.TheVariants.{Yes, No}
@@ -15,8 +17,8 @@ use Rattle.tardis_command.specs.Answers.{answer_status, answer_text, told_text, 
 use Rattle.tardis_command.specs.declared.answer.Answer.{Answer}
 use Rattle.tardis_command.specs.declared.answer.Answer.TheVariants as answer
 use Rattle.tardis_command.specs.inner.Printing.{IsUnprinted}
-use Rattle.tardis_command.specs.Endings.{Answered, Ending, EndsBy, HasFailed, IsAnswered, IsDoneBy, IsPrinted, IsWritten, Misused, Refused, Says, Sink, Takes, Unprinted, Unread, line, status_of}
-use Rattle.judge_commands.specs.Checking.{IsChecked}
+use Rattle.tardis_command.specs.Endings.{Answered, Ending, EndsBy, HasFailed, IsAnswered, IsDoneBy, IsOfFileOf, IsPrinted, IsUntouched, IsWritten, Misused, Refused, Says, Sink, Takes, TellsMore, Unprinted, Unread, line, status_of}
+use Rattle.judge_commands.specs.Checking.{IsChecked, IsUnprogrammedBy}
 use Rattle.judge_commands.specs.Explaining.{IsExplained}
 use Rattle.judge_commands.specs.Ordering.{IsOrdered}
 use Rattle.judge_commands.specs.Upgrading.{IsUpgraded}
@@ -40,8 +42,8 @@ use Rattle.run_commands.specs.Simulating.{IsRun}
 use Rattle.run_commands.specs.Tabling.{IsCounted}
 use Rattle.tardis_command.specs.Faults.{command_fault_text, fault_status, from_judging, from_running, from_searching}
 use Rattle.tardis_command.specs.declared.fault.CommandFault.{CommandFault}
-use Rattle.tardis_command.specs.declared.fault.CommandFault.TheVariants.{Call}
-use Rattle.call_devices.specs.declared.call_fault.CallFault.TheVariants.{Output, OutOfMemory}
+use Rattle.tardis_command.specs.declared.fault.CommandFault.TheVariants.{Call, Judging}
+use Rattle.call_devices.specs.declared.call_fault.CallFault.TheVariants.{Output, OutOfMemory, Programs}
 use Rattle.judge_commands.specs.declared.fault.JudgingFault.{JudgingFault}
 use Rattle.judge_commands.specs.declared.fault.JudgingFault.TheVariants as judging
 use Rattle.run_commands.specs.declared.fault.RunningFault.{RunningFault}
@@ -107,6 +109,16 @@ written_memory Is fault (Unprinted answer) memory answered done = absurd done
 written_memory Is fault Unread memory answered done = absurd done
 written_memory Is fault (Misused text) memory answered done = absurd done
 
+-- and where the version was asked for
+version_memory : (before after : Files) (out out' : Sink) (fault : CommandFault) (ending : Ending) → IsAnswered ending (Err fault)
+    → IsPrinted (Says (λ told. answer.Version) Call (IsUntouched before after)) out out' ending
+    → IsPrinted (Says (λ told. answer.Version) Call (IsUntouched before after)) out out' (Refused (Call OutOfMemory))
+version_memory before after out out' fault (Answered own) answered done = cc
+version_memory before after out out' fault (Unprinted own) answered done = ((OutOfMemory, refl, (refl, done.0.2)), inr done.1)
+version_memory before after out out' fault (Refused reason) answered done = ((OutOfMemory, refl, (refl, done.0.2.1)), done.1)
+version_memory before after out out' fault Unread answered done = absurd done
+version_memory before after out out' fault (Misused text) answered done = absurd done
+
 memory_instead : (before after : Files) (unread : List ℕ → Type 0) (asked : Request) (out out' : Sink) (fault : CommandFault) (ending : Ending) → IsAnswered ending (Err fault)
     → IsDoneBy before after unread asked out out' ending → IsDoneBy before after unread asked out out' (Refused (Call OutOfMemory))
 memory_instead before after unread (request.Check check) out out' fault ending answered done =
@@ -126,6 +138,7 @@ memory_instead before after unread (request.Search search) out out' fault ending
 memory_instead before after unread (request.Confirm confirm) out out' fault ending answered done =
     written_memory (Says answer.Searched from_searching (IsConfirmed before after unread confirm out out')) fault ending
     (λ reason said. (searching.OutOfMemory, refl, unconfirmed before after unread confirm out out' said.0 said.2)) answered done
+memory_instead before after unread request.Version out out' fault ending answered done = version_memory before after out out' fault ending answered done
 memory_instead before after unread (request.Explain explain) out out' fault ending answered done =
     written_memory (Says answer.Explained from_judging (IsExplained before after unread explain out out')) fault ending
     (λ reason said. (judging.Call OutOfMemory, refl, unexplained before after unread explain out out' said.0 said.2)) answered done
@@ -193,6 +206,63 @@ pub told_no : (X : Type 0) (fault told : CommandFault) (status : ℕ) → (fault
 told_no X fault told status holds (inl is) same one = holds (sym (ap fault_status is) ∙ sym same ∙ one)
 told_no X fault told status holds (inr is) same one = cc
 
+-- ---- what is told more of a refusal
+
+-- why there are no programs in a text is the same however the folder was read after it
+unprogrammed_again : (told : List ℕ → Option (List ℕ)) (unread unread' : List ℕ → Type 0) (name : Option (Bor (List ℕ))) (fault : ProgramFault)
+    → IsUnprogrammedBy told unread name (Programs fault) → IsUnprogrammedBy told unread' name (Programs fault)
+unprogrammed_again told unread unread' None fault is = absurd is
+unprogrammed_again told unread unread' (Some name) fault is = is
+
+checked_again : (told : List ℕ → Option (List ℕ)) (unread unread' : List ℕ → Type 0) (asked : Check) (fault : ProgramFault)
+    → IsChecked told unread asked (Err (judging.Call (Programs fault))) → IsChecked told unread' asked (Err (judging.Call (Programs fault)))
+checked_again told unread unread' asked fault (inl memory) = inl memory
+checked_again told unread unread' asked fault (inr is) = inr (is.0, unprogrammed_again told unread unread' asked.program fault is.1)
+
+-- nor does the refusal of an explanation, for the fault of a file, depend on that
+explained_again : (before middle after : Files) (unread unread' : List ℕ → Type 0) (asked : Explain) (out out' : Sink) (fault : JudgingFault)
+    → IsOfFileOf (request.Explain asked) (from_judging fault) → IsExplained before middle unread asked out out' (Err fault)
+    → IsExplained before after unread' asked out out' (Err fault)
+explained_again before middle after unread unread' asked out out' (judging.Judge (judge.Log file line reason)) again done = done
+explained_again before middle after unread unread' asked out out' (judging.Call (Programs reason)) again done =
+    (checked_again before.told unread unread' asked.check reason done.0, done.1)
+explained_again before middle after unread unread' asked out out' other again done = absurd again
+
+pub done_again : (before middle after : Files) (unread unread' : List ℕ → Type 0) (asked : Request) (out out' : Sink) (ending : Ending) (fault : CommandFault)
+    → IsAnswered ending (Err fault) → IsOfFileOf asked fault → IsDoneBy before middle unread asked out out' ending → IsDoneBy before after unread' asked out out' ending
+done_again before middle after unread unread' (request.Explain explain) out out' (Refused reason) fault answered again done =
+    let (own, is, explained) = done in
+    let same : fault ≡ reason = cc in
+    (own, is, explained_again before middle after unread unread' explain out out' own (subst (IsOfFileOf (request.Explain explain)) (same ∙ is) again) explained)
+done_again before middle after unread unread' (request.Explain explain) out out' (Answered own) fault answered again done = cc
+done_again before middle after unread unread' (request.Explain explain) out out' (Unprinted own) fault answered again done = absurd done
+done_again before middle after unread unread' (request.Explain explain) out out' Unread fault answered again done = absurd done
+done_again before middle after unread unread' (request.Explain explain) out out' (Misused text) fault answered again done = absurd done
+done_again before middle after unread unread' other out out' ending fault answered again done = absurd again
+
+-- the folder was read again for a refusal, or it wasn't
+pub done_after : (before middle after : Files) (unread : Files → List ℕ → Type 0) (asked : Request) (out out' : Sink) (ending : Ending) (fault : CommandFault)
+    → IsAnswered ending (Err fault) → (after ≡ middle) ⊎ IsOfFileOf asked fault → IsDoneBy before middle (unread middle) asked out out' ending
+    → IsDoneBy before after (unread after) asked out out' ending
+done_after before middle after unread asked out out' ending fault answered (inl same) done =
+    subst (λ (files : Files). IsDoneBy before files (unread files) asked out out' ending) (sym same) done
+done_after before middle after unread asked out out' ending fault answered (inr again) done =
+    done_again before middle after (unread middle) (unread after) asked out out' ending fault answered again done
+
+-- where an answer wasn't printed, nothing more is told
+unprinted_more : (before after : Files) (unread : List ℕ → Type 0) (asked : Request) (out middle out' : Sink) (own : Answer) (fault : CommandFault)
+    → IsDoneBy before after unread asked out middle (Unprinted own) → TellsMore asked fault middle out' → out' ≡ middle
+unprinted_more before after unread (request.Explain explain) out middle out' own fault done more = absurd done
+unprinted_more before after unread other out middle out' own fault done more = more
+
+-- lack of memory may be told in place of the refusal of which more is told
+more_of_memory : (asked : Request) (fault : CommandFault) (old new : Sink) → TellsMore asked fault old new → TellsMore asked (Call OutOfMemory) old new
+more_of_memory (request.Explain explain) (Judging fault) old new more = let (text, which, takes) = more in (text, inr tt, takes)
+more_of_memory (request.Explain explain) (Call fault) old new more = let (text, which, takes) = more in (text, inr tt, takes)
+more_of_memory (request.Explain explain) other old new same =
+    ([], inl refl, inl (subst (λ (s : Sink). Appends old.contents s.contents []) (sym same) (Appends-nil old.contents)))
+more_of_memory other fault old new same = same
+
 module _ (before after : Files) (unread : List ℕ → Type 0) (words : List (List ℕ)) (out err : Sink) where
   pub ends_misused : (err' : Sink) (text : List ℕ) → ¬ (IsCommandLine words) ⊎ LackLogs words → Takes err err' text
       → EndsBy before after unread words out out err err' (Misused text)
@@ -215,35 +285,44 @@ module _ (before after : Files) (unread : List ℕ → Type 0) (words : List (Li
   ends_answered asked Unread out' err' answer status asks answered done takes is = absurd answered
   ends_answered asked (Misused text) out' err' answer status asks answered done takes is = absurd answered
 
-  -- the fault was told
-  ends_told : (asked : Request) (ending : Ending) (fault : CommandFault) (out' err' : Sink) (status : ℕ) → Asks words asked
-      → IsAnswered ending (Err fault) → IsDoneBy before after unread asked out out' ending → Takes err err' (line (command_fault_text fault))
-      → status ≡ fault_status fault → EndsAt out' err' status
-  ends_told asked (Answered answer) fault out' err' status asks answered done takes same = cc
-  ends_told asked (Unprinted answer) fault out' err' status asks answered done takes same =
-      let is : fault ≡ Call Output = cc in (
+  -- the fault was told, and more of it
+  ends_told : (asked : Request) (ending : Ending) (fault : CommandFault) (middle out' err' : Sink) (status : ℕ) → Asks words asked
+      → IsAnswered ending (Err fault) → IsDoneBy before after unread asked out middle ending → TellsMore asked fault middle out'
+      → Takes err err' (line (command_fault_text fault)) → status ≡ fault_status fault → EndsAt out' err' status
+  ends_told asked (Answered answer) fault middle out' err' status asks answered done more takes same = cc
+  ends_told asked (Unprinted answer) fault middle out' err' status asks answered done more takes same =
+      let is : fault ≡ Call Output = cc in
+      let quiet = unprinted_more before after unread asked out middle out' answer fault done more in (
         Unprinted answer,
         same ∙ ap fault_status is,
-        record { end = (asked, asks, done); complaint = subst (λ (f : CommandFault). Takes err err' (line (command_fault_text f))) is takes },
+        record {
+          end = (asked, asks, subst (λ (s : Sink). IsDoneBy before after unread asked out s (Unprinted answer)) (sym quiet) done);
+          complaint = subst (λ (f : CommandFault). Takes err err' (line (command_fault_text f))) is takes;
+        },
       )
-  ends_told asked (Refused reason) fault out' err' status asks answered done takes same =
+  ends_told asked (Refused reason) fault middle out' err' status asks answered done more takes same =
       let is : fault ≡ reason = cc in (
         Refused reason,
         same ∙ ap fault_status is,
-        record { end = (asked, asks, done); complaint = subst (λ (f : CommandFault). Takes err err' (line (command_fault_text f))) is takes },
+        record {
+          end = (asked, asks, (middle, done, subst (λ (f : CommandFault). TellsMore asked f middle out') is more));
+          complaint = subst (λ (f : CommandFault). Takes err err' (line (command_fault_text f))) is takes;
+        },
       )
-  ends_told asked Unread fault out' err' status asks answered done takes same = absurd answered
-  ends_told asked (Misused text) fault out' err' status asks answered done takes same = absurd answered
+  ends_told asked Unread fault middle out' err' status asks answered done more takes same = absurd answered
+  ends_told asked (Misused text) fault middle out' err' status asks answered done more takes same = absurd answered
 
   -- what was told is the fault, or lack of the memory to tell it
-  pub ends_refused : (asked : Request) (ending : Ending) (fault reported : CommandFault) (out' err' : Sink) (status : ℕ) → Asks words asked
-      → IsAnswered ending (Err fault) → IsDoneBy before after unread asked out out' ending → (reported ≡ fault) ⊎ (reported ≡ Call OutOfMemory)
-      → Takes err err' (line (command_fault_text reported)) → status ≡ fault_status reported → EndsAt out' err' status
-  ends_refused asked ending fault reported out' err' status asks answered done (inl is) takes same =
-      ends_told asked ending fault out' err' status asks answered done
+  pub ends_refused : (asked : Request) (ending : Ending) (fault reported : CommandFault) (middle out' err' : Sink) (status : ℕ) → Asks words asked
+      → IsAnswered ending (Err fault) → IsDoneBy before after unread asked out middle ending → TellsMore asked fault middle out'
+      → (reported ≡ fault) ⊎ (reported ≡ Call OutOfMemory) → Takes err err' (line (command_fault_text reported)) → status ≡ fault_status reported
+      → EndsAt out' err' status
+  ends_refused asked ending fault reported middle out' err' status asks answered done more (inl is) takes same =
+      ends_told asked ending fault middle out' err' status asks answered done more
       (subst (λ (f : CommandFault). Takes err err' (line (command_fault_text f))) is takes) (same ∙ ap fault_status is)
-  ends_refused asked ending fault reported out' err' status asks answered done (inr is) takes same =
-      ends_told asked (Refused (Call OutOfMemory)) (Call OutOfMemory) out' err' status asks refl (memory_instead before after unread asked out out' fault ending answered done)
+  ends_refused asked ending fault reported middle out' err' status asks answered done more (inr is) takes same =
+      ends_told asked (Refused (Call OutOfMemory)) (Call OutOfMemory) middle out' err' status asks refl
+      (memory_instead before after unread asked out middle fault ending answered done) (more_of_memory asked fault middle out' more)
       (subst (λ (f : CommandFault). Takes err err' (line (command_fault_text f))) is takes) (same ∙ ap fault_status is)
 
   -- and there was no memory to read the words

@@ -7,7 +7,7 @@ use Rattle.verdict.specs.declared.answer.Verdict.TheVariants.{Yes, No}
 use Rattle.call_devices.specs.Sinks.{line}
 use Rattle.search_commands.specs.Answers.{search_status, search_text}
 use Rattle.tardis_command.specs.declared.answer.Answer.{Answer}
-use Rattle.tardis_command.specs.declared.answer.Answer.TheVariants.{Judged, Ordered, Explained, Searched, Counted, Done}
+use Rattle.tardis_command.specs.declared.answer.Answer.TheVariants.{Judged, Ordered, Explained, Searched, Counted, Done, Version}
 
 abbrev pub answer_text : Answer → List ℕ
 answer_text (Judged verdict) = verdict_text verdict
@@ -16,6 +16,7 @@ answer_text (Explained verdict) = verdict_text verdict
 answer_text (Searched answer) = search_text answer
 answer_text (Counted forbidden) = []
 answer_text (Done operations) = codes "done: " ++ (decimal operations ++ codes " operations")
+answer_text Version = codes "tardis 1.0, proved with rattle-kit-13f logic dac8208d650f15bf"
 
 -- what standard error is told of an answer: the verdict, where the order is what goes to standard output
 abbrev pub told_text : Answer → List ℕ
@@ -25,6 +26,7 @@ told_text (Explained verdict) = []
 told_text (Searched answer) = []
 told_text (Counted forbidden) = []
 told_text (Done operations) = []
+told_text Version = []
 
 abbrev pub verdict_status : Verdict → ℕ
 verdict_status (Yes count) = 0
@@ -37,3 +39,4 @@ answer_status (Explained verdict) = verdict_status verdict
 answer_status (Searched answer) = search_status answer
 answer_status (Counted forbidden) = if forbidden then 1 else 0
 answer_status (Done operations) = 0
+answer_status Version = 0

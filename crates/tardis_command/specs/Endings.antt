@@ -3,7 +3,7 @@ use Rattle.std.specs.Prelude.{◌≡◌, ◌<◌, ◌⊎◌, ⊤, ℕ, List, Opt
 use Rattle.std.specs.Io.KnownBytes.{Appends, Keeps}
 use Rattle.command_line.specs.Asking.{Asks, IsCommandLine, LackLogs}
 use Rattle.command_line.specs.declared.request.Request.{Request}
-use Rattle.command_line.specs.declared.request.Request.TheVariants.{Check, Order, Explain, Upgrade, Sim, Run, Litmus, Search, Confirm}
+use Rattle.command_line.specs.declared.request.Request.TheVariants.{Check, Order, Explain, Upgrade, Sim, Run, Litmus, Search, Confirm, Version as AskedVersion}
 use Rattle.tardis_command.specs.Answers.{answer_status, answer_text, told_text}
 use Rattle.judge_commands.specs.Checking.{FilesAreConsistent, FilesRunFlat, IsChecked, TextsAreConsistent}
 use Rattle.judge_commands.specs.Explaining.{IsExplained, IsPictureName}
@@ -13,6 +13,8 @@ use Rattle.mem_op.specs.Consistency.{IsConsistent}
 use Rattle.run_commands.specs.Leaving.{LeavesYes}
 use Rattle.call_devices.specs.Logs.{log_name}
 use Rattle.judge_commands.specs.Ordering.{IsOrdered, TakesOrder}
+use Rattle.judge_commands.specs.declared.fault.JudgingFault.TheVariants as judging
+use Rattle.refusal_commands.specs.Telling.{IsOfFile, TellsOf}
 use Rattle.search_commands.specs.Confirming.{IsConfirmed}
 use Rattle.search_commands.specs.Searching.{IsOutputName, IsSearched}
 use Rattle.search_commands.specs.Traces.{TellsTrace}
@@ -21,9 +23,10 @@ use Rattle.run_commands.specs.Simulating.{IsRun}
 use Rattle.run_commands.specs.Tabling.{IsCounted}
 use Rattle.judge_commands.specs.Upgrading.{IsUpgraded}
 use Rattle.tardis_command.specs.declared.answer.Answer.{Answer}
-use Rattle.tardis_command.specs.declared.answer.Answer.TheVariants.{Judged, Ordered, Explained, Searched, Counted, Done}
+use Rattle.tardis_command.specs.declared.answer.Answer.TheVariants.{Judged, Ordered, Explained, Searched, Counted, Done, Version}
 use Rattle.tardis_command.specs.declared.fault.CommandFault.{CommandFault}
-use Rattle.tardis_command.specs.declared.fault.CommandFault.TheVariants.{Call}
+use Rattle.tardis_command.specs.declared.fault.CommandFault.TheVariants.{Judging, Call}
+use Rattle.call_devices.specs.declared.call_fault.CallFault.{CallFault}
 use Rattle.call_devices.specs.declared.call_fault.CallFault.TheVariants.{Output, OutOfMemory}
 pub use Rattle.call_devices.specs.Files.{KeepsFiles}
 pub use Rattle.call_devices.specs.Sinks.{HasFailed, Sink, Takes, TakesBeginning, line, sink_of}
@@ -126,6 +129,11 @@ IsPrinted Is out out' (Unprinted answer) = Is (Ok answer) × HasFailed out out' 
 IsPrinted Is out out' (Refused fault) = Is (Err fault) × (Keeps out.contents out'.contents ⊎ HasFailed out out')
 IsPrinted Is out out' other = ⊥
 
+-- for the version nothing is read or put, and only lack of memory keeps it from being told
+abbrev pub IsUntouched : Files → Files → Result ⊤ CallFault → Type 0
+IsUntouched old new (Ok told) = new ≡ old
+IsUntouched old new (Err fault) = (fault ≡ OutOfMemory) × (new ≡ old)
+
 -- What was asked ended so, and left standard output so. The folder was `old` before and is `new` after, and `unread` holds of the name
 -- of a file that couldn't be opened or read.
 abbrev pub IsDoneBy : Files → Files → (List ℕ → Type 0) → Request → Sink → Sink → Ending → Type 0
@@ -137,7 +145,20 @@ IsDoneBy old new unread (Sim asked) out out' ending = IsPrinted (Says Done from_
 IsDoneBy old new unread (Run asked) out out' ending = IsPrinted (Says Done from_running (IsThreadRun old new unread asked)) out out' ending
 IsDoneBy old new unread (Search asked) out out' ending = IsWritten (Says Searched from_searching (IsSearched old new unread asked out out')) ending
 IsDoneBy old new unread (Confirm asked) out out' ending = IsWritten (Says Searched from_searching (IsConfirmed old new unread asked out out')) ending
+IsDoneBy old new unread AskedVersion out out' ending = IsPrinted (Says (λ told. Version) Call (IsUntouched old new)) out out' ending
 IsDoneBy old new unread (Litmus asked) out out' ending = IsWritten (Says Counted from_running (IsCounted old.told unread asked out out')) ending
+
+-- what standard output took more of a refusal: of an explanation's what is told of it, and of others nothing
+abbrev pub TellsMore : Request → CommandFault → Sink → Sink → Type 0
+TellsMore (Explain asked) (Judging fault) out out' = TellsOf asked.check fault out out'
+TellsMore (Explain asked) (Call fault) out out' = TellsOf asked.check (judging.Call fault) out out'
+TellsMore asked fault out out' = out' ≡ out
+
+-- it is the refusal of an explanation, for the fault of a file
+abbrev pub IsOfFileOf : Request → CommandFault → Type 0
+IsOfFileOf (Explain asked) (Judging fault) = IsOfFile fault
+IsOfFileOf (Explain asked) (Call fault) = IsOfFile (judging.Call fault)
+IsOfFileOf asked fault = ⊥
 
 -- how an ending is answered: by the answer, or by a fault
 abbrev pub IsAnswered : Ending → Result Answer CommandFault → Type 0
@@ -146,11 +167,13 @@ IsAnswered (Unprinted answer) came = came ≡ Err (Call Output)
 IsAnswered (Refused fault) came = came ≡ Err fault
 IsAnswered other came = ⊥
 
--- A call with these words may end so, and leave standard output so. Words that aren't a command line, or that name more files than a
+-- A call with these words may end so, and leave standard output so; what is told more of a refusal comes after that. Words that aren't a command line, or that name more files than a
 -- trace has, end in what the user is told of them, or memory runs out before it is known what they ask for.
 abbrev pub IsEnd : Files → Files → (List ℕ → Type 0) → List (List ℕ) → Sink → Sink → Ending → Type 0
 IsEnd old new unread words out out' Unread = Keeps out.contents out'.contents
 IsEnd old new unread words out out' (Misused text) = (¬ (IsCommandLine words) ⊎ LackLogs words) × Keeps out.contents out'.contents
+IsEnd old new unread words out out' (Refused fault) =
+    AskFor words (λ asked. (before : Sink) × IsDoneBy old new unread asked out before (Refused fault) × TellsMore asked fault before out')
 IsEnd old new unread words out out' ending = AskFor words (λ asked. IsDoneBy old new unread asked out out' ending)
 
 -- a call with these words ended so, and left the folder, standard output and standard error so

@@ -23,7 +23,12 @@ pub enum Answer {
     Counted(bool),
     /// Programs were run to their ends, and have performed this number of operations.
     Done(u64),
+    /// The version of the program, and what it was proved with.
+    Version,
 }
+
+/// The version of the program, and the line of the toolchain with which it was proved.
+const VERSION: &str = "tardis 1.0, proved with rattle-kit-13f logic dac8208d650f15bf";
 
 impl Answer {
     /// The exit status: 1 for No and for a forbidden outcome, else 0.
@@ -39,7 +44,7 @@ impl Answer {
             }
             Answer::Searched(answer) => answer.status(),
             Answer::Counted(true) => 1,
-            Answer::Counted(false) | Answer::Done(_) => 0,
+            Answer::Counted(false) | Answer::Done(_) | Answer::Version => 0,
         }
     }
 }
@@ -58,6 +63,7 @@ impl Display for Answer {
             Answer::Searched(answer) => write!(f, "{answer}"),
             Answer::Counted(_) => f.write_str(""),
             Answer::Done(operations) => write!(f, "done: {operations} operations"),
+            Answer::Version => f.write_str(VERSION),
         }
     }
 }

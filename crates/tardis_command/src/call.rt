@@ -1,7 +1,7 @@
 //! One call of the program.
 
-ghost use Rattle.std.specs.Prelude.{◌≡◌, IfOk};
-ghost use Rattle.call_devices.specs.Files.{IsUnread};
+ghost use Rattle.std.specs.Prelude.{◌≡◌, ◌⊎◌, IfOk};
+ghost use Rattle.call_devices.specs.Files.{IsOnlyRead, IsUnread};
 ghost use Rattle.command_line.specs.Asking.{texts};
 ghost use Rattle.tardis_command.specs.Answers.{answer_status};
 ghost use Rattle.tardis_command.specs.Endings as endings;
@@ -11,8 +11,9 @@ use super::fault::CommandFault;
 use super::output::{print_answer, refuse, tell, tell_answer};
 use call_devices::{CallFault, Folder};
 use command_line::{Refusal, Request, read};
-use judge_commands::{check, explain, order, upgrade};
+use judge_commands::{JudgingFault, check, explain, order, upgrade};
 use log_file::ByteSink;
+use refusal_commands::tell_refusal;
 use run_commands::{Watch, count_outcomes, run, sim};
 use search_commands::{confirm, search};
 use std::alloc::Global;
@@ -26,7 +27,7 @@ const USAGE: u8 = 3;
 /// answers the exit status: 0 for Yes or done, 1 for No or a forbidden outcome, 2 where a log, the
 /// programs, the schedule, the test, the trace or the certificate are refused, 3 where the words are or a number is out of range, else 4. An answer goes to standard
 /// output, all else to standard error; where an order goes to standard output, its verdict goes to
-/// standard error. In the folder nothing is put but the logs of a run or of an upgrade and the picture of
+/// standard error. Of a refused explanation more is told on standard output. In the folder nothing is put but the logs of a run or of an upgrade and the picture of
 /// an explanation.
 pub fn command<R: Threads + Wait + Sync, W: Watch + Sync, F: Folder, O: ByteSink, E: ByteSink>(
     rt: &R,
@@ -71,7 +72,36 @@ pub fn command<R: Threads + Wait + Sync, W: Watch + Sync, F: Folder, O: ByteSink
     };
     match perform(rt, alloc, &request, watch, folder, out) {
         Ok(answer) => tell_answer(err, &answer),
-        Err(fault) => refuse(alloc, err, fault),
+        Err(fault) => {
+            let status = refuse(alloc, err, fault);
+            tell_more(alloc, folder, &request, &fault, out);
+            status
+        }
+    }
+}
+
+/// Tells on standard output more of a refusal, where an explanation was asked for.
+fn tell_more<F: Folder, O: ByteSink>(
+    alloc: Global,
+    folder: &mut F,
+    request: &Request<'_>,
+    fault: &CommandFault,
+    out: &mut O,
+)
+    ensures told { endings.TellsMore request.now fault.now
+        (endings.sink_of O.contents O.failed out.old) (endings.sink_of O.contents O.failed out.new) }
+    ensures read { IsOnlyRead (F.files folder.old) (F.files folder.new) }
+    ensures quiet { (F.files folder.new ≡ F.files folder.old) ⊎ endings.IsOfFileOf request.now fault.now }
+{
+    match (request, fault) {
+        (Request::Explain(asked), CommandFault::Judging(fault)) => {
+            tell_refusal(alloc, folder, &asked.check, fault, out);
+        }
+        (Request::Explain(asked), CommandFault::Call(fault)) => {
+            let fault = JudgingFault::Call(*fault);
+            tell_refusal(alloc, folder, &asked.check, &fault, out);
+        }
+        _ => {}
     }
 }
 
@@ -125,6 +155,7 @@ fn perform<R: Threads + Wait + Sync, W: Watch + Sync, F: Folder, O: ByteSink>(
         }
         Request::Search(asked) => Ok(Answer::Searched(search(rt, alloc, folder, asked, out)?)),
         Request::Confirm(asked) => Ok(Answer::Searched(confirm(rt, alloc, folder, asked, out)?)),
+        Request::Version => print_answer(alloc, out, Answer::Version),
         Request::Litmus(asked) => Ok(Answer::Counted(count_outcomes(
             rt, alloc, folder, asked, out,
         )?)),

@@ -143,7 +143,7 @@ impl<'a, R: Threads + Wait + Sync + Print> Again<'a, R> {
         Ok(is_good && is_whole == (self.expected.status == 0))
     }
 
-    /// An explanation begins with the verdict's line.
+    /// An explanation begins with the verdict's line; or it is refused, and says more of that on standard output.
     fn as_explanation(&self) -> Result<bool, RowsFault> {
         if have(self.words, "--workers") {
             return Ok(true);
@@ -152,7 +152,7 @@ impl<'a, R: Threads + Wait + Sync + Print> Again<'a, R> {
         let printed = if self.expected.status < 2 {
             format!(in self.alloc; "{}**\n", self.expected.printed)?
         } else {
-            String::new(self.alloc)
+            String::from_str(self.alloc, "**\n")?
         };
         let wanted = Expected {
             printed: printed.as_str(),
@@ -240,7 +240,7 @@ impl<'a, R: Threads + Wait + Sync + Print> Again<'a, R> {
         self.does(words.as_slice(), given, SOUND, &wanted)
     }
 
-    /// Where a write of standard output fails, it has taken a beginning, and 29 is told.
+    /// Where a write of standard output fails, it has taken a beginning, and 29 is told; but a refusal is told as it was.
     fn failing_writes(&self) -> Result<bool, RowsFault> {
         let mut is_good = true;
         for write in 0..WRITES {
@@ -249,6 +249,13 @@ impl<'a, R: Threads + Wait + Sync + Print> Again<'a, R> {
                 complaints: &[],
             };
             let wanted = match self.expected.printed.get(..4 * write) {
+                Some(taken)
+                    if taken.len() < self.expected.printed.len() && self.expected.status > 1 => {
+                    Expected {
+                        printed: taken,
+                        ..self.expected
+                    }
+                }
                 Some(taken) if taken.len() < self.expected.printed.len() => Expected {
                     status: 4,
                     printed: taken,

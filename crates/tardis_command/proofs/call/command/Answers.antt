@@ -1,6 +1,7 @@
-use Rattle.std.proofs.Common.{◌∙◌, refl, subst, sym}
+use Rattle.std.proofs.Common.{◌∙◌, refl, subst, sym, ℕ, List}
+use Rattle.call_devices.specs.Files.{IsUnread}
 use Rattle.command_line.specs.Asking.{IsRefusalOf, texts}
-use Rattle.tardis_command.proofs.Ends.{ends_answered, ends_misused, ends_refused, ends_unread, told_no}
+use Rattle.tardis_command.proofs.Ends.{done_after, ends_answered, ends_misused, ends_refused, ends_unread, keeps_told_of, told_no}
 use Rattle.tardis_command.specs.Endings.{Misused}
 use Rattle.tardis_command.proofs.call.command.Goals as goal
 
@@ -33,7 +34,7 @@ returns-in-Ok-perform-clause-refuted g c one =
 
 pub returns-clause-refuted : goal.returns-clause-refuted
 returns-clause-refuted g c one =
-    let (told, which, takes, status) = c.refuse-in-Err.ensures in
+    let (told, which, takes, status) = c.refuse-status.ensures in
     (c.in-Ok.request, c.in-Ok.ensures.request, told_no _ c.in-Err.fault told _ c.in-Err.ensures.refuted which status one)
 
 pub returns-in-Ok-perform-clause-order : goal.returns-in-Ok-perform-clause-order
@@ -50,9 +51,13 @@ returns-in-Ok-perform-clause-yes g c zero =
 
 pub returns-clause-ends : goal.returns-clause-ends
 returns-clause-ends g c =
-    let (told, which, takes, status) = c.refuse-in-Err.ensures in
+    let files = g.F.Folder.files in
+    let unread = IsUnread g.F.Source.ByteSource.remaining g.F.Source.ByteSource.failed (files c.args.folder.now) in
+    let (told, which, takes, status) = c.refuse-status.ensures in
     let (ending, answered, done) = c.in-Err.ensures.exact in
-    ends_refused _ _ _ _ _ _ c.in-Ok.request ending c.in-Err.fault told _ _ _ c.in-Ok.ensures.request answered done which takes status
+    ends_refused _ _ _ _ _ _ c.in-Ok.request ending c.in-Err.fault told _ _ _ _ c.in-Ok.ensures.request answered
+    (done_after (files c.args.folder.now) _ _ unread c.in-Ok.request _ _ ending c.in-Err.fault answered c.tell_more.ensures.quiet done)
+    c.tell_more.ensures.told which takes status
 
 pub returns-in-Ok-perform-clause-files : goal.returns-in-Ok-perform-clause-files
 returns-in-Ok-perform-clause-files g c name none =
@@ -60,4 +65,5 @@ returns-in-Ok-perform-clause-files g c name none =
 
 pub returns-clause-files : goal.returns-clause-files
 returns-clause-files g c name none =
-    c.in-Err.ensures.files name (λ is. none (c.in-Ok.request, c.in-Ok.ensures.request, is))
+    keeps_told_of _ _ (λ (other : List ℕ). ⊥) c.tell_more.ensures.read name (λ never. never)
+    ∙ c.in-Err.ensures.files name (λ is. none (c.in-Ok.request, c.in-Ok.ensures.request, is))

@@ -9,9 +9,10 @@ use Rattle.run_commands.specs.Simulating.{IsRun}
 use Rattle.run_commands.specs.declared.fault.RunningFault.TheVariants as running
 use Rattle.run_commands.proofs.Leaving.{run_leaves, sim_leaves}
 use Rattle.tardis_command.specs.Answers.{answer_status}
-use Rattle.tardis_command.specs.Endings.{Answered, Refused, sink_of}
+use Rattle.tardis_command.specs.Endings.{Answered, IsUntouched, Refused, sink_of}
 use Rattle.tardis_command.specs.Faults.{from_judging, from_running, from_searching}
-use Rattle.tardis_command.specs.declared.answer.Answer.TheVariants.{Judged, Ordered, Explained, Searched, Counted, Done}
+use Rattle.tardis_command.specs.declared.answer.Answer.TheVariants.{Judged, Ordered, Explained, Searched, Counted, Done, Version}
+use Rattle.tardis_command.specs.declared.fault.CommandFault.TheVariants.{Call}
 use Rattle.tardis_command.proofs.Ends.{keeps_told_of, printed, printed_yes, refusal_is_no_no, refused_at_once, right_no, right_yes, whatever}
 use Rattle.tardis_command.proofs.call.perform.Goals as goal
 
@@ -75,6 +76,13 @@ returns-in_ok-verdict-in-Check-clause-exact g c =
     let sink = sink_of g.O.ByteSink.contents g.O.ByteSink.failed in
     rw c.in-Check.is (printed Judged from_judging (IsChecked (files c.args.folder.now).told unread c.in-Check.asked) (sink c.args.out.now) (sink c.print_answer.new.out) c.in_ok-verdict-in-Check.verdict
     c.in_ok-verdict-in-Check.ensures.exact (judging.Call OutOfMemory, refl, inl refl) c.print_answer.result c.print_answer.ensures.ok c.print_answer.ensures.printed c.print_answer.ensures.err)
+
+pub returns-in-Version-clause-exact : goal.returns-in-Version-clause-exact
+returns-in-Version-clause-exact g c =
+    let files = g.F.Folder.files in
+    let sink = sink_of g.O.ByteSink.contents g.O.ByteSink.failed in
+    rw c.in-Version.is (printed (λ told. Version) Call (IsUntouched (files c.args.folder.now) (files c.args.folder.now)) (sink c.args.out.now) _ tt refl
+    (OutOfMemory, refl, (refl, refl)) c.print_answer-in-Version.result c.print_answer-in-Version.ensures.ok c.print_answer-in-Version.ensures.printed c.print_answer-in-Version.ensures.err)
 
 pub returns-in_ok-order-in-Order-clause-exact : goal.returns-in_ok-order-in-Order-clause-exact
 returns-in_ok-order-in-Order-clause-exact g c = rw c.in-Order.is (Answered (Ordered c.in_ok-order-in-Order.field-0), refl, (c.in_ok-order-in-Order.field-0, refl, c.in_ok-order-in-Order.ensures.exact))

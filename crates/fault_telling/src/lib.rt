@@ -1,0 +1,16 @@
+//! What is told of a file that a reader refused: the line of the fault, what it should be, and what has usually gone wrong.
+#![tactic(auto)]
+
+mod field;
+mod lines;
+mod log_words;
+mod place;
+mod program_words;
+mod shape;
+mod shown;
+mod slip;
+mod telling;
+
+pub use lines::line_of;
+pub use place::Place;
+pub use telling::{Refused, Telling};

@@ -1,0 +1,147 @@
+//! The shapes of records and of instructions, and where a line departs from its shape.
+
+use super::field::{Field, Troubled};
+use std::alloc::AllocError;
+
+/// The shape of a line: its first word, how it is written, and its fields after that word.
+#[derive(Clone, Copy)]
+pub(crate) struct Shape {
+    /// What such a line is called.
+    pub(crate) noun: &'static str,
+    /// Its first word.
+    pub(crate) first: &'static str,
+    /// How it is written.
+    pub(crate) written: &'static str,
+    /// The fields after its first word.
+    pub(crate) fields: &'static [Field],
+}
+
+/// The shapes of records.
+pub(crate) const RECORDS: [Shape; 3] = [
+    Shape {
+        noun: "A store",
+        first: "S",
+        written: "S addr value ts rank",
+        fields: &[Field::Address, Field::Value, Field::Stamp, Field::Rank],
+    },
+    Shape {
+        noun: "A load",
+        first: "L",
+        written: "L addr value ts rank source",
+        fields: &[
+            Field::Address,
+            Field::Value,
+            Field::Stamp,
+            Field::Rank,
+            Field::Source,
+        ],
+    },
+    Shape {
+        noun: "A swap",
+        first: "X",
+        written: "X addr value ts rank source old",
+        fields: &[
+            Field::Address,
+            Field::Value,
+            Field::Stamp,
+            Field::Rank,
+            Field::Source,
+            Field::Old,
+        ],
+    },
+];
+
+/// The shapes of instructions.
+pub(crate) const INSTRUCTIONS: [Shape; 6] = [
+    Shape {
+        noun: "A load",
+        first: "ld",
+        written: "ld rN addr",
+        fields: &[Field::Register, Field::Address],
+    },
+    Shape {
+        noun: "A store",
+        first: "st",
+        written: "st addr value",
+        fields: &[Field::Address, Field::Value],
+    },
+    Shape {
+        noun: "A store of a register",
+        first: "sr",
+        written: "sr addr rN",
+        fields: &[Field::Address, Field::Register],
+    },
+    Shape {
+        noun: "An addition",
+        first: "ai",
+        written: "ai rN rM value",
+        fields: &[Field::Register, Field::Register, Field::Value],
+    },
+    Shape {
+        noun: "A jump",
+        first: "jz",
+        written: "jz rN skip",
+        fields: &[Field::Register, Field::Skip],
+    },
+    Shape {
+        noun: "A swap",
+        first: "sw",
+        written: "sw rN addr value",
+        fields: &[Field::Register, Field::Address, Field::Value],
+    },
+];
+
+/// The shape with this first word.
+pub(crate) fn shape_of(shapes: &[Shape], first: &str) -> Option<Shape> {
+    for shape in shapes {
+        if shape.first == first {
+            return Some(*shape);
+        }
+    }
+    None
+}
+
+/// Adds how a line of this shape is written, and where the words after its first one depart from that.
+pub(crate) fn push_departure(
+    text: &mut String,
+    shape: &Shape,
+    words: &[&str],
+) -> Result<(), AllocError> {
+    write!(text, "{} is written {}.\n", shape.noun, shape.written)?;
+    if words.len() < shape.fields.len() {
+        return push_missing(text, shape.fields, words);
+    }
+    if words.len() > shape.fields.len() {
+        return write!(text, "It has a word too many.\n");
+    }
+    push_trouble(text, shape.fields, words)
+}
+
+/// Adds which fields are missing, the last ones. Where the last word is a source, it is the rank that was left out.
+fn push_missing(text: &mut String, fields: &[Field], words: &[&str]) -> Result<(), AllocError> {
+    let has_source = words
+        .last()
+        .is_some_and(|word| *word == "init" || word.contains('.'));
+    if has_source && words.len() == 4 {
+        return text.push_str("Its rank is missing, 0 where all times differ.\n");
+    }
+    for field in fields.iter().skip(words.len()) {
+        write!(text, "Its {field} is missing.\n")?;
+    }
+    Ok(())
+}
+
+/// Adds what is wrong with the first word that isn't as its field.
+fn push_trouble(text: &mut String, fields: &[Field], words: &[&str]) -> Result<(), AllocError> {
+    for (field, word) in fields.iter().zip(words) {
+        if let Some(trouble) = field.trouble(word) {
+            let troubled = Troubled {
+                field: *field,
+                word,
+                trouble,
+            };
+            return write!(text, "{troubled}\n");
+        }
+    }
+    Ok(())
+}

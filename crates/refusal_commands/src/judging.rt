@@ -1,0 +1,196 @@
+//! What is told of the refusal of an explanation.
+
+ghost use Rattle.std.specs.Prelude.{◌≡◌, ◌⊎◌, ℕ, List, [], IfOk, string_bytes};
+ghost use Rattle.call_devices.specs.Files.{IsOnlyRead};
+ghost use Rattle.call_devices.specs.Sinks.{Takes, sink_of};
+ghost use Rattle.refusal_commands.specs.Telling as telling;
+
+use call_devices::{CallFault, Folder, read_text};
+use command_line::Check;
+use core_program::{ProgramFault, ProgramSet};
+use fault_telling::{Place, Refused, Telling};
+use judge_commands::JudgingFault;
+use log_file::{ByteSink, FormatFault, LogFault, LogReader, write_all};
+use mem_op::CoreId;
+use std::alloc::{AllocError, Global};
+use verdict::{Count, JudgeFault};
+
+/// Tells on standard output of the refusal of an explanation: where the fault of a file is, how its line is written, and what is wrong
+/// with it. The file is read again for that. A write that fails is passed over, and where there is no memory nothing is told.
+pub fn tell_refusal<F: Folder, O: ByteSink>(
+    alloc: Global,
+    folder: &mut F,
+    asked: &Check<'_>,
+    fault: &JudgingFault,
+    out: &mut O,
+)
+    ensures told { telling.TellsOf asked.now fault.now
+        (sink_of O.contents O.failed out.old) (sink_of O.contents O.failed out.new) }
+    ensures read { IsOnlyRead (F.files folder.old) (F.files folder.new) }
+    ensures quiet { (F.files folder.new ≡ F.files folder.old) ⊎ telling.IsOfFile fault.now }
+{
+    match refusal_text(alloc, folder, asked, fault) {
+        Ok(text) => tell(out, text.as_bytes()),
+        Err(_) => tell(out, &[]),
+    }
+}
+
+/// Tells a text on standard output. A write that fails is passed over.
+pub(crate) fn tell<O: ByteSink>(out: &mut O, text: &[u8])
+    ensures { Takes (sink_of O.contents O.failed out.old) (sink_of O.contents O.failed out.new) text.now }
+{
+    let _ = write_all(out, text);
+}
+
+/// What is told of the refusal of an explanation.
+fn refusal_text<F: Folder>(
+    alloc: Global,
+    folder: &mut F,
+    asked: &Check<'_>,
+    fault: &JudgingFault,
+) -> Result<String, AllocError>
+    ensures told { IfOk result (λ text. (string_bytes text ≡ []) ⊎ telling.IsToldOf asked.now fault.now (string_bytes text)) }
+    ensures read { IsOnlyRead (F.files folder.old) (F.files folder.new) }
+    ensures quiet { (F.files folder.new ≡ F.files folder.old) ⊎ telling.IsOfFile fault.now }
+{
+    match fault {
+        JudgingFault::Judge(JudgeFault::Log { file, line, fault }) => {
+            log_text(alloc, folder, asked, *file, *line, *fault)
+        }
+        JudgingFault::Call(CallFault::Programs(fault)) => {
+            programs_text(alloc, folder, asked.program, *fault)
+        }
+        JudgingFault::Judge(JudgeFault::Read { file }) => {
+            unread_text(alloc, asked.files.as_slice().get(*file).copied())
+        }
+        JudgingFault::Call(CallFault::ProgramsUnread) => unread_text(alloc, asked.program),
+        JudgingFault::Judge(JudgeFault::BadConfig(Count::Programs)) => String::from_str(
+            alloc,
+            "The file of the programs has those of another number of cores than there are logs.\n",
+        ),
+        JudgingFault::Judge(JudgeFault::BadConfig(Count::Files)) => {
+            String::from_str(alloc, "A set has 1 to 64 logs, one of each core.\n")
+        }
+        _ => Ok(String::new(alloc)),
+    }
+}
+
+/// What is told of a file that can't be opened or read.
+fn unread_text(alloc: Global, name: Option<&str>) -> Result<String, AllocError> {
+    match name {
+        Some(name) => format!(in alloc; "{name}: it can't be opened or read.\n"),
+        None => Ok(String::new(alloc)),
+    }
+}
+
+/// What is told of a log that was refused, the one of this number.
+fn log_text<F: Folder>(
+    alloc: Global,
+    folder: &mut F,
+    asked: &Check<'_>,
+    file: usize,
+    line: u64,
+    fault: FormatFault,
+) -> Result<String, AllocError>
+    ensures told { IfOk result (λ text. (string_bytes text ≡ [])
+        ⊎ telling.IsToldOf asked.now (JudgingFault.Judge (JudgeFault.Log file line fault)) (string_bytes text)) }
+    ensures read { IsOnlyRead (F.files folder.old) (F.files folder.new) }
+{
+    let Some(name) = asked.files.as_slice().get(file).copied() else {
+        return Ok(String::new(alloc));
+    };
+    let files = asked.files.len();
+    let bytes = log_again(alloc, folder, name, file, files, LogFault::At(line, fault));
+    let telling = Telling {
+        place: Place { file: name, line },
+        refused: Refused::Log { file, files, fault },
+        bytes: bytes.as_ref().map(|bytes| bytes.as_slice()),
+    };
+    telling.print(alloc)
+}
+
+/// The bytes of a log that is read again, where they have this fault; none of a file that can be read once.
+fn log_again<F: Folder>(
+    alloc: Global,
+    folder: &mut F,
+    name: &str,
+    file: usize,
+    files: usize,
+    fault: LogFault,
+) -> Option<Vec<u8>>
+    ensures { IsOnlyRead (F.files folder.old) (F.files folder.new) }
+{
+    let bytes = read_text(alloc, folder, name).ok()?;
+    let core = CoreId::new(file as u64).ok()?;
+    if log_fault(alloc, bytes.as_slice(), core, files) == Some(fault) {
+        return Some(bytes);
+    }
+    None
+}
+
+/// The fault of the bytes of the log of a core, of so many cores.
+fn log_fault(alloc: Global, bytes: &[u8], core: CoreId, cores: usize) -> Option<LogFault> {
+    let mut reader = LogReader::new(alloc, core, cores as u64);
+    match reader.feed(bytes) {
+        Ok(()) => reader.finish().err(),
+        Err(fault) => Some(fault),
+    }
+}
+
+/// What is told of a set of programs that was refused.
+fn programs_text<F: Folder>(
+    alloc: Global,
+    folder: &mut F,
+    name: Option<&str>,
+    fault: ProgramFault,
+) -> Result<String, AllocError>
+    ensures told { IfOk result (λ text. (string_bytes text ≡ []) ⊎ telling.BeginsAtProgram name.entry fault (string_bytes text)) }
+    ensures read { IsOnlyRead (F.files folder.old) (F.files folder.new) }
+{
+    let Some(file) = name else {
+        return Ok(String::new(alloc));
+    };
+    let Some(line) = program_line(fault) else {
+        return Ok(String::new(alloc));
+    };
+    let refused = match fault {
+        ProgramFault::TooLong(_) => Refused::TooLong,
+        ProgramFault::SkipPastEnd(_) => Refused::SkipPastEnd,
+        _ => Refused::BadLine,
+    };
+    let bytes = programs_again(alloc, folder, file, fault);
+    let telling = Telling {
+        place: Place { file, line },
+        refused,
+        bytes: bytes.as_ref().map(|bytes| bytes.as_slice()),
+    };
+    telling.print(alloc)
+}
+
+/// The line of the fault of a set of programs, where it has one.
+fn program_line(fault: ProgramFault) -> Option<u64>
+    ensures { result ≡ telling.program_line fault }
+{
+    match fault {
+        ProgramFault::BadLine(line) => Some(line),
+        ProgramFault::TooLong(line) => Some(line),
+        ProgramFault::SkipPastEnd(line) => Some(line),
+        ProgramFault::OutOfMemory => None,
+    }
+}
+
+/// The bytes of a set of programs that is read again, where they have this fault.
+fn programs_again<F: Folder>(
+    alloc: Global,
+    folder: &mut F,
+    name: &str,
+    fault: ProgramFault,
+) -> Option<Vec<u8>>
+    ensures { IsOnlyRead (F.files folder.old) (F.files folder.new) }
+{
+    let bytes = read_text(alloc, folder, name).ok()?;
+    if ProgramSet::parse(alloc, bytes.as_slice()).err() == Some(fault) {
+        return Some(bytes);
+    }
+    None
+}
