@@ -1,8 +1,7 @@
 //! Steps that close the cases of a read whose source would be an excluded candidate.
 
-use super::facts::Rule;
 use super::knowledge::Knowledge;
-use super::proof::{Derived, Line, Part, Proof};
+use super::proof::{Derived, Line, Part, Proof, Rule};
 use super::stop::{Place, Tried};
 use std::iter::successors;
 

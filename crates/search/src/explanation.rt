@@ -1,9 +1,9 @@
 //! Why a case is closed, from the conflict back to what was known at first.
 
-use super::facts::{Fact, Rule};
+use super::facts::Fact;
 use super::knowledge::Knowledge;
-use super::proof::{Derived, Line, Part, Proof};
-use super::stop::{Conflict, Place, Stop, Tried};
+use super::proof::{Derived, Line, Part, Proof, Rule};
+use super::stop::{Conflict, NONE, Place, Stop, Tried};
 
 impl Knowledge {
     /// The proof that a case is closed, which needs the facts of the conflict.
@@ -40,7 +40,7 @@ impl Knowledge {
                 break;
             };
             let fact = self.fact(number)?;
-            if fact.rule == Rule::Source {
+            if fact.basis == NONE {
                 let kept = Part::new(fact.earlier, fact.earlier, number);
                 self.close_read(proof, fact.later, &[kept], number)?;
             } else {
@@ -53,15 +53,16 @@ impl Knowledge {
     /// Puts before a proof the step of from-read or of write-order that shows a fact.
     fn derive(&self, proof: &mut Proof, number: u32, fact: Fact) -> Tried<()> {
         let source = self.fact(fact.basis)?;
-        let (store, from, to) = match fact.rule {
-            Rule::FromRead => (fact.later, source.earlier, fact.later),
-            _ => (fact.earlier, fact.earlier, source.later),
+        let (rule, store, from, to) = if fact.earlier == source.later {
+            (Rule::FromRead, fact.later, source.earlier, fact.later)
+        } else {
+            (Rule::WriteOrder, fact.earlier, fact.earlier, source.later)
         };
         let path = self.path(from, to, number)?;
         proof.need(&path)?;
         proof.need(&[fact.basis])?;
         proof.prepend(Line::Derived(Derived {
-            rule: fact.rule,
+            rule,
             source: fact.basis,
             store,
             path,

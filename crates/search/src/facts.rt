@@ -3,22 +3,7 @@
 use super::stop::{NONE, Place, Stop, Tried, at, put, short};
 use std::alloc::Global;
 
-/// By which rule a fact holds.
-#[derive(Clone, Copy, PartialEq, Eq)]
-pub(crate) enum Rule {
-    /// The earlier operation is the one that is left of those that can have given the later one its word.
-    Source,
-    /// So it is in the case that is looked at: the earlier operation gave the later one its word.
-    AssumedSource,
-    /// So it is in the case that is looked at.
-    AssumedOrder,
-    /// The later operation is a store after the source of the earlier one.
-    FromRead,
-    /// The later operation is the source of a read that comes after the earlier one.
-    WriteOrder,
-}
-
-/// That one operation is before another. It takes 20 bytes.
+/// That one operation is before another. It takes 16 bytes.
 #[derive(Clone, Copy)]
 pub(crate) struct Fact {
     pub(crate) earlier: Place,
@@ -27,14 +12,6 @@ pub(crate) struct Fact {
     pub(crate) next: u32,
     /// The fact that says where the read's source is, by which a from-read or a write-order holds; else NONE.
     pub(crate) basis: u32,
-    pub(crate) rule: Rule,
-}
-
-impl Fact {
-    /// Whether it says where a read's source is.
-    pub(crate) fn is_source(&self) -> bool {
-        matches!(self.rule, Rule::Source | Rule::AssumedSource)
-    }
 }
 
 /// All facts, numbered in the order in which they were found.
@@ -100,36 +77,31 @@ impl Facts {
         }
     }
 
+    /// Whether a fact says where a read's source is.
+    pub(crate) fn is_source(&self, number: u32, fact: &Fact) -> bool {
+        at(&self.sources, fact.later) == number
+    }
+
     /// Appends a fact, and gives its number.
-    pub(crate) fn push(
-        &mut self,
-        earlier: Place,
-        later: Place,
-        basis: u32,
-        rule: Rule,
-    ) -> Tried<u32> {
+    pub(crate) fn push(&mut self, earlier: Place, later: Place, basis: u32) -> Tried<u32> {
         let number = self.mark()?;
-        let fact = Fact {
+        let next = at(&self.latest, earlier);
+        self.all.push(Fact {
             earlier,
             later,
-            next: at(&self.latest, earlier),
+            next,
             basis,
-            rule,
-        };
-        self.all.push(fact)?;
+        })?;
         put(&mut self.latest, earlier, number)?;
-        if fact.is_source() {
-            put(&mut self.sources, later, number)?;
-        }
         Ok(number)
     }
 
     /// Takes back the facts from this one on.
     pub(crate) fn undo(&mut self, mark: u32) -> Tried<()> {
-        for _ in mark as usize..self.all.len() {
+        for number in (mark..self.mark()?).rev() {
             let fact = self.all.pop().ok_or(Stop::GivenUp)?;
             put(&mut self.latest, fact.earlier, fact.next)?;
-            if fact.is_source() {
+            if self.is_source(number, &fact) {
                 put(&mut self.sources, fact.later, NONE)?;
             }
         }

@@ -3,7 +3,7 @@
 use super::candidates::{Candidates, number};
 use super::clocks::Clocks;
 use super::core_set::CoreSet;
-use super::facts::{Facts, Rule};
+use super::facts::Facts;
 use super::operations::Operations;
 use super::stop::{Conflict, Place, Stop, Tried, at};
 use super::stores::{Stores, last_below};
@@ -92,14 +92,8 @@ impl Knowledge {
     }
 
     /// Adds that one operation is before another, and gives the number of this fact.
-    pub(crate) fn add(
-        &mut self,
-        earlier: Place,
-        later: Place,
-        basis: u32,
-        rule: Rule,
-    ) -> Tried<u32> {
-        let number = self.facts.push(earlier, later, basis, rule)?;
+    pub(crate) fn add(&mut self, earlier: Place, later: Place, basis: u32) -> Tried<u32> {
+        let number = self.facts.push(earlier, later, basis)?;
         self.flow(earlier, later, number)?;
         Ok(number)
     }

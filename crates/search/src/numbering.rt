@@ -1,8 +1,7 @@
 //! A proof that no order exists as a refutation, whose facts are named by their places among those in force.
 
-use super::facts::Rule;
 use super::operations::Operations;
-use super::proof::{Derived, Line, Part};
+use super::proof::{Derived, Line, Part, Rule};
 use super::stop::{Place, START, Stop, Tried};
 use mem_op::{CoreId, OpId, OpIndex};
 use refutation::{Path, Point, Range, Ranges, Refutation, Step};
@@ -78,7 +77,7 @@ impl Numbering<'_> {
                 write,
                 path,
             },
-            _ => Step::FromRead {
+            Rule::FromRead => Step::FromRead {
                 source,
                 write,
                 path,

@@ -1,6 +1,5 @@
 //! Proofs that a case is closed, which grow from their end.
 
-use super::facts::Rule;
 use super::stop::{Place, Tried, at};
 use std::alloc::Global;
 use std::collections::BTreeSet;
@@ -19,10 +18,18 @@ impl Part {
     }
 }
 
+/// By which rule a fact follows.
+#[derive(Clone, Copy, PartialEq, Eq)]
+pub(crate) enum Rule {
+    /// A read is before a store that is after its source.
+    FromRead,
+    /// A store before a read is before its source.
+    WriteOrder,
+}
+
 /// How a fact follows from the source of a read and a path.
 #[derive(Drop)]
 pub(crate) struct Derived {
-    /// From-read or write-order.
     pub(crate) rule: Rule,
     /// The fact that says where the source is.
     pub(crate) source: u32,

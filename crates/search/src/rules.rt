@@ -1,20 +1,20 @@
 //! What follows from the source of a read.
 
 use super::core_set::CoreSet;
-use super::facts::Rule;
 use super::knowledge::Knowledge;
-use super::stop::{NONE, Place, START, Tried, at};
+use super::stop::{NONE, Place, START, Tried, at, put};
 use super::stores::count_first;
 
 impl Knowledge {
     /// Gives a read its source, after which the first store of each core comes after the read.
-    pub(crate) fn set_source(&mut self, read: Place, source: Place, rule: Rule) -> Tried<()> {
-        let basis = self.add(source, read, NONE, rule)?;
+    pub(crate) fn set_source(&mut self, read: Place, source: Place) -> Tried<()> {
+        let basis = self.add(source, read, NONE)?;
+        put(&mut self.facts.sources, read, basis)?;
         for core in self.operations.cores() {
             if let Some(store) = self.first_store_after(source, core, read)
                 && !self.is_before(read, store)
             {
-                self.add(read, store, basis, Rule::FromRead)?;
+                self.add(read, store, basis)?;
             }
         }
         Ok(())
@@ -58,7 +58,7 @@ impl Knowledge {
                 && store != source
                 && !self.is_before(store, source)
             {
-                self.add(store, source, basis, Rule::WriteOrder)?;
+                self.add(store, source, basis)?;
             }
         }
         Ok(())
@@ -86,8 +86,11 @@ impl Knowledge {
             let Some(fact) = self.facts.get(number) else {
                 break;
             };
-            if fact.is_source() && fact.later != store && !self.is_before(fact.later, store) {
-                self.add(fact.later, store, number, Rule::FromRead)?;
+            if self.facts.is_source(number, &fact)
+                && fact.later != store
+                && !self.is_before(fact.later, store)
+            {
+                self.add(fact.later, store, number)?;
             }
             number = fact.next;
         }

@@ -1,7 +1,6 @@
 //! How the operations come in, and what is concluded from each.
 
 use super::core_set::CoreSet;
-use super::facts::Rule;
 use super::knowledge::{Knowledge, Risen};
 use super::operations::Operation;
 use super::stop::{Conflict, NONE, Place, Stop, Tried, at, put};
@@ -84,7 +83,7 @@ impl Knowledge {
         let candidates = self.candidates.of(operation.class).iter().copied();
         let mut others = candidates.filter(|store| *store != read);
         match (others.next(), others.next()) {
-            (Some(source), None) => self.set_source(read, source, Rule::Source),
+            (Some(source), None) => self.set_source(read, source),
             (Some(_), Some(_)) => Ok(self.open.push(read)?),
             (None, _) => Err(Stop::Closed(Conflict::NoSource(read))),
         }
@@ -148,7 +147,7 @@ impl Knowledge {
         match left.as_slice() {
             [] => Err(Stop::Closed(Conflict::NoSource(read))),
             [source] => {
-                self.set_source(read, *source, Rule::Source)?;
+                self.set_source(read, *source)?;
                 self.note(read, CoreSet::ALL)?;
                 self.conclude()?;
                 Ok(true)

@@ -1,6 +1,5 @@
 //! An order as far as it goes: the operations are performed one after the other.
 
-use super::facts::Fact;
 use super::knowledge::Knowledge;
 use super::operations::Operation;
 use super::stop::{NONE, Place, START, Stop, Tried, at, put, short};
@@ -130,11 +129,12 @@ impl Schedule {
         }
     }
 
-    /// Whether something that is known to be before the operation that a core performs next wasn't performed. The entry
-    /// of its clock for the own core is always past the position.
+    /// Whether something that is known to be before the operation that a core performs next wasn't performed. The own
+    /// core's entry of its clock alone is right behind it.
     fn waits(&self, known: &Knowledge, place: Place) -> bool {
-        let entries = known.clocks.of(place).iter().zip(&self.positions);
-        entries.filter(|(entry, position)| entry > position).count() > 1
+        let own = place.saturating_add(1);
+        let mut entries = known.clocks.of(place).iter().zip(&self.positions);
+        entries.any(|(entry, position)| entry > position && *entry != own)
     }
 
     /// The operations at which cores are that can go on so.
@@ -165,16 +165,20 @@ impl Schedule {
     /// Whether a read other than this one is known to have a store's word, and wasn't performed.
     fn is_held(&self, known: &Knowledge, store: Place, but: Place) -> bool {
         store != START
-            && known.facts.of(store).any(|(_, fact)| {
-                fact.is_source() && fact.later != but && at(&self.when, fact.later) == NONE
+            && known.facts.of(store).any(|(number, fact)| {
+                fact.later != but
+                    && at(&self.when, fact.later) == NONE
+                    && known.facts.is_source(number, &fact)
             })
     }
 
     /// Takes back what facts from this one on no longer allow.
     pub(crate) fn repair(&mut self, known: &Knowledge, mark: u32) -> Tried<()> {
-        let facts = known.facts.all.get(mark as usize..).unwrap_or(&[]);
+        let end = known.facts.mark()?;
         for _ in 0..self.order.len() {
-            let allowed = facts.iter().map(|fact| self.allowed(known, fact)).min();
+            let allowed = (mark..end)
+                .filter_map(|number| self.allowed(known, number))
+                .min();
             let length = allowed.unwrap_or(NONE) as usize;
             if length >= self.order.len() {
                 break;
@@ -185,14 +189,15 @@ impl Schedule {
     }
 
     /// How many of the operations that were performed a fact allows, as far as it tells by itself.
-    fn allowed(&self, known: &Knowledge, fact: &Fact) -> u32 {
+    fn allowed(&self, known: &Knowledge, number: u32) -> Option<u32> {
+        let fact = known.facts.get(number)?;
         let (earlier, later) = (at(&self.when, fact.earlier), at(&self.when, fact.later));
         let word = known.operations.get(fact.later).word;
-        match (later, fact.is_source()) {
-            (NONE, true) if at(&self.memory, word) != fact.earlier => earlier.saturating_add(1),
-            (NONE, _) => NONE,
-            (later, false) if earlier < later => NONE,
-            (later, _) => later,
+        match (later, known.facts.is_source(number, &fact)) {
+            (NONE, true) if at(&self.memory, word) != fact.earlier => earlier.checked_add(1),
+            (NONE, _) => None,
+            (later, false) if earlier < later => None,
+            (later, _) => Some(later),
         }
     }
 

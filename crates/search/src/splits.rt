@@ -1,7 +1,6 @@
 //! The search by cases.
 
 use super::core_set::CoreSet;
-use super::facts::Rule;
 use super::knowledge::Knowledge;
 use super::operations::Operations;
 use super::proof::{Line, Part, Proof};
@@ -29,8 +28,8 @@ pub(crate) enum Outcome {
 /// A split into cases, one of which is looked at.
 #[derive(Drop)]
 struct Split {
-    /// By which rule a case begins with its fact: it tells the source of a read, or the order of two stores.
-    rule: Rule,
+    /// Whether a case tells the source of a read; else it tells the order of two stores.
+    is_of_source: bool,
     /// Of each case the operation that comes first in it, and the other one.
     cases: Vec<(Place, Place)>,
     /// How long the trail of the clocks was before.
@@ -92,23 +91,23 @@ impl Search {
     /// has another word.
     fn split(&mut self) -> Tried<()> {
         let (alloc, known) = (self.known.alloc, &self.known);
-        let (rule, cases) = match self.schedule.places(known, Move::Held)?.first() {
+        let (is_of_source, cases) = match self.schedule.places(known, Move::Held)?.first() {
             Some(store) => {
                 let last = at(&self.schedule.memory, known.operations.get(*store).word);
                 let cases = vec![in alloc; (*store, last), (last, *store)]?;
-                (Rule::AssumedOrder, cases)
+                (false, cases)
             }
             None => {
                 let stuck = self.schedule.places(known, Move::OtherWord)?;
                 let mut stuck = stuck.iter().copied();
                 let read = stuck.find(|read| at(&known.facts.sources, *read) == NONE);
                 let cases = self.likely_sources(read.ok_or(Stop::GivenUp)?)?;
-                (Rule::AssumedSource, cases)
+                (true, cases)
             }
         };
         self.known.clocks.is_trailed = true;
         self.splits.push(Split {
-            rule,
+            is_of_source,
             cases,
             trail: self.known.clocks.trail.len(),
             mark: self.known.facts.mark()?,
@@ -142,13 +141,13 @@ impl Search {
     /// Concludes what follows in the current case of the last split.
     fn take_case(&mut self) -> Tried<()> {
         let split = self.splits.last().ok_or(Stop::GivenUp)?;
-        let (rule, mark) = (split.rule, split.mark);
+        let (is_of_source, mark) = (split.is_of_source, split.mark);
         let (earlier, later) = *split.cases.get(split.proofs.len()).ok_or(Stop::GivenUp)?;
-        if rule == Rule::AssumedSource {
-            self.known.set_source(later, earlier, rule)?;
+        if is_of_source {
+            self.known.set_source(later, earlier)?;
             self.known.note(later, CoreSet::ALL)?;
         } else {
-            self.known.add(earlier, later, NONE, rule)?;
+            self.known.add(earlier, later, NONE)?;
         }
         self.known.conclude()?;
         if self.known.operations.all.len() <= SMALL {
@@ -189,7 +188,7 @@ impl Search {
         for proof in split.proofs.into_iter().rev() {
             joined.prepend_proof(proof)?;
         }
-        if split.rule == Rule::AssumedSource {
+        if split.is_of_source {
             let kept = split
                 .cases
                 .iter()
