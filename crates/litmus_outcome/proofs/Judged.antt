@@ -6,6 +6,8 @@ use Rattle.std.specs.Prelude.{Result, Ok, Err, IsErrOf, MatchResult}
 use Rattle.std.proofs.lemmas.List.{map_push}
 use Rattle.log_record.specs.declared.record.Record.{Record}
 use Rattle.log_file.specs.Devices.{Tells}
+use Rattle.log_file.specs.InMemory.{rest_of}
+use Rattle.log_file.specs.declared.slice_source.SliceSource.{SliceSource}
 use Rattle.log_file.specs.Log.{Spells}
 use Rattle.log_file.specs.Sets.{SpellFrom, SpellSet}
 use Rattle.core_program.specs.declared.instruction.Instruction.{Instruction}
@@ -22,7 +24,6 @@ use Rattle.verdict.proofs.OneAnswer.{one_answer}
 use Rattle.litmus_test.specs.Parts.{LitmusParts}
 use Rattle.litmus_outcome.specs.Ends.{GetsYes, IsJudgeCause, logs_of}
 use Rattle.litmus_outcome.specs.declared.run_cause.RunCause.{RunCause}
-use Rattle.litmus_outcome.specs.declared.judging.TextSource.{TextSource}
 use Rattle.litmus_test.specs.inner.Ending.{word_lists}
 use Rattle.litmus_outcome.specs.inner.Judged.{IsNo, IsVerdictOn}
 
@@ -63,8 +64,8 @@ all_texts w cores number texts far same =
 
 -- ---- texts that sources tell
 
-pub told : (sources : List TextSource) (texts ts : List (List ℕ)) → AllZip (λ source text. Tells (Some source.bytes.now) text) sources texts
-    → map (λ source. source.bytes.now) sources ≡ ts → texts ≡ ts
+pub told : (sources : List SliceSource) (texts ts : List (List ℕ)) → AllZip (λ source text. Tells (Some source.bytes.now) text) sources texts
+    → map rest_of sources ≡ ts → texts ≡ ts
 told [] [] ts zip is = is
 told [] (t ∷ texts) ts zip is = absurd zip
 told (s ∷ sources) [] ts zip is = absurd zip

@@ -1,6 +1,7 @@
 //! The verdict on the logs of a run that has ended.
 
 ghost use Rattle.std.specs.Prelude.{◌≡◌, ◌<◌, ◌≤◌, List, length, map, IfErr, IfOk, MatchResult};
+ghost use Rattle.log_file.specs.InMemory.{rest_of};
 ghost use Rattle.log_file.specs.Log.{SpellsIn};
 ghost use Rattle.log_file.specs.Sets.{SpellSet};
 ghost use Rattle.log_record.specs.declared.record.Record.{Record};
@@ -17,38 +18,12 @@ use super::ended::{Ended, outcome_of};
 use super::run_cause::RunCause;
 use core_program::ProgramSet;
 use litmus_test::Litmus;
-use log_file::{ByteSource, MemSink, ReadFailed, write_log};
+use log_file::{MemSink, SliceSource, write_log};
 use log_record::{Format, Record};
 use mem_op::CoreId;
 use std::alloc::Global;
-use std::io::Read;
 use std::thread::Threads;
 use verdict::{JudgeFault, OpenGate, Verdict, judge_run};
-
-/// A source of a text in memory. It never fails.
-#[derive(Drop)]
-struct TextSource<'a> {
-    bytes: &'a [u8],
-}
-
-impl ByteSource for TextSource<'_> {
-    ghost use Rattle.std.specs.Prelude.{Some};
-
-    ghost remaining = { λ source. Some source.bytes.now };
-
-    ghost failed = { λ _. 0 };
-
-    fn read(&mut self, buf: &mut [u8]) -> Result<usize, ReadFailed> {
-        let Ok(count) = self.bytes.read(buf) else {
-            unreachable!()
-        };
-        Ok(count)
-    }
-
-    fn failures(&self) -> u64 {
-        0
-    }
-}
 
 /// The text of the log of a core, of `cores`.
 fn log_text(
@@ -88,17 +63,14 @@ fn log_texts<E: Ended>(alloc: Global, end: &E, cores: usize) -> Result<Vec<Vec<u
 }
 
 /// A source for each text.
-fn sources_of<'a>(alloc: Global, texts: &'a [Vec<u8>]) -> Result<Vec<TextSource<'a>>, JudgeFault>
+fn sources_of<'a>(alloc: Global, texts: &'a [Vec<u8>]) -> Result<Vec<SliceSource<'a>>, JudgeFault>
     ensures texts { IfOk result (λ sources.
-        map (λ source. source.bytes.now) sources.items ≡ word_lists texts.entry.now) }
+        map rest_of sources.items ≡ word_lists texts.entry.now) }
     ensures refused { IfErr result (λ fault. fault ≡ JudgeFault.OutOfMemory) }
 {
     let mut sources = Vec::new(alloc);
     for text in texts {
-        let source = TextSource {
-            bytes: text.as_slice(),
-        };
-        if sources.push(source).is_err() {
+        if sources.push(SliceSource::new(text.as_slice())).is_err() {
             return Err(JudgeFault::OutOfMemory);
         }
     }

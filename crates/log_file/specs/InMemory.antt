@@ -3,6 +3,7 @@ use Rattle.std.specs.Prelude.{ℕ, ◌+◌, min, List, Option, Some, None, slice
 use Rattle.std.specs.Option.{option_map, option_map_or}
 use Rattle.log_file.specs.declared.mem_source.MemSource.{MemSource}
 use Rattle.log_file.specs.declared.mem_sink.MemSink.{MemSink}
+use Rattle.log_file.specs.declared.slice_source.SliceSource.{SliceSource}
 use Rattle.log_file.specs.declared.step.Step.{Step}
 use Rattle.log_file.specs.declared.step.Step.TheVariants.{Move, Fail}
 
@@ -29,6 +30,10 @@ reads_to_come source = source.steps.now
 
 abbrev pub failed_reads : MemSource → ℕ
 failed_reads source = source.failures
+
+-- the bytes of a slice that weren't read yet
+abbrev pub rest_of : SliceSource → List ℕ
+rest_of source = source.bytes.now
 
 abbrev pub bytes_taken : MemSink → List ℕ
 bytes_taken sink = sink.taken.items

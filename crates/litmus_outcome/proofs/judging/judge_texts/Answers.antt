@@ -4,6 +4,7 @@ use Rattle.std.specs.Prelude.{IsErrOf}
 use Rattle.std.specs.List.{AllZip}
 use Rattle.std.proofs.lemmas.List.{length-map}
 use Rattle.log_file.specs.Devices.{Tells}
+use Rattle.log_file.specs.InMemory.{rest_of}
 use Rattle.verdict.specs.Judgement.{IsRunAnswerTo}
 use Rattle.verdict.specs.declared.judge_fault.Count.{Count}
 use Rattle.verdict.specs.declared.judge_fault.Count.TheVariants.{Files, Workers, Programs}
@@ -25,7 +26,7 @@ returns g c logs spell =
       arith,
       ap length c.as_mut_slice.ensures.value,
       ap length c.in_ok-sources.ensures.texts,
-      length-map c.in_ok-sources.sources.items (λ source. source.bytes.now),
+      length-map c.in_ok-sources.sources.items rest_of,
       length-map c.args.texts.now (λ (v : Vec ℕ). v.items),
     )
 
