@@ -1,0 +1,4 @@
+mod Cut
+mod Numbers
+mod Parts
+mod Told

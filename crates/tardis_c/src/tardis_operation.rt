@@ -1,0 +1,122 @@
+//! An operation in numbers.
+
+ghost use Rattle.std.specs.Prelude.{◌≡◌, ◌↔◌, ◌≤◌, IsTrue};
+ghost use Rattle.log_record.specs.Line.{ActFits, SourceFits};
+ghost use Rattle.tardis_c.specs.Operations.{IsOperation, act_of, record_of, source_of};
+
+use line_stamps::{Rank, Stamp};
+use log_record::{Act, Record};
+use mem_op::{Addr, CoreId, OpId, OpIndex, Source};
+use merge_judge::Recorded;
+
+/// The last stamp.
+const LAST_STAMP: u64 = 281_474_976_710_656;
+
+/// The core of a source that is none: the word is the initial 0.
+const INITIAL: u8 = 255;
+
+/// How many cores a set has at most.
+const MOST_CORES: u8 = 64;
+
+/// How many operations a core has at most.
+const MOST_OPERATIONS: u32 = 1_048_576;
+
+/// An operation of a core. Its fields are those of a record's line.
+#[repr(C)]
+#[derive(Clone, Copy)]
+pub struct TardisOperation {
+    /// The word that was loaded or stored; of a swap the one that it stored.
+    pub value: u64,
+    /// Of a swap: the word that it read. Else anything.
+    pub read: u64,
+    /// When the operation took place, 0 to 2^48.
+    pub ts: u64,
+    /// Its order among those of its stamp.
+    pub rank: u32,
+    /// Of a load or a swap from a store: the index of that store in its core's log, 0 to 1,048,575.
+    pub source_index: u32,
+    /// The address of the word.
+    pub addr: u16,
+    /// 0 a load, 1 a store, 2 a swap.
+    pub kind: u8,
+    /// Of a load or a swap: the core of the store that it read, 0 to 63; 255 where it read the initial 0.
+    pub source_core: u8,
+}
+
+/// Whether the source that an operation names can be one.
+#[tactic(auto, using(crate::proofs::Numbers::initial_fits, crate::proofs::Numbers::store_fits, crate::proofs::Numbers::core_of_store, crate::proofs::Numbers::index_of_store))]
+fn has_source(operation: &TardisOperation) -> bool
+    ensures { IsTrue result ↔ SourceFits (source_of operation.now) }
+{
+    if operation.source_core == INITIAL {
+        return true;
+    }
+    if operation.source_core >= MOST_CORES {
+        return false;
+    }
+    operation.source_index < MOST_OPERATIONS
+}
+
+/// Whether the numbers are those of an operation.
+#[tactic(auto, using(crate::proofs::Numbers::late_is_none, crate::proofs::Numbers::other_is_none, crate::proofs::Numbers::is_load, crate::proofs::Numbers::is_store, crate::proofs::Numbers::is_swap, crate::proofs::Numbers::source_of_load, crate::proofs::Numbers::source_of_swap))]
+pub(crate) fn is_operation(operation: &TardisOperation) -> bool
+    ensures { IsTrue result ↔ IsOperation operation.now }
+{
+    let _value = operation.value;
+    let _read = operation.read;
+    let _rank = operation.rank;
+    let _addr = operation.addr;
+    if operation.ts > LAST_STAMP {
+        return false;
+    }
+    match operation.kind {
+        0 => has_source(operation),
+        1 => true,
+        2 => has_source(operation),
+        _ => false,
+    }
+}
+
+/// The source that an operation names.
+#[tactic(auto, using(crate::proofs::Numbers::core_of_store, crate::proofs::Numbers::index_of_store))]
+fn source_of(operation: &TardisOperation) -> Source
+    requires { SourceFits (source_of operation.now) }
+    ensures { result ≡ source_of operation.now }
+{
+    if operation.source_core == INITIAL {
+        return Source::Init;
+    }
+    let core = CoreId::at(operation.source_core as usize);
+    let index = OpIndex::at(operation.source_index as usize);
+    Source::Store(OpId { core, index })
+}
+
+/// What an operation did.
+#[tactic(auto, using(crate::proofs::Numbers::load_source, crate::proofs::Numbers::swap_source))]
+fn act_of(operation: &TardisOperation) -> Act
+    requires { ActFits (act_of operation.now) }
+    ensures { result ≡ act_of operation.now }
+{
+    match operation.kind {
+        0 => Act::Load(source_of(operation)),
+        1 => Act::Store,
+        _ => Act::Swap(source_of(operation), operation.read),
+    }
+}
+
+impl Recorded for TardisOperation {
+    ghost recorded = { record_of };
+
+    fn to_record(&self) -> Record {
+        let Ok(ts) = Stamp::new(self.ts) else {
+            unreachable!()
+        };
+        let Ok(rank) = Rank::new(u64::from(self.rank)) else {
+            unreachable!()
+        };
+        let Ok(addr) = Addr::new(u64::from(self.addr)) else {
+            unreachable!()
+        };
+        Record::new(self.value, ts, rank, addr, &act_of(self))
+    }
+}
