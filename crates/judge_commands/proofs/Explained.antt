@@ -84,6 +84,6 @@ unprogrammed_alone told unread (Some name) is = is
 pub untold : (old new : Files) (unread : List ℕ → Type 0) (asked : Explain) (sink : Sink) (fault : JudgingFault) → IsChecked old.told unread asked.check (Err fault) → IsExplained old new unread asked sink sink (Err fault)
 untold old new unread asked sink (Call Output) (inl wrong) = cc
 untold old new unread asked sink (Call Output) (inr why) = absurd (unprogrammed_alone old.told unread asked.check.program why.1)
-untold old new unread asked sink (Call OutOfMemory) why = inl (Keeps-refl sink.contents)
+untold old new unread asked sink (Call OutOfMemory) why = Keeps-refl sink.contents
 untold old new unread asked sink PictureUnwritten why = absurd why
 untold old new unread asked sink other why = (why, Keeps-refl sink.contents)

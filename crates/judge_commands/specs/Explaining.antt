@@ -50,8 +50,7 @@ FailsPictureAt verdict old new (Some name) =
 abbrev pub Judged : Files → (List ℕ → Type 0) → Check → (Verdict → Type 0) → Type 0
 Judged old unread asked Holds = (verdict : Verdict) × IsChecked old.told unread asked (Ok verdict) × Holds verdict
 
--- The verdict on the files, whose line standard output took first, or why there is none. A picture is put before anything is printed;
--- lack of memory may be told in place of another refusal.
+-- The verdict on the files, whose line standard output took first, or why there is none. A picture is put before anything is printed.
 abbrev pub IsExplained : Files → Files → (List ℕ → Type 0) → Explain → Sink → Sink → Result Verdict JudgingFault → Type 0
 IsExplained old new unread asked out out' (Ok verdict) =
     IsChecked old.told unread asked.check (Ok verdict) × PutsPictureAt verdict old new asked.picture
@@ -61,5 +60,5 @@ IsExplained old new unread asked out out' (Err (Call Output)) =
     × (text : List ℕ) × BeginsWithVerdict verdict text × TakesBeginning out out' text)
 IsExplained old new unread asked out out' (Err PictureUnwritten) =
     Judged old unread asked.check (λ verdict. FailsPictureAt verdict old new asked.picture) × Keeps out.contents out'.contents
-IsExplained old new unread asked out out' (Err (Call OutOfMemory)) = Keeps out.contents out'.contents ⊎ HasFailed out out'
+IsExplained old new unread asked out out' (Err (Call OutOfMemory)) = Keeps out.contents out'.contents
 IsExplained old new unread asked out out' (Err fault) = IsChecked old.told unread asked.check (Err fault) × Keeps out.contents out'.contents

@@ -1,6 +1,6 @@
 -- What the counting of a litmus test's outcomes answers, and what standard output took of their table. The sink was `old` before and
 -- is `new` after.
-use Rattle.std.specs.Prelude.{◌≡◌, ◌≢◌, ◌⊎◌, ℕ, Bool, true, false, List, Option, None, Some, Result, Ok, Err}
+use Rattle.std.specs.Prelude.{◌≡◌, ◌≢◌, ℕ, Bool, true, false, List, Option, None, Some, Result, Ok, Err}
 use Rattle.std.specs.Io.KnownBytes.{Appends, Keeps}
 use Rattle.std.specs.List.{AllByRecursion, list_any}
 use Rattle.command_line.specs.declared.request.Litmus.{Litmus}
@@ -81,11 +81,10 @@ IsUntabled told unread asked other = ⊥
 -- ---- its text
 
 -- Whether an outcome of the table is forbidden, whose text the sink took; or why there is none. Where the sink failed, it took a
--- beginning of the text, and else it holds what it held;
--- lack of the memory to tell of it may be told in place of 29.
+-- beginning of the text, and else it holds what it held.
 abbrev pub IsCounted : (List ℕ → Option (List ℕ)) → (List ℕ → Type 0) → Litmus → Sink → Sink → Result Bool RunningFault → Type 0
 IsCounted told unread asked old new (Ok forbidden) =
     Tabled told asked (λ table. (forbidden ≡ has_forbidden table) × Appends old.contents new.contents (table_text table))
 IsCounted told unread asked old new (Err (Call Output)) = Tabled told asked (λ table. HasFailed old new × TakesBeginning old new (table_text table))
-IsCounted told unread asked old new (Err (Call OutOfMemory)) = Keeps old.contents new.contents ⊎ HasFailed old new
+IsCounted told unread asked old new (Err (Call OutOfMemory)) = Keeps old.contents new.contents
 IsCounted told unread asked old new (Err fault) = IsUntabled told unread asked fault × Keeps old.contents new.contents

@@ -1,8 +1,9 @@
 -- What a look at a certificate comes to, from what its parts answer.
-use Rattle.std.proofs.Common.{◌≡◌, ℕ, List, Result, Ok, Err, inl}
+use Rattle.std.proofs.Common.{◌≡◌, ℕ, List, Result, Ok, Err}
 use Rattle.std.specs.Prelude.{IfOk}
 use Rattle.std.specs.Io.KnownBytes.{Keeps}
 use Rattle.call_devices.specs.Files.{Files}
+use Rattle.call_devices.specs.declared.call_fault.CallFault.TheVariants.{OutOfMemory}
 use Rattle.call_devices.specs.Sinks.{Sink}
 use Rattle.command_line.specs.declared.request.Confirm.{Confirm}
 use Rattle.log_file.specs.Devices.{Tells}
@@ -15,7 +16,7 @@ use Rattle.search_commands.specs.inner.Looking.{IsLook, IsNoCertificate}
 use Rattle.search_commands.specs.declared.answer.SearchAnswer.{SearchAnswer}
 use Rattle.search_commands.specs.declared.answer.SearchAnswer.TheVariants.{Yes, No}
 use Rattle.search_commands.specs.declared.fault.SearchingFault.{SearchingFault}
-use Rattle.search_commands.specs.declared.fault.SearchingFault.TheVariants.{Trace, TraceUnread, Logs, Certificate, CertificateUnread, Undecided, OrderUnwritten, RefutationUnwritten, PictureUnwritten, Output, OutOfMemory}
+use Rattle.search_commands.specs.declared.fault.SearchingFault.TheVariants.{Trace, TraceUnread, Logs, Certificate, CertificateUnread, Call}
 
 -- the answer that a text certifies is right
 pub right_of : (cores : List (List Operation)) (text : List ℕ) (answer : SearchAnswer) → Certifies cores text answer → IsRightOf cores answer
@@ -28,14 +29,14 @@ pub traceless : (old new : Files) (unread : List ℕ → Type 0) (asked : Confir
 traceless old new unread asked out (Trace fault) is keeps = (is, keeps)
 traceless old new unread asked out TraceUnread is keeps = (is, keeps)
 traceless old new unread asked out (Logs fault) is keeps = (is, keeps)
-traceless old new unread asked out OutOfMemory is keeps = inl keeps
+traceless old new unread asked out (Call OutOfMemory) is keeps = keeps
 traceless old new unread asked out other is keeps = absurd is
 
 -- the certificate can't be read
 pub uncertified : (old new : Files) (unread : List ℕ → Type 0) (asked : Confirm) (out : Sink) (cores : List (List Operation)) (fault : SearchingFault) → IsTraceIn old.told asked.trace cores
     → Keeps out.contents out.contents → IsNoCertificate unread asked.certificate.now fault → IsConfirmed old new unread asked out out (Err fault)
 uncertified old new unread asked out cores CertificateUnread is keeps why = ((cores, is, tt), why, keeps)
-uncertified old new unread asked out cores OutOfMemory is keeps why = inl keeps
+uncertified old new unread asked out cores (Call OutOfMemory) is keeps why = keeps
 uncertified old new unread asked out cores other is keeps why = absurd why
 
 -- it doesn't hold
@@ -43,7 +44,7 @@ pub refused : (old new : Files) (unread : List ℕ → Type 0) (asked : Confirm)
     → IsTraceIn old.told asked.trace cores → Tells (old.told asked.certificate.now) text → new ≡ old → Keeps out.contents out.contents → IsLook cores text (Err fault)
     → IsConfirmed old new unread asked out out (Err fault)
 refused old new unread asked out cores text (Certificate fault) is tells same keeps why = ((cores, is, (text, tells, why)), same, keeps)
-refused old new unread asked out cores text OutOfMemory is tells same keeps why = inl keeps
+refused old new unread asked out cores text (Call OutOfMemory) is tells same keeps why = keeps
 refused old new unread asked out cores text other is tells same keeps why = absurd why
 
 -- and so the answer is right

@@ -1,8 +1,9 @@
 -- What a search comes to, from what its parts answer.
-use Rattle.std.proofs.Common.{◌≡◌, ◌++◌, ap, subst, refl, ℕ, List, Option, Result, Ok, Err, inl}
+use Rattle.std.proofs.Common.{◌≡◌, ◌++◌, ap, subst, refl, ℕ, List, Option, Result, Ok, Err}
 use Rattle.std.specs.Prelude.{IfOk}
 use Rattle.std.specs.Io.KnownBytes.{Keeps}
 use Rattle.call_devices.specs.Files.{Files, IsOnlyRead, KeepsFiles}
+use Rattle.call_devices.specs.declared.call_fault.CallFault.TheVariants.{OutOfMemory}
 use Rattle.call_devices.specs.Sinks.{Sink, line}
 use Rattle.call_devices.proofs.Files.{keeps_told}
 use Rattle.command_line.specs.declared.request.Search.{Search}
@@ -17,7 +18,7 @@ use Rattle.search_commands.specs.inner.Finding.{IsGivenUp, IsUnput}
 use Rattle.search_commands.specs.declared.answer.SearchAnswer.{SearchAnswer}
 use Rattle.search_commands.specs.declared.answer.SearchAnswer.TheVariants.{Yes, No}
 use Rattle.search_commands.specs.declared.fault.SearchingFault.{SearchingFault}
-use Rattle.search_commands.specs.declared.fault.SearchingFault.TheVariants.{Trace, TraceUnread, Logs, Certificate, CertificateUnread, Undecided, OrderUnwritten, RefutationUnwritten, PictureUnwritten, Output, OutOfMemory}
+use Rattle.search_commands.specs.declared.fault.SearchingFault.TheVariants.{Trace, TraceUnread, Logs, Undecided, OrderUnwritten, RefutationUnwritten, PictureUnwritten, Call}
 
 -- ---- what proofs say
 
@@ -51,24 +52,24 @@ pub traceless : (old new : Files) (unread : List ℕ → Type 0) (asked : Search
 traceless old new unread asked out (Trace fault) is read keeps = (is, read, keeps)
 traceless old new unread asked out TraceUnread is read keeps = (is, read, keeps)
 traceless old new unread asked out (Logs fault) is read keeps = (is, read, keeps)
-traceless old new unread asked out OutOfMemory is read keeps = inl keeps
+traceless old new unread asked out (Call OutOfMemory) is read keeps = keeps
 traceless old new unread asked out other is read keeps = absurd is
 
 -- the search gives up, in a folder that is as it was
 pub given_up : (old new : Files) (unread : List ℕ → Type 0) (asked : Search) (out : Sink) (cores : List (List Operation)) (fault : SearchingFault) → IsTraceIn old.told asked.trace cores
     → new ≡ old → Keeps out.contents out.contents → IsGivenUp fault → IsSearched old new unread asked out out (Err fault)
 given_up old new unread asked out cores Undecided is same keeps why = ((cores, is, tt), same, keeps)
-given_up old new unread asked out cores OutOfMemory is same keeps why = inl keeps
+given_up old new unread asked out cores (Call OutOfMemory) is same keeps why = keeps
 given_up old new unread asked out cores other is same keeps why = absurd why
 
 -- what was found isn't put
 pub unput : (old new : Files) (unread : List ℕ → Type 0) (asked : Search) (out : Sink) (cores : List (List Operation)) (proof : Answer) (fault : SearchingFault)
     → IsTraceIn old.told asked.trace cores → IsProof cores proof → Keeps out.contents out.contents → IsUnput old new asked proof fault → IsSearched old new unread asked out out (Err fault)
 unput old new unread asked out cores (found.Order order) OrderUnwritten is proves keeps why = ((cores, is, (order.items, proves)), why, keeps)
-unput old new unread asked out cores (found.Order order) OutOfMemory is proves keeps why = inl keeps
+unput old new unread asked out cores (found.Order order) (Call OutOfMemory) is proves keeps why = keeps
 unput old new unread asked out cores (found.Order order) other is proves keeps why = absurd why
 unput old new unread asked out cores (found.Refutation steps) RefutationUnwritten is proves keeps why = ((cores, is, refutations-hold cores steps proves), why, keeps)
-unput old new unread asked out cores (found.Refutation steps) OutOfMemory is proves keeps why = inl keeps
+unput old new unread asked out cores (found.Refutation steps) (Call OutOfMemory) is proves keeps why = keeps
 unput old new unread asked out cores (found.Refutation steps) PictureUnwritten is proves keeps why = ((cores, is, (steps, proves, why)), keeps)
 unput old new unread asked out cores (found.Refutation steps) other is proves keeps why = absurd why
 unput old new unread asked out cores found.Undecided fault is proves keeps why = absurd proves

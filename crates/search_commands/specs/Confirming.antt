@@ -2,6 +2,7 @@
 use Rattle.std.specs.Prelude.{◌≡◌, ◌≢◌, ◌⊎◌, ⊤, ℕ, List, ◌++◌, Option, Result, Ok, Err}
 use Rattle.std.specs.Io.KnownBytes.{Appends, Keeps}
 use Rattle.call_devices.specs.Files.{Files}
+use Rattle.call_devices.specs.declared.call_fault.CallFault.TheVariants.{Output, OutOfMemory}
 use Rattle.call_devices.specs.Sinks.{HasFailed, Sink, TakesBeginning, line}
 use Rattle.command_line.specs.declared.request.Confirm.{Confirm}
 use Rattle.log_file.specs.Devices.{Tells}
@@ -16,7 +17,7 @@ use Rattle.search_commands.specs.Traces.{AreTraceless, TellsTrace}
 use Rattle.search_commands.specs.declared.answer.SearchAnswer.{SearchAnswer}
 use Rattle.search_commands.specs.declared.answer.SearchAnswer.TheVariants.{Yes, No}
 use Rattle.search_commands.specs.declared.fault.SearchingFault.{SearchingFault}
-use Rattle.search_commands.specs.declared.fault.SearchingFault.TheVariants.{Certificate, CertificateUnread, Output, OutOfMemory}
+use Rattle.search_commands.specs.declared.fault.SearchingFault.TheVariants.{Certificate, CertificateUnread, Call}
 
 -- the text of a sequential order certifies a yes, and that of a refutation a no
 abbrev pub Certifies : List (List Operation) → List ℕ → SearchAnswer → Type 0
@@ -46,12 +47,12 @@ abbrev pub IsConfirmed : Files → Files → (List ℕ → Type 0) → Confirm �
 IsConfirmed old new unread asked out out' (Ok answer) =
     TellsBoth old.told asked (λ cores text. Certifies cores text answer) × (new ≡ old)
     × Appends out.contents out'.contents (line (search_text answer))
-IsConfirmed old new unread asked out out' (Err Output) =
+IsConfirmed old new unread asked out out' (Err (Call Output)) =
     (answer : SearchAnswer) × TellsBoth old.told asked (λ cores text. Certifies cores text answer) × (new ≡ old)
     × HasFailed out out' × TakesBeginning out out' (line (search_text answer))
 IsConfirmed old new unread asked out out' (Err (Certificate fault)) =
     TellsBoth old.told asked (λ cores text. IsBadCertificate cores text fault) × (new ≡ old) × Keeps out.contents out'.contents
 IsConfirmed old new unread asked out out' (Err CertificateUnread) =
     TellsTrace old.told asked.trace (λ cores. ⊤) × unread asked.certificate.now × Keeps out.contents out'.contents
-IsConfirmed old new unread asked out out' (Err OutOfMemory) = Keeps out.contents out'.contents ⊎ HasFailed out out'
+IsConfirmed old new unread asked out out' (Err (Call OutOfMemory)) = Keeps out.contents out'.contents
 IsConfirmed old new unread asked out out' (Err fault) = AreTraceless old.told unread asked.trace fault × Keeps out.contents out'.contents

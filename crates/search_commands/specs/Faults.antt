@@ -2,6 +2,8 @@
 use Rattle.std.specs.Prelude.{ℕ, List, ◌++◌, codes}
 use Rattle.fault_names.specs.Names.{name_text}
 use Rattle.fault_names.specs.declared.fault_name.FaultName.TheVariants as named
+use Rattle.call_devices.specs.CallFaults.{call_fault_status, call_fault_text}
+use Rattle.call_devices.specs.declared.call_fault.CallFault.TheVariants.{OutOfMemory}
 use Rattle.refutation.specs.FaultTexts.{fault_text as certificate_text}
 use Rattle.refutation.specs.declared.fault.CertificateFault.{CertificateFault}
 use Rattle.refutation.specs.declared.fault.CertificateFault.TheVariants.{BadCertificate, OutOfMemory as NoCertificateMemory}
@@ -12,25 +14,25 @@ use Rattle.verdict.specs.Texts.{judge_fault_text}
 use Rattle.verdict.specs.declared.judge_fault.JudgeFault.{JudgeFault}
 use Rattle.verdict.specs.declared.judge_fault.JudgeFault.TheVariants.{BadConfig, Log, Read, OutOfMemory as NoLogMemory}
 use Rattle.search_commands.specs.declared.fault.SearchingFault.{SearchingFault}
-use Rattle.search_commands.specs.declared.fault.SearchingFault.TheVariants.{Trace, TraceUnread, Logs, Certificate, CertificateUnread, Undecided, OrderUnwritten, RefutationUnwritten, PictureUnwritten, Output, OutOfMemory}
+use Rattle.search_commands.specs.declared.fault.SearchingFault.TheVariants.{Trace, TraceUnread, Logs, Certificate, CertificateUnread, Undecided, OrderUnwritten, RefutationUnwritten, PictureUnwritten, Call}
 
 -- why there is no trace, as a refusal of the command
 abbrev pub from_trace : TraceFault → SearchingFault
 from_trace (BadTraceLine line) = Trace (BadTraceLine line)
 from_trace (TooMany line) = Trace (TooMany line)
-from_trace NoTraceMemory = OutOfMemory
+from_trace NoTraceMemory = Call OutOfMemory
 
 -- why there are no logs
 abbrev pub from_logs : JudgeFault → SearchingFault
 from_logs (BadConfig count) = Logs (BadConfig count)
 from_logs (Log file line fault) = Logs (Log file line fault)
 from_logs (Read file) = Logs (Read file)
-from_logs NoLogMemory = OutOfMemory
+from_logs NoLogMemory = Call OutOfMemory
 
 -- why a certificate doesn't hold
 abbrev pub from_certificate : CertificateFault → SearchingFault
 from_certificate (BadCertificate line) = Certificate (BadCertificate line)
-from_certificate NoCertificateMemory = OutOfMemory
+from_certificate NoCertificateMemory = Call OutOfMemory
 
 abbrev pub searching_fault_text : SearchingFault → List ℕ
 searching_fault_text (Trace fault) = codes "refused: trace " ++ trace_text fault
@@ -42,8 +44,7 @@ searching_fault_text Undecided = codes "refused: " ++ name_text named.Undecided
 searching_fault_text OrderUnwritten = codes "refused: order: " ++ name_text named.Write
 searching_fault_text RefutationUnwritten = codes "refused: refutation: " ++ name_text named.Write
 searching_fault_text PictureUnwritten = codes "refused: picture: " ++ name_text named.Write
-searching_fault_text Output = codes "refused: output: " ++ name_text named.Write
-searching_fault_text OutOfMemory = codes "refused: " ++ name_text named.OutOfMemory
+searching_fault_text (Call fault) = codes "refused: " ++ call_fault_text fault
 
 abbrev pub logs_status : JudgeFault → ℕ
 logs_status (Log file line fault) = 2
@@ -61,5 +62,4 @@ searching_fault_status Undecided = 4
 searching_fault_status OrderUnwritten = 4
 searching_fault_status RefutationUnwritten = 4
 searching_fault_status PictureUnwritten = 4
-searching_fault_status Output = 4
-searching_fault_status OutOfMemory = 4
+searching_fault_status (Call fault) = call_fault_status fault

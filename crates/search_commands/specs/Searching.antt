@@ -3,6 +3,7 @@
 use Rattle.std.specs.Prelude.{◌≡◌, ◌⊎◌, ⊤, ℕ, ◌*◌, ◌+◌, List, ◌++◌, Option, Result, Ok, Err, unwrap_or}
 use Rattle.std.specs.Io.KnownBytes.{Appends, Keeps}
 use Rattle.call_devices.specs.Files.{Files, IsOnlyRead}
+use Rattle.call_devices.specs.declared.call_fault.CallFault.TheVariants.{Output, OutOfMemory}
 use Rattle.call_devices.specs.Sinks.{HasFailed, Sink, TakesBeginning, line}
 use Rattle.command_line.specs.declared.request.Search.{Search}
 use Rattle.mem_op.specs.Consistency.{Operation, IsConsistent, IsSequentialOrder}
@@ -18,7 +19,7 @@ use Rattle.search_commands.specs.Traces.{AreTraceless, TellsTrace}
 use Rattle.search_commands.specs.declared.answer.SearchAnswer.{SearchAnswer}
 use Rattle.search_commands.specs.declared.answer.SearchAnswer.TheVariants.{Yes, No}
 use Rattle.search_commands.specs.declared.fault.SearchingFault.{SearchingFault}
-use Rattle.search_commands.specs.declared.fault.SearchingFault.TheVariants.{Undecided, OrderUnwritten, RefutationUnwritten, PictureUnwritten, Output, OutOfMemory}
+use Rattle.search_commands.specs.declared.fault.SearchingFault.TheVariants.{Undecided, OrderUnwritten, RefutationUnwritten, PictureUnwritten, Call}
 
 -- how many steps a search may make where nothing is said: 100,000,000, and 100 for each operation
 abbrev pub budget_or_default : Option ℕ → ℕ → ℕ
@@ -74,7 +75,7 @@ abbrev pub IsSearched : Files → Files → (List ℕ → Type 0) → Search →
 IsSearched old new unread asked out out' (Ok answer) =
     TellsTrace old.told asked.trace (λ cores. Finds old new asked cores answer)
     × (text : List ℕ) × TellsAnswer answer text × Appends out.contents out'.contents text
-IsSearched old new unread asked out out' (Err Output) =
+IsSearched old new unread asked out out' (Err (Call Output)) =
     (answer : SearchAnswer) × TellsTrace old.told asked.trace (λ cores. Finds old new asked cores answer)
     × (text : List ℕ) × TellsAnswer answer text × HasFailed out out' × TakesBeginning out out' text
 IsSearched old new unread asked out out' (Err Undecided) = TellsTrace old.told asked.trace (λ cores. ⊤) × (new ≡ old) × Keeps out.contents out'.contents
@@ -84,6 +85,6 @@ IsSearched old new unread asked out out' (Err RefutationUnwritten) =
     TellsTrace old.told asked.trace (λ cores. ¬ (IsConsistent cores)) × FailsPutAt old new asked.refutation × Keeps out.contents out'.contents
 IsSearched old new unread asked out out' (Err PictureUnwritten) =
     TellsTrace old.told asked.trace (FailsPicture old new asked) × Keeps out.contents out'.contents
-IsSearched old new unread asked out out' (Err OutOfMemory) = Keeps out.contents out'.contents ⊎ HasFailed out out'
+IsSearched old new unread asked out out' (Err (Call OutOfMemory)) = Keeps out.contents out'.contents
 IsSearched old new unread asked out out' (Err fault) =
     AreTraceless old.told unread asked.trace fault × IsOnlyRead old new × Keeps out.contents out'.contents

@@ -2,6 +2,7 @@
 use Rattle.std.specs.Prelude.{◌≡◌, ◌<◌, ⊤, ℕ, List, length, Option, vec_len}
 use Rattle.std.specs.Borrow.{Bor}
 use Rattle.std.specs.List.{AllZip, HoldsAt}
+use Rattle.call_devices.specs.declared.call_fault.CallFault.TheVariants.{OutOfMemory}
 use Rattle.command_line.specs.declared.request.TraceFiles.{TraceFiles}
 use Rattle.command_line.specs.declared.request.TraceFiles.TheVariants.{One, Logs as LogFiles}
 use Rattle.log_file.specs.Devices.{Tells}
@@ -17,7 +18,7 @@ use Rattle.verdict.specs.declared.judge_fault.Count.TheVariants.{Files as FileCo
 use Rattle.verdict.specs.declared.judge_fault.JudgeFault.{JudgeFault}
 use Rattle.verdict.specs.declared.judge_fault.JudgeFault.TheVariants.{BadConfig, Log, Read, OutOfMemory as NoLogMemory}
 use Rattle.search_commands.specs.declared.fault.SearchingFault.{SearchingFault}
-use Rattle.search_commands.specs.declared.fault.SearchingFault.TheVariants.{Trace, TraceUnread, Logs, OutOfMemory}
+use Rattle.search_commands.specs.declared.fault.SearchingFault.TheVariants.{Trace, TraceUnread, Logs, Call}
 
 -- the text of the file of this name spells this trace
 abbrev pub SpellsTraceAt : (List ℕ → Option (List ℕ)) → List ℕ → List (List Operation) → Type 0
@@ -85,5 +86,5 @@ abbrev pub AreTraceless : (List ℕ → Option (List ℕ)) → (List ℕ → Typ
 AreTraceless told unread files (Trace fault) = IsTextFaultIn told files fault
 AreTraceless told unread files TraceUnread = IsUnreadIn unread files
 AreTraceless told unread files (Logs fault) = AreNoLogsIn told unread files fault
-AreTraceless told unread files OutOfMemory = ⊤
+AreTraceless told unread files (Call OutOfMemory) = ⊤
 AreTraceless told unread files fault = ⊥

@@ -18,7 +18,7 @@ use super::fault::SearchingFault;
 use super::order_certificate::first_bad_line_of_order;
 use super::printing::answer_line;
 use super::reading::read_files;
-use call_devices::{Folder, read_text};
+use call_devices::{CallFault, Folder, read_text};
 use command_line::Confirm;
 use decimal_text::after_text;
 use log_file::{ByteSink, ReadFault, write_all};
@@ -72,7 +72,7 @@ fn read_certificate<F: Folder>(
     match read_text(alloc, folder, name) {
         Ok(text) => Ok(text),
         Err(ReadFault::Read) => Err(SearchingFault::CertificateUnread),
-        Err(ReadFault::OutOfMemory) => Err(SearchingFault::OutOfMemory),
+        Err(ReadFault::OutOfMemory) => Err(SearchingFault::Call(CallFault::OutOfMemory)),
     }
 }
 

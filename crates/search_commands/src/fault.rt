@@ -2,8 +2,10 @@
 
 ghost use Rattle.std.specs.Prelude.{◌≡◌};
 ghost use Rattle.search_commands.specs.Faults.{from_certificate, from_logs, from_trace, searching_fault_status};
-ghost use Rattle.search_commands.specs.declared.fault.SearchingFault.TheVariants.{OutOfMemory, Output};
+ghost use Rattle.search_commands.specs.declared.fault.SearchingFault.TheVariants.{Call};
+ghost use Rattle.call_devices.specs.declared.call_fault.CallFault.TheVariants as call;
 
+use call_devices::CallFault;
 use fault_names::FaultName;
 use log_file::WriteFailed;
 use refutation::CertificateFault;
@@ -35,10 +37,8 @@ pub enum SearchingFault {
     RefutationUnwritten,
     /// The picture of the refutation can't be written.
     PictureUnwritten,
-    /// Standard output failed.
-    Output,
-    /// A growth was refused.
-    OutOfMemory,
+    /// As any command may be refused.
+    Call(CallFault),
 }
 
 impl SearchingFault {
@@ -53,8 +53,8 @@ impl SearchingFault {
             SearchingFault::Logs(JudgeFault::Read { .. } | JudgeFault::OutOfMemory) => 4,
             SearchingFault::TraceUnread | SearchingFault::CertificateUnread => 4,
             SearchingFault::OrderUnwritten | SearchingFault::RefutationUnwritten => 4,
-            SearchingFault::PictureUnwritten | SearchingFault::Output => 4,
-            SearchingFault::Undecided | SearchingFault::OutOfMemory => 4,
+            SearchingFault::PictureUnwritten | SearchingFault::Undecided => 4,
+            SearchingFault::Call(fault) => fault.status(),
         }
     }
 }
@@ -84,8 +84,7 @@ impl Display for SearchingFault {
                 FaultName::Write
             ),
             SearchingFault::PictureUnwritten => write!(f, "refused: picture: {}", FaultName::Write),
-            SearchingFault::Output => write!(f, "refused: output: {}", FaultName::Write),
-            SearchingFault::OutOfMemory => write!(f, "refused: {}", FaultName::OutOfMemory),
+            SearchingFault::Call(fault) => write!(f, "refused: {fault}"),
         }
     }
 }
@@ -95,7 +94,7 @@ impl From<TraceFault> for SearchingFault {
 
     fn from(reason: TraceFault) -> SearchingFault {
         match reason {
-            TraceFault::OutOfMemory => SearchingFault::OutOfMemory,
+            TraceFault::OutOfMemory => SearchingFault::Call(CallFault::OutOfMemory),
             reason => SearchingFault::Trace(reason),
         }
     }
@@ -106,7 +105,7 @@ impl From<JudgeFault> for SearchingFault {
 
     fn from(reason: JudgeFault) -> SearchingFault {
         match reason {
-            JudgeFault::OutOfMemory => SearchingFault::OutOfMemory,
+            JudgeFault::OutOfMemory => SearchingFault::Call(CallFault::OutOfMemory),
             reason => SearchingFault::Logs(reason),
         }
     }
@@ -117,24 +116,24 @@ impl From<CertificateFault> for SearchingFault {
 
     fn from(reason: CertificateFault) -> SearchingFault {
         match reason {
-            CertificateFault::OutOfMemory => SearchingFault::OutOfMemory,
+            CertificateFault::OutOfMemory => SearchingFault::Call(CallFault::OutOfMemory),
             reason => SearchingFault::Certificate(reason),
         }
     }
 }
 
 impl From<WriteFailed> for SearchingFault {
-    ghost from_gives = { λ _ fault. fault ≡ Output };
+    ghost from_gives = { λ _ fault. fault ≡ Call call.Output };
 
     fn from(_failed: WriteFailed) -> SearchingFault {
-        SearchingFault::Output
+        SearchingFault::Call(CallFault::Output)
     }
 }
 
 impl From<AllocError> for SearchingFault {
-    ghost from_gives = { λ _ fault. fault ≡ OutOfMemory };
+    ghost from_gives = { λ _ fault. fault ≡ Call call.OutOfMemory };
 
     fn from(_error: AllocError) -> SearchingFault {
-        SearchingFault::OutOfMemory
+        SearchingFault::Call(CallFault::OutOfMemory)
     }
 }

@@ -8,10 +8,11 @@ ghost use Rattle.verdict.specs.Counts.{IsInRange};
 ghost use Rattle.search_commands.specs.Faults.{from_logs};
 ghost use Rattle.search_commands.specs.Traces as traces;
 ghost use Rattle.search_commands.specs.inner.Reading.{AreLogless, AreSourcesOf, IsOpenFault};
-ghost use Rattle.search_commands.specs.declared.fault.SearchingFault.TheVariants.{OutOfMemory};
+ghost use Rattle.search_commands.specs.declared.fault.SearchingFault.TheVariants.{Call};
+ghost use Rattle.call_devices.specs.declared.call_fault.CallFault.TheVariants.{OutOfMemory};
 
 use super::fault::SearchingFault;
-use call_devices::Folder;
+use call_devices::{CallFault, Folder};
 use log_file::LogSet;
 use log_record::Record;
 use std::alloc::Global;
@@ -45,11 +46,11 @@ fn trace_of(alloc: Global, logs: &[Vec<Record>]) -> Result<Trace, SearchingFault
     requires few { length logs.now ≤ 64 }
     requires short { All (λ log. vec_len log ≤ operation_limit) logs.now }
     ensures trace { IfOk result (λ cores. cores ≡ operations_of (record_lists logs.now)) }
-    ensures refused { IfErr result (λ fault. fault ≡ OutOfMemory) }
+    ensures refused { IfErr result (λ fault. fault ≡ Call OutOfMemory) }
 {
     match Trace::from_logs(alloc, logs) {
         Ok(trace) => Ok(trace),
-        Err(Refusal::OutOfMemory) => Err(SearchingFault::OutOfMemory),
+        Err(Refusal::OutOfMemory) => Err(SearchingFault::Call(CallFault::OutOfMemory)),
         Err(Refusal::TooMany) => unreachable!(),
     }
 }

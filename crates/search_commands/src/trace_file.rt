@@ -7,7 +7,7 @@ ghost use Rattle.search_commands.specs.Traces.{SpellsTraceAt};
 ghost use Rattle.search_commands.specs.inner.Reading.{IsNoTrace, IsReadOf};
 
 use super::fault::SearchingFault;
-use call_devices::Folder;
+use call_devices::{CallFault, Folder};
 use log_file::ByteSource;
 use std::alloc::Global;
 use trace::{Trace, TraceReader};
@@ -33,7 +33,7 @@ fn read_pieces<S: ByteSource>(alloc: Global, source: &mut S) -> Result<Trace, Se
         }
         reader.feed(&room[..count])?;
     }
-    Err(SearchingFault::OutOfMemory)
+    Err(SearchingFault::Call(CallFault::OutOfMemory))
 }
 
 /// The trace in a file of the folder: 28 where it can't be opened or read, 10 where a growth was refused, and else the

@@ -1,12 +1,11 @@
 -- How a call ends, from what its parts answer.
-use Rattle.std.proofs.Common.{◌≡◌, ◌⊎◌, ◌∙◌, ap, subst, sym, refl, ℕ, Bor, [], None, Some, List, Option, Result, Ok, Err, inl, inr}
+use Rattle.std.proofs.Common.{◌≡◌, ◌⊎◌, ◌∙◌, ap, subst, sym, refl, ℕ, Bor, None, Some, List, Option, Result, Ok, Err, inl, inr}
 use Rattle.std.specs.Prelude.{IfOk, OnOk, IfErr}
 use Rattle.std.specs.Io.KnownBytes.{Appends, Keeps}
-use Rattle.std.proofs.KnownBytes.{Appends-nil, Keeps-refl}
+use Rattle.std.proofs.KnownBytes.{Keeps-refl}
 use Rattle.command_line.specs.Asking.{Asks, IsCommandLine, LackLogs}
 use Rattle.command_line.specs.declared.request.Check.{Check}
 use Rattle.command_line.specs.declared.request.Explain.{Explain}
-use Rattle.command_line.specs.declared.request.Litmus.{Litmus}
 use Rattle.command_line.specs.declared.request.Request.{Request}
 use Rattle.command_line.specs.declared.request.Request.TheVariants as request
 use Rattle.core_program.specs.declared.fault.ProgramFault.{ProgramFault}
@@ -17,67 +16,27 @@ use Rattle.tardis_command.specs.Answers.{answer_status, answer_text, told_text, 
 use Rattle.tardis_command.specs.declared.answer.Answer.{Answer}
 use Rattle.tardis_command.specs.declared.answer.Answer.TheVariants as answer
 use Rattle.tardis_command.specs.inner.Printing.{IsUnprinted}
-use Rattle.tardis_command.specs.Endings.{Answered, Ending, EndsBy, HasFailed, IsAnswered, IsDoneBy, IsOfFileOf, IsPrinted, IsUntouched, IsWritten, Misused, Refused, Says, Sink, Takes, TellsMore, Unprinted, Unread, line, status_of}
+use Rattle.tardis_command.specs.Endings.{Answered, Ending, EndsBy, IsAnswered, IsDoneBy, IsOfFileOf, IsPrinted, Misused, Refused, Says, Sink, Takes, TellsMore, Unprinted, Unread, Untold, line, status_of}
 use Rattle.judge_commands.specs.Checking.{IsChecked, IsUnprogrammedBy}
 use Rattle.judge_commands.specs.Explaining.{IsExplained}
-use Rattle.judge_commands.specs.Ordering.{IsOrdered}
-use Rattle.judge_commands.specs.Upgrading.{IsUpgraded}
 use Rattle.call_devices.specs.Files.{Files, IsOnlyRead, KeepsFiles}
 use Rattle.call_devices.proofs.Files.{keeps_told}
-use Rattle.command_line.specs.declared.request.Confirm.{Confirm}
-use Rattle.command_line.specs.declared.request.Search.{Search}
 use Rattle.command_line.specs.declared.request.TraceFiles.{TraceFiles}
 use Rattle.mem_op.specs.Consistency.{IsConsistent}
 use Rattle.search_commands.specs.Answers.{IsRightOf, search_status}
-use Rattle.search_commands.specs.Confirming.{IsConfirmed}
-use Rattle.search_commands.specs.Searching.{IsSearched}
 use Rattle.search_commands.specs.Traces.{TellsTrace}
 use Rattle.search_commands.specs.declared.answer.SearchAnswer.{SearchAnswer}
 use Rattle.search_commands.specs.declared.answer.SearchAnswer.TheVariants as searched
 use Rattle.search_commands.specs.declared.fault.SearchingFault.{SearchingFault}
 use Rattle.search_commands.specs.declared.fault.SearchingFault.TheVariants as searching
 use Rattle.verdict.specs.declared.judge_fault.JudgeFault.TheVariants as judge
-use Rattle.run_commands.specs.Running.{IsThreadRun}
-use Rattle.run_commands.specs.Simulating.{IsRun}
-use Rattle.run_commands.specs.Tabling.{IsCounted}
-use Rattle.tardis_command.specs.Faults.{command_fault_text, fault_status, from_judging, from_running, from_searching}
+use Rattle.tardis_command.specs.Faults.{command_fault_text, fault_status, from_searching}
 use Rattle.tardis_command.specs.declared.fault.CommandFault.{CommandFault}
 use Rattle.tardis_command.specs.declared.fault.CommandFault.TheVariants.{Call, Judging}
 use Rattle.call_devices.specs.declared.call_fault.CallFault.TheVariants.{Output, OutOfMemory, Programs}
 use Rattle.judge_commands.specs.declared.fault.JudgingFault.{JudgingFault}
 use Rattle.judge_commands.specs.declared.fault.JudgingFault.TheVariants as judging
-use Rattle.run_commands.specs.declared.fault.RunningFault.{RunningFault}
-use Rattle.run_commands.specs.declared.fault.RunningFault.TheVariants as running
-
--- standard output holds what it held, or failed, where there is no table
-uncounted : (told : List ℕ → Option (List ℕ)) (unread : List ℕ → Type 0) (asked : Litmus) (old new : Sink) (fault : RunningFault) → IsCounted told unread asked old new (Err fault)
-    → Keeps old.contents new.contents ⊎ HasFailed old new
-uncounted told unread asked old new (running.Call Output) done = let (order, t, test, made) = done in let (table, is, written) = made in inr written.0
-uncounted told unread asked old new (running.Call OutOfMemory) done = done
-uncounted told unread asked old new other done = inl done.1
-
--- standard output holds what it held, or failed, where nothing was explained
-unexplained : (before after : Files) (unread : List ℕ → Type 0) (asked : Explain) (old new : Sink) (fault : JudgingFault) → IsExplained before after unread asked old new (Err fault)
-    → Keeps old.contents new.contents ⊎ HasFailed old new
-unexplained before after unread asked old new (judging.Call Output) done = let (verdict, checked, holds) = done in inr holds.1
-unexplained before after unread asked old new (judging.Call OutOfMemory) done = done
-unexplained before after unread asked old new other done = inl done.1
-
--- standard output holds what it held, or failed, where a search or a look at a certificate was refused
-unsearched : (before after : Files) (unread : List ℕ → Type 0) (asked : Search) (old new : Sink) (fault : SearchingFault) → IsSearched before after unread asked old new (Err fault)
-    → Keeps old.contents new.contents ⊎ HasFailed old new
-unsearched before after unread asked old new searching.Output done = let (answer, tells, text, told, failed, begun) = done in inr failed
-unsearched before after unread asked old new searching.OutOfMemory done = done
-unsearched before after unread asked old new searching.PictureUnwritten done = let (tells, keeps) = done in inl keeps
-unsearched before after unread asked old new other done = let (why, files, keeps) = done in inl keeps
-
-unconfirmed : (before after : Files) (unread : List ℕ → Type 0) (asked : Confirm) (old new : Sink) (fault : SearchingFault) → IsConfirmed before after unread asked old new (Err fault)
-    → Keeps old.contents new.contents ⊎ HasFailed old new
-unconfirmed before after unread asked old new searching.Output done = let (answer, tells, same, failed, begun) = done in inr failed
-unconfirmed before after unread asked old new searching.OutOfMemory done = done
-unconfirmed before after unread asked old new (searching.Certificate fault) done = let (tells, same, keeps) = done in inl keeps
-unconfirmed before after unread asked old new searching.CertificateUnread done = let (tells, certificate, keeps) = done in inl keeps
-unconfirmed before after unread asked old new other done = let (why, keeps) = done in inl keeps
+use Rattle.call_devices.specs.declared.call_fault.CallFault.TheVariants as call
 
 -- what holds whatever is answered
 pub whatever : (Said : Answer → Type 0) (X : Type 0) (r : Result Answer CommandFault) → X → IfOk r (λ answer. Said answer → X)
@@ -88,71 +47,16 @@ whatever Said X (Err fault) x = tt
 pub keeps_told_of : (old new : Files) (IsPut : List ℕ → Type 0) → IsOnlyRead old new → KeepsFiles old.told new.told IsPut
 keeps_told_of old new IsPut read name none = ap (λ (told : List ℕ → Option (List ℕ)). told name) (keeps_told old new read)
 
--- ---- lack of memory may be told in place of whatever refusal
+-- ---- commands whose answer is printed
 
 abbrev pub NoMemory : (Result Answer CommandFault → Type 0) → Type 0
 NoMemory Is = Is (Err (Call OutOfMemory))
-
-printed_memory : (Is : Result Answer CommandFault → Type 0) (out out' : Sink) (fault : CommandFault) (ending : Ending) → NoMemory Is → IsAnswered ending (Err fault)
-    → IsPrinted Is out out' ending → IsPrinted Is out out' (Refused (Call OutOfMemory))
-printed_memory Is out out' fault (Answered answer) memory answered done = cc
-printed_memory Is out out' fault (Unprinted answer) memory answered done = (memory, inr done.1)
-printed_memory Is out out' fault (Refused reason) memory answered done = (memory, done.1)
-printed_memory Is out out' fault Unread memory answered done = absurd done
-printed_memory Is out out' fault (Misused text) memory answered done = absurd done
-
-written_memory : (Is : Result Answer CommandFault → Type 0) (fault : CommandFault) (ending : Ending) → ((reason : CommandFault) → Is (Err reason) → NoMemory Is)
-    → IsAnswered ending (Err fault) → IsWritten Is ending → NoMemory Is
-written_memory Is fault (Answered answer) memory answered done = cc
-written_memory Is fault (Refused reason) memory answered done = memory reason done
-written_memory Is fault (Unprinted answer) memory answered done = absurd done
-written_memory Is fault Unread memory answered done = absurd done
-written_memory Is fault (Misused text) memory answered done = absurd done
-
--- and where the version was asked for
-version_memory : (before after : Files) (out out' : Sink) (fault : CommandFault) (ending : Ending) → IsAnswered ending (Err fault)
-    → IsPrinted (Says (λ told. answer.Version) Call (IsUntouched before after)) out out' ending
-    → IsPrinted (Says (λ told. answer.Version) Call (IsUntouched before after)) out out' (Refused (Call OutOfMemory))
-version_memory before after out out' fault (Answered own) answered done = cc
-version_memory before after out out' fault (Unprinted own) answered done = ((OutOfMemory, refl, (refl, done.0.2)), inr done.1)
-version_memory before after out out' fault (Refused reason) answered done = ((OutOfMemory, refl, (refl, done.0.2.1)), done.1)
-version_memory before after out out' fault Unread answered done = absurd done
-version_memory before after out out' fault (Misused text) answered done = absurd done
-
-memory_instead : (before after : Files) (unread : List ℕ → Type 0) (asked : Request) (out out' : Sink) (fault : CommandFault) (ending : Ending) → IsAnswered ending (Err fault)
-    → IsDoneBy before after unread asked out out' ending → IsDoneBy before after unread asked out out' (Refused (Call OutOfMemory))
-memory_instead before after unread (request.Check check) out out' fault ending answered done =
-    printed_memory (Says answer.Judged from_judging (IsChecked before.told unread check)) out out' fault ending (judging.Call OutOfMemory, refl, inl refl) answered done
-memory_instead before after unread (request.Upgrade upgrade) out out' fault ending answered done =
-    printed_memory (Says answer.Done from_judging (IsUpgraded before after unread upgrade)) out out' fault ending (judging.Call OutOfMemory, refl, inl refl) answered done
-memory_instead before after unread (request.Sim sim) out out' fault ending answered done =
-    printed_memory (Says answer.Done from_running (IsRun before after unread sim)) out out' fault ending (running.Call OutOfMemory, refl, inl refl) answered done
-memory_instead before after unread (request.Run run) out out' fault ending answered done =
-    printed_memory (Says answer.Done from_running (IsThreadRun before after unread run)) out out' fault ending (running.Call OutOfMemory, refl, inl refl) answered done
-memory_instead before after unread (request.Litmus litmus) out out' fault ending answered done =
-    written_memory (Says answer.Counted from_running (IsCounted before.told unread litmus out out')) fault ending
-    (λ reason said. (running.Call OutOfMemory, refl, uncounted before.told unread litmus out out' said.0 said.2)) answered done
-memory_instead before after unread (request.Search search) out out' fault ending answered done =
-    written_memory (Says answer.Searched from_searching (IsSearched before after unread search out out')) fault ending
-    (λ reason said. (searching.OutOfMemory, refl, unsearched before after unread search out out' said.0 said.2)) answered done
-memory_instead before after unread (request.Confirm confirm) out out' fault ending answered done =
-    written_memory (Says answer.Searched from_searching (IsConfirmed before after unread confirm out out')) fault ending
-    (λ reason said. (searching.OutOfMemory, refl, unconfirmed before after unread confirm out out' said.0 said.2)) answered done
-memory_instead before after unread request.Version out out' fault ending answered done = version_memory before after out out' fault ending answered done
-memory_instead before after unread (request.Explain explain) out out' fault ending answered done =
-    written_memory (Says answer.Explained from_judging (IsExplained before after unread explain out out')) fault ending
-    (λ reason said. (judging.Call OutOfMemory, refl, unexplained before after unread explain out out' said.0 said.2)) answered done
-memory_instead before after unread (request.Order order) out out' fault ending answered done =
-    written_memory (Says answer.Ordered from_judging (IsOrdered before.told unread order out out')) fault ending
-    (λ reason said. (judging.Call OutOfMemory, refl, (tt, said.2.1))) answered done
-
--- ---- commands whose answer is printed
 
 module _ {X F : Type 0} (answer_of : X → Answer) (refusal : F → CommandFault) (Is : Result X F → Type 0) (out : Sink) where
   -- it was refused before there was an answer to print
   pub refused_at_once : (fault : F) (result : Result Answer CommandFault) → result ≡ Err (refusal fault) → Is (Err fault)
       → (ending : Ending) × IsAnswered ending result × IsPrinted (Says answer_of refusal Is) out out ending
-  refused_at_once fault result is came = (Refused (refusal fault), is, ((fault, refl, came), inl (Keeps-refl out.contents)))
+  refused_at_once fault result is came = (Refused (refusal fault), is, ((fault, refl, came), Keeps-refl out.contents))
 
   module _ (out' : Sink) (x : X) (came : Is (Ok x)) (memory : NoMemory (Says answer_of refusal Is)) where
     -- an answer whose line wasn't printed
@@ -160,7 +64,7 @@ module _ {X F : Type 0} (answer_of : X → Answer) (refusal : F → CommandFault
         → (ending : Ending) × IsAnswered ending (Err fault) × IsPrinted (Says answer_of refusal Is) out out' ending
     unprinted (Call Output) failed = (Unprinted (answer_of x), refl, ((x, refl, came), failed.0, failed.1))
     unprinted (Call OutOfMemory) same =
-        (Refused (Call OutOfMemory), refl, (memory, subst (λ (s : Sink). Keeps out.contents s.contents ⊎ HasFailed out s) (sym same) (inl (Keeps-refl out.contents))))
+        (Refused (Call OutOfMemory), refl, (memory, subst (λ (s : Sink). Keeps out.contents s.contents) (sym same) (Keeps-refl out.contents)))
     unprinted other never = absurd never
 
     -- an answer that was to be printed
@@ -198,6 +102,11 @@ refusal_is_no_no X (searching.Logs (judge.Log file line fault)) one = cc
 refusal_is_no_no X (searching.Logs (judge.BadConfig count)) one = cc
 refusal_is_no_no X (searching.Logs (judge.Read file)) one = cc
 refusal_is_no_no X (searching.Logs judge.OutOfMemory) one = cc
+refusal_is_no_no X (searching.Call (call.Programs fault)) one = cc
+refusal_is_no_no X (searching.Call call.ProgramsUnread) one = cc
+refusal_is_no_no X (searching.Call (call.LogUnwritten file)) one = cc
+refusal_is_no_no X (searching.Call call.Output) one = cc
+refusal_is_no_no X (searching.Call call.OutOfMemory) one = cc
 refusal_is_no_no X other one = cc
 
 -- nor is it that of lack of memory to tell another refusal
@@ -236,6 +145,7 @@ done_again before middle after unread unread' (request.Explain explain) out out'
     (own, is, explained_again before middle after unread unread' explain out out' own (subst (IsOfFileOf (request.Explain explain)) (same ∙ is) again) explained)
 done_again before middle after unread unread' (request.Explain explain) out out' (Answered own) fault answered again done = cc
 done_again before middle after unread unread' (request.Explain explain) out out' (Unprinted own) fault answered again done = absurd done
+done_again before middle after unread unread' (request.Explain explain) out out' (Untold told) fault answered again done = absurd done
 done_again before middle after unread unread' (request.Explain explain) out out' Unread fault answered again done = absurd done
 done_again before middle after unread unread' (request.Explain explain) out out' (Misused text) fault answered again done = absurd done
 done_again before middle after unread unread' other out out' ending fault answered again done = absurd again
@@ -254,14 +164,6 @@ unprinted_more : (before after : Files) (unread : List ℕ → Type 0) (asked : 
     → IsDoneBy before after unread asked out middle (Unprinted own) → TellsMore asked fault middle out' → out' ≡ middle
 unprinted_more before after unread (request.Explain explain) out middle out' own fault done more = absurd done
 unprinted_more before after unread other out middle out' own fault done more = more
-
--- lack of memory may be told in place of the refusal of which more is told
-more_of_memory : (asked : Request) (fault : CommandFault) (old new : Sink) → TellsMore asked fault old new → TellsMore asked (Call OutOfMemory) old new
-more_of_memory (request.Explain explain) (Judging fault) old new more = let (text, which, takes) = more in (text, inr tt, takes)
-more_of_memory (request.Explain explain) (Call fault) old new more = let (text, which, takes) = more in (text, inr tt, takes)
-more_of_memory (request.Explain explain) other old new same =
-    ([], inl refl, inl (subst (λ (s : Sink). Appends old.contents s.contents []) (sym same) (Appends-nil old.contents)))
-more_of_memory other fault old new same = same
 
 module _ (before after : Files) (unread : List ℕ → Type 0) (words : List (List ℕ)) (out err : Sink) where
   pub ends_misused : (err' : Sink) (text : List ℕ) → ¬ (IsCommandLine words) ⊎ LackLogs words → Takes err err' text
@@ -282,6 +184,7 @@ module _ (before after : Files) (unread : List ℕ → Type 0) (words : List (Li
       )
   ends_answered asked (Unprinted own) out' err' answer status asks answered done takes is = cc
   ends_answered asked (Refused fault) out' err' answer status asks answered done takes is = cc
+  ends_answered asked (Untold fault) out' err' answer status asks answered done takes is = absurd answered
   ends_answered asked Unread out' err' answer status asks answered done takes is = absurd answered
   ends_answered asked (Misused text) out' err' answer status asks answered done takes is = absurd answered
 
@@ -309,6 +212,7 @@ module _ (before after : Files) (unread : List ℕ → Type 0) (words : List (Li
           complaint = subst (λ (f : CommandFault). Takes err err' (line (command_fault_text f))) is takes;
         },
       )
+  ends_told asked (Untold untold) fault middle out' err' status asks answered done more takes same = absurd answered
   ends_told asked Unread fault middle out' err' status asks answered done more takes same = absurd answered
   ends_told asked (Misused text) fault middle out' err' status asks answered done more takes same = absurd answered
 
@@ -321,9 +225,14 @@ module _ (before after : Files) (unread : List ℕ → Type 0) (words : List (Li
       ends_told asked ending fault middle out' err' status asks answered done more
       (subst (λ (f : CommandFault). Takes err err' (line (command_fault_text f))) is takes) (same ∙ ap fault_status is)
   ends_refused asked ending fault reported middle out' err' status asks answered done more (inr is) takes same =
-      ends_told asked (Refused (Call OutOfMemory)) (Call OutOfMemory) middle out' err' status asks refl
-      (memory_instead before after unread asked out middle fault ending answered done) (more_of_memory asked fault middle out' more)
-      (subst (λ (f : CommandFault). Takes err err' (line (command_fault_text f))) is takes) (same ∙ ap fault_status is)
+      (
+        Untold fault,
+        same ∙ ap fault_status is,
+        record {
+          end = (asked, asks, (middle, (ending, answered, done), more));
+          complaint = subst (λ (f : CommandFault). Takes err err' (line (command_fault_text f))) is takes;
+        },
+      )
 
   -- and there was no memory to read the words
   pub ends_unread : (reported : CommandFault) (err' : Sink) (status : ℕ) → (reported ≡ Call OutOfMemory) ⊎ (reported ≡ Call OutOfMemory)

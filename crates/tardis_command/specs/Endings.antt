@@ -31,12 +31,13 @@ use Rattle.call_devices.specs.declared.call_fault.CallFault.TheVariants.{Output,
 pub use Rattle.call_devices.specs.Files.{KeepsFiles}
 pub use Rattle.call_devices.specs.Sinks.{HasFailed, Sink, Takes, TakesBeginning, line, sink_of}
 
--- by an answer, by one that couldn't be printed, by a refusal, without the memory to read the words, or with what the user is
--- told of words that aren't a command line
+-- by an answer, by one that couldn't be printed, by a refusal, by one that there was no memory to tell, without the memory to read the words,
+-- or with what the user is told of words that aren't a command line
 pub data Ending : Type 0 where
   Answered : Answer → Ending
   Unprinted : Answer → Ending
   Refused : CommandFault → Ending
+  Untold : CommandFault → Ending
   Unread : Ending
   Misused : List ℕ → Ending
 
@@ -45,6 +46,7 @@ abbrev pub status_of : Ending → ℕ
 status_of (Answered answer) = answer_status answer
 status_of (Unprinted answer) = fault_status (Call Output)
 status_of (Refused fault) = fault_status fault
+status_of (Untold fault) = fault_status (Call OutOfMemory)
 status_of Unread = fault_status (Call OutOfMemory)
 status_of (Misused text) = 3
 
@@ -58,6 +60,7 @@ abbrev pub complaint_of : Ending → List ℕ
 complaint_of (Answered answer) = told_text answer
 complaint_of (Unprinted answer) = line (command_fault_text (Call Output))
 complaint_of (Refused fault) = line (command_fault_text fault)
+complaint_of (Untold fault) = line (command_fault_text (Call OutOfMemory))
 complaint_of Unread = line (command_fault_text (Call OutOfMemory))
 complaint_of (Misused text) = text
 
@@ -126,7 +129,7 @@ IsWritten Is other = ⊥
 abbrev pub IsPrinted : (Result Answer CommandFault → Type 0) → Sink → Sink → Ending → Type 0
 IsPrinted Is out out' (Answered answer) = Is (Ok answer) × Appends out.contents out'.contents (line (answer_text answer))
 IsPrinted Is out out' (Unprinted answer) = Is (Ok answer) × HasFailed out out' × TakesBeginning out out' (line (answer_text answer))
-IsPrinted Is out out' (Refused fault) = Is (Err fault) × (Keeps out.contents out'.contents ⊎ HasFailed out out')
+IsPrinted Is out out' (Refused fault) = Is (Err fault) × Keeps out.contents out'.contents
 IsPrinted Is out out' other = ⊥
 
 -- for the version nothing is read or put, and only lack of memory keeps it from being told
@@ -167,13 +170,17 @@ IsAnswered (Unprinted answer) came = came ≡ Err (Call Output)
 IsAnswered (Refused fault) came = came ≡ Err fault
 IsAnswered other came = ⊥
 
--- A call with these words may end so, and leave standard output so; what is told more of a refusal comes after that. Words that aren't a command line, or that name more files than a
--- trace has, end in what the user is told of them, or memory runs out before it is known what they ask for.
+-- A call with these words may end so, and leave standard output so; what is told more of a refusal comes after that. Words that aren't a
+-- command line, or that name more files than a trace has, end in what the user is told of them, or memory runs out before it is known what
+-- they ask for. A refusal that there was no memory to tell left all as it leaves it where it is told.
 abbrev pub IsEnd : Files → Files → (List ℕ → Type 0) → List (List ℕ) → Sink → Sink → Ending → Type 0
 IsEnd old new unread words out out' Unread = Keeps out.contents out'.contents
 IsEnd old new unread words out out' (Misused text) = (¬ (IsCommandLine words) ⊎ LackLogs words) × Keeps out.contents out'.contents
 IsEnd old new unread words out out' (Refused fault) =
     AskFor words (λ asked. (before : Sink) × IsDoneBy old new unread asked out before (Refused fault) × TellsMore asked fault before out')
+IsEnd old new unread words out out' (Untold fault) =
+    AskFor words (λ asked. (before : Sink) × ((ending : Ending) × IsAnswered ending (Err fault) × IsDoneBy old new unread asked out before ending)
+    × TellsMore asked fault before out')
 IsEnd old new unread words out out' ending = AskFor words (λ asked. IsDoneBy old new unread asked out out' ending)
 
 -- a call with these words ended so, and left the folder, standard output and standard error so

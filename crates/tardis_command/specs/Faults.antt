@@ -10,7 +10,6 @@ use Rattle.run_commands.specs.declared.fault.RunningFault.TheVariants as running
 use Rattle.search_commands.specs.Faults.{searching_fault_status, searching_fault_text}
 use Rattle.search_commands.specs.declared.fault.SearchingFault.{SearchingFault}
 use Rattle.search_commands.specs.declared.fault.SearchingFault.TheVariants as searching
-use Rattle.call_devices.specs.declared.call_fault.CallFault.TheVariants.{Output, OutOfMemory}
 use Rattle.tardis_command.specs.declared.fault.CommandFault.{CommandFault}
 use Rattle.tardis_command.specs.declared.fault.CommandFault.TheVariants.{Judging, Searching, Running, Call}
 
@@ -20,8 +19,7 @@ from_judging (judging.Call fault) = Call fault
 from_judging fault = Judging fault
 
 abbrev pub from_searching : SearchingFault → CommandFault
-from_searching searching.Output = Call Output
-from_searching searching.OutOfMemory = Call OutOfMemory
+from_searching (searching.Call fault) = Call fault
 from_searching fault = Searching fault
 
 abbrev pub from_running : RunningFault → CommandFault

@@ -74,8 +74,7 @@ impl From<SearchingFault> for CommandFault {
 
     fn from(reason: SearchingFault) -> CommandFault {
         match reason {
-            SearchingFault::Output => CommandFault::Call(CallFault::Output),
-            SearchingFault::OutOfMemory => CommandFault::Call(CallFault::OutOfMemory),
+            SearchingFault::Call(fault) => CommandFault::Call(fault),
             reason => CommandFault::Searching(reason),
         }
     }

@@ -3,6 +3,7 @@ use Rattle.std.specs.Prelude.{◌≡◌, ◌<◌, ⊤, ℕ, List, length, Option
 use Rattle.std.specs.Borrow.{Bor}
 use Rattle.std.specs.List.{AllZip}
 use Rattle.call_devices.specs.Files.{Files, one_more_unopened}
+use Rattle.call_devices.specs.declared.call_fault.CallFault.TheVariants.{OutOfMemory}
 use Rattle.mem_op.specs.Consistency.{Operation}
 use Rattle.trace.specs.Texts.{HasFirstFault, SpellsTrace}
 use Rattle.trace.specs.declared.fault.TraceFault.{TraceFault}
@@ -10,7 +11,7 @@ use Rattle.trace.specs.declared.fault.TraceFault.TheVariants.{BadTraceLine, TooM
 use Rattle.verdict.specs.declared.judge_fault.JudgeFault.{JudgeFault}
 use Rattle.verdict.specs.declared.judge_fault.JudgeFault.TheVariants.{Read, OutOfMemory as NoLogMemory}
 use Rattle.search_commands.specs.declared.fault.SearchingFault.{SearchingFault}
-use Rattle.search_commands.specs.declared.fault.SearchingFault.TheVariants.{Trace, TraceUnread, Logs, OutOfMemory}
+use Rattle.search_commands.specs.declared.fault.SearchingFault.TheVariants.{Trace, TraceUnread, Logs, Call}
 use Rattle.search_commands.specs.Traces.{AreNoLogs, IsTextFault}
 
 -- the first fault of the bytes
@@ -24,14 +25,14 @@ abbrev pub IsReadOf : List ℕ → Result (List (List Operation)) SearchingFault
 IsReadOf bytes (Ok cores) = SpellsTrace bytes cores
 IsReadOf bytes (Err (Trace fault)) = IsFirstFaultOf bytes fault
 IsReadOf bytes (Err TraceUnread) = ⊤
-IsReadOf bytes (Err OutOfMemory) = ⊤
+IsReadOf bytes (Err (Call OutOfMemory)) = ⊤
 IsReadOf bytes (Err fault) = ⊥
 
 -- why the file of this name tells no trace
 abbrev pub IsNoTrace : (List ℕ → Option (List ℕ)) → (List ℕ → Type 0) → List ℕ → SearchingFault → Type 0
 IsNoTrace told unread name (Trace fault) = IsTextFault told name fault
 IsNoTrace told unread name TraceUnread = unread name
-IsNoTrace told unread name OutOfMemory = ⊤
+IsNoTrace told unread name (Call OutOfMemory) = ⊤
 IsNoTrace told unread name fault = ⊥
 
 -- the opening of this file failed, or memory ran out
@@ -47,5 +48,5 @@ AreSourcesOf told remaining sources names = AllZip (λ source name. IfSome (told
 -- why there are no logs in the files of these names
 abbrev pub AreLogless : (List ℕ → Option (List ℕ)) → (List ℕ → Type 0) → List (Bor (List ℕ)) → SearchingFault → Type 0
 AreLogless told unread names (Logs fault) = AreNoLogs told unread names fault
-AreLogless told unread names OutOfMemory = ⊤
+AreLogless told unread names (Call OutOfMemory) = ⊤
 AreLogless told unread names fault = ⊥

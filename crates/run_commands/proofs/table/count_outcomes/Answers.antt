@@ -1,5 +1,5 @@
 -- Where there is no table, nothing was printed.
-use Rattle.std.proofs.Common.{◌≡◌, ℕ, List, Option, Err, inl, rules}
+use Rattle.std.proofs.Common.{◌≡◌, ℕ, List, Option, Err, rules}
 use Rattle.std.proofs.KnownBytes.{Keeps-refl}
 use Rattle.command_line.specs.declared.request.Litmus.{Litmus}
 use Rattle.call_devices.specs.Files.{IsUnread}
@@ -13,7 +13,7 @@ use Rattle.run_commands.proofs.table.count_outcomes.Goals as goal
 untabled : (told : List ℕ → Option (List ℕ)) (unread : List ℕ → Type 0) (asked : Litmus) (sink : Sink) (fault : RunningFault) → IsUntabled told unread asked fault
     → IsCounted told unread asked sink sink (Err fault)
 untabled told unread asked sink (Call Output) why = cc
-untabled told unread asked sink (Call OutOfMemory) why = inl (Keeps-refl sink.contents)
+untabled told unread asked sink (Call OutOfMemory) why = Keeps-refl sink.contents
 untabled told unread asked sink other why = (why, Keeps-refl sink.contents)
 
 pub returns-in_err-table-clause-exact : goal.returns-in_err-table-clause-exact

@@ -1,4 +1,4 @@
-use Rattle.std.proofs.Common.{rules, ◌≡◌, ◌∙◌, ℕ, List, subst, Err, Ok, inl}
+use Rattle.std.proofs.Common.{rules, ◌≡◌, ◌∙◌, ℕ, List, subst, Err, Ok}
 use Rattle.std.specs.Io.KnownBytes.{Appends}
 use Rattle.std.proofs.KnownBytes.{Keeps-refl}
 use Rattle.call_devices.specs.Files.{Files, IsUnread}
@@ -8,7 +8,8 @@ use Rattle.search_commands.specs.Answers.{search_text}
 use Rattle.search_commands.specs.Confirming.{Certifies}
 use Rattle.log_file.specs.Devices.{Tells}
 use Rattle.search_commands.specs.inner.Looking.{IsLook, IsNoCertificate}
-use Rattle.search_commands.specs.declared.fault.SearchingFault.TheVariants.{OutOfMemory, Output}
+use Rattle.search_commands.specs.declared.fault.SearchingFault.TheVariants.{Call}
+use Rattle.call_devices.specs.declared.call_fault.CallFault.TheVariants.{OutOfMemory, Output}
 use Rattle.search_commands.proofs.Confirms.{refused, right, traceless, uncertified}
 use Rattle.search_commands.proofs.confirm_files.confirm.Goals as goal
 
@@ -55,8 +56,8 @@ returns-in_err-answer-clause-exact g c =
 
 pub returns-in_err-line-clause-exact : goal.returns-in_err-line-clause-exact
 returns-in_err-line-clause-exact g c =
-    let is : c.from_residual-in_err-line.result ≡ Err OutOfMemory = search rules in
-    rw is (inl (Keeps-refl (g.O.ByteSink.contents c.args.out.now)))
+    let is : c.from_residual-in_err-line.result ≡ Err (Call OutOfMemory) = search rules in
+    rw is (Keeps-refl (g.O.ByteSink.contents c.args.out.now))
 
 pub returns-in_err-write_all-clause-exact : goal.returns-in_err-write_all-clause-exact
 returns-in_err-write_all-clause-exact g c =
@@ -64,7 +65,7 @@ returns-in_err-write_all-clause-exact g c =
     let sink = sink_of g.O.ByteSink.contents g.O.ByteSink.failed in
     let tells = subst (λ (f : Files). Tells (f.told asked.certificate.now) c.in_ok-text.text.items) c.in_ok-trace.ensures.quiet c.in_ok-text.ensures.ok in
     let look = subst (λ (t : List ℕ). Certifies c.in_ok-trace.trace t c.in_ok-answer.answer) c.as_slice.ensures.value c.in_ok-answer.ensures in
-    let is : c.from_residual-in_err-write_all.result ≡ Err Output = search rules in
+    let is : c.from_residual-in_err-write_all.result ≡ Err (Call Output) = search rules in
     let failed : HasFailed (sink c.args.out.now) (sink c.write_all.new.sink) = search rules in
     let begun : TakesBeginning (sink c.args.out.now) (sink c.write_all.new.sink) (line (search_text c.in_ok-answer.answer)) = search rules in
     rw is (

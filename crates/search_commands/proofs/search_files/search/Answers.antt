@@ -1,11 +1,12 @@
-use Rattle.std.proofs.Common.{rules, ◌≡◌, subst, Err, Ok, inl}
+use Rattle.std.proofs.Common.{rules, ◌≡◌, subst, Err, Ok}
 use Rattle.std.specs.Prelude.{string_bytes}
 use Rattle.std.proofs.KnownBytes.{Keeps-refl}
 use Rattle.call_devices.specs.Files.{Files, IsUnread, KeepsFiles}
 use Rattle.call_devices.specs.Sinks.{HasFailed, TakesBeginning, sink_of}
 use Rattle.search_commands.specs.Searching.{IsOutputName}
 use Rattle.search_commands.specs.inner.Finding.{IsUnput}
-use Rattle.search_commands.specs.declared.fault.SearchingFault.TheVariants.{OutOfMemory, Output}
+use Rattle.search_commands.specs.declared.fault.SearchingFault.TheVariants.{Call}
+use Rattle.call_devices.specs.declared.call_fault.CallFault.TheVariants.{OutOfMemory, Output}
 use Rattle.search_commands.proofs.Searches.{finds, given_up, keeps, right, traceless, unput}
 use Rattle.search_commands.proofs.search_files.search.Goals as goal
 
@@ -37,8 +38,8 @@ returns-in_err-proof-clause-exact g c =
 
 pub returns-in_err-text-clause-exact : goal.returns-in_err-text-clause-exact
 returns-in_err-text-clause-exact g c =
-    let is : c.from_residual-in_err-text.result ≡ Err OutOfMemory = search rules in
-    rw is (inl (Keeps-refl (g.O.ByteSink.contents c.args.out.now)))
+    let is : c.from_residual-in_err-text.result ≡ Err (Call OutOfMemory) = search rules in
+    rw is (Keeps-refl (g.O.ByteSink.contents c.args.out.now))
 
 pub returns-in_err-put_proof-clause-exact : goal.returns-in_err-put_proof-clause-exact
 returns-in_err-put_proof-clause-exact g c =
@@ -64,7 +65,7 @@ returns-in_err-write_all-clause-exact g c =
     let now = files c.read_files.new.folder in
     let new = files c.put_proof.new.folder in
     let sink = sink_of g.O.ByteSink.contents g.O.ByteSink.failed in
-    let is : c.from_residual-in_err-write_all.result ≡ Err Output = search rules in
+    let is : c.from_residual-in_err-write_all.result ≡ Err (Call Output) = search rules in
     let failed : HasFailed (sink c.args.out.now) (sink c.write_all.new.sink) = search rules in
     let begun : TakesBeginning (sink c.args.out.now) (sink c.write_all.new.sink) (string_bytes c.in_ok-text.text) = search rules in
     rw is (
