@@ -59,11 +59,13 @@ pub record IsCheck (rows : List Row) (check : Check) : Type 0 where
 pub record IsOrder (rows : List Row) (order : Order) : Type 0 where
   pub files : texts order.files.items ≡ unwrap_or (all_of (codes "FILE") rows) []
 
--- a check of the files that were given by one worker, against the programs that were given, and the file for a picture that was
+-- a check of the files that were given by one worker, against the programs that were given, the file for a picture that was, and whether
+-- another order is searched
 pub record IsExplain (rows : List Row) (explain : Explain) : Type 0 where
   pub workers : explain.check.workers ≡ 1
   pub program : text_of explain.check.program ≡ first_of (codes "program") rows
   pub picture : text_of explain.picture ≡ first_of (codes "svg") rows
+  pub no_search : IsFlag (one_of (codes "no-search") rows) explain.no_search
   pub files : texts explain.check.files.items ≡ unwrap_or (all_of (codes "FILE") rows) []
 
 -- the files that were given, anew in format 2, under the name that was given

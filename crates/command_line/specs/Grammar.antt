@@ -43,11 +43,12 @@ check = with_rule (with_check_options (new_app (codes "check"))) files
 abbrev pub order : App
 order = with_rule (new_app (codes "order")) files
 
--- [--program F] [--svg F]
+-- [--program F] [--svg F] [--no-search]
 abbrev pub with_explain_options : App → App
-with_explain_options app = with_rule (with_rule app (file_option (codes "program"))) (file_option (codes "svg"))
+with_explain_options app =
+    with_rule (with_rule (with_rule app (file_option (codes "program"))) (file_option (codes "svg"))) (flag (codes "no-search"))
 
--- tardis explain [--program F] [--svg F] FILE..
+-- tardis explain [--program F] [--svg F] [--no-search] FILE..
 abbrev pub explain : App
 explain = with_rule (with_explain_options (new_app (codes "explain"))) files
 

@@ -94,6 +94,7 @@ fn explain<'a>(alloc: Global) -> Result<Command<'a>, AllocError>
             "svg",
             "The file that a picture of it goes to [default: none]",
         ),
+        Argument::flag("no-search", "Looks for no other order of logs that get No"),
         Argument::files(LOGS_HELP),
     ];
     with_arguments(alloc, command, &arguments)

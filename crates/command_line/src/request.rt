@@ -50,6 +50,8 @@ pub struct Explain<'a> {
     pub check: Check<'a>,
     /// The name of the file that a picture goes to, where one is given.
     pub picture: Option<&'a str>,
+    /// Whether no other order of a set that gets No is searched.
+    pub no_search: bool,
 }
 
 /// Asks for a set of logs in format 2.

@@ -100,6 +100,7 @@ fn explain_of<'a>(alloc: Global, matches: &ArgMatches<'a>) -> Result<Explain<'a>
             files: files_of(alloc, matches)?,
         },
         picture: name_of(matches, "svg"),
+        no_search: flag_of(matches, "no-search"),
     })
 }
 

@@ -1,4 +1,5 @@
 mod Checks
 mod Explained
 mod Orders
+mod OtherOrders
 mod Upgrades

@@ -4,6 +4,7 @@
 mod check_files;
 mod fault;
 mod order_files;
+mod other_order;
 mod telling;
 mod upgrade_files;
 

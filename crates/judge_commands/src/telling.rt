@@ -14,8 +14,9 @@ ghost use Rattle.call_devices.specs.Sinks.{sink_of};
 
 use super::check_files::examine_asked;
 use super::fault::JudgingFault;
+use super::other_order::other_order;
 use call_devices::Folder;
-use command_line::{Check, Explain};
+use command_line::Explain;
 use core_program::ProgramSet;
 use explain::{Explanation, explain as explained};
 use explanation_picture::draw;
@@ -58,7 +59,7 @@ pub fn explain<R: Threads + Sync, F: Folder, O: ByteSink>(
     ensures flat { IfOk result (λ verdict. IsYes verdict
         → checking.FilesRunFlat (F.files folder.old).told asked.now.check) }
 {
-    let told = tell(rt, alloc, folder, &asked.check, asked.picture.is_some())?;
+    let told = tell(rt, alloc, folder, asked)?;
     put_picture(folder, asked.picture, &told)?;
     write_all(out, told.text.as_bytes())?;
     Ok(told.verdict)
@@ -93,48 +94,62 @@ fn tell<R: Threads + Sync, F: Folder>(
     rt: &R,
     alloc: Global,
     folder: &mut F,
-    asked: &Check<'_>,
-    is_drawn: bool,
+    asked: &Explain<'_>,
 ) -> Result<Told, JudgingFault>
     ensures exact { MatchResult result
         (λ told. checking.IsChecked (F.files folder.old).told
         (IsUnread F.Source.remaining F.Source.failed
         (F.files folder.old) (F.files folder.new))
-        asked.now (Ok told.verdict))
+        asked.now.check (Ok told.verdict))
         (λ fault. checking.IsChecked (F.files folder.old).told
         (IsUnread F.Source.remaining F.Source.failed
         (F.files folder.old) (F.files folder.new))
-        asked.now (Err fault)) }
+        asked.now.check (Err fault)) }
     ensures quiet { OnOk result (F.files folder.new ≡ F.files folder.old) }
     ensures read { IsOnlyRead (F.files folder.old) (F.files folder.new) }
     ensures text { IfOk result (λ told.
         explaining.BeginsWithVerdict told.verdict (string_bytes told.text)) }
     ensures picture { IfOk result (λ told. IfSome told.picture (λ svg. IsPicture svg.items)) }
-    ensures drawn { IsTrue is_drawn → IfOk result (λ told. IsSome told.picture ↔ HasPicture told.verdict) }
+    ensures drawn { IsSome asked.now.picture → IfOk result (λ told. IsSome told.picture ↔ HasPicture told.verdict) }
     ensures sound { IfOk result (λ told. IsYes told.verdict
-        → checking.FilesAreConsistent (F.files folder.old).told asked.now) }
+        → checking.FilesAreConsistent (F.files folder.old).told asked.now.check) }
     ensures flat { IfOk result (λ told. IsYes told.verdict
-        → checking.FilesRunFlat (F.files folder.old).told asked.now) }
+        → checking.FilesRunFlat (F.files folder.old).told asked.now.check) }
 {
-    let found = examine_asked(rt, alloc, folder, asked)?;
+    let found = examine_asked(rt, alloc, folder, &asked.check)?;
+    let last = last_lines(alloc, &found.examined, asked)?;
     let told = words(
         alloc,
         &found.examined,
         found.programs.as_ref(),
-        asked.files.as_slice(),
-        is_drawn,
+        asked.check.files.as_slice(),
+        asked.picture.is_some(),
+        last.as_str(),
     )?;
     Ok(told)
 }
 
-/// The text of a verdict on the logs of these names and of what there is to tell of it, and a picture where it is to be drawn
-/// and can be.
+/// The last lines of what is told: whether another order explains all values, where that is asked for.
+fn last_lines(
+    alloc: Global,
+    examined: &Examined,
+    asked: &Explain<'_>,
+) -> Result<String, AllocError> {
+    if asked.no_search {
+        return Ok(String::new(alloc));
+    }
+    other_order(alloc, examined, asked.check.files.len())
+}
+
+/// The text of a verdict on the logs of these names and of what there is to tell of it, with its last lines, and a picture where it is to
+/// be drawn and can be.
 fn words(
     alloc: Global,
     examined: &Examined,
     programs: Option<&ProgramSet>,
     names: &[&str],
     is_drawn: bool,
+    last: &str,
 ) -> Result<Told, AllocError>
     requires { (logs : List (List Record)) × IsExaminationOf (given programs) logs examined.now }
     ensures verdict { IfOk result (λ told. told.verdict ≡ examined.now.verdict) }
@@ -153,7 +168,8 @@ fn words(
     } else {
         None
     };
-    let more = more_text(alloc, names, &why, is_drawn && picture.is_none())?;
+    let mut more = more_text(alloc, names, &why, is_drawn && picture.is_none())?;
+    more.push_str(last)?;
     Ok(Told {
         verdict,
         text: joined(line, more.as_str())?,

@@ -54,7 +54,7 @@ fn push_argument(
 ) -> Result<(), AllocError>
     ensures { OnOk result (IsGrown (string_bytes text.old) (string_bytes text.new)) }
 {
-    let argument = argument(alloc, trace, refutation)?;
+    let argument = argue(alloc, trace, refutation)?;
     text.push_str(argument.as_str())
 }
 
@@ -68,14 +68,14 @@ fn count(cores: &[Vec<Access>]) -> usize
 
 /// How many operations a trace has.
 #[tactic(auto, using(crate::proofs::Counting::count_is, crate::proofs::Counting::count_fits))]
-fn count_of(trace: &Trace) -> usize
+pub fn count_of(trace: &Trace) -> usize
     ensures { result ≡ operation_count trace.now }
 {
     count(trace.cores())
 }
 
-/// The steps of a refutation, told one after the other.
-fn argument(alloc: Global, trace: &Trace, refutation: &Refutation) -> Result<String, AllocError> {
+/// The same without the line that says No: the steps alone.
+pub fn argue(alloc: Global, trace: &Trace, refutation: &Refutation) -> Result<String, AllocError> {
     let mut telling = Telling {
         alloc,
         trace,

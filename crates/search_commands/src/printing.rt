@@ -7,7 +7,7 @@ ghost use Rattle.search_commands.specs.Searching.{AnswersBy, TellsAnswer};
 
 use super::answer::SearchAnswer;
 use refutation::{Answer, Refutation};
-use refutation_text::tell;
+use refutation_text::argue;
 use std::alloc::{AllocError, Global};
 use trace::Trace;
 
@@ -35,7 +35,7 @@ pub(crate) fn print_proof(
     }
 }
 
-/// A text, and after it why no order exists: the argument without its first line, which is that of the answer.
+/// A text, and after it why no order exists.
 fn print_refutation(
     text: String,
     alloc: Global,
@@ -44,8 +44,8 @@ fn print_refutation(
 ) -> Result<String, AllocError>
     ensures { IfOk result (λ whole. (more : List ℕ) × (string_bytes whole ≡ string_bytes text ++ more)) }
 {
-    let told = tell(alloc, trace, refutation)?;
-    joined(text, after_line(told.as_str()))
+    let argument = argue(alloc, trace, refutation)?;
+    joined(text, argument.as_str())
 }
 
 /// A text with more after it.
@@ -54,12 +54,4 @@ fn joined(mut text: String, more: &str) -> Result<String, AllocError>
 {
     text.push_str(more)?;
     Ok(text)
-}
-
-/// What comes after the first line of a text.
-fn after_line(text: &str) -> &str {
-    match text.split_once('\n') {
-        Some((_, more)) => more,
-        None => "",
-    }
 }

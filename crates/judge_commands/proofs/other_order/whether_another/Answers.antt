@@ -1,0 +1,16 @@
+use Rattle.std.proofs.Common.{rules, ◌≡◌, ◌++◌}
+use Rattle.std.specs.Prelude.{IfOk, string_bytes}
+use Rattle.judge_commands.specs.OtherOrders.{another_text, none_text}
+use Rattle.judge_commands.proofs.OtherOrders.{tells_another, tells_none}
+use Rattle.judge_commands.proofs.other_order.whether_another.Goals as goal
+
+pub returns-in-Order : goal.returns-in-Order
+returns-in-Order c =
+    let same : IfOk c.from_str.result (λ text. string_bytes text ≡ another_text) = search rules in
+    tells_another string_bytes c.args.trace.now c.in_ok-search.field-0 c.in-Order.field-0 c.from_str.result c.in_ok-search.ensures.right c.in-Order.is same
+
+pub returns : goal.returns
+returns c =
+    let argument = string_bytes c.in_ok-argument-in-Refutation.argument in
+    let same : string_bytes c.push_str.new.self ≡ none_text ++ argument = search rules in
+    tells_none c.args.trace.now c.in_ok-search.field-0 _ _ argument c.in_ok-search.ensures.right c.in-Refutation.is same
