@@ -7,7 +7,7 @@ use address_check::AddressIndex;
 use log_record::{Entry, Record};
 use refutation::Answer;
 use refutation_text::{argue, count_of};
-use search::search;
+use search::{SearchWatch, search_watched};
 use std::alloc::{AllocError, Global};
 use trace::{Refusal, Trace};
 use verdict::{Basis, Examined, Rule, Verdict};
@@ -30,9 +30,10 @@ const NONE: &str = "\nno order explains all values:\n";
 const UNDECIDED: &str = "\nwhether another order explains all values isn't decided; search --logs looks longer\n";
 
 /// The last lines of what is told of a set: whether another order explains all values. Nothing of a Yes, of a log that isn't
-/// its program's, and of a set of more than 100,000 operations.
-pub(crate) fn other_order(
+/// its program's, and of a set of more than 100,000 operations. A watch is told how far the search is.
+pub(crate) fn other_order<W: SearchWatch>(
     alloc: Global,
+    watch: &W,
     examined: &Examined,
     cores: usize,
 ) -> Result<String, AllocError> {
@@ -43,7 +44,7 @@ pub(crate) fn other_order(
     if count_of(&trace) > MOST_SEARCHED {
         return Ok(String::new(alloc));
     }
-    whether_another(alloc, &trace)
+    whether_another(alloc, watch, &trace)
 }
 
 /// Whether it is by its order that a set got No, which another order may mend.
@@ -55,12 +56,16 @@ fn is_wrong_by_its_order(verdict: &Verdict) -> bool {
 }
 
 /// Whether some order of a trace explains all values.
-fn whether_another(alloc: Global, trace: &Trace) -> Result<String, AllocError>
+fn whether_another<W: SearchWatch>(
+    alloc: Global,
+    watch: &W,
+    trace: &Trace,
+) -> Result<String, AllocError>
     ensures { IfOk result (λ text. TellsOrder trace.now (string_bytes text)) }
 {
     let more = STEPS_EACH.saturating_mul(count_of(trace) as u64);
     let budget = STEPS.saturating_add(more);
-    match search(alloc, trace, budget)? {
+    match search_watched(alloc, trace, budget, watch)? {
         Answer::Order(_) => String::from_str(alloc, ANOTHER),
         Answer::Undecided => String::from_str(alloc, UNDECIDED),
         Answer::Refutation(refutation) => {

@@ -22,6 +22,7 @@ use explain::{Explanation, explain as explained};
 use explanation_picture::draw;
 use explanation_text::{first_sentence, print};
 use log_file::{ByteSink, write_all};
+use search::SearchWatch;
 use std::alloc::{AllocError, Global};
 use std::thread::Threads;
 use verdict::{Examined, Verdict};
@@ -39,10 +40,12 @@ struct Told {
 }
 
 /// Judges the logs in files of the folder as `check` does, puts a picture of why where one is asked for, and prints the
-/// verdict's line and what there is to tell of it. The verdict, or why there is none; 29 of the picture or of standard output.
-pub fn explain<R: Threads + Sync, F: Folder, O: ByteSink>(
+/// verdict's line and what there is to tell of it. The verdict, or why there is none; 29 of the picture or of standard output. A watch
+/// is told how far the search for another order is.
+pub fn explain<R: Threads + Sync, W: SearchWatch, F: Folder, O: ByteSink>(
     rt: &R,
     alloc: Global,
+    watch: &W,
     folder: &mut F,
     asked: &Explain<'_>,
     out: &mut O,
@@ -59,7 +62,7 @@ pub fn explain<R: Threads + Sync, F: Folder, O: ByteSink>(
     ensures flat { IfOk result (λ verdict. IsYes verdict
         → checking.FilesRunFlat (F.files folder.old).told asked.now.check) }
 {
-    let told = tell(rt, alloc, folder, asked)?;
+    let told = tell(rt, alloc, watch, folder, asked)?;
     put_picture(folder, asked.picture, &told)?;
     write_all(out, told.text.as_bytes())?;
     Ok(told.verdict)
@@ -90,9 +93,10 @@ fn put_picture<F: Folder>(
 }
 
 /// What there is to tell of the logs in files of the folder, or why there is no verdict.
-fn tell<R: Threads + Sync, F: Folder>(
+fn tell<R: Threads + Sync, W: SearchWatch, F: Folder>(
     rt: &R,
     alloc: Global,
+    watch: &W,
     folder: &mut F,
     asked: &Explain<'_>,
 ) -> Result<Told, JudgingFault>
@@ -117,7 +121,7 @@ fn tell<R: Threads + Sync, F: Folder>(
         → checking.FilesRunFlat (F.files folder.old).told asked.now.check) }
 {
     let found = examine_asked(rt, alloc, folder, &asked.check)?;
-    let last = last_lines(alloc, &found.examined, asked)?;
+    let last = last_lines(alloc, watch, &found.examined, asked)?;
     let told = words(
         alloc,
         &found.examined,
@@ -130,15 +134,16 @@ fn tell<R: Threads + Sync, F: Folder>(
 }
 
 /// The last lines of what is told: whether another order explains all values, where that is asked for.
-fn last_lines(
+fn last_lines<W: SearchWatch>(
     alloc: Global,
+    watch: &W,
     examined: &Examined,
     asked: &Explain<'_>,
 ) -> Result<String, AllocError> {
     if asked.no_search {
         return Ok(String::new(alloc));
     }
-    other_order(alloc, examined, asked.check.files.len())
+    other_order(alloc, watch, examined, asked.check.files.len())
 }
 
 /// The text of a verdict on the logs of these names and of what there is to tell of it, with its last lines, and a picture where it is to

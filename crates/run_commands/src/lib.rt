@@ -13,4 +13,4 @@ pub use fault::RunningFault;
 pub use simulated::sim;
 pub use table::count_outcomes;
 pub use threaded::run;
-pub use watch::{Unwatched, Watch};
+pub use watch::Watch;

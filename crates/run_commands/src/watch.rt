@@ -13,16 +13,6 @@ pub trait Watch {
     fn over(&self);
 }
 
-/// What watches no run.
-#[derive(Clone, Copy, Debug, PartialEq, Eq)]
-pub struct Unwatched;
-
-impl Watch for Unwatched {
-    fn before(&self, _core: CoreId, _done: usize, _turn: u64) {}
-
-    fn over(&self) {}
-}
-
 /// A pace that always goes, and has the run watched.
 #[derive(Clone, Copy)]
 pub(crate) struct Watched<'a, W: Watch> {

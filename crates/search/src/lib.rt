@@ -21,5 +21,7 @@ mod shrinking;
 mod splits;
 mod stop;
 mod stores;
+mod watch;
 
-pub use searching::{guess, search};
+pub use searching::{guess, search, search_watched};
+pub use watch::{SearchWatch, Unwatched};

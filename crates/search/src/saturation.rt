@@ -4,14 +4,19 @@ use super::core_set::CoreSet;
 use super::knowledge::{Knowledge, Risen};
 use super::operations::Operation;
 use super::stop::{Conflict, NONE, Place, Stop, Tried, at, put};
+use super::watch::{SearchWatch, Watched};
 
 /// How many operations of a core come in before the next core's.
 const TURN: u32 = 4;
 
 impl Knowledge {
     /// Lets all operations come in, the cores in turns, and concludes what follows.
-    pub(crate) fn saturate(&mut self) -> Tried<()> {
+    pub(crate) fn saturate<W: SearchWatch>(
+        &mut self,
+        watched: &mut Watched<'_, W>,
+    ) -> Tried<()> {
         for _ in 0..self.operations.all.len() {
+            watched.tell(self.left);
             if !self.enter_turn()? && !self.enter_any()? {
                 break;
             }

@@ -3,6 +3,7 @@
 use super::knowledge::Knowledge;
 use super::operations::Operation;
 use super::stop::{NONE, Place, START, Stop, Tried, at, put, short};
+use super::watch::{SearchWatch, Watched};
 use std::alloc::Global;
 
 /// Whether a core can go on.
@@ -56,9 +57,14 @@ impl Schedule {
     }
 
     /// Performs what can be performed. Says whether that was all.
-    pub(crate) fn run(&mut self, known: &mut Knowledge) -> Tried<bool> {
+    pub(crate) fn run<W: SearchWatch>(
+        &mut self,
+        known: &mut Knowledge,
+        watched: &mut Watched<'_, W>,
+    ) -> Tried<bool> {
         self.loading = 0;
         for _ in 0..known.left {
+            watched.tell(known.left);
             let load = self.choose_load(known);
             let Some(core) = load.or_else(|| self.choose_store(known)) else {
                 break;

@@ -7,6 +7,7 @@ use super::numbering::{id, refutation};
 use super::shrinking::shrink;
 use super::splits::{Outcome, Search};
 use super::stop::{Stop, Tried};
+use super::watch::{SearchWatch, Unwatched, Watched};
 use mem_op::OpId;
 use refutation::{Answer, confirm};
 use std::alloc::{AllocError, Global};
@@ -17,13 +18,37 @@ use trace::Trace;
 pub fn search(alloc: Global, trace: &Trace, budget: u64) -> Result<Answer, AllocError>
     ensures right { IfOk result (IsRight trace.now) }
 {
-    confirm(alloc, trace, guess(alloc, trace, budget)?)
+    search_watched(alloc, trace, budget, &Unwatched)
+}
+
+/// The same. A watch is told how far the search is.
+pub fn search_watched<W: SearchWatch>(
+    alloc: Global,
+    trace: &Trace,
+    budget: u64,
+    watch: &W,
+) -> Result<Answer, AllocError>
+    ensures right { IfOk result (IsRight trace.now) }
+{
+    let found = guess_watched(alloc, trace, budget, watch);
+    watch.found();
+    confirm(alloc, trace, found?)
 }
 
 /// What the search finds, which nobody has confirmed. What isn't shown of it would be a bug of the search, and tests ask for
 /// it.
 pub fn guess(alloc: Global, trace: &Trace, budget: u64) -> Result<Answer, AllocError> {
-    match find(alloc, trace, budget) {
+    guess_watched(alloc, trace, budget, &Unwatched)
+}
+
+/// The same. A watch is told how far the search is.
+fn guess_watched<W: SearchWatch>(
+    alloc: Global,
+    trace: &Trace,
+    budget: u64,
+    watch: &W,
+) -> Result<Answer, AllocError> {
+    match find(alloc, trace, budget, watch) {
         Ok(found) => Ok(found),
         Err(Stop::Refused) => Err(AllocError),
         Err(_) => Ok(Answer::Undecided),
@@ -31,9 +56,14 @@ pub fn guess(alloc: Global, trace: &Trace, budget: u64) -> Result<Answer, AllocE
 }
 
 /// An order, or a refutation. The search may give up.
-fn find(alloc: Global, trace: &Trace, budget: u64) -> Tried<Answer> {
+fn find<W: SearchWatch>(
+    alloc: Global,
+    trace: &Trace,
+    budget: u64,
+    watch: &W,
+) -> Tried<Answer> {
     let mut search = Search::new(alloc, trace.cores(), budget)?;
-    match search.run()? {
+    match search.run(&mut Watched::new(watch, budget))? {
         Outcome::Order(places) => {
             let operations = search.into_operations();
             let ids = places.iter().skip(1).map(|place| id(&operations, *place));

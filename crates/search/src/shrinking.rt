@@ -6,6 +6,7 @@ use super::knowledge::Knowledge;
 use super::proof::Line;
 use super::splits::{Outcome, Search};
 use super::stop::{Place, START, Stop, Tried};
+use super::watch::{Unwatched, Watched};
 use std::alloc::Global;
 use trace::Access;
 
@@ -102,7 +103,7 @@ impl Shrinking<'_> {
         }
         let trace = self.small_trace(&places, kept)?;
         let mut search = Search::new(self.known.alloc, &trace, steps)?;
-        let found = search.run();
+        let found = search.run(&mut Watched::new(&Unwatched, steps));
         self.known.spend(steps.saturating_sub(search.known.left))?;
         match found {
             Ok(Outcome::Proof(lines)) => {

@@ -6,6 +6,7 @@ use super::operations::Operations;
 use super::proof::{Line, Part, Proof};
 use super::schedule::{Move, Schedule};
 use super::stop::{Conflict, NONE, Place, START, Stop, Tried, at, short};
+use super::watch::{SearchWatch, Watched};
 use std::alloc::Global;
 use std::mem;
 use trace::Access;
@@ -61,12 +62,16 @@ impl Search {
     }
 
     /// Searches until there is an order or a proof that there is none.
-    pub(crate) fn run(&mut self) -> Tried<Outcome> {
-        let mut step = self.known.saturate();
+    pub(crate) fn run<W: SearchWatch>(
+        &mut self,
+        watched: &mut Watched<'_, W>,
+    ) -> Tried<Outcome> {
+        let mut step = self.known.saturate(watched);
         for _ in 0..self.known.left {
             self.known.spend(1)?;
+            watched.tell(self.known.left);
             step = match step {
-                Ok(()) if self.schedule.run(&mut self.known)? => {
+                Ok(()) if self.schedule.run(&mut self.known, watched)? => {
                     let none = Vec::new(self.known.alloc);
                     return Ok(Outcome::Order(mem::replace(&mut self.schedule.order, none)));
                 }

@@ -9,7 +9,7 @@ use super::answer::SearchAnswer;
 use super::counting::count;
 use super::fault::SearchingFault;
 use refutation::{Answer, refutes};
-use search::search;
+use search::{SearchWatch, search_watched};
 use std::alloc::{AllocError, Global};
 use trace::Trace;
 
@@ -21,16 +21,18 @@ fn budget(given: Option<u64>, operations: u64) -> u64
     given.unwrap_or(operations * 100 + 100_000_000)
 }
 
-/// An order of a trace, or a refutation: 44 where the search gives up, and 10 where a growth was refused.
-pub(crate) fn find(
+/// An order of a trace, or a refutation: 44 where the search gives up, and 10 where a growth was refused. A watch is told how far the
+/// search is.
+pub(crate) fn find<W: SearchWatch>(
     alloc: Global,
+    watch: &W,
     trace: &Trace,
     given: Option<u64>,
 ) -> Result<Answer, SearchingFault>
     ensures proof { IfOk result (IsProof trace.now) }
     ensures err { IfErr result IsGivenUp }
 {
-    let answer = search(alloc, trace, budget(given, count(trace)))?;
+    let answer = search_watched(alloc, trace, budget(given, count(trace)), watch)?;
     if is_proof(alloc, trace, &answer)? {
         Ok(answer)
     } else {

@@ -19,4 +19,5 @@ mod trace_file;
 pub use answer::SearchAnswer;
 pub use confirm_files::confirm;
 pub use fault::SearchingFault;
+pub use search::SearchWatch;
 pub use search_files::search;

@@ -16,15 +16,17 @@ use super::reading::read_files;
 use call_devices::Folder;
 use command_line::Search;
 use log_file::{ByteSink, write_all};
+use search::SearchWatch;
 use std::alloc::Global;
 use std::thread::Threads;
 
 /// Searches an order of the trace in files of the folder, or a refutation, puts what it finds where that was asked for, and prints
 /// the answer's line and why it is so. The answer, or why there is none: 29 of a file that can't be put comes before anything is
-/// printed, and 44 where the search gives up.
-pub fn search<R: Threads + Sync, F: Folder, O: ByteSink>(
+/// printed, and 44 where the search gives up. A watch is told how far the search is.
+pub fn search<R: Threads + Sync, W: SearchWatch, F: Folder, O: ByteSink>(
     rt: &R,
     alloc: Global,
+    watch: &W,
     folder: &mut F,
     asked: &Search<'_>,
     out: &mut O,
@@ -40,7 +42,7 @@ pub fn search<R: Threads + Sync, F: Folder, O: ByteSink>(
         (searching.IsOutputName asked.now) }
 {
     let trace = read_files(rt, alloc, folder, &asked.trace)?;
-    let proof = find(alloc, &trace, asked.budget)?;
+    let proof = find(alloc, watch, &trace, asked.budget)?;
     let answer = answer(&trace, &proof);
     let text = print_proof(alloc, &trace, &proof, &answer)?;
     put_proof(alloc, folder, asked, &trace, &proof)?;

@@ -5,7 +5,7 @@ use memchr::memchr_iter;
 use std::io::IsTerminal;
 use std::sync::atomic::{AtomicBool, AtomicU64, Ordering};
 use std::time::Clock;
-use tardis_command::Watch;
+use tardis_command::{SearchWatch, Watch};
 
 /// As many operations of a core are counted at once, so that cores seldom meet at the count.
 const OPERATIONS: u64 = 64;
@@ -13,8 +13,8 @@ const OPERATIONS: u64 = 64;
 /// As many turns without an operation are made between two looks at the clock.
 const TURNS: u64 = 65_536;
 
-/// Tells on standard error how many lines were read so far, or how many operations a run has performed, in one line that is written
-/// anew each second; nothing where standard error is no terminal, or the work takes less than a second.
+/// Tells on standard error how many lines were read so far, how many operations a run has performed, or how many steps a search has made,
+/// in one line that is written anew each second; nothing where standard error is no terminal, or the work takes less than a second.
 #[derive(Drop)]
 pub(crate) struct Progress<'a> {
     rt: &'a HostRuntime,
@@ -23,6 +23,7 @@ pub(crate) struct Progress<'a> {
     begun: u64,
     lines: AtomicU64,
     operations: AtomicU64,
+    steps: AtomicU64,
     // How many seconds have been told.
     told: AtomicU64,
     // Whether the line stands there.
@@ -38,6 +39,7 @@ impl<'a> Progress<'a> {
             begun: seconds(rt),
             lines: AtomicU64::new(0),
             operations: AtomicU64::new(0),
+            steps: AtomicU64::new(0),
             told: AtomicU64::new(0),
             is_shown: AtomicBool::new(false),
         }
@@ -93,6 +95,19 @@ impl<'a> Watch for Progress<'a> {
     }
 
     fn over(&self) {
+        self.wipe();
+    }
+}
+
+impl<'a> SearchWatch for Progress<'a> {
+    fn steps(&self, made: u64) {
+        if self.is_terminal {
+            self.steps.store(made, Ordering::SeqCst);
+            self.tell(&self.steps, "steps made");
+        }
+    }
+
+    fn found(&self) {
         self.wipe();
     }
 }

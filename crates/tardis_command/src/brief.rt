@@ -8,6 +8,7 @@ use super::call::command;
 use call_devices::Folder;
 use log_file::ByteSink;
 use run_commands::Watch;
+use search_commands::SearchWatch;
 use std::alloc::Global;
 use std::sync::Wait;
 use std::thread::Threads;
@@ -15,7 +16,13 @@ use std::thread::Threads;
 /// Does what `command` does, and says only this of it: where a verdict was asked for and the answer is 0, the files of the folder spell
 /// a set of logs whose operations are sequentially consistent, and where a trace was looked at, so are its operations. Callers over
 /// files and outputs of their own are proved sooner than over `command`.
-pub fn serve<R: Threads + Wait + Sync, W: Watch + Sync, F: Folder, O: ByteSink, E: ByteSink>(
+pub fn serve<
+    R: Threads + Wait + Sync,
+    W: Watch + SearchWatch + Sync,
+    F: Folder,
+    O: ByteSink,
+    E: ByteSink,
+>(
     rt: &R,
     alloc: Global,
     words: &[&str],

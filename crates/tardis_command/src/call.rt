@@ -15,7 +15,7 @@ use judge_commands::{JudgingFault, check, explain, order, upgrade};
 use log_file::ByteSink;
 use refusal_commands::tell_refusal;
 use run_commands::{Watch, count_outcomes, run, sim};
-use search_commands::{confirm, search};
+use search_commands::{SearchWatch, confirm, search};
 use std::alloc::Global;
 use std::sync::Wait;
 use std::thread::Threads;
@@ -29,7 +29,13 @@ const USAGE: u8 = 3;
 /// output, all else to standard error; where an order goes to standard output, its verdict goes to
 /// standard error. Of a refused explanation more is told on standard output. In the folder nothing is put but the logs of a run or of an upgrade and the picture of
 /// an explanation.
-pub fn command<R: Threads + Wait + Sync, W: Watch + Sync, F: Folder, O: ByteSink, E: ByteSink>(
+pub fn command<
+    R: Threads + Wait + Sync,
+    W: Watch + SearchWatch + Sync,
+    F: Folder,
+    O: ByteSink,
+    E: ByteSink,
+>(
     rt: &R,
     alloc: Global,
     words: &[&str],
@@ -106,7 +112,7 @@ fn tell_more<F: Folder, O: ByteSink>(
 }
 
 /// Does what was asked, and prints the answer.
-fn perform<R: Threads + Wait + Sync, W: Watch + Sync, F: Folder, O: ByteSink>(
+fn perform<R: Threads + Wait + Sync, W: Watch + SearchWatch + Sync, F: Folder, O: ByteSink>(
     rt: &R,
     alloc: Global,
     request: &Request<'_>,
@@ -140,7 +146,9 @@ fn perform<R: Threads + Wait + Sync, W: Watch + Sync, F: Folder, O: ByteSink>(
             print_answer(alloc, out, Answer::Judged(verdict))
         }
         Request::Order(asked) => Ok(Answer::Ordered(order(alloc, folder, asked, out)?)),
-        Request::Explain(asked) => Ok(Answer::Explained(explain(rt, alloc, folder, asked, out)?)),
+        Request::Explain(asked) => Ok(Answer::Explained(explain(
+            rt, alloc, watch, folder, asked, out,
+        )?)),
         Request::Sim(asked) => {
             let operations = sim(alloc, folder, asked)?;
             print_answer(alloc, out, Answer::Done(operations))
@@ -153,7 +161,9 @@ fn perform<R: Threads + Wait + Sync, W: Watch + Sync, F: Folder, O: ByteSink>(
             let operations = upgrade(rt, alloc, folder, asked)?;
             print_answer(alloc, out, Answer::Done(operations))
         }
-        Request::Search(asked) => Ok(Answer::Searched(search(rt, alloc, folder, asked, out)?)),
+        Request::Search(asked) => Ok(Answer::Searched(search(
+            rt, alloc, watch, folder, asked, out,
+        )?)),
         Request::Confirm(asked) => Ok(Answer::Searched(confirm(rt, alloc, folder, asked, out)?)),
         Request::Version => print_answer(alloc, out, Answer::Version),
         Request::Litmus(asked) => Ok(Answer::Counted(count_outcomes(

@@ -13,4 +13,5 @@ pub use brief::serve;
 pub use call::command;
 pub use call_devices::Folder;
 pub use fault::CommandFault;
-pub use run_commands::{Unwatched, Watch};
+pub use run_commands::Watch;
+pub use search_commands::SearchWatch;

@@ -1,10 +1,10 @@
-//! What is seen of a run.
+//! What is seen of a run or a search.
 
 use mem_op::CoreId;
 use std::sync::atomic::{AtomicU64, Ordering};
-use tardis_command::Watch;
+use tardis_command::{SearchWatch, Watch};
 
-/// Counts the turns of runs, and the runs that are over.
+/// Counts the turns of runs, and the runs that are over. Nothing is counted of a search.
 #[derive(Drop)]
 pub(crate) struct Counting {
     turns: AtomicU64,
@@ -37,4 +37,10 @@ impl Watch for Counting {
     fn over(&self) {
         let _ = self.over.fetch_add(1, Ordering::SeqCst);
     }
+}
+
+impl SearchWatch for Counting {
+    fn steps(&self, _made: u64) {}
+
+    fn found(&self) {}
 }

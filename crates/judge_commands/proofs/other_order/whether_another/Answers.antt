@@ -5,12 +5,12 @@ use Rattle.judge_commands.proofs.OtherOrders.{tells_another, tells_none}
 use Rattle.judge_commands.proofs.other_order.whether_another.Goals as goal
 
 pub returns-in-Order : goal.returns-in-Order
-returns-in-Order c =
+returns-in-Order g c =
     let same : IfOk c.from_str.result (λ text. string_bytes text ≡ another_text) = search rules in
-    tells_another string_bytes c.args.trace.now c.in_ok-search.field-0 c.in-Order.field-0 c.from_str.result c.in_ok-search.ensures.right c.in-Order.is same
+    tells_another string_bytes c.args.trace.now c.in_ok-search_watched.field-0 c.in-Order.field-0 c.from_str.result c.in_ok-search_watched.ensures.right c.in-Order.is same
 
 pub returns : goal.returns
-returns c =
+returns g c =
     let argument = string_bytes c.in_ok-argument-in-Refutation.argument in
     let same : string_bytes c.push_str.new.self ≡ none_text ++ argument = search rules in
-    tells_none c.args.trace.now c.in_ok-search.field-0 _ _ argument c.in_ok-search.ensures.right c.in-Refutation.is same
+    tells_none c.args.trace.now c.in_ok-search_watched.field-0 _ _ argument c.in_ok-search_watched.ensures.right c.in-Refutation.is same
