@@ -10,7 +10,7 @@ use Rattle.clap.specs.Matches.{ReadsOne}
 use Rattle.clap.specs.Words.{Row, Text, kind_of, subcommand_of}
 use Rattle.clap.specs.declared.error.Error.{Error}
 use Rattle.clap.specs.declared.error.kind.ErrorKind.TheVariants as kind
-use Rattle.command_line.specs.Asking.{AskVersion, IsNumber, IsNumberOf, IsRefusalOf, IsStrayIn, texts}
+use Rattle.command_line.specs.Asking.{AskVersion, IsNumber, IsNumberOf, IsOverIn, IsRefusalOf, IsStrayIn, texts}
 use Rattle.command_line.specs.Grammar.{tardis}
 use Rattle.command_line.specs.declared.refusal.Refusal.{Refusal}
 use Rattle.command_line.specs.declared.refusal.Refusal.TheVariants.{Usage, OutOfMemory}
@@ -27,8 +27,14 @@ refused words kinds error (Usage text) is (inr among) memory = inl (λ none. sub
 -- files that are too many were given
 pub stray : (words : List Text) (named : Text × List Row) (r : Refusal) → subcommand_of tardis words ≡ Some named
     → (named.0 ≡ codes "search") ⊎ (named.0 ≡ codes "confirm") → IsStrayIn named.1 r → IsRefusalOf words r
-stray words named (Usage text) is which files = inr (named, is, which, files)
+stray words named (Usage text) is which files = inr (inl (named, is, which, files))
 stray words named OutOfMemory is which files = tt
+
+-- a picture would be drawn over a file that is read
+pub drawn_over : (words : List Text) (named : Text × List Row) (r : Refusal) → subcommand_of tardis words ≡ Some named → named.0 ≡ codes "explain"
+    → IsOverIn named.1 r → IsRefusalOf words r
+drawn_over words named (Usage text) is explains over = inr (inr (named, is, explains, over))
+drawn_over words named OutOfMemory is explains over = tt
 
 -- the text of a number, read
 pub numbered : {E : Type 0} (gives : List ℕ → Result ℕ E → Type 0) → ((t : List ℕ) (x : Result ℕ E) → gives t x → ParsesUnsigned 64 10 t x)

@@ -1,6 +1,9 @@
 -- What the words of a command line ask for, and when they ask for nothing.
-use Rattle.std.specs.Prelude.{◌≡◌, ◌≢◌, ◌<◌, ◌^◌, ◌⊎◌, ⊤, ℕ, Bool, true, false, List, [], ◌∷◌, Option, Some, None, map, option_map, unwrap_or, codes}
+use Rattle.std.specs.Prelude.{◌≡◌, ◌≢◌, ◌<◌, ◌^◌, ◌⊎◌, ◌||◌, ⊤, ℕ, Bool, true, false, List, [], ◌∷◌, Option, Some, None, map, option_map, unwrap_or, codes}
 use Rattle.std.specs.Borrow.{Bor}
+use Rattle.std.specs.List.{list_any}
+use Rattle.std.specs.Option.{option_map_or}
+use Rattle.std.specs.Str.{bytes_eq}
 use Rattle.std.specs.Str.Parse.{IsNumeral, digits_value, without_leading_plus}
 use Rattle.clap.specs.Faults.{fault_of}
 use Rattle.clap.specs.Words.{Row, Text, all_of, first_of, one_of, subcommand_of}
@@ -59,14 +62,27 @@ pub record IsCheck (rows : List Row) (check : Check) : Type 0 where
 pub record IsOrder (rows : List Row) (order : Order) : Type 0 where
   pub files : texts order.files.items ≡ unwrap_or (all_of (codes "FILE") rows) []
 
--- a check of the files that were given by one worker, against the programs that were given, the file for a picture that was, and whether
--- another order is searched
+-- the files that were given
+abbrev pub files_given : List Row → List Text
+files_given rows = unwrap_or (all_of (codes "FILE") rows) []
+
+-- whether a file of this name is read: that of the programs, or one of these
+abbrev pub is_read : Option Text → List Text → Text → Bool
+is_read program files name = option_map_or (λ text. bytes_eq text name) program false || list_any (λ text. bytes_eq text name) files
+
+-- whether the file for a picture is one that is read
+abbrev pub is_drawn_over : List Row → Bool
+is_drawn_over rows = option_map_or (is_read (first_of (codes "program") rows) (files_given rows)) (first_of (codes "svg") rows) false
+
+-- A check of the files that were given by one worker, against the programs that were given, the file for a picture that was, which is
+-- none of those, and whether another order is searched
 pub record IsExplain (rows : List Row) (explain : Explain) : Type 0 where
   pub workers : explain.check.workers ≡ 1
   pub program : text_of explain.check.program ≡ first_of (codes "program") rows
   pub picture : text_of explain.picture ≡ first_of (codes "svg") rows
   pub no_search : IsFlag (one_of (codes "no-search") rows) explain.no_search
   pub files : texts explain.check.files.items ≡ unwrap_or (all_of (codes "FILE") rows) []
+  pub apart : is_drawn_over rows ≡ false
 
 -- the files that were given, anew in format 2, under the name that was given
 pub record IsUpgrade (rows : List Row) (upgrade : Upgrade) : Type 0 where
@@ -82,17 +98,21 @@ pub record AreLimits (rows : List Row) (limits : Limits) : Type 0 where
   pub slice_lines : IsCountOr 64 (one_of (codes "slice-lines") rows) limits.slice_lines
   pub inbox : IsCountOr 8 (one_of (codes "inbox") rows) limits.inbox
 
--- a run of the programs of the file that was given, by the numbers, the schedule and the seed that were given
+-- a run of the programs of the file that was given, by the numbers, the schedule and the seed that were given, and the file for the
+-- numbers of the run that was
 pub record IsSim (rows : List Row) (sim : Sim) : Type 0 where
   pub limits : AreLimits rows sim.limits
   pub schedule : text_of sim.schedule ≡ first_of (codes "schedule") rows
   pub seed : IsNumberOf (one_of (codes "seed") rows) sim.seed
+  pub statistics : text_of sim.statistics ≡ first_of (codes "stats") rows
   pub programs : sim.programs.now ≡ unwrap_or (first_of (codes "PROGRAMS") rows) []
   pub out : sim.out.now ≡ unwrap_or (first_of (codes "OUT") rows) []
 
--- a run in threads of the programs of the file that was given, by the numbers that were given
+-- a run in threads of the programs of the file that was given, by the numbers that were given, and the file for the numbers of the run
+-- that was
 pub record IsThreaded (rows : List Row) (run : Run) : Type 0 where
   pub limits : AreLimits rows run.limits
+  pub statistics : text_of run.statistics ≡ first_of (codes "stats") rows
   pub programs : run.programs.now ≡ unwrap_or (first_of (codes "PROGRAMS") rows) []
   pub out : run.out.now ≡ unwrap_or (first_of (codes "OUT") rows) []
 
@@ -103,10 +123,6 @@ pub record IsLitmus (rows : List Row) (litmus : Litmus) : Type 0 where
   pub seed : IsCountOr 1 (one_of (codes "seed") rows) litmus.seed
   pub threads : IsFlag (one_of (codes "threads") rows) litmus.threads
   pub test : litmus.test.now ≡ unwrap_or (first_of (codes "TEST") rows) []
-
--- the files that were given
-abbrev pub files_given : List Row → List Text
-files_given rows = unwrap_or (all_of (codes "FILE") rows) []
 
 -- these files are those of logs, or the only one is that of a trace
 abbrev pub IsTraceOf : Bool → List Text → TraceFiles → Type 0
@@ -185,7 +201,20 @@ LackLogs words =
     (named : Text × List Row) × (subcommand_of tardis words ≡ Some named) × ((named.0 ≡ codes "search") ⊎ (named.0 ≡ codes "confirm"))
     × HasStrayFiles named.1
 
--- only words that aren't a command line of the program, or lack `--logs`, are refused for their usage
+-- only an explanation whose picture would be drawn over a file that it reads is refused for its usage
+abbrev pub IsOverIn : List Row → Refusal → Type 0
+IsOverIn rows (Usage text) = is_drawn_over rows ≡ true
+IsOverIn rows OutOfMemory = ⊤
+
+-- the words ask for an explanation whose picture would be drawn over a file that it reads
+abbrev pub DrawOver : List Text → Type 0
+DrawOver words = (named : Text × List Row) × (subcommand_of tardis words ≡ Some named) × (named.0 ≡ codes "explain") × (is_drawn_over named.1 ≡ true)
+
+-- the words are a command line, and ask for what isn't done
+abbrev pub AreMisused : List Text → Type 0
+AreMisused words = LackLogs words ⊎ DrawOver words
+
+-- only words that aren't a command line of the program, or ask for what isn't done, are refused for their usage
 abbrev pub IsRefusalOf : List Text → Refusal → Type 0
-IsRefusalOf words (Usage text) = ¬ (IsCommandLine words) ⊎ LackLogs words
+IsRefusalOf words (Usage text) = ¬ (IsCommandLine words) ⊎ AreMisused words
 IsRefusalOf words OutOfMemory = ⊤

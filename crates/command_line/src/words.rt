@@ -1,6 +1,9 @@
 //! Reads the words of a command line.
 
 ghost use Rattle.std.specs.Prelude.{◌≡◌, ◌∷◌, ◌↔◌, IfErr, IfOk, IsTrue, [], codes, false, unwrap_or};
+ghost use Rattle.std.specs.List.{list_any};
+ghost use Rattle.std.specs.Option.{option_map_or};
+ghost use Rattle.std.specs.Str.{bytes_eq};
 ghost use Rattle.clap.specs.Words.{all_of, first_of, found_of, kind_of, one_of, rows_of};
 ghost use Rattle.clap.specs.declared.error.kind.ErrorKind.TheVariants as kind;
 ghost use Rattle.command_line.specs.Asking as asking;
@@ -89,20 +92,73 @@ fn order_of<'a>(alloc: Global, matches: &ArgMatches<'a>) -> Result<Order<'a>, Al
     })
 }
 
-/// What the words after `explain` ask for.
-fn explain_of<'a>(alloc: Global, matches: &ArgMatches<'a>) -> Result<Explain<'a>, AllocError>
-    ensures { IfOk result (asking.IsExplain (rows_of (found_of matches.now))) }
+/// What the words after `explain` ask for, or why they ask for nothing.
+fn explain_of<'a>(alloc: Global, matches: &ArgMatches<'a>) -> Result<Explain<'a>, Refusal>
+    ensures explain { IfOk result (asking.IsExplain (rows_of (found_of matches.now))) }
+    ensures usage { IfErr result (asking.IsOverIn (rows_of (found_of matches.now))) }
 {
+    let files = files_of(alloc, matches)?;
+    let program = name_of(matches, "program");
+    let picture = name_of(matches, "svg");
+    if is_drawn_over(picture, program, files.as_slice()) {
+        return Err(misuse(alloc, DRAWN_OVER));
+    }
     Ok(Explain {
         check: Check {
             workers: 1,
-            program: name_of(matches, "program"),
-            files: files_of(alloc, matches)?,
+            program,
+            files,
         },
-        picture: name_of(matches, "svg"),
+        picture,
         no_search: flag_of(matches, "no-search"),
     })
 }
+
+/// Whether the file for a picture, if there is one, is that of the programs or one of these.
+fn is_drawn_over(picture: Option<&str>, program: Option<&str>, files: &[&str]) -> bool
+    ensures { result ≡ option_map_or (asking.is_read (asking.text_of program.entry) (asking.texts files.now))
+        (asking.text_of picture.entry) false }
+{
+    match picture {
+        Some(name) => is_name(program, name) || is_among(name, files),
+        None => false,
+    }
+}
+
+/// Whether a file is there, and has this name.
+fn is_name(file: Option<&str>, name: &str) -> bool
+    ensures { result ≡ option_map_or (λ text. bytes_eq text name.now) (asking.text_of file.entry) false }
+{
+    match file {
+        Some(file) => file == name,
+        None => false,
+    }
+}
+
+/// Whether one of the files has this name.
+fn is_among(name: &str, files: &[&str]) -> bool
+    ensures { result ≡ list_any (λ text. bytes_eq text name.now) (asking.texts files.now) }
+{
+    let mut is_among = false;
+    for file in files {
+        if *file == name {
+            is_among = true;
+        }
+    }
+    is_among
+}
+
+/// The refusal of what isn't done, with what the user is told of it.
+fn misuse(alloc: Global, text: &str) -> Refusal {
+    match String::from_str(alloc, text) {
+        Ok(text) => Refusal::Usage(text),
+        Err(_) => Refusal::OutOfMemory,
+    }
+}
+
+/// What the user is told of a picture that would be drawn over a file that is read.
+const DRAWN_OVER: &str =
+    "error: the picture would take the place of a file that is read\n\nFor more information, try '--help'.\n";
 
 /// What the words after `upgrade` ask for.
 fn upgrade_of<'a>(alloc: Global, matches: &ArgMatches<'a>) -> Result<Upgrade<'a>, AllocError>
@@ -172,10 +228,7 @@ fn only<'a>(alloc: Global, files: &[&'a str]) -> Result<&'a str, Refusal>
 {
     match files {
         [name] => Ok(name),
-        _ => match format!(in alloc; "{STRAY_FILE}") {
-            Ok(text) => Err(Refusal::Usage(text)),
-            Err(_) => Err(Refusal::OutOfMemory),
-        },
+        _ => Err(misuse(alloc, STRAY_FILE)),
     }
 }
 
@@ -192,6 +245,7 @@ fn sim_of<'a>(matches: &ArgMatches<'a>) -> Sim<'a>
         limits: limits_of(matches),
         schedule: name_of(matches, "schedule"),
         seed: number_of(matches, "seed"),
+        statistics: name_of(matches, "stats"),
         programs: word_of(matches, "PROGRAMS"),
         out: word_of(matches, "OUT"),
     }
@@ -204,6 +258,7 @@ fn run_of<'a>(matches: &ArgMatches<'a>) -> Run<'a>
 {
     Run {
         limits: limits_of(matches),
+        statistics: name_of(matches, "stats"),
         programs: word_of(matches, "PROGRAMS"),
         out: word_of(matches, "OUT"),
     }

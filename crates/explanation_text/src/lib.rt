@@ -10,4 +10,3 @@ mod times;
 
 pub use printing::print;
 pub use sentence::first_sentence;
-pub use shown::Plain;

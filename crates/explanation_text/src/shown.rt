@@ -9,7 +9,7 @@ const MAX_SHOWN_CHARS: usize = 80;
 
 /// A text on one line: its control characters by their escapes, and two dots where it is longer than 80 characters.
 #[derive(Clone, Copy)]
-pub struct Plain<'a>(pub &'a str);
+pub(crate) struct Plain<'a>(pub(crate) &'a str);
 
 impl<'a> fmt::Display for Plain<'a> {
     fn fmt<W: fmt::Write>(&self, f: &mut fmt::Formatter<W>) -> fmt::Result {

@@ -3,7 +3,7 @@ use Rattle.std.proofs.Common.{◌≡◌, ◌⊎◌, ◌∙◌, ap, subst, sym, r
 use Rattle.std.specs.Prelude.{IfOk, OnOk, IfErr}
 use Rattle.std.specs.Io.KnownBytes.{Appends, Keeps}
 use Rattle.std.proofs.KnownBytes.{Keeps-refl}
-use Rattle.command_line.specs.Asking.{Asks, IsCommandLine, LackLogs}
+use Rattle.command_line.specs.Asking.{AreMisused, Asks, IsCommandLine}
 use Rattle.command_line.specs.declared.request.Check.{Check}
 use Rattle.command_line.specs.declared.request.Explain.{Explain}
 use Rattle.command_line.specs.declared.request.Request.{Request}
@@ -166,7 +166,7 @@ unprinted_more before after unread (request.Explain explain) out middle out' own
 unprinted_more before after unread other out middle out' own fault done more = more
 
 module _ (before after : Files) (unread : List ℕ → Type 0) (words : List (List ℕ)) (out err : Sink) where
-  pub ends_misused : (err' : Sink) (text : List ℕ) → ¬ (IsCommandLine words) ⊎ LackLogs words → Takes err err' text
+  pub ends_misused : (err' : Sink) (text : List ℕ) → ¬ (IsCommandLine words) ⊎ AreMisused words → Takes err err' text
       → EndsBy before after unread words out out err err' (Misused text)
   ends_misused err' text misused takes = record { end = (misused, Keeps-refl out.contents); complaint = takes }
 
@@ -224,15 +224,14 @@ module _ (before after : Files) (unread : List ℕ → Type 0) (words : List (Li
   ends_refused asked ending fault reported middle out' err' status asks answered done more (inl is) takes same =
       ends_told asked ending fault middle out' err' status asks answered done more
       (subst (λ (f : CommandFault). Takes err err' (line (command_fault_text f))) is takes) (same ∙ ap fault_status is)
-  ends_refused asked ending fault reported middle out' err' status asks answered done more (inr is) takes same =
-      (
-        Untold fault,
-        same ∙ ap fault_status is,
-        record {
-          end = (asked, asks, (middle, (ending, answered, done), more));
-          complaint = subst (λ (f : CommandFault). Takes err err' (line (command_fault_text f))) is takes;
-        },
-      )
+  ends_refused asked ending fault reported middle out' err' status asks answered done more (inr is) takes same = (
+    Untold fault,
+    same ∙ ap fault_status is,
+    record {
+      end = (asked, asks, (middle, (ending, answered, done), more));
+      complaint = subst (λ (f : CommandFault). Takes err err' (line (command_fault_text f))) is takes;
+    },
+  )
 
   -- and there was no memory to read the words
   pub ends_unread : (reported : CommandFault) (err' : Sink) (status : ℕ) → (reported ≡ Call OutOfMemory) ⊎ (reported ≡ Call OutOfMemory)
