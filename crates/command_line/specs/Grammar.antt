@@ -77,13 +77,18 @@ with_sim_options app = with_rule (with_rule app (file_option (codes "schedule"))
 abbrev pub with_names : App → App
 with_names app = with_rule (with_rule app (name (codes "PROGRAMS"))) (name (codes "OUT"))
 
--- tardis sim [--slices N] [--lease N] [--period N] [--cache N] [--slice-lines N] [--inbox N] [--schedule F] [--seed N] PROGRAMS OUT
-abbrev pub sim : App
-sim = with_names (with_sim_options (with_limits (new_app (codes "sim"))))
+-- [--stats F]
+abbrev pub with_stats : App → App
+with_stats app = with_rule app (file_option (codes "stats"))
 
--- tardis run [--slices N] [--lease N] [--period N] [--cache N] [--slice-lines N] [--inbox N] PROGRAMS OUT
+-- tardis sim [--slices N] [--lease N] [--period N] [--cache N] [--slice-lines N] [--inbox N] [--schedule F] [--seed N] [--stats F]
+-- PROGRAMS OUT
+abbrev pub sim : App
+sim = with_names (with_stats (with_sim_options (with_limits (new_app (codes "sim")))))
+
+-- tardis run [--slices N] [--lease N] [--period N] [--cache N] [--slice-lines N] [--inbox N] [--stats F] PROGRAMS OUT
 abbrev pub run : App
-run = with_names (with_limits (new_app (codes "run")))
+run = with_names (with_stats (with_limits (new_app (codes "run"))))
 
 -- [--runs N] [--seed N] [--threads]
 abbrev pub with_litmus_options : App → App

@@ -119,6 +119,7 @@ fn sim<'a>(alloc: Global) -> Result<Command<'a>, AllocError>
             "seed",
             "What the rounds after it are drawn from, 0 to 18446744073709551615 [default: no draws, core 0 first]",
         ),
+        Argument::file("stats", STATS_HELP),
         Argument::name("PROGRAMS", PROGRAMS_HELP),
         Argument::name("OUT", OUT_HELP),
     ];
@@ -136,6 +137,7 @@ fn run<'a>(alloc: Global) -> Result<Command<'a>, AllocError>
         "Example: tardis run examples/read_across.programs log",
     );
     let arguments = [
+        Argument::file("stats", STATS_HELP),
         Argument::name("PROGRAMS", PROGRAMS_HELP),
         Argument::name("OUT", OUT_HELP),
     ];
@@ -246,6 +248,9 @@ const PROGRAMS_HELP: &str = "The file of the programs";
 
 /// What the help says of the names of the logs.
 const OUT_HELP: &str = "What the names of the logs begin with: log for log.0, log.1 and so on";
+
+/// What the help says of the file of the numbers of a run.
+const STATS_HELP: &str = "The file that the numbers of the run go to [default: none]";
 
 /// A command with the options that give the numbers of the machine.
 fn with_limits<'a>(alloc: Global, command: Command<'a>) -> Result<Command<'a>, AllocError>

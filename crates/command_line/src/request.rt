@@ -72,6 +72,8 @@ pub struct Sim<'a> {
     pub schedule: Option<&'a str>,
     /// What the rounds after the schedule are drawn from, where it is given.
     pub seed: Option<u64>,
+    /// The name of the file that the numbers of the run go to, where one is given.
+    pub statistics: Option<&'a str>,
     /// The name of the file of the programs.
     pub programs: &'a str,
     /// What the names of the logs begin with.
@@ -83,6 +85,8 @@ pub struct Sim<'a> {
 pub struct Run<'a> {
     /// The numbers of the machine.
     pub limits: Limits,
+    /// The name of the file that the numbers of the run go to, where one is given.
+    pub statistics: Option<&'a str>,
     /// The name of the file of the programs.
     pub programs: &'a str,
     /// What the names of the logs begin with.

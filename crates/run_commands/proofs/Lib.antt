@@ -1,4 +1,6 @@
 pub mod Leaving
+mod Numbers
+mod Reading
 mod Runs
 mod Tables
 mod ThreadRuns

@@ -1,6 +1,6 @@
 -- How a run in threads ends.
 use Rattle.std.proofs.Common.{◌≡◌, ◌⊎◌, ℕ, List, [], length, sym, subst, inr}
-use Rattle.std.specs.Prelude.{None, Ok, Err}
+use Rattle.std.specs.Prelude.{None, Result, Ok, Err, IfErr, IfOk, OnOk}
 use Rattle.command_line.specs.declared.request.Run.{Run as Asked}
 use Rattle.lease_rule.specs.Ranges.{first_bad}
 use Rattle.core_program.specs.declared.instruction.Instruction.{Instruction}
@@ -13,32 +13,43 @@ use Rattle.audit.specs.declared.machine_fault.Cause.TheVariants.{GaveUp, Stopped
 use Rattle.machine.specs.Runs.{IsMachineRun}
 use Rattle.audit.specs.declared.threads_fault.ThreadsFault.{ThreadsFault}
 use Rattle.call_devices.specs.Files.{Files}
-use Rattle.call_devices.specs.declared.call_fault.CallFault.{CallFault}
-use Rattle.call_devices.specs.Logs.{ArePut, ArePutAsFar, ArePutUpTo, IsUnwritten, performed_below}
+use Rattle.call_devices.specs.Logs.{performed_below}
 use Rattle.call_devices.specs.Programs.{AreProgramsIn}
+use Rattle.run_commands.specs.Numbers.{AreLeft, AreLeftAsFar, IsUnleft}
 use Rattle.run_commands.specs.Programmed.{config_of, log_format}
-use Rattle.run_commands.specs.Running.{AreLeft, IsThreadRun}
-use Rattle.run_commands.specs.declared.fault.RunningFault.TheVariants.{Call, Run}
+use Rattle.run_commands.specs.Running.{AreLeftShort, IsThreadRun, numbers_in}
+use Rattle.run_commands.specs.declared.fault.RunningFault.{RunningFault}
+use Rattle.run_commands.specs.declared.fault.RunningFault.TheVariants.{Call, Run, StatisticsUnwritten}
 
 module _ (old new : Files) (unread : List ℕ → Type 0) (asked : Asked) (set : SetParts) (us : List UnitParts)
     (sound : first_bad (config_of asked.limits) ≡ None) (read : AreProgramsIn old.told asked.programs.now set) where
-  pub left : (fault : ThreadsFault) → AreLeft set.programs fault us → ArePutAsFar (log_format set.format) old new asked.out.now (length set.programs) (kept_log us)
+  pub left : (fault : ThreadsFault) → AreLeftShort set.programs fault us → AreLeftAsFar (log_format set.format) old new asked.out.now (length set.programs) (kept_log us) asked.statistics (numbers_in asked (length set.programs) us [])
       → IsThreadRun old new unread asked (Err (Run fault))
   left fault are far = (sound, set, read, (us, are, far))
 
   module _ (ss : List SliceParts) (is : IsRun set.programs (config_of asked.limits) us ss) (events : IsMachineRun set.programs (config_of asked.limits) us ss) where
     pub whole : (count : ℕ) → count ≡ performed_below (kept_log us) (length set.programs)
-        → ArePut (log_format set.format) old new asked.out.now (length set.programs) (kept_log us) → IsThreadRun old new unread asked (Ok count)
+        → AreLeft (log_format set.format) old new asked.out.now (length set.programs) (kept_log us) asked.statistics (numbers_in asked (length set.programs) us ss) → IsThreadRun old new unread asked (Ok count)
     whole count counted put = (sound, set, read, (us, ss, is, events, (counted, put)))
 
-    pub not_written : (fault : CallFault) → IsUnwritten (ArePutUpTo (log_format set.format) old new asked.out.now (length set.programs) (kept_log us)) fault
-        → IsThreadRun old new unread asked (Err (Call fault))
-    not_written fault unwritten = inr (inr (sound, set, read, (us, ss, is, events, unwritten)))
+    pub unleft : (fault : RunningFault) → IsUnleft (log_format set.format) old new asked.out.now (length set.programs) (kept_log us) asked.statistics fault
+        → IsThreadRun old new unread asked (Err fault)
+    unleft (Call fault) why = inr (inr (sound, set, read, (us, ss, is, events, why)))
+    unleft StatisticsUnwritten why = (sound, set, read, (us, ss, is, events, why))
+    unleft other why = absurd why
+
+    -- whatever was left, or not
+    pub came : (r : Result ℕ RunningFault) → IfOk r (λ count. count ≡ performed_below (kept_log us) (length set.programs))
+        → OnOk r (AreLeft (log_format set.format) old new asked.out.now (length set.programs) (kept_log us) asked.statistics (numbers_in asked (length set.programs) us ss))
+        → IfErr r (IsUnleft (log_format set.format) old new asked.out.now (length set.programs) (kept_log us) asked.statistics)
+        → IsThreadRun old new unread asked r
+    came (Ok count) counted left why = whole count counted left
+    came (Err fault) counted left why = unleft fault why
 
 -- what the units of a fault are, told of the fault
 pub left_by : (programs : List (List Instruction)) (fault : ThreadsFault) (core : ℕ) (cause : Cause) (us vs : List UnitParts) → fault.core ≡ core → fault.cause ≡ cause → us ≡ vs
     → ((c : ℕ) → IsUnitLog c (kept_log vs c) ⊎ (kept_log vs c ≡ []))
-    → (((cause ≡ GaveUp) ⊎ (cause ≡ Stopped)) → StoppedShort programs vs core) → AreLeft programs fault us
+    → (((cause ≡ GaveUp) ⊎ (cause ≡ Stopped)) → StoppedShort programs vs core) → AreLeftShort programs fault us
 left_by programs fault core cause us vs of_core of_cause same logs short = record {
   logs = subst (λ (ws : List UnitParts). (c : ℕ) → IsUnitLog c (kept_log ws c) ⊎ (kept_log ws c ≡ [])) (sym same) logs;
   short = λ told.

@@ -19,7 +19,7 @@ use Rattle.simulation.specs.Faults.{fault_text as simulation_fault_text}
 use Rattle.call_devices.specs.CallFaults.{call_fault_status, call_fault_text}
 use Rattle.call_devices.specs.declared.call_fault.CallFault.TheVariants.{OutOfMemory}
 use Rattle.run_commands.specs.declared.fault.RunningFault.{RunningFault}
-use Rattle.run_commands.specs.declared.fault.RunningFault.TheVariants.{Config, Schedule, ScheduleUnread, Simulation, Run, Test, TestUnread, Collect, Call}
+use Rattle.run_commands.specs.declared.fault.RunningFault.TheVariants.{Config, Schedule, ScheduleUnread, Simulation, Run, Test, TestUnread, Collect, StatisticsUnwritten, Call}
 
 -- why there is no schedule, no test and no table, as refusals of the command
 abbrev pub from_schedule : ScheduleFault → RunningFault
@@ -52,6 +52,7 @@ running_fault_text (Run fault) = codes "refused: " ++ run_fault_text fault.core 
 running_fault_text (Test fault) = codes "refused: litmus " ++ test_fault_text fault
 running_fault_text TestUnread = codes "refused: litmus: " ++ name_text named.Read
 running_fault_text (Collect fault) = collect_fault_text fault
+running_fault_text StatisticsUnwritten = codes "refused: statistics: " ++ name_text named.Write
 running_fault_text (Call fault) = codes "refused: " ++ call_fault_text fault
 
 abbrev pub run_cause_status : RunCause → ℕ
@@ -72,4 +73,5 @@ running_fault_status (Run fault) = 4
 running_fault_status (Test fault) = 2
 running_fault_status TestUnread = 4
 running_fault_status (Collect fault) = collect_fault_status fault
+running_fault_status StatisticsUnwritten = 4
 running_fault_status (Call fault) = call_fault_status fault

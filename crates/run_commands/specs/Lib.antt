@@ -1,5 +1,6 @@
 pub mod Faults
 pub mod Leaving
+pub mod Numbers
 pub mod Programmed
 pub mod Running
 pub mod Simulating

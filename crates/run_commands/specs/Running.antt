@@ -12,38 +12,48 @@ use Rattle.audit.specs.declared.threads_fault.ThreadsFault.{ThreadsFault}
 use Rattle.call_devices.specs.Programs.{IsUnprogrammed}
 use Rattle.call_devices.specs.Files.{Files}
 use Rattle.call_devices.specs.declared.call_fault.CallFault.TheVariants.{OutOfMemory}
-use Rattle.call_devices.specs.Logs.{ArePut, ArePutAsFar, ArePutUpTo, IsUnwritten, performed_below}
+use Rattle.call_devices.specs.Logs.{ArePutUpTo, IsUnwritten, performed_below}
+use Rattle.run_commands.specs.Numbers.{AreLeft, AreLeftAsFar, IsUnleft, numbers_of}
 use Rattle.run_commands.specs.Programmed.{Programmed, config_of, log_format}
 use Rattle.run_commands.specs.declared.fault.RunningFault.{RunningFault}
-use Rattle.run_commands.specs.declared.fault.RunningFault.TheVariants.{Config, Run as RunRefused, Call}
+use Rattle.run_commands.specs.declared.fault.RunningFault.TheVariants.{Config, Run as RunRefused, StatisticsUnwritten, Call}
 
--- this holds of the units of a whole run of the programs, which is one of the core machine
-abbrev pub Ended : Run → List (List Instruction) → (List UnitParts → Type 0) → Type 0
+-- this holds of the units and slices of a whole run of the programs, which is one of the core machine
+abbrev pub Ended : Run → List (List Instruction) → (List UnitParts → List SliceParts → Type 0) → Type 0
 Ended asked programs Holds =
     (us : List UnitParts) × (ss : List SliceParts) × IsRun programs (config_of asked.limits) us ss
-    × IsMachineRun programs (config_of asked.limits) us ss × Holds us
+    × IsMachineRun programs (config_of asked.limits) us ss × Holds us ss
+
+-- the numbers of units and slices, of so many cores
+abbrev pub numbers_in : Run → ℕ → List UnitParts → List SliceParts → List ℕ
+numbers_in asked cores us ss = numbers_of cores asked.limits.slices us ss
 
 -- what a run left that isn't ended for this reason: each log is that of a unit of its core whose transcript replays, or empty, and
 -- the core of 30 or 31 has stopped before the end of its program
-pub record AreLeft (programs : List (List Instruction)) (fault : ThreadsFault) (us : List UnitParts) : Type 0 where
+pub record AreLeftShort (programs : List (List Instruction)) (fault : ThreadsFault) (us : List UnitParts) : Type 0 where
   pub logs : (c : ℕ) → IsUnitLog c (kept_log us c) ⊎ (kept_log us c ≡ [])
   pub short : ((fault.cause ≡ GaveUp) ⊎ (fault.cause ≡ Stopped)) → StoppedShort programs us fault.core
 
 -- The number of operations that the programs performed, or why there is none. The configuration is looked at first, then the
 -- programs; what a run is refused for is told before a log that can't be written. The folder was `old` before and is `new`
--- after: the logs of the cores' units. After a log that can't be written they are those before it, and after a fault of the
+-- after: the logs of the cores' units, and then the numbers of the units and slices where a file was given for them; after a fault of the
+-- run no slice is left. After a log that can't be written they are those before it, and after a fault of the
 -- run all, or those of the first cores. `unread` holds of the name of a file that can't be opened or read.
 abbrev pub IsThreadRun : Files → Files → (List ℕ → Type 0) → Run → Result ℕ RunningFault → Type 0
 IsThreadRun old new unread asked (Ok count) =
-    Programmed old.told asked.limits asked.programs.now (λ set. Ended asked set.programs (λ us.
-    (count ≡ performed_below (kept_log us) (length set.programs)) × ArePut (log_format set.format) old new asked.out.now (length set.programs) (kept_log us)))
+    Programmed old.told asked.limits asked.programs.now (λ set. Ended asked set.programs (λ us ss.
+    (count ≡ performed_below (kept_log us) (length set.programs)) × AreLeft (log_format set.format) old new asked.out.now (length set.programs) (kept_log us) asked.statistics (numbers_in asked (length set.programs) us ss)))
 IsThreadRun old new unread asked (Err (Config fault)) = first_bad (config_of asked.limits) ≡ Some fault
 IsThreadRun old new unread asked (Err (RunRefused fault)) =
     Programmed old.told asked.limits asked.programs.now (λ set. (us : List UnitParts)
-    × AreLeft set.programs fault us × ArePutAsFar (log_format set.format) old new asked.out.now (length set.programs) (kept_log us))
+    × AreLeftShort set.programs fault us
+    × AreLeftAsFar (log_format set.format) old new asked.out.now (length set.programs) (kept_log us) asked.statistics (numbers_in asked (length set.programs) us []))
 IsThreadRun old new unread asked (Err (Call fault)) =
     (fault ≡ OutOfMemory)
     ⊎ (((first_bad (config_of asked.limits) ≡ None) × IsUnprogrammed old.told unread asked.programs.now fault)
-    ⊎ Programmed old.told asked.limits asked.programs.now (λ set. Ended asked set.programs (λ us.
+    ⊎ Programmed old.told asked.limits asked.programs.now (λ set. Ended asked set.programs (λ us ss.
     IsUnwritten (ArePutUpTo (log_format set.format) old new asked.out.now (length set.programs) (kept_log us)) fault)))
+IsThreadRun old new unread asked (Err StatisticsUnwritten) =
+    Programmed old.told asked.limits asked.programs.now (λ set. Ended asked set.programs (λ us ss.
+    IsUnleft (log_format set.format) old new asked.out.now (length set.programs) (kept_log us) asked.statistics StatisticsUnwritten))
 IsThreadRun old new unread asked (Err other) = ⊥

@@ -1,5 +1,5 @@
 -- What the simulation of programs answers.
-use Rattle.std.specs.Prelude.{◌≡◌, ◌≢◌, ◌⊎◌, ℕ, List, [], length, Option, None, Some, Result, Ok, Err}
+use Rattle.std.specs.Prelude.{◌≡◌, ◌≢◌, ◌⊎◌, ℕ, List, [], length, map, Option, None, Some, Result, Ok, Err}
 use Rattle.std.specs.Borrow.{Bor}
 use Rattle.command_line.specs.declared.request.Sim.{Sim}
 use Rattle.lease_rule.specs.Ranges.{first_bad}
@@ -16,10 +16,11 @@ use Rattle.simulation.specs.Simulating.{IsSimulated, IsSimulationFault}
 use Rattle.call_devices.specs.Programs.{IsUnprogrammed}
 use Rattle.call_devices.specs.Files.{Files}
 use Rattle.call_devices.specs.declared.call_fault.CallFault.TheVariants.{OutOfMemory}
-use Rattle.call_devices.specs.Logs.{ArePut, ArePutAsFar, ArePutUpTo, IsUnwritten, performed_below}
+use Rattle.call_devices.specs.Logs.{ArePutUpTo, IsUnwritten, performed_below}
+use Rattle.run_commands.specs.Numbers.{AreLeft, AreLeftAsFar, IsUnleft, numbers_of}
 use Rattle.run_commands.specs.Programmed.{Programmed, config_of, log_format}
 use Rattle.run_commands.specs.declared.fault.RunningFault.{RunningFault}
-use Rattle.run_commands.specs.declared.fault.RunningFault.TheVariants.{Config, Schedule, ScheduleUnread, Simulation, Call}
+use Rattle.run_commands.specs.declared.fault.RunningFault.TheVariants.{Config, Schedule, ScheduleUnread, Simulation, StatisticsUnwritten, Call}
 
 -- ---- what was asked for
 
@@ -56,25 +57,33 @@ Scheduled told asked Holds =
 abbrev pub EndsIn : Sim → SetParts → List Command → (CoreParts → Type 0) → Type 0
 EndsIn asked set commands Holds = (q : CoreParts) × IsSimulated commands asked.seed (opening_parts set.programs (config_of asked.limits)) q × Holds q
 
+-- the numbers of a machine of so many cores
+abbrev pub numbers_in : Sim → ℕ → CoreParts → List ℕ
+numbers_in asked cores q = numbers_of cores asked.limits.slices (map (λ seat. seat.unit) q.seats) q.slices
+
 -- The number of operations that the programs performed, or why there is none. The configuration is looked at first, then
 -- the programs, then the schedule; what a simulation is refused for is told before a log that can't be written. The
--- folder was `old` before and is `new` after: the logs of the machine to which the simulation came. After a log that
--- can't be written they are those before it, and after a fault of the simulation all, or those of the first cores. `unread`
+-- folder was `old` before and is `new` after: the logs of the machine to which the simulation came, and then its numbers where a file
+-- was given for them. After a log that can't be written they are those before it, and after a fault of the simulation all, or those of the
+-- first cores. `unread`
 -- holds of the name of a file that can't be opened or read.
 abbrev pub IsRun : Files → Files → (List ℕ → Type 0) → Sim → Result ℕ RunningFault → Type 0
 IsRun old new unread asked (Ok count) =
     Scheduled old.told asked (λ set commands. EndsIn asked set commands (λ q.
-    (count ≡ performed_below (log_at (world q)) (length set.programs)) × ArePut (log_format set.format) old new asked.out.now (length set.programs) (log_at (world q))))
+    (count ≡ performed_below (log_at (world q)) (length set.programs)) × AreLeft (log_format set.format) old new asked.out.now (length set.programs) (log_at (world q)) asked.statistics (numbers_in asked (length set.programs) q)))
 IsRun old new unread asked (Err (Config fault)) = first_bad (config_of asked.limits) ≡ Some fault
 IsRun old new unread asked (Err (Schedule fault)) = Programmed old.told asked.limits asked.programs.now (λ set. IsFaultOfSchedule old.told asked.schedule (length set.programs) fault)
 IsRun old new unread asked (Err ScheduleUnread) = Programmed old.told asked.limits asked.programs.now (λ set. IsUnreadSchedule unread asked.schedule)
 IsRun old new unread asked (Err (Simulation fault)) =
     Scheduled old.told asked (λ set commands. (q : CoreParts)
     × IsSimulationFault commands asked.seed (opening_parts set.programs (config_of asked.limits)) q fault
-    × ArePutAsFar (log_format set.format) old new asked.out.now (length set.programs) (log_at (world q)))
+    × AreLeftAsFar (log_format set.format) old new asked.out.now (length set.programs) (log_at (world q)) asked.statistics (numbers_in asked (length set.programs) q))
 IsRun old new unread asked (Err (Call fault)) =
     (fault ≡ OutOfMemory)
     ⊎ (((first_bad (config_of asked.limits) ≡ None) × IsUnprogrammed old.told unread asked.programs.now fault)
     ⊎ Scheduled old.told asked (λ set commands. EndsIn asked set commands (λ q.
     IsUnwritten (ArePutUpTo (log_format set.format) old new asked.out.now (length set.programs) (log_at (world q))) fault)))
+IsRun old new unread asked (Err StatisticsUnwritten) =
+    Scheduled old.told asked (λ set commands. EndsIn asked set commands (λ q.
+    IsUnleft (log_format set.format) old new asked.out.now (length set.programs) (log_at (world q)) asked.statistics StatisticsUnwritten))
 IsRun old new unread asked (Err other) = ⊥

@@ -36,6 +36,8 @@ pub enum RunningFault {
     TestUnread,
     /// There is no table of the outcomes of a litmus test.
     Collect(CollectFault),
+    /// The file of a run's numbers can't be written.
+    StatisticsUnwritten,
     /// As any command may be refused.
     Call(CallFault),
 }
@@ -59,6 +61,7 @@ impl RunningFault {
             RunningFault::Collect(_) => 4,
             RunningFault::ScheduleUnread | RunningFault::TestUnread => 4,
             RunningFault::Simulation(_) | RunningFault::Run(_) => 4,
+            RunningFault::StatisticsUnwritten => 4,
             RunningFault::Call(fault) => fault.status(),
         }
     }
@@ -86,6 +89,11 @@ impl Display for RunningFault {
                 },
             ) => write!(f, "no: run {run}: {fault}"),
             RunningFault::Collect(fault) => write!(f, "refused: {fault}"),
+            RunningFault::StatisticsUnwritten => write!(
+                f,
+                "refused: statistics: {}",
+                FaultName::Write
+            ),
             RunningFault::Call(fault) => write!(f, "refused: {fault}"),
         }
     }

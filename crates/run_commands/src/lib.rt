@@ -3,6 +3,7 @@
 
 mod config;
 mod fault;
+mod left;
 mod logs;
 mod simulated;
 mod table;

@@ -3,10 +3,12 @@
 ghost use Rattle.std.specs.Prelude.{◌≡◌};
 ghost use Rattle.run_commands.specs.Programmed.{log_format};
 
+use super::left::RunParts;
 use call_devices::LogsOfCores;
 use core_program::Format as ProgramFormat;
 use core_unit::CoreUnit;
 use log_record::{Format, Record};
+use manager_slice::ManagerSlice;
 use mem_op::CoreId;
 use tardis_core::Core;
 
@@ -30,10 +32,41 @@ impl<'a> LogsOfCores for MachineLogs<'a> {
     }
 }
 
-/// The logs of units that threads gave back.
+impl<'a> RunParts for MachineLogs<'a> {
+    ghost use Rattle.std.specs.Prelude.{map};
+
+    ghost units = { λ logs. map (λ seat. seat.unit) logs.machine.now.seats };
+
+    ghost slices = { λ logs. logs.machine.now.slices };
+
+    fn unit(&self, core: CoreId) -> Option<&CoreUnit> {
+        self.machine.unit(core)
+    }
+
+    fn slice(&self, number: usize) -> Option<&ManagerSlice> {
+        self.machine.slice(number)
+    }
+}
+
+/// The logs of units that threads gave back, and the slices, where they are left.
 #[derive(Clone, Copy)]
 pub(crate) struct UnitLogs<'a> {
     pub(crate) units: &'a [CoreUnit],
+    pub(crate) slices: &'a [ManagerSlice],
+}
+
+impl<'a> RunParts for UnitLogs<'a> {
+    ghost units = { λ logs. logs.units.now };
+
+    ghost slices = { λ logs. logs.slices.now };
+
+    fn unit(&self, core: CoreId) -> Option<&CoreUnit> {
+        self.units.get(core.get() as usize)
+    }
+
+    fn slice(&self, number: usize) -> Option<&ManagerSlice> {
+        self.slices.get(number)
+    }
 }
 
 impl<'a> LogsOfCores for UnitLogs<'a> {

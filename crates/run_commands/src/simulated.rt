@@ -1,14 +1,15 @@
 //! Programs run on the core machine, one event after the other.
 
 ghost use Rattle.std.specs.Prelude.{◌≡◌, ◌≤◌, IfErr, IfOk, OnOk};
-ghost use Rattle.call_devices.specs.Files.{IsOnlyRead, IsUnread};
-ghost use Rattle.call_devices.specs.Logs as logs;
+ghost use Rattle.call_devices.specs.Files.{IsOnlyRead, IsUnread, KeepsFiles};
+ghost use Rattle.run_commands.specs.Numbers.{IsLeftName};
 ghost use Rattle.run_commands.specs.Simulating as simulating;
 
 use super::config::config_of;
 use super::fault::RunningFault;
+use super::left::{Leaving, leave};
 use super::logs::{MachineLogs, log_format};
-use call_devices::{CallFault, Folder, read_programs, read_text, write_logs};
+use call_devices::{CallFault, Folder, read_programs, read_text};
 use command_line::Sim;
 use log_file::ReadFault;
 use schedule::{Command, parse};
@@ -17,14 +18,15 @@ use std::alloc::Global;
 use tardis_core::Core;
 
 /// Runs the programs in a file of the folder by a schedule and then to their ends, and writes the log
-/// of each core, also where a fault ends the run. The number of operations that were performed, or
+/// of each core, and then the run's numbers where a file is given for them, also where a fault ends the run. The number of operations that were performed, or
 /// why there is none.
 pub fn sim<F: Folder>(alloc: Global, folder: &mut F, asked: &Sim<'_>) -> Result<u64, RunningFault>
     ensures exact { simulating.IsRun (F.files folder.old)
         (F.files folder.new)
         (IsUnread F.Source.remaining F.Source.failed
         (F.files folder.old) (F.files folder.new)) asked.now result }
-    ensures files { logs.KeepsOthers (F.files folder.old).told (F.files folder.new).told asked.now.out.now 64 }
+    ensures files { KeepsFiles (F.files folder.old).told (F.files folder.new).told
+        (IsLeftName asked.now.out.now asked.now.statistics) }
 {
     let config = config_of(&asked.limits)?;
     let programs = read_programs(alloc, folder, asked.programs)?;
@@ -33,16 +35,16 @@ pub fn sim<F: Folder>(alloc: Global, folder: &mut F, asked: &Sim<'_>) -> Result<
         return Err(RunningFault::Call(CallFault::OutOfMemory));
     };
     let ended = simulate(alloc, &mut machine, commands.as_slice(), asked.seed);
-    let written = write_logs(
-        alloc,
-        folder,
-        asked.out,
-        log_format(programs.format()),
-        &MachineLogs { machine: &machine },
-        programs.len(),
-    );
+    let leaving = Leaving {
+        out: asked.out,
+        statistics: asked.statistics,
+        format: log_format(programs.format()),
+        cores: programs.len(),
+        slices: config.slices(),
+    };
+    let left = leave(alloc, folder, &leaving, &MachineLogs { machine: &machine });
     ended?;
-    Ok(written?)
+    left
 }
 
 /// The commands in a file of the folder, for `cores` cores; none where no name is given.

@@ -27,23 +27,15 @@ const USAGE: u8 = 3;
 /// answers the exit status: 0 for Yes or done, 1 for No or a forbidden outcome, 2 where a log, the
 /// programs, the schedule, the test, the trace or the certificate are refused, 3 where the words are or a number is out of range, else 4. An answer goes to standard
 /// output, all else to standard error; where an order goes to standard output, its verdict goes to
-/// standard error. Of a refused explanation more is told on standard output. In the folder nothing is put but the logs of a run or of an upgrade and the picture of
-/// an explanation.
+/// standard error. Of a refused explanation more is told on standard output. In the folder nothing is put but the logs of a run or of an
+/// upgrade, a run's numbers, the picture of an explanation, and what a search finds.
 pub fn command<
     R: Threads + Wait + Sync,
     W: Watch + SearchWatch + Sync,
     F: Folder,
     O: ByteSink,
     E: ByteSink,
->(
-    rt: &R,
-    alloc: Global,
-    words: &[&str],
-    watch: &W,
-    folder: &mut F,
-    out: &mut O,
-    err: &mut E,
-) -> u8
+>(rt: &R, alloc: Global, words: &[&str], watch: &W, folder: &mut F, out: &mut O, err: &mut E) -> u8
     ensures ends { (ending : endings.Ending) × (result ≡ endings.status_of ending)
         × endings.EndsBy (F.files folder.old) (F.files folder.new)
         (IsUnread F.Source.remaining F.Source.failed

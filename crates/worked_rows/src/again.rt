@@ -214,6 +214,10 @@ impl<'a, R: Threads + Wait + Sync + Print> Again<'a, R> {
             files.push(copied(alloc, file)?)?;
         }
         for file in &done.put {
+            // The file of a run's numbers is no log. Its name alone is a word of the call.
+            if have_word(self.words, file.name.as_str()) {
+                continue;
+            }
             names.push(String::from_str(alloc, file.name.as_str())?)?;
             files.push(copied(alloc, file)?)?;
         }

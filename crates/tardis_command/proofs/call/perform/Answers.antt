@@ -186,3 +186,15 @@ returns-in_err-search-in-Search-clause-files g c = rw c.in-Search.is c.in_err-se
 
 pub returns-in_ok-search-in-Search-clause-files : goal.returns-in_ok-search-in-Search-clause-files
 returns-in_ok-search-in-Search-clause-files g c = rw c.in-Search.is c.in_ok-search-in-Search.ensures.files
+
+pub returns-in_err-operations-in-Sim-clause-files : goal.returns-in_err-operations-in-Sim-clause-files
+returns-in_err-operations-in-Sim-clause-files g c = rw c.in-Sim.is c.in_err-operations-in-Sim.ensures.files
+
+pub returns-in_ok-operations-in-Sim-clause-files : goal.returns-in_ok-operations-in-Sim-clause-files
+returns-in_ok-operations-in-Sim-clause-files g c = rw c.in-Sim.is c.in_ok-operations-in-Sim.ensures.files
+
+pub returns-in_err-operations-in-Run-clause-files : goal.returns-in_err-operations-in-Run-clause-files
+returns-in_err-operations-in-Run-clause-files g c = rw c.in-Run.is c.in_err-operations-in-Run.ensures.files
+
+pub returns-in_ok-operations-in-Run-clause-files : goal.returns-in_ok-operations-in-Run-clause-files
+returns-in_ok-operations-in-Run-clause-files g c = rw c.in-Run.is c.in_ok-operations-in-Run.ensures.files

@@ -1,0 +1,51 @@
+-- One core or slice more, and how what was left first and then goes together.
+use Rattle.std.proofs.Common.{◌≡◌, ◌≢◌, ◌<◌, ◌≤◌, ◌⊎◌, ◌+◌, ℕ, zero, suc, List, [], ◌∷◌, ◌++◌, length, map, take, refl, sym, ap, subst, ◌∙◌, arith, inl, inr, Bor}
+use Rattle.std.specs.Prelude.{Option, None, Some, slice_get}
+use Rattle.std.proofs.lemmas.List.{map-append, take_all, take_more}
+use Rattle.std.proofs.lemmas.Option.{get_or_from_slice_get, slice_get_within}
+use Rattle.log_record.specs.declared.format.Format.{Format}
+use Rattle.log_record.specs.declared.record.Record.{Record}
+use Rattle.call_devices.specs.Files.{Files, KeepsFiles}
+use Rattle.call_devices.specs.Logs.{ArePut, ArePutUpTo, IsUnwritten, KeepsOthers, log_name}
+use Rattle.call_devices.specs.declared.call_fault.CallFault.{CallFault}
+use Rattle.run_commands.specs.Numbers.{AreLeftAsFar, IsLeftName, IsStatisticsName, IsUnleft, IsUnput}
+use Rattle.run_commands.specs.declared.fault.RunningFault.{RunningFault}
+use Rattle.run_commands.specs.declared.fault.RunningFault.TheVariants.{StatisticsUnwritten, Call}
+
+-- where there is one more, its number comes behind those so far
+pub one_more : {A B : Type 0} (f : A → B) (xs : List A) (i : ℕ) (x : A) → slice_get xs i ≡ Some x → map f (take (i + 1) xs) ≡ map f (take i xs) ++ f x ∷ []
+one_more f xs i x at =
+    ap (map f) (take_more xs i x (slice_get_within xs i x at) ∙ ap (λ y. take i xs ++ y ∷ []) (get_or_from_slice_get xs i x x at)) ∙ map-append f (take i xs) (x ∷ [])
+
+past : {A : Type 0} (xs : List A) (i : ℕ) → slice_get xs i ≡ None → length xs ≤ i
+past [] i none = omega arith
+past (x ∷ xs) zero none = absurd cc
+past (x ∷ xs) (suc i) none = let h : length xs ≤ i = past xs i none in omega arith
+
+-- where there is none, those so far are all
+pub no_more : {A B : Type 0} (f : A → B) (xs : List A) (i n : ℕ) → slice_get xs i ≡ None → i ≤ n → map f (take n xs) ≡ map f (take i xs)
+no_more f xs i n none le =
+    let end : length xs ≤ i = past xs i none in
+    let later : length xs ≤ n = omega arith in
+    ap (map f) (take_all n xs later ∙ sym (take_all i xs end))
+
+-- what is put first and then is put in all
+pub keeps_both : (told mid new : List ℕ → Option (List ℕ)) (out : List ℕ) (statistics : Option (Bor (List ℕ))) → KeepsOthers told mid out 64
+    → KeepsFiles mid new (IsStatisticsName statistics) → KeepsFiles told new (IsLeftName out statistics)
+keeps_both told mid new out statistics first later name none = later name (λ is. none (inr is)) ∙ first name (λ c below same. none (inl (c, below, same)))
+
+pub keeps_first : (told new : List ℕ → Option (List ℕ)) (out : List ℕ) (statistics : Option (Bor (List ℕ))) → KeepsOthers told new out 64 → KeepsFiles told new (IsLeftName out statistics)
+keeps_first told new out statistics first name none = first name (λ c below same. none (inl (c, below, same)))
+
+module _ (format : Format) (old mid new : Files) (out : List ℕ) (cores : ℕ) (made : ℕ → List Record) (statistics : Option (Bor (List ℕ))) (text : List ℕ)
+    (put : ArePut format old mid out cores made) where
+  -- the numbers weren't put
+  pub unleft_after : (fault : RunningFault) → IsUnput mid new statistics fault → IsUnleft format old new out cores made statistics fault
+  unleft_after StatisticsUnwritten fails = (mid, put, fails)
+  unleft_after (Call fault) why = subst (λ (f : CallFault). IsUnwritten (ArePutUpTo format old new out cores made) f) (sym why.0) tt
+  unleft_after other why = absurd why
+
+  pub far_after : (fault : RunningFault) → IsUnput mid new statistics fault → AreLeftAsFar format old new out cores made statistics text
+  far_after StatisticsUnwritten fails = inr (mid, put, inr fails)
+  far_after (Call fault) why = inl (inl (subst (λ (files : Files). ArePut format old files out cores made) (sym why.1) put))
+  far_after other why = absurd why
