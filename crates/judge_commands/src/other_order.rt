@@ -27,7 +27,8 @@ const ANOTHER: &str = "\nanother order explains all values: the times are wrong,
 const NONE: &str = "\nno order explains all values:\n";
 
 /// What is told where the search gave up.
-const UNDECIDED: &str = "\nwhether another order explains all values isn't decided; search --logs looks longer\n";
+const UNDECIDED: &str =
+    "\nwhether another order explains all values isn't decided; search --logs looks longer\n";
 
 /// The last lines of what is told of a set: whether another order explains all values. Nothing of a Yes, of a log that isn't
 /// its program's, and of a set of more than 100,000 operations. A watch is told how far the search is.

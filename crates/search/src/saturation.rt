@@ -11,10 +11,7 @@ const TURN: u32 = 4;
 
 impl Knowledge {
     /// Lets all operations come in, the cores in turns, and concludes what follows.
-    pub(crate) fn saturate<W: SearchWatch>(
-        &mut self,
-        watched: &mut Watched<'_, W>,
-    ) -> Tried<()> {
+    pub(crate) fn saturate<W: SearchWatch>(&mut self, watched: &mut Watched<'_, W>) -> Tried<()> {
         for _ in 0..self.operations.all.len() {
             watched.tell(self.left);
             if !self.enter_turn()? && !self.enter_any()? {

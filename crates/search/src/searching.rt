@@ -56,12 +56,7 @@ fn guess_watched<W: SearchWatch>(
 }
 
 /// An order, or a refutation. The search may give up.
-fn find<W: SearchWatch>(
-    alloc: Global,
-    trace: &Trace,
-    budget: u64,
-    watch: &W,
-) -> Tried<Answer> {
+fn find<W: SearchWatch>(alloc: Global, trace: &Trace, budget: u64, watch: &W) -> Tried<Answer> {
     let mut search = Search::new(alloc, trace.cores(), budget)?;
     match search.run(&mut Watched::new(watch, budget))? {
         Outcome::Order(places) => {

@@ -62,10 +62,7 @@ impl Search {
     }
 
     /// Searches until there is an order or a proof that there is none.
-    pub(crate) fn run<W: SearchWatch>(
-        &mut self,
-        watched: &mut Watched<'_, W>,
-    ) -> Tried<Outcome> {
+    pub(crate) fn run<W: SearchWatch>(&mut self, watched: &mut Watched<'_, W>) -> Tried<Outcome> {
         let mut step = self.known.saturate(watched);
         for _ in 0..self.known.left {
             self.known.spend(1)?;

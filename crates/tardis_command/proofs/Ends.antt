@@ -30,9 +30,9 @@ use Rattle.search_commands.specs.declared.answer.SearchAnswer.TheVariants as sea
 use Rattle.search_commands.specs.declared.fault.SearchingFault.{SearchingFault}
 use Rattle.search_commands.specs.declared.fault.SearchingFault.TheVariants as searching
 use Rattle.verdict.specs.declared.judge_fault.JudgeFault.TheVariants as judge
-use Rattle.tardis_command.specs.Faults.{command_fault_text, fault_status, from_searching}
+use Rattle.tardis_command.specs.Faults.{command_fault_text, fault_status, from_judging, from_searching}
 use Rattle.tardis_command.specs.declared.fault.CommandFault.{CommandFault}
-use Rattle.tardis_command.specs.declared.fault.CommandFault.TheVariants.{Call, Judging}
+use Rattle.tardis_command.specs.declared.fault.CommandFault.TheVariants.{Call}
 use Rattle.call_devices.specs.declared.call_fault.CallFault.TheVariants.{Output, OutOfMemory, Programs}
 use Rattle.judge_commands.specs.declared.fault.JudgingFault.{JudgingFault}
 use Rattle.judge_commands.specs.declared.fault.JudgingFault.TheVariants as judging

@@ -22,15 +22,7 @@ pub fn serve<
     F: Folder,
     O: ByteSink,
     E: ByteSink,
->(
-    rt: &R,
-    alloc: Global,
-    words: &[&str],
-    watch: &W,
-    folder: &mut F,
-    out: &mut O,
-    err: &mut E,
-) -> u8
+>(rt: &R, alloc: Global, words: &[&str], watch: &W, folder: &mut F, out: &mut O, err: &mut E) -> u8
     ensures sound { result ≡ 0 → AskFor (texts words.entry.now)
         (AreConsistent (F.files folder.old).told) }
 {

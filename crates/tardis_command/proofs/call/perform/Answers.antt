@@ -13,7 +13,7 @@ use Rattle.tardis_command.specs.Endings.{Answered, IsUntouched, Refused, sink_of
 use Rattle.tardis_command.specs.Faults.{from_judging, from_running, from_searching}
 use Rattle.tardis_command.specs.declared.answer.Answer.TheVariants.{Judged, Ordered, Explained, Searched, Counted, Done, Version}
 use Rattle.tardis_command.specs.declared.fault.CommandFault.TheVariants.{Call}
-use Rattle.tardis_command.proofs.Ends.{keeps_told_of, printed, printed_yes, refusal_is_no_no, refused_at_once, right_no, right_yes, whatever}
+use Rattle.tardis_command.proofs.Ends.{keeps_told_of, printed, printed_yes, refused_at_once, right_no, right_yes, whatever}
 use Rattle.tardis_command.proofs.call.perform.Goals as goal
 
 pub returns-in_err-verdict-in-Check-clause-exact : goal.returns-in_err-verdict-in-Check-clause-exact
