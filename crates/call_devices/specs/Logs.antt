@@ -1,6 +1,5 @@
 -- The logs that the folder tells, all of one format. `made` gives the log of each core.
-use Rattle.std.specs.Prelude.{◌≡◌, ◌≢◌, ◌⊎◌, ⊤, ℕ, zero, suc, ◌+◌, ◌<◌, List, ◌++◌, length, Option, codes}
-use Rattle.std.specs.Fmt.{decimal}
+use Rattle.std.specs.Prelude.{◌≡◌, ◌≢◌, ◌⊎◌, ⊤, ℕ, zero, suc, ◌+◌, ◌<◌, List, length, Option}
 use Rattle.log_file.specs.Devices.{Failed, Tells}
 use Rattle.log_file.specs.Log.{SpellsIn}
 use Rattle.log_record.specs.declared.format.Format.{Format}
@@ -8,10 +7,7 @@ use Rattle.log_record.specs.declared.record.Record.{Record}
 use Rattle.call_devices.specs.Files.{Files}
 use Rattle.call_devices.specs.declared.call_fault.CallFault.{CallFault}
 use Rattle.call_devices.specs.declared.call_fault.CallFault.TheVariants.{LogUnwritten, OutOfMemory}
-
--- the name of core c's log: that of the logs, a dot and the core's number
-abbrev pub log_name : List ℕ → ℕ → List ℕ
-log_name out c = out ++ (codes "." ++ decimal c)
+pub use Rattle.command_line.specs.Names.{log_name}
 
 -- core c's log, of `cores`, is told under its name, in its one spelling in this format
 abbrev pub TellsLog : Format → (List ℕ → Option (List ℕ)) → List ℕ → ℕ → (ℕ → List Record) → ℕ → Type 0

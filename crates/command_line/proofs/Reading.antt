@@ -7,10 +7,10 @@ use Rattle.std.proofs.lemmas.Slice.Eq.{bytes_eq-Decides}
 use Rattle.clap.specs.Faults.{fault_of}
 use Rattle.clap.specs.Kinds.{Kinds, HasKind, IsAmong}
 use Rattle.clap.specs.Matches.{ReadsOne}
-use Rattle.clap.specs.Words.{Row, Text, kind_of, subcommand_of}
+use Rattle.clap.specs.Words.{Row, Text, first_of, kind_of, subcommand_of}
 use Rattle.clap.specs.declared.error.Error.{Error}
 use Rattle.clap.specs.declared.error.kind.ErrorKind.TheVariants as kind
-use Rattle.command_line.specs.Asking.{AskVersion, IsNumber, IsNumberOf, IsOverIn, IsRefusalOf, IsStrayIn, texts}
+use Rattle.command_line.specs.Asking.{AreOverIn, AskVersion, IsNumber, IsNumberOf, IsOverIn, IsRefusalOf, IsStrayIn, texts}
 use Rattle.command_line.specs.Grammar.{tardis}
 use Rattle.command_line.specs.declared.refusal.Refusal.{Refusal}
 use Rattle.command_line.specs.declared.refusal.Refusal.TheVariants.{Usage, OutOfMemory}
@@ -33,8 +33,19 @@ stray words named OutOfMemory is which files = tt
 -- a picture would be drawn over a file that is read
 pub drawn_over : (words : List Text) (named : Text × List Row) (r : Refusal) → subcommand_of tardis words ≡ Some named → named.0 ≡ codes "explain"
     → IsOverIn named.1 r → IsRefusalOf words r
-drawn_over words named (Usage text) is explains over = inr (inr (named, is, explains, over))
+drawn_over words named (Usage text) is explains over = inr (inr (inl (named, is, explains, over)))
 drawn_over words named OutOfMemory is explains over = tt
+
+-- the numbers of a run would be put over one of its files
+pub sim_over : (words : List Text) (named : Text × List Row) (r : Refusal) → subcommand_of tardis words ≡ Some named → named.0 ≡ codes "sim"
+    → AreOverIn (first_of (codes "schedule") named.1) named.1 r → IsRefusalOf words r
+sim_over words named (Usage text) is sims over = inr (inr (inr (named, is, inl (sims, over))))
+sim_over words named OutOfMemory is sims over = tt
+
+pub run_over : (words : List Text) (named : Text × List Row) (r : Refusal) → subcommand_of tardis words ≡ Some named → named.0 ≡ codes "run"
+    → AreOverIn None named.1 r → IsRefusalOf words r
+run_over words named (Usage text) is runs over = inr (inr (inr (named, is, inr (runs, over))))
+run_over words named OutOfMemory is runs over = tt
 
 -- the text of a number, read
 pub numbered : {E : Type 0} (gives : List ℕ → Result ℕ E → Type 0) → ((t : List ℕ) (x : Result ℕ E) → gives t x → ParsesUnsigned 64 10 t x)

@@ -1,5 +1,5 @@
 -- What the words of a command line ask for, and when they ask for nothing.
-use Rattle.std.specs.Prelude.{◌≡◌, ◌≢◌, ◌<◌, ◌^◌, ◌⊎◌, ◌||◌, ⊤, ℕ, Bool, true, false, List, [], ◌∷◌, Option, Some, None, map, option_map, unwrap_or, codes}
+use Rattle.std.specs.Prelude.{◌≡◌, ◌≢◌, ◌<◌, ◌^◌, ◌⊎◌, ◌||◌, ⊤, ℕ, Bool, true, false, List, [], ◌∷◌, Option, Some, None, IfSome, IsSomeAnd, map, option_map, unwrap_or, codes}
 use Rattle.std.specs.Borrow.{Bor}
 use Rattle.std.specs.List.{list_any}
 use Rattle.std.specs.Option.{option_map_or}
@@ -8,6 +8,7 @@ use Rattle.std.specs.Str.Parse.{IsNumeral, digits_value, without_leading_plus}
 use Rattle.clap.specs.Faults.{fault_of}
 use Rattle.clap.specs.Words.{Row, Text, all_of, first_of, one_of, subcommand_of}
 use Rattle.command_line.specs.Grammar.{tardis}
+use Rattle.command_line.specs.Names.{IsRunFile}
 use Rattle.command_line.specs.declared.refusal.Refusal.{Refusal}
 use Rattle.command_line.specs.declared.refusal.Refusal.TheVariants.{Usage, OutOfMemory}
 use Rattle.command_line.specs.declared.request.Check.{Check}
@@ -98,23 +99,36 @@ pub record AreLimits (rows : List Row) (limits : Limits) : Type 0 where
   pub slice_lines : IsCountOr 64 (one_of (codes "slice-lines") rows) limits.slice_lines
   pub inbox : IsCountOr 8 (one_of (codes "inbox") rows) limits.inbox
 
+-- the file of the programs, and what the names of the logs begin with, that were given
+abbrev pub programs_given : List Row → Text
+programs_given rows = unwrap_or (first_of (codes "PROGRAMS") rows) []
+
+abbrev pub out_given : List Row → Text
+out_given rows = unwrap_or (first_of (codes "OUT") rows) []
+
+-- the file for the numbers of a run, where there is one, is none of the run's files
+abbrev pub AreApart : Option (Bor Text) → Option (Bor Text) → Text → Text → Type 0
+AreApart statistics schedule programs out = IfSome (text_of statistics) (λ name. ¬ (IsRunFile (text_of schedule) programs out name))
+
 -- a run of the programs of the file that was given, by the numbers, the schedule and the seed that were given, and the file for the
--- numbers of the run that was
+-- numbers of the run that was, which is none of its files
 pub record IsSim (rows : List Row) (sim : Sim) : Type 0 where
   pub limits : AreLimits rows sim.limits
   pub schedule : text_of sim.schedule ≡ first_of (codes "schedule") rows
   pub seed : IsNumberOf (one_of (codes "seed") rows) sim.seed
   pub statistics : text_of sim.statistics ≡ first_of (codes "stats") rows
-  pub programs : sim.programs.now ≡ unwrap_or (first_of (codes "PROGRAMS") rows) []
-  pub out : sim.out.now ≡ unwrap_or (first_of (codes "OUT") rows) []
+  pub programs : sim.programs.now ≡ programs_given rows
+  pub out : sim.out.now ≡ out_given rows
+  pub apart : AreApart sim.statistics sim.schedule sim.programs.now sim.out.now
 
 -- a run in threads of the programs of the file that was given, by the numbers that were given, and the file for the numbers of the run
--- that was
+-- that was, which is none of its files
 pub record IsThreaded (rows : List Row) (run : Run) : Type 0 where
   pub limits : AreLimits rows run.limits
   pub statistics : text_of run.statistics ≡ first_of (codes "stats") rows
-  pub programs : run.programs.now ≡ unwrap_or (first_of (codes "PROGRAMS") rows) []
-  pub out : run.out.now ≡ unwrap_or (first_of (codes "OUT") rows) []
+  pub programs : run.programs.now ≡ programs_given rows
+  pub out : run.out.now ≡ out_given rows
+  pub apart : AreApart run.statistics None run.programs.now run.out.now
 
 -- runs of the test of the file that was given, by the numbers, as many and from the seed that were given
 pub record IsLitmus (rows : List Row) (litmus : Litmus) : Type 0 where
@@ -210,9 +224,28 @@ IsOverIn rows OutOfMemory = ⊤
 abbrev pub DrawOver : List Text → Type 0
 DrawOver words = (named : Text × List Row) × (subcommand_of tardis words ≡ Some named) × (named.0 ≡ codes "explain") × (is_drawn_over named.1 ≡ true)
 
+-- only a file for the numbers of a run that is one of the run's files is refused for its usage
+abbrev pub IsOverRunFile : Option Text → Option Text → Text → Text → Refusal → Type 0
+IsOverRunFile statistics schedule programs out (Usage text) = IsSomeAnd statistics (IsRunFile schedule programs out)
+IsOverRunFile statistics schedule programs out OutOfMemory = ⊤
+
+-- so are the numbers of the run by this schedule that was given
+abbrev pub AreOverIn : Option Text → List Row → Refusal → Type 0
+AreOverIn schedule rows = IsOverRunFile (first_of (codes "stats") rows) schedule (programs_given rows) (out_given rows)
+
+-- the numbers of the run by this schedule that was given would be put over one of its files
+abbrev pub AreOver : Option Text → List Row → Type 0
+AreOver schedule rows = IsSomeAnd (first_of (codes "stats") rows) (IsRunFile schedule (programs_given rows) (out_given rows))
+
+-- the words ask for the numbers of a run, one event after the other or in threads, over one of the run's files
+abbrev pub CountOver : List Text → Type 0
+CountOver words =
+    (named : Text × List Row) × (subcommand_of tardis words ≡ Some named)
+    × (((named.0 ≡ codes "sim") × AreOver (first_of (codes "schedule") named.1) named.1) ⊎ ((named.0 ≡ codes "run") × AreOver None named.1))
+
 -- the words are a command line, and ask for what isn't done
 abbrev pub AreMisused : List Text → Type 0
-AreMisused words = LackLogs words ⊎ DrawOver words
+AreMisused words = LackLogs words ⊎ (DrawOver words ⊎ CountOver words)
 
 -- only words that aren't a command line of the program, or ask for what isn't done, are refused for their usage
 abbrev pub IsRefusalOf : List Text → Refusal → Type 0

@@ -3,6 +3,7 @@
 
 mod argument;
 mod grammar;
+mod names;
 mod refusal;
 mod request;
 mod words;

@@ -1,6 +1,6 @@
 //! Reads the words of a command line.
 
-ghost use Rattle.std.specs.Prelude.{◌≡◌, ◌∷◌, ◌↔◌, IfErr, IfOk, IsTrue, [], codes, false, unwrap_or};
+ghost use Rattle.std.specs.Prelude.{◌≡◌, ◌∷◌, ◌↔◌, IfErr, IfOk, IsSomeAnd, IsTrue, None, OnOk, [], codes, false, unwrap_or};
 ghost use Rattle.std.specs.List.{list_any};
 ghost use Rattle.std.specs.Option.{option_map_or};
 ghost use Rattle.std.specs.Str.{bytes_eq};
@@ -10,6 +10,7 @@ ghost use Rattle.command_line.specs.Asking as asking;
 ghost use Rattle.command_line.specs.inner.Numbers.{HasNumbers, takes_number};
 
 use super::grammar::tardis;
+use super::names::is_run_file;
 use super::refusal::Refusal;
 use super::request::{
     Check, Confirm, Explain, Limits, Litmus, Order, Request, Run, Search, Sim, TraceFiles, Upgrade,
@@ -35,10 +36,10 @@ pub fn read<'a>(alloc: Global, words: &'a [&'a str]) -> Result<Request<'a>, Refu
         unreachable!()
     };
     if name == "sim" {
-        return Ok(Request::Sim(sim_of(asked)));
+        return Ok(Request::Sim(sim_of(alloc, asked)?));
     }
     if name == "run" {
-        return Ok(Request::Run(run_of(asked)));
+        return Ok(Request::Run(run_of(alloc, asked)?));
     }
     if name == "order" {
         return Ok(Request::Order(order_of(alloc, asked)?));
@@ -236,33 +237,65 @@ fn only<'a>(alloc: Global, files: &[&'a str]) -> Result<&'a str, Refusal>
 const STRAY_FILE: &str =
     "error: more files than one are read as logs only, with '--logs'\n\nFor more information, try '--help'.\n";
 
-/// What the words after `sim` ask for.
-fn sim_of<'a>(matches: &ArgMatches<'a>) -> Sim<'a>
+/// What the words after `sim` ask for, or why they ask for nothing.
+fn sim_of<'a>(alloc: Global, matches: &ArgMatches<'a>) -> Result<Sim<'a>, Refusal>
     requires { HasNumbers (rows_of (found_of matches.now)) }
-    ensures { asking.IsSim (rows_of (found_of matches.now)) result }
+    ensures sim { IfOk result (asking.IsSim (rows_of (found_of matches.now))) }
+    ensures usage { IfErr result (asking.AreOverIn
+        (first_of (codes "schedule") (rows_of (found_of matches.now))) (rows_of (found_of matches.now))) }
 {
-    Sim {
+    let sim = Sim {
         limits: limits_of(matches),
         schedule: name_of(matches, "schedule"),
         seed: number_of(matches, "seed"),
         statistics: name_of(matches, "stats"),
         programs: word_of(matches, "PROGRAMS"),
         out: word_of(matches, "OUT"),
-    }
+    };
+    check_apart(alloc, sim.statistics, sim.schedule, sim.programs, sim.out)?;
+    Ok(sim)
 }
 
-/// What the words after `run` ask for.
-fn run_of<'a>(matches: &ArgMatches<'a>) -> Run<'a>
+/// What the words after `run` ask for, or why they ask for nothing.
+fn run_of<'a>(alloc: Global, matches: &ArgMatches<'a>) -> Result<Run<'a>, Refusal>
     requires { HasNumbers (rows_of (found_of matches.now)) }
-    ensures { asking.IsThreaded (rows_of (found_of matches.now)) result }
+    ensures run { IfOk result (asking.IsThreaded (rows_of (found_of matches.now))) }
+    ensures usage { IfErr result (asking.AreOverIn None (rows_of (found_of matches.now))) }
 {
-    Run {
+    let run = Run {
         limits: limits_of(matches),
         statistics: name_of(matches, "stats"),
         programs: word_of(matches, "PROGRAMS"),
         out: word_of(matches, "OUT"),
-    }
+    };
+    check_apart(alloc, run.statistics, None, run.programs, run.out)?;
+    Ok(run)
 }
+
+/// Checks that the file for the numbers of a run, if there is one, is none of the run's files.
+fn check_apart(
+    alloc: Global,
+    statistics: Option<&str>,
+    schedule: Option<&str>,
+    programs: &str,
+    out: &str,
+) -> Result<(), Refusal>
+    ensures apart { OnOk result (asking.AreApart statistics.entry schedule.entry programs.now out.now) }
+    ensures usage { IfErr result (asking.IsOverRunFile
+        (asking.text_of statistics.entry) (asking.text_of schedule.entry) programs.now out.now) }
+{
+    let Some(name) = statistics else {
+        return Ok(());
+    };
+    if is_run_file(alloc, schedule, programs, out, name)? {
+        return Err(misuse(alloc, COUNTED_OVER));
+    }
+    Ok(())
+}
+
+/// What the user is told of numbers that would be put over a file of their run.
+const COUNTED_OVER: &str =
+    "error: the numbers would take the place of a file that is read, or of a log\n\nFor more information, try '--help'.\n";
 
 /// What the words after `litmus` ask for.
 fn litmus_of<'a>(matches: &ArgMatches<'a>) -> Litmus<'a>

@@ -1,5 +1,5 @@
 -- The judge says Yes to the logs that a run leaves.
-use Rattle.std.proofs.Common.{◌≡◌, ◌≤◌, ℕ, zero, suc, ◌+◌, List, [], ◌∷◌, ◌++◌, length, map, inl, inr, refl, sym, ap, subst, ◌∙◌, arith, eq-eqb, Bor}
+use Rattle.std.proofs.Common.{◌≡◌, ◌<◌, ◌≤◌, ℕ, zero, suc, ◌+◌, List, [], ◌∷◌, ◌++◌, length, map, inl, inr, refl, sym, ap, subst, ◌∙◌, arith, eq-eqb, Bor}
 use Rattle.std.specs.Prelude.{Option, None, Some, Ok, if◌then◌else◌, nat_eq, slice_get}
 use Rattle.std.specs.Option.{option_map, option_map_or}
 use Rattle.std.proofs.lemmas.List.{length-append}
@@ -28,12 +28,13 @@ use Rattle.machine_laws.proofs.Below.{ended_below_get_yes, whole_below_get_yes}
 use Rattle.simulation.specs.Events.{simulated_events}
 use Rattle.simulation.proofs.Ended.{simulated_ended}
 use Rattle.simulation.proofs.SimulatedRuns.{simulated_run}
+use Rattle.command_line.specs.Asking.{AreApart}
 use Rattle.command_line.specs.declared.request.Run.{Run as AskedRun}
 use Rattle.command_line.specs.declared.request.Sim.{Sim as AskedSim}
 use Rattle.litmus_outcome.proofs.Judged.{spell_push}
 use Rattle.call_devices.specs.Files.{Files}
 use Rattle.run_commands.specs.Leaving.{AreLogTexts, LeavesYes}
-use Rattle.run_commands.specs.Numbers.{PutsStatistics, SparesLogs}
+use Rattle.run_commands.specs.Numbers.{PutsStatistics}
 use Rattle.call_devices.specs.Logs.{TellsFirst, log_name}
 use Rattle.call_devices.specs.Programs.{AreProgramsIn}
 use Rattle.run_commands.specs.Programmed.{config_of, log_format}
@@ -77,14 +78,17 @@ leaves told told' name out set w read first gets_yes =
     let spell = subst (λ n. SpellFrom 0 n below.texts (logs_below w (length set.programs))) (sym below.count) below.spell in
     (set, read, below.texts, below.count, below.told_each, length (entries (logs_below w (length set.programs))), (logs_below w (length set.programs), spell, sym gets_yes))
 
--- the numbers of a run leave the logs as they are told, where they go to none of their names
-spared : (format : Format) (mid new : Files) (out : List ℕ) (cores : ℕ) (made : ℕ → List Record) (n : ℕ) (statistics : Option (Bor (List ℕ))) (text : List ℕ)
-    → SparesLogs out statistics → PutsStatistics mid new statistics text → TellsFirst format mid.told out cores made n → TellsFirst format new.told out cores made n
-spared format mid new out cores made n None text spares same first =
+-- the numbers of a run leave the logs as they are told, as they go to none of its files
+spared : (format : Format) (mid new : Files) (schedule : Option (Bor (List ℕ))) (programs out : List ℕ) (cores : ℕ) (made : ℕ → List Record) (n : ℕ)
+    (statistics : Option (Bor (List ℕ))) (text : List ℕ) → n ≤ 64 → AreApart statistics schedule programs out → PutsStatistics mid new statistics text
+    → TellsFirst format mid.told out cores made n → TellsFirst format new.told out cores made n
+spared format mid new schedule programs out cores made n None text few apart same first =
     subst (λ (files : Files). TellsFirst format files.told out cores made n) (sym same) first
-spared format mid new out cores made n (Some name) text spares put first = λ c below.
+spared format mid new schedule programs out cores made n (Some name) text few apart put first = λ c below.
     let (log, tells, spells) = first c below in
-    (log, subst (λ (t : Option (List ℕ)). Tells t log) (sym (put.1 (log_name out c) (spares c))) tells, spells)
+    let core : c < 64 = omega arith in
+    let keeps = put.1 (log_name out c) (λ same. apart (inr (inr (c, core, sym same)))) in
+    (log, subst (λ (t : Option (List ℕ)). Tells t log) (sym keeps) tells, spells)
 
 -- ---- a simulation
 
@@ -92,14 +96,15 @@ at_most_64 : (told : List ℕ → Option (List ℕ)) (name : List ℕ) (set : Se
 at_most_64 told name set (text, tells, spells) = spells.0.few
 
 pub sim_leaves : (old new : Files) (unread : List ℕ → Type 0) (asked : AskedSim) (count : ℕ) → simulating.IsRun old new unread asked (Ok count)
-    → SparesLogs asked.out.now asked.statistics → LeavesYes old.told new.told asked.programs.now asked.out.now
-sim_leaves old new unread asked count (sound, set, read, (commands, parsed, (q, did, (counted, (mid, put, later))))) spares =
+    → AreApart asked.statistics asked.schedule asked.programs.now asked.out.now → LeavesYes old.told new.told asked.programs.now asked.out.now
+sim_leaves old new unread asked count (sound, set, read, (commands, parsed, (q, did, (counted, (mid, put, later))))) apart =
     let g = config_of asked.limits in
     let start = opening_parts set.programs g in
     let run = simulated_run commands asked.seed start q did in
     let led = subst (λ (w : World). Run g w (simulated_events commands asked.seed start q did) (world q)) (opening_world set.programs g) run.run in
     leaves old.told new.told asked.programs.now asked.out.now set (world q) read
-    (spared (log_format set.format) mid new asked.out.now (length set.programs) (log_at (world q)) (length set.programs) asked.statistics _ spares later put.0.logs)
+    (spared (log_format set.format) mid new asked.schedule asked.programs.now asked.out.now (length set.programs) (log_at (world q)) (length set.programs) asked.statistics _
+    (at_most_64 old.told asked.programs.now set read) apart later put.0.logs)
     (ended_below_get_yes set.programs g (world q) (at_most_64 old.told asked.programs.now set read) (simulated_events commands asked.seed start q did, led) (simulated_ended commands asked.seed start q did))
 
 -- ---- a run in threads
@@ -114,11 +119,12 @@ kept_is programs g us ss run c = rw (slice_get-map (λ (u : UnitParts). core_of 
     go (Some u) at = ap (λ b. if b then u.log else []) (eq-eqb u.core c (run.units c u at).core)
 
 pub run_leaves : (old new : Files) (unread : List ℕ → Type 0) (asked : AskedRun) (count : ℕ) → IsThreadRun old new unread asked (Ok count)
-    → SparesLogs asked.out.now asked.statistics → LeavesYes old.told new.told asked.programs.now asked.out.now
-run_leaves old new unread asked count (sound, set, read, (us, ss, run, events, (counted, (mid, put, later)))) spares =
+    → AreApart asked.statistics None asked.programs.now asked.out.now → LeavesYes old.told new.told asked.programs.now asked.out.now
+run_leaves old new unread asked count (sound, set, read, (us, ss, run, events, (counted, (mid, put, later)))) apart =
     let g = config_of asked.limits in
     let w : World = world_of (map (λ u. core_of u None) us) ss in
-    let first = spared (log_format set.format) mid new asked.out.now (length set.programs) (kept_log us) (length set.programs) asked.statistics _ spares later put.0.logs in
+    let first = spared (log_format set.format) mid new None asked.programs.now asked.out.now (length set.programs) (kept_log us) (length set.programs) asked.statistics _
+    (at_most_64 old.told asked.programs.now set read) apart later put.0.logs in
     leaves old.told new.told asked.programs.now asked.out.now set w read
     (λ c below. subst (λ (log : List Record). (text : List ℕ) × Tells (new.told (log_name asked.out.now c)) text × SpellsIn (log_format set.format) c (length set.programs) text log) (kept_is set.programs g us ss run c) (first c below))
     (whole_below_get_yes set.programs g us ss run)

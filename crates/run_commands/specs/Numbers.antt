@@ -1,5 +1,5 @@
 -- What a run leaves in the folder: its logs, and then its numbers.
-use Rattle.std.specs.Prelude.{◌≡◌, ◌≢◌, ◌<◌, ◌⊎◌, ℕ, List, Option, None, Some, map, take}
+use Rattle.std.specs.Prelude.{◌≡◌, ◌≢◌, ◌⊎◌, ℕ, List, Option, None, Some, map, take}
 use Rattle.std.specs.Borrow.{Bor}
 use Rattle.log_record.specs.declared.format.Format.{Format}
 use Rattle.log_record.specs.declared.record.Record.{Record}
@@ -10,7 +10,8 @@ use Rattle.statistics.specs.Columns.{core_counts, slice_counts}
 use Rattle.statistics.specs.TableText.{statistics_text}
 use Rattle.call_devices.specs.Files.{Files}
 use Rattle.call_devices.specs.declared.call_fault.CallFault.TheVariants.{OutOfMemory}
-use Rattle.call_devices.specs.Logs.{ArePut, ArePutAsFar, ArePutUpTo, IsUnwritten, log_name}
+use Rattle.call_devices.specs.Logs.{ArePut, ArePutAsFar, ArePutUpTo, IsUnwritten}
+use Rattle.command_line.specs.Names.{IsLogName}
 use Rattle.run_commands.specs.declared.fault.RunningFault.{RunningFault}
 use Rattle.run_commands.specs.declared.fault.RunningFault.TheVariants.{StatisticsUnwritten, Call}
 
@@ -25,11 +26,7 @@ IsStatisticsName (Some given) name = name ≡ given.now
 
 -- a name under which a run may put a file: that of a log, or of its numbers
 abbrev pub IsLeftName : List ℕ → Option (Bor (List ℕ)) → List ℕ → Type 0
-IsLeftName out statistics name = ((c : ℕ) × (c < 64) × (name ≡ log_name out c)) ⊎ IsStatisticsName statistics name
-
--- no log has the name that the numbers go to
-abbrev pub SparesLogs : List ℕ → Option (Bor (List ℕ)) → Type 0
-SparesLogs out statistics = (c : ℕ) → ¬ (IsStatisticsName statistics (log_name out c))
+IsLeftName out statistics name = IsLogName out name ⊎ IsStatisticsName statistics name
 
 -- what is told of other names is what was told of them before
 abbrev pub KeepsAllBut : Files → Files → List ℕ → Type 0

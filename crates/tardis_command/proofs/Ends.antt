@@ -15,6 +15,7 @@ use Rattle.verdict.specs.declared.answer.Verdict.TheVariants.{Yes, No}
 use Rattle.tardis_command.specs.Answers.{answer_status, answer_text, told_text, verdict_status}
 use Rattle.tardis_command.specs.declared.answer.Answer.{Answer}
 use Rattle.tardis_command.specs.declared.answer.Answer.TheVariants as answer
+use Rattle.tardis_command.specs.inner.Apart.{HasApart}
 use Rattle.tardis_command.specs.inner.Printing.{IsUnprinted}
 use Rattle.tardis_command.specs.Endings.{Answered, Ending, EndsBy, IsAnswered, IsDoneBy, IsOfFileOf, IsPrinted, Misused, Refused, Says, Sink, Takes, TellsMore, Unprinted, Unread, Untold, line, status_of}
 use Rattle.judge_commands.specs.Checking.{IsChecked, IsUnprogrammedBy}
@@ -42,6 +43,12 @@ use Rattle.call_devices.specs.declared.call_fault.CallFault.TheVariants as call
 pub whatever : (Said : Answer → Type 0) (X : Type 0) (r : Result Answer CommandFault) → X → IfOk r (λ answer. Said answer → X)
 whatever Said X (Ok answer) x = λ said. x
 whatever Said X (Err fault) x = tt
+
+-- the numbers of a run that the words ask for go to none of its files
+pub has_apart : (words : List (List ℕ)) (asked : Request) → Asks words asked → HasApart asked
+has_apart words (request.Sim asked) (line, (named, is, (same, sim))) = sim.apart
+has_apart words (request.Run asked) (line, (named, is, (same, run))) = run.apart
+has_apart words other asks = tt
 
 -- a folder that was only read tells of each file what it told
 pub keeps_told_of : (old new : Files) (IsPut : List ℕ → Type 0) → IsOnlyRead old new → KeepsFiles old.told new.told IsPut

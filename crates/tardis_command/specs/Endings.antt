@@ -1,7 +1,8 @@
 -- How a call of the program ends.
-use Rattle.std.specs.Prelude.{◌≡◌, ◌<◌, ◌⊎◌, ⊤, ℕ, List, Option, Result, Ok, Err}
+use Rattle.std.specs.Prelude.{◌≡◌, ◌⊎◌, ⊤, ℕ, List, Option, Result, Ok, Err}
 use Rattle.std.specs.Io.KnownBytes.{Appends, Keeps}
 use Rattle.command_line.specs.Asking.{AreMisused, Asks, IsCommandLine}
+use Rattle.command_line.specs.Names.{IsLogName}
 use Rattle.command_line.specs.declared.request.Request.{Request}
 use Rattle.command_line.specs.declared.request.Request.TheVariants.{Check, Order, Explain, Upgrade, Sim, Run, Litmus, Search, Confirm, Version as AskedVersion}
 use Rattle.tardis_command.specs.Answers.{answer_status, answer_text, told_text}
@@ -11,8 +12,7 @@ use Rattle.call_devices.specs.Files.{Files}
 use Rattle.tardis_command.specs.Faults.{command_fault_text, fault_status, from_judging, from_running, from_searching}
 use Rattle.mem_op.specs.Consistency.{IsConsistent}
 use Rattle.run_commands.specs.Leaving.{LeavesYes}
-use Rattle.run_commands.specs.Numbers.{IsLeftName, SparesLogs}
-use Rattle.call_devices.specs.Logs.{log_name}
+use Rattle.run_commands.specs.Numbers.{IsLeftName}
 use Rattle.judge_commands.specs.Ordering.{IsOrdered, TakesOrder}
 use Rattle.judge_commands.specs.declared.fault.JudgingFault.TheVariants as judging
 use Rattle.refusal_commands.specs.Telling.{IsOfFile, TellsOf}
@@ -98,16 +98,16 @@ RunFlat told (Check asked) = FilesRunFlat told asked
 RunFlat told (Explain asked) = FilesRunFlat told asked.check
 RunFlat told other = ⊤
 
--- where a run was asked for, the judge answers Yes to the logs that it leaves, against its programs; its numbers go to none of their names
+-- where a run was asked for, the judge answers Yes to the logs that it leaves, against its programs
 abbrev pub LeaveYes : (List ℕ → Option (List ℕ)) → (List ℕ → Option (List ℕ)) → Request → Type 0
-LeaveYes told told' (Sim asked) = SparesLogs asked.out.now asked.statistics → LeavesYes told told' asked.programs.now asked.out.now
-LeaveYes told told' (Run asked) = SparesLogs asked.out.now asked.statistics → LeavesYes told told' asked.programs.now asked.out.now
+LeaveYes told told' (Sim asked) = LeavesYes told told' asked.programs.now asked.out.now
+LeaveYes told told' (Run asked) = LeavesYes told told' asked.programs.now asked.out.now
 LeaveYes told told' other = ⊤
 
 -- a name under which what was asked for may put a file: that of a log, of a run's numbers, of a picture or of a certificate
 abbrev pub IsPutName : Request → List ℕ → Type 0
 IsPutName (Explain asked) name = IsPictureName asked.picture name
-IsPutName (Upgrade asked) name = (c : ℕ) × (c < 64) × (name ≡ log_name asked.out.now c)
+IsPutName (Upgrade asked) name = IsLogName asked.out.now name
 IsPutName (Sim asked) name = IsLeftName asked.out.now asked.statistics name
 IsPutName (Run asked) name = IsLeftName asked.out.now asked.statistics name
 IsPutName (Search asked) name = IsOutputName asked name
@@ -172,8 +172,8 @@ IsAnswered (Refused fault) came = came ≡ Err fault
 IsAnswered other came = ⊥
 
 -- A call with these words may end so, and leave standard output so; what is told more of a refusal comes after that. Words that aren't a
--- command line, that name more files than a trace has, or a picture in place of a file that is read, end in what the user is told of
--- them, or memory runs out before it is known what they ask for. A refusal that there was no memory to tell left all as it leaves it where
+-- command line, that name more files than a trace has, or a picture or a run's numbers in place of another file, end in what the user is
+-- told of them, or memory runs out before it is known what they ask for. A refusal that there was no memory to tell left all as it leaves it where
 -- it is told.
 abbrev pub IsEnd : Files → Files → (List ℕ → Type 0) → List (List ℕ) → Sink → Sink → Ending → Type 0
 IsEnd old new unread words out out' Unread = Keeps out.contents out'.contents

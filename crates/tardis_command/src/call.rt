@@ -5,6 +5,7 @@ ghost use Rattle.call_devices.specs.Files.{IsOnlyRead, IsUnread};
 ghost use Rattle.command_line.specs.Asking.{texts};
 ghost use Rattle.tardis_command.specs.Answers.{answer_status};
 ghost use Rattle.tardis_command.specs.Endings as endings;
+ghost use Rattle.tardis_command.specs.inner.Apart.{HasApart};
 
 use super::answer::Answer;
 use super::fault::CommandFault;
@@ -129,7 +130,7 @@ fn perform<R: Threads + Wait + Sync, W: Watch + SearchWatch + Sync, F: Folder, O
         (endings.sink_of O.contents O.failed out.new) request.now) }
     ensures flat { IfOk result (λ answer. answer_status answer ≡ 0
         → endings.RunFlat (F.files folder.old).told request.now) }
-    ensures yes { IfOk result (λ answer. answer_status answer ≡ 0
+    ensures yes { IfOk result (λ answer. answer_status answer ≡ 0 → HasApart request.now
         → endings.LeaveYes (F.files folder.old).told (F.files folder.new).told request.now) }
 {
     match request {

@@ -6,7 +6,7 @@ use Rattle.clap.specs.Faults.{fault_of, is_simple_and_free}
 use Rattle.clap.specs.Words.{App, Text}
 use Rattle.command_line.specs.Asking.{texts}
 use Rattle.command_line.proofs.Numbers.{numbers_named}
-use Rattle.command_line.proofs.Reading.{drawn_over, refused, stray}
+use Rattle.command_line.proofs.Reading.{drawn_over, refused, run_over, sim_over, stray}
 use Rattle.command_line.proofs.Subcommands.{found_named, names_own}
 use Rattle.command_line.proofs.words.read.Goals as goal
 
@@ -21,11 +21,19 @@ sim_of-requires c =
     c.in-Some.ensures.name c.in-Some.ensures.rows in
     numbers_named (texts c.args.words.now) _ words.0 words.1
 
+pub returns-in_err-sim_of-clause-usage : goal.returns-in_err-sim_of-clause-usage
+returns-in_err-sim_of-clause-usage c =
+    let words = found_named _ (texts c.args.words.now) c.in-Ok.matches c.in-Some.name.now _ c.in_ok-tardis.ensures.app c.in-Ok.ensures.matches c.in-Ok.ensures.kinds
+    c.in-Some.ensures.name c.in-Some.ensures.rows in
+    let named : c.in-Some.name.now ≡ codes "sim" = (bytes_eq-Decides c.in-Some.name.now (codes "sim")).0 (sym c.eq.ensures ∙ c.if-eq.true) in
+    let is : c.from_residual-in_err-sim_of.result ≡ Err c.in_err-sim_of.field-0.0 = search rules in
+    rw is (sim_over (texts c.args.words.now) _ c.in_err-sim_of.field-0.0 words.1 named c.in_err-sim_of.ensures.usage)
+
 pub returns-then-eq-clause-request : goal.returns-then-eq-clause-request
 returns-then-eq-clause-request c =
     let words = found_named _ (texts c.args.words.now) c.in-Ok.matches c.in-Some.name.now _ c.in_ok-tardis.ensures.app c.in-Ok.ensures.matches c.in-Ok.ensures.kinds
     c.in-Some.ensures.name c.in-Some.ensures.rows in
-    (words.0, (_, words.1, ((bytes_eq-Decides c.in-Some.name.now (codes "sim")).0 (sym c.eq.ensures ∙ c.if-eq.true), c.sim_of.ensures)))
+    (words.0, (_, words.1, ((bytes_eq-Decides c.in-Some.name.now (codes "sim")).0 (sym c.eq.ensures ∙ c.if-eq.true), c.in_ok-sim_of.ensures.sim)))
 
 pub run_of-requires : goal.run_of-requires
 run_of-requires c =
@@ -33,11 +41,19 @@ run_of-requires c =
     c.in-Some.ensures.name c.in-Some.ensures.rows in
     numbers_named (texts c.args.words.now) _ words.0 words.1
 
+pub returns-in_err-run_of-clause-usage : goal.returns-in_err-run_of-clause-usage
+returns-in_err-run_of-clause-usage c =
+    let words = found_named _ (texts c.args.words.now) c.in-Ok.matches c.in-Some.name.now _ c.in_ok-tardis.ensures.app c.in-Ok.ensures.matches c.in-Ok.ensures.kinds
+    c.in-Some.ensures.name c.in-Some.ensures.rows in
+    let named : c.in-Some.name.now ≡ codes "run" = (bytes_eq-Decides c.in-Some.name.now (codes "run")).0 (sym c.eq-2.ensures ∙ c.if-eq-2.true) in
+    let is : c.from_residual-in_err-run_of.result ≡ Err c.in_err-run_of.field-0.0 = search rules in
+    rw is (run_over (texts c.args.words.now) _ c.in_err-run_of.field-0.0 words.1 named c.in_err-run_of.ensures.usage)
+
 pub returns-then-eq-2-clause-request : goal.returns-then-eq-2-clause-request
 returns-then-eq-2-clause-request c =
     let words = found_named _ (texts c.args.words.now) c.in-Ok.matches c.in-Some.name.now _ c.in_ok-tardis.ensures.app c.in-Ok.ensures.matches c.in-Ok.ensures.kinds
     c.in-Some.ensures.name c.in-Some.ensures.rows in
-    (words.0, (_, words.1, ((bytes_eq-Decides c.in-Some.name.now (codes "run")).0 (sym c.eq-2.ensures ∙ c.if-eq-2.true), c.run_of.ensures)))
+    (words.0, (_, words.1, ((bytes_eq-Decides c.in-Some.name.now (codes "run")).0 (sym c.eq-2.ensures ∙ c.if-eq-2.true), c.in_ok-run_of.ensures.run)))
 
 pub returns-then-eq-3-clause-request : goal.returns-then-eq-3-clause-request
 returns-then-eq-3-clause-request c =

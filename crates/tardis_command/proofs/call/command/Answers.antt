@@ -1,7 +1,7 @@
 use Rattle.std.proofs.Common.{◌∙◌, refl, subst, sym, ℕ, List}
 use Rattle.call_devices.specs.Files.{IsUnread}
 use Rattle.command_line.specs.Asking.{IsRefusalOf, texts}
-use Rattle.tardis_command.proofs.Ends.{done_after, ends_answered, ends_misused, ends_refused, ends_unread, keeps_told_of, told_no}
+use Rattle.tardis_command.proofs.Ends.{done_after, ends_answered, ends_misused, ends_refused, ends_unread, has_apart, keeps_told_of, told_no}
 use Rattle.tardis_command.specs.Endings.{Misused}
 use Rattle.tardis_command.proofs.call.command.Goals as goal
 
@@ -47,7 +47,8 @@ returns-in-Ok-perform-clause-flat g c zero =
 
 pub returns-in-Ok-perform-clause-yes : goal.returns-in-Ok-perform-clause-yes
 returns-in-Ok-perform-clause-yes g c zero =
-    (c.in-Ok.request, c.in-Ok.ensures.request, c.in-Ok-perform.ensures.yes (sym c.tell_answer.ensures.status ∙ zero))
+    (c.in-Ok.request, c.in-Ok.ensures.request, c.in-Ok-perform.ensures.yes (sym c.tell_answer.ensures.status ∙ zero)
+    (has_apart (texts c.args.words.now) c.in-Ok.request c.in-Ok.ensures.request))
 
 pub returns-clause-ends : goal.returns-clause-ends
 returns-clause-ends g c =

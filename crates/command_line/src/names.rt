@@ -1,0 +1,50 @@
+//! The names of a run's files.
+
+ghost use Rattle.std.specs.Prelude.{◌≡◌, ◌↔◌, IfOk, IsTrue};
+ghost use Rattle.command_line.specs.Asking.{text_of};
+ghost use Rattle.command_line.specs.Names as names;
+
+use std::alloc::{AllocError, Global};
+
+/// The most cores.
+const CORE_LIMIT: u64 = 64;
+
+/// Whether a run may give this name to a log: that of the logs, a dot and a core's number.
+fn is_log_name(alloc: Global, out: &str, name: &str) -> Result<bool, AllocError>
+    ensures { IfOk result (λ is. IsTrue is ↔ names.IsLogName out.now name.now) }
+{
+    for core in 0..CORE_LIMIT {
+        let log = format!(in alloc; "{out}.{core}")?;
+        if name == log.as_str() {
+            return Ok(true);
+        }
+    }
+    Ok(false)
+}
+
+/// Whether a file of a run has this name: that of its programs, that of its schedule, or what may be a log.
+pub(crate) fn is_run_file(
+    alloc: Global,
+    schedule: Option<&str>,
+    programs: &str,
+    out: &str,
+    name: &str,
+) -> Result<bool, AllocError>
+    ensures { IfOk result (λ is.
+        IsTrue is ↔ names.IsRunFile (text_of schedule.entry) programs.now out.now name.now) }
+{
+    if name == programs || is_schedule(schedule, name) {
+        return Ok(true);
+    }
+    is_log_name(alloc, out, name)
+}
+
+/// Whether a schedule is there, and has this name.
+fn is_schedule(schedule: Option<&str>, name: &str) -> bool
+    ensures { IsTrue result ↔ (text_of schedule.entry ≡ Some name.now) }
+{
+    match schedule {
+        Some(schedule) => schedule == name,
+        None => false,
+    }
+}
