@@ -1,2 +1,4 @@
 pub mod Files
+pub mod LogFiles
+mod LogTraces
 mod Logs

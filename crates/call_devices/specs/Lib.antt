@@ -1,5 +1,6 @@
 pub mod CallFaults
 pub mod Files
+pub mod LogFiles
 pub mod Logs
 pub mod Programs
 pub mod Sinks

@@ -2,12 +2,10 @@
 
 ghost use Rattle.std.specs.Prelude.{◌≡◌};
 ghost use Rattle.call_devices.specs.CallFaults.{call_fault_status, from_program, from_write};
-ghost use Rattle.call_devices.specs.declared.call_fault.CallFault.TheVariants.{OutOfMemory, Output};
 
 use core_program::ProgramFault;
 use fault_names::FaultName;
-use log_file::{WriteFailed, WriteFault};
-use std::alloc::AllocError;
+use log_file::WriteFault;
 use std::fmt;
 use std::fmt::Display;
 use thiserror::Error;
@@ -76,21 +74,5 @@ impl From<WriteFault> for CallFault {
             WriteFault::OutOfMemory => CallFault::OutOfMemory,
             WriteFault::Write => CallFault::Output,
         }
-    }
-}
-
-impl From<WriteFailed> for CallFault {
-    ghost from_gives = { λ _ fault. fault ≡ Output };
-
-    fn from(_failed: WriteFailed) -> CallFault {
-        CallFault::Output
-    }
-}
-
-impl From<AllocError> for CallFault {
-    ghost from_gives = { λ _ fault. fault ≡ OutOfMemory };
-
-    fn from(_error: AllocError) -> CallFault {
-        CallFault::OutOfMemory
     }
 }

@@ -20,9 +20,10 @@ use Rattle.verdict.specs.declared.judge_fault.JudgeFault.TheVariants.{BadConfig,
 use Rattle.std.proofs.KnownBytes.{Keeps-refl}
 use Rattle.command_line.specs.declared.request.Explain.{Explain}
 use Rattle.call_devices.specs.Files.{Files}
+use Rattle.call_devices.specs.LogFiles.{AreTextsOf, IsUnreadAt}
 use Rattle.call_devices.specs.Sinks.{Sink}
 use Rattle.call_devices.specs.declared.call_fault.CallFault.TheVariants.{Output, OutOfMemory}
-use Rattle.judge_commands.specs.Checking.{AreInRange, AreNotAsMany, AreTextsOf, FilesRunFlatBy, IsAnswerAgainst, IsChecked, IsCheckedAgainst, IsUnprogrammedBy, IsUnreadAt}
+use Rattle.judge_commands.specs.Checking.{AreInRange, AreNotAsMany, FilesRunFlatBy, IsAnswerAgainst, IsChecked, IsCheckedAgainst, IsUnprogrammedBy}
 use Rattle.judge_commands.specs.Explaining.{IsExplained}
 use Rattle.judge_commands.specs.declared.fault.JudgingFault.{JudgingFault}
 use Rattle.judge_commands.specs.declared.fault.JudgingFault.TheVariants.{PictureUnwritten, Call}

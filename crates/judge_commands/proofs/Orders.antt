@@ -1,7 +1,7 @@
 -- The order of files, by what the judge that merges answers to their sources.
-use Rattle.std.proofs.Common.{◌≡◌, ◌<◌, refl, subst, length, ℕ, List, [], ◌∷◌, ◌++◌, length-append, Option, Result, Ok, Err, inl, inr, vec_len, arith}
+use Rattle.std.proofs.Common.{◌≡◌, ◌<◌, refl, subst, sym, length, ℕ, List, [], ◌∷◌, ◌++◌, length-append, Option, Result, Ok, Err, vec_len, arith}
 use Rattle.std.specs.Fmt.{decimal}
-use Rattle.std.specs.Prelude.{codes, ◌↔◌, IfErr, IfOk, IfSome, IsErrOf, IsOk}
+use Rattle.std.specs.Prelude.{codes, IfErr, IfOk, IfSome, IsErrOf}
 use Rattle.std.proofs.KnownBytes.{Appends-nil}
 use Rattle.std.specs.Borrow.{Bor}
 use Rattle.command_line.specs.declared.request.Order.{Order}
@@ -10,7 +10,7 @@ use Rattle.merge_judge.specs.Answer.{WritesOrder, judged}
 use Rattle.merge_judge.specs.OrderText.{LacksEnd, order_text}
 use Rattle.merge_judge.specs.declared.merge_fault.MergeFault.{MergeFault}
 use Rattle.merge_judge.specs.declared.merge_fault.MergeFault.TheVariants.{Judge as MergeJudge, Write as MergeWrite}
-use Rattle.verdict.specs.Counts.{IsBadCount, IsInRange, IsOutOfRange}
+use Rattle.verdict.specs.Counts.{IsInRange, IsOutOfRange}
 use Rattle.verdict.specs.Judgement.{IsAnswerTo, IsYes}
 use Rattle.verdict.specs.declared.answer.Verdict.{Verdict}
 use Rattle.verdict.specs.declared.answer.Verdict.TheVariants.{Yes, No}
@@ -18,9 +18,9 @@ use Rattle.verdict.specs.declared.judge_fault.Count.TheVariants.{Files as FileCo
 use Rattle.verdict.specs.declared.judge_fault.JudgeFault.{JudgeFault}
 use Rattle.verdict.specs.declared.judge_fault.JudgeFault.TheVariants.{BadConfig, Log, Read, OutOfMemory}
 use Rattle.call_devices.specs.Files.{Files, IsUnread}
-use Rattle.judge_commands.specs.Checking.{AreSourcesOf, AreTextsOf, IsUnreadAt, TextsAreConsistent}
-use Rattle.judge_commands.specs.inner.Opening.{IsOpenFault}
-use Rattle.judge_commands.proofs.Checks.{unopened_at, unread_at}
+use Rattle.call_devices.specs.LogFiles.{AreSourcesOf, AreTextsOf, IsOpenFault, IsUnreadAt}
+use Rattle.call_devices.proofs.LogFiles.{unopened_at, unread_at}
+use Rattle.judge_commands.specs.Checking.{TextsAreConsistent}
 use Rattle.judge_commands.specs.Faults.{from_judge, from_merge}
 use Rattle.judge_commands.specs.Ordering.{IsOrdered, TakesOrder}
 use Rattle.call_devices.specs.Sinks.{HasFailed, Sink, Took}
@@ -34,29 +34,11 @@ some_text = omega (arith, length-append (codes "end ") (decimal 0 ++ 10 ∷ []))
 nothing : (sink : Sink) → Took sink sink LacksEnd
 nothing sink = ([], Appends-nil sink.contents, ([], (0, some_text, refl)))
 
--- a number that isn't out of range is in it
-pub in_range : (n : ℕ) → ¬ (IsOutOfRange n) → IsInRange n
-in_range n not =
-    let some : n < 1 → ⊥ = λ h. not (inl h) in
-    let few : 64 < n → ⊥ = λ h. not (inr h) in
-    (omega (arith, some), omega (arith, few))
-
-pub one_in_range : ¬ (IsOutOfRange 1)
-one_in_range (inl few) = absurd (omega (arith, few))
-one_in_range (inr many) = absurd (omega (arith, many))
-
 -- no file was opened, since their number is out of range
 pub not_counted : (told : List ℕ → Option (List ℕ)) (unread : List ℕ → Type 0) (asked : Order) (sink : Sink) (n : ℕ) (fault : JudgeFault) → n ≡ vec_len asked.files
-    → (IsOk {T = Unit {0}} (Err fault) ↔ (IsInRange n × IsInRange 1)) → IsBadCount fault
-    → (IsErrOf {T = Unit {0}} (Err fault) (BadConfig FileCount) ↔ IsOutOfRange n)
-    → (IsErrOf {T = Unit {0}} (Err fault) (BadConfig Workers) ↔ (IsInRange n × IsOutOfRange 1))
-    → IsOrdered told unread asked sink sink (Err (from_judge fault))
-not_counted told unread asked sink n (BadConfig FileCount) same ok bad files workers = (subst IsOutOfRange same (files.0 refl), nothing sink)
-not_counted told unread asked sink n (BadConfig Workers) same ok bad files workers = absurd (one_in_range (workers.0 refl).1)
-not_counted told unread asked sink n (BadConfig ProgramCount) same ok bad files workers =
-    let fine = in_range n (λ out. let wrong : BadConfig ProgramCount ≡ BadConfig FileCount = cc (files.1 out) in absurd cc) in
-    absurd (let wrong = ok.1 (fine, in_range 1 one_in_range) in cc)
-not_counted told unread asked sink n other same ok bad files workers = absurd bad
+    → (fault ≡ BadConfig FileCount) × IsOutOfRange n → IsOrdered told unread asked sink sink (Err (from_judge fault))
+not_counted told unread asked sink n fault same (is, out) =
+    subst (λ (f : JudgeFault). IsOrdered told unread asked sink sink (Err (from_judge f))) (sym is) (subst IsOutOfRange same out, nothing sink)
 
 -- a file can't be opened
 pub not_opened : {S : Type 0} (remaining : S → Option (List ℕ)) (failed : S → ℕ) (old new : Files) (asked : Order) (sink : Sink) (fault : JudgeFault) → IsInRange (vec_len asked.files)

@@ -2,7 +2,7 @@
 use Rattle.std.proofs.Common.{◌≡◌, ◌++◌, subst, List, ℕ, Result, Ok, Err, inl, inr}
 use Rattle.std.specs.Prelude.{IfOk}
 use Rattle.std.specs.Global.{Vec}
-use Rattle.mem_op.specs.Consistency.{Operation, IsConsistent}
+use Rattle.mem_op.specs.Consistency.{Operation}
 use Rattle.mem_op.specs.declared.id.OpId.{OpId}
 use Rattle.refutation.specs.Answers.{IsRight}
 use Rattle.refutation.specs.declared.answer.Answer.{Answer}

@@ -1,7 +1,6 @@
 -- What the check of files answers.
-use Rattle.std.specs.Prelude.{◌≡◌, ◌<◌, ◌⊎◌, ⊤, ℕ, List, length, Option, None, Some, Result, Ok, Err, IfSome, vec_len}
+use Rattle.std.specs.Prelude.{◌≡◌, ◌⊎◌, ⊤, ℕ, List, Option, None, Some, Result, Ok, Err, vec_len}
 use Rattle.std.specs.Borrow.{Bor}
-use Rattle.std.specs.List.{AllZip, HoldsAt}
 use Rattle.command_line.specs.declared.request.Check.{Check}
 use Rattle.core_program.specs.Answers.{SpellsSet}
 use Rattle.core_program.specs.declared.format.Format.{Format}
@@ -13,6 +12,7 @@ use Rattle.verdict.specs.declared.answer.Verdict.{Verdict}
 use Rattle.verdict.specs.declared.judge_fault.Count.TheVariants.{Files, Workers, Programs as ProgramCount}
 use Rattle.verdict.specs.declared.judge_fault.JudgeFault.{JudgeFault}
 use Rattle.verdict.specs.declared.judge_fault.JudgeFault.TheVariants.{BadConfig, Log, Read, OutOfMemory}
+use Rattle.call_devices.specs.LogFiles.{AreTextsOf, IsUnreadAt}
 use Rattle.call_devices.specs.Programs.{IsUnprogrammed}
 use Rattle.call_devices.specs.declared.call_fault.CallFault.{CallFault}
 use Rattle.call_devices.specs.declared.call_fault.CallFault.TheVariants.{OutOfMemory as NoMemory}
@@ -20,14 +20,6 @@ use Rattle.judge_commands.specs.declared.fault.JudgingFault.{JudgingFault}
 use Rattle.judge_commands.specs.declared.fault.JudgingFault.TheVariants.{Judge, Call}
 pub use Rattle.verdict.specs.Counts.{AreNotAsMany}
 pub use Rattle.verdict.specs.Judgement.{IsAnswerAgainst}
-
--- these are sources of the files of these names: each tells the bytes that the folder tells
-abbrev pub AreSourcesOf : {S : Type 0} → (List ℕ → Option (List ℕ)) → (S → Option (List ℕ)) → List S → List (Bor (List ℕ)) → Type 0
-AreSourcesOf told remaining sources names = AllZip (λ source name. IfSome (told name.now) (λ bytes. remaining source ≡ Some bytes)) sources names
-
--- these are the texts of the files, of each that the folder tells
-abbrev pub AreTextsOf : (List ℕ → Option (List ℕ)) → List (Bor (List ℕ)) → List (List ℕ) → Type 0
-AreTextsOf told names texts = AllZip (λ name text. Tells (told name.now) text) names texts
 
 -- 1..64 files and 1..64 workers
 abbrev pub AreInRange : Check → Type 0
@@ -57,10 +49,6 @@ IsUnprogrammedBy told unread (Some name) fault = IsUnprogrammed told unread name
 -- what the judge answers to the texts of the files
 abbrev pub IsJudged : (List ℕ → Option (List ℕ)) → Option (List (List Instruction)) → Check → Result Verdict JudgeFault → Type 0
 IsJudged told programs asked answer = (texts : List (List ℕ)) × AreTextsOf told asked.files.items texts × IsAnswerAgainst programs texts answer
-
--- this is the number of one of the names, that of a file that can't be read
-abbrev pub IsUnreadAt : (List ℕ → Type 0) → List (Bor (List ℕ)) → ℕ → Type 0
-IsUnreadAt unread names file = (file < length names) × HoldsAt (λ name. unread name.now) names file
 
 -- The verdict on the files, or why there is none. `unread` holds of the name of a file that can't be opened or read.
 abbrev pub IsCheckedAgainst : (List ℕ → Option (List ℕ)) → (List ℕ → Type 0) → Option (List (List Instruction)) → Check → Result Verdict JudgeFault → Type 0

@@ -9,7 +9,7 @@ use Rattle.verdict.specs.Judgement.{IsAnswerTo}
 use Rattle.verdict.specs.declared.answer.Verdict.{Verdict}
 use Rattle.verdict.specs.declared.judge_fault.Count.TheVariants.{Files}
 use Rattle.verdict.specs.declared.judge_fault.JudgeFault.TheVariants.{BadConfig, Log, Read}
-use Rattle.judge_commands.specs.Checking.{AreTextsOf, IsUnreadAt}
+use Rattle.call_devices.specs.LogFiles.{AreTextsOf, IsUnreadAt}
 use Rattle.call_devices.specs.Sinks.{HasFailed, Sink, Took}
 use Rattle.call_devices.specs.declared.call_fault.CallFault.TheVariants.{Output, OutOfMemory as NoMemory}
 use Rattle.judge_commands.specs.declared.fault.JudgingFault.{JudgingFault}

@@ -1,17 +1,14 @@
 -- What the writing of a set of logs anew answers, in format 2.
-use Rattle.std.specs.Prelude.{◌≡◌, ◌⊎◌, ℕ, List, [], Option, Result, Ok, Err, slice_get, vec_len}
-use Rattle.std.specs.Borrow.{Bor}
+use Rattle.std.specs.Prelude.{◌≡◌, ◌⊎◌, ℕ, List, [], Result, Ok, Err, slice_get, vec_len}
 use Rattle.std.specs.Option.{option_map_or}
 use Rattle.command_line.specs.declared.request.Upgrade.{Upgrade}
-use Rattle.log_file.specs.Sets.{IsFirstOfSet, SpellSet}
 use Rattle.log_record.specs.declared.format.Format.TheVariants.{Two}
 use Rattle.log_record.specs.declared.record.Record.{Record}
 use Rattle.verdict.specs.Counts.{IsInRange, IsOutOfRange}
 use Rattle.verdict.specs.declared.judge_fault.Count.TheVariants.{Files as FileCount}
-use Rattle.verdict.specs.declared.judge_fault.JudgeFault.{JudgeFault}
-use Rattle.verdict.specs.declared.judge_fault.JudgeFault.TheVariants.{BadConfig, Log, Read, OutOfMemory}
-use Rattle.judge_commands.specs.Checking.{AreTextsOf, IsUnreadAt}
-use Rattle.call_devices.specs.Files.{Files, IsOnlyRead}
+use Rattle.verdict.specs.declared.judge_fault.JudgeFault.TheVariants.{BadConfig, Log, Read}
+use Rattle.call_devices.specs.Files.{Files}
+use Rattle.call_devices.specs.LogFiles.{IsUnspelled, Spelled}
 use Rattle.call_devices.specs.Logs.{ArePut, ArePutUpTo, IsUnwritten, performed_below}
 use Rattle.call_devices.specs.declared.call_fault.CallFault.TheVariants.{OutOfMemory as NoMemory}
 use Rattle.judge_commands.specs.declared.fault.JudgingFault.{JudgingFault}
@@ -20,20 +17,6 @@ use Rattle.judge_commands.specs.declared.fault.JudgingFault.TheVariants.{Judge, 
 -- log c of a set, of no records where it has no such log
 abbrev pub log_in : List (List Record) → ℕ → List Record
 log_in logs c = option_map_or (λ log. log) (slice_get logs c) []
-
--- the texts of the files spell logs of which this holds
-abbrev pub Spelled : (List ℕ → Option (List ℕ)) → List (Bor (List ℕ)) → (List (List Record) → Type 0) → Type 0
-Spelled told names Holds =
-    (texts : List (List ℕ)) × AreTextsOf told names texts × ((logs : List (List Record)) × SpellSet texts logs × Holds logs)
-
--- Why no logs are read from the files of these names: their first fault, a file that can't be opened or read, of whose name `unread` holds,
--- or lack of memory. The folder is as it was, but for an opening that failed.
-abbrev pub IsUnspelled : Files → Files → (List ℕ → Type 0) → List (Bor (List ℕ)) → JudgeFault → Type 0
-IsUnspelled old new unread names (Log file line fault) =
-    (new ≡ old) × (texts : List (List ℕ)) × AreTextsOf old.told names texts × IsFirstOfSet texts file line fault
-IsUnspelled old new unread names (Read file) = IsOnlyRead old new × IsUnreadAt unread names file
-IsUnspelled old new unread names OutOfMemory = IsOnlyRead old new
-IsUnspelled old new unread names other = ⊥
 
 -- The number of operations of the logs, or why they weren't written. A number of files that is out of range is told before a file is
 -- opened, and a file that is refused before one is written. The folder was `old` before and is `new` after: each log in format 2.

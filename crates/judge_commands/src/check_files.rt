@@ -7,10 +7,9 @@ ghost use Rattle.verdict.specs.Bases.{IsExaminationOf, verdict_in};
 ghost use Rattle.verdict.specs.CoreFaultsOf.{given};
 ghost use Rattle.verdict.specs.Judgement.{IsYes};
 ghost use Rattle.judge_commands.specs.Checking as checking;
-ghost use Rattle.judge_commands.specs.inner.Opening.{IsOpenFault};
 
 use super::fault::JudgingFault;
-use call_devices::{CallFault, Folder, read_programs};
+use call_devices::{CallFault, Folder, open_all, read_programs};
 use command_line::Check;
 use core_program::ProgramSet;
 use std::alloc::Global;
@@ -134,27 +133,4 @@ fn examine_files<R: Threads + Sync, F: Folder>(
         workers,
         &OpenGate,
     )
-}
-
-/// Opens the files of these names in their order: 28 for the first that can't be opened.
-pub(crate) fn open_all<F: Folder>(
-    alloc: Global,
-    folder: &mut F,
-    names: &[&str],
-) -> Result<Vec<F::Source>, JudgeFault>
-    ensures ok { IfOk result (λ sources. checking.AreSourcesOf (F.files folder.old).told
-        F.Source.remaining sources.items names.now) }
-    ensures quiet { OnOk result (F.files folder.new ≡ F.files folder.old) }
-    ensures err { IfErr result (IsOpenFault (F.files folder.old) (F.files folder.new) names.now) }
-{
-    let mut sources = Vec::new(alloc);
-    'opening: for (file, name) in names.iter().enumerate() {
-        let Ok(source) = folder.open_file(name) else {
-            return Err(JudgeFault::Read { file });
-        };
-        if sources.push(source).is_err() {
-            return Err(JudgeFault::OutOfMemory);
-        }
-    }
-    Ok(sources)
 }

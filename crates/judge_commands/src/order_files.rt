@@ -7,9 +7,8 @@ ghost use Rattle.judge_commands.specs.Checking as checking;
 ghost use Rattle.judge_commands.specs.Ordering as ordering;
 ghost use Rattle.call_devices.specs.Sinks.{sink_of};
 
-use super::check_files::open_all;
 use super::fault::JudgingFault;
-use call_devices::Folder;
+use call_devices::{Folder, open_all};
 use command_line::Order;
 use log_file::ByteSink;
 use merge_judge::merge_judge;

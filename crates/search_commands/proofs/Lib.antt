@@ -6,4 +6,3 @@ mod OrderReplays
 mod Puts
 mod Readings
 mod Searches
-mod Sources

@@ -1,5 +1,5 @@
 -- A refutation and its picture that are put, one after the other.
-use Rattle.std.proofs.Common.{◌≡◌, ◌∙◌, ℕ, List, Option, inl, inr}
+use Rattle.std.proofs.Common.{◌∙◌, List, inl, inr}
 use Rattle.call_devices.specs.Files.{Files, KeepsFiles}
 use Rattle.call_devices.specs.declared.call_fault.CallFault.TheVariants.{OutOfMemory}
 use Rattle.command_line.specs.declared.request.Search.{Search}

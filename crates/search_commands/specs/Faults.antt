@@ -5,8 +5,6 @@ use Rattle.fault_names.specs.declared.fault_name.FaultName.TheVariants as named
 use Rattle.call_devices.specs.CallFaults.{call_fault_status, call_fault_text}
 use Rattle.call_devices.specs.declared.call_fault.CallFault.TheVariants.{OutOfMemory}
 use Rattle.refutation.specs.FaultTexts.{fault_text as certificate_text}
-use Rattle.refutation.specs.declared.fault.CertificateFault.{CertificateFault}
-use Rattle.refutation.specs.declared.fault.CertificateFault.TheVariants.{BadCertificate, OutOfMemory as NoCertificateMemory}
 use Rattle.trace.specs.FaultTexts.{fault_text as trace_text}
 use Rattle.trace.specs.declared.fault.TraceFault.{TraceFault}
 use Rattle.trace.specs.declared.fault.TraceFault.TheVariants.{BadTraceLine, TooMany, OutOfMemory as NoTraceMemory}
@@ -28,11 +26,6 @@ from_logs (BadConfig count) = Logs (BadConfig count)
 from_logs (Log file line fault) = Logs (Log file line fault)
 from_logs (Read file) = Logs (Read file)
 from_logs NoLogMemory = Call OutOfMemory
-
--- why a certificate doesn't hold
-abbrev pub from_certificate : CertificateFault → SearchingFault
-from_certificate (BadCertificate line) = Certificate (BadCertificate line)
-from_certificate NoCertificateMemory = Call OutOfMemory
 
 abbrev pub searching_fault_text : SearchingFault → List ℕ
 searching_fault_text (Trace fault) = codes "refused: trace " ++ trace_text fault

@@ -1,14 +1,13 @@
 -- The traces that files tell, or why they tell none.
-use Rattle.std.specs.Prelude.{◌≡◌, ◌<◌, ⊤, ℕ, List, length, Option, vec_len}
+use Rattle.std.specs.Prelude.{◌≡◌, ⊤, ℕ, List, length, Option, vec_len}
 use Rattle.std.specs.Borrow.{Bor}
-use Rattle.std.specs.List.{AllZip, HoldsAt}
+use Rattle.call_devices.specs.LogFiles.{AreTextsOf, IsUnreadAt, Spelled}
 use Rattle.call_devices.specs.declared.call_fault.CallFault.TheVariants.{OutOfMemory}
 use Rattle.command_line.specs.declared.request.TraceFiles.{TraceFiles}
 use Rattle.command_line.specs.declared.request.TraceFiles.TheVariants.{One, Logs as LogFiles}
 use Rattle.log_file.specs.Devices.{Tells}
-use Rattle.log_file.specs.Sets.{IsFirstOfSet, SpellSet}
+use Rattle.log_file.specs.Sets.{IsFirstOfSet}
 use Rattle.log_record.specs.Entries.{operations_of}
-use Rattle.log_record.specs.declared.record.Record.{Record}
 use Rattle.mem_op.specs.Consistency.{Operation}
 use Rattle.trace.specs.Texts.{HasFirstFault, SpellsTrace}
 use Rattle.trace.specs.declared.fault.TraceFault.{TraceFault}
@@ -24,14 +23,9 @@ use Rattle.search_commands.specs.declared.fault.SearchingFault.TheVariants.{Trac
 abbrev pub SpellsTraceAt : (List ℕ → Option (List ℕ)) → List ℕ → List (List Operation) → Type 0
 SpellsTraceAt told name cores = (text : List ℕ) × Tells (told name) text × SpellsTrace text cores
 
--- these are the texts of the files, of each that the folder tells
-abbrev pub AreTextsOf : (List ℕ → Option (List ℕ)) → List (Bor (List ℕ)) → List (List ℕ) → Type 0
-AreTextsOf told names texts = AllZip (λ name text. Tells (told name.now) text) names texts
-
 -- the texts of the files spell the logs of a set, of which this is the trace
 abbrev pub SpellLogsAt : (List ℕ → Option (List ℕ)) → List (Bor (List ℕ)) → List (List Operation) → Type 0
-SpellLogsAt told names cores =
-    (texts : List (List ℕ)) × AreTextsOf told names texts × ((logs : List (List Record)) × SpellSet texts logs × (cores ≡ operations_of logs))
+SpellLogsAt told names cores = Spelled told names (λ logs. cores ≡ operations_of logs)
 
 -- the files tell this trace
 abbrev pub IsTraceIn : (List ℕ → Option (List ℕ)) → TraceFiles → List (List Operation) → Type 0
@@ -49,10 +43,6 @@ abbrev pub IsTextFault : (List ℕ → Option (List ℕ)) → List ℕ → Trace
 IsTextFault told name (BadTraceLine line) = (text : List ℕ) × Tells (told name) text × HasFirstFault text (BadTraceLine line)
 IsTextFault told name (TooMany line) = (text : List ℕ) × Tells (told name) text × HasFirstFault text (TooMany line)
 IsTextFault told name NoTraceMemory = ⊥
-
--- this is the number of one of the names, that of a file that can't be read
-abbrev pub IsUnreadAt : (List ℕ → Type 0) → List (Bor (List ℕ)) → ℕ → Type 0
-IsUnreadAt unread names file = (file < length names) × HoldsAt (λ name. unread name.now) names file
 
 -- Why the files tell no logs: their number is out of range, which is told before one is opened, or the first fault of the set, or one that
 -- can't be opened or read.

@@ -1,7 +1,7 @@
 //! Why a command that looks at a trace was refused.
 
 ghost use Rattle.std.specs.Prelude.{◌≡◌};
-ghost use Rattle.search_commands.specs.Faults.{from_certificate, from_logs, from_trace, searching_fault_status};
+ghost use Rattle.search_commands.specs.Faults.{from_logs, from_trace, searching_fault_status};
 ghost use Rattle.search_commands.specs.declared.fault.SearchingFault.TheVariants.{Call};
 ghost use Rattle.call_devices.specs.declared.call_fault.CallFault.TheVariants as call;
 
@@ -107,17 +107,6 @@ impl From<JudgeFault> for SearchingFault {
         match reason {
             JudgeFault::OutOfMemory => SearchingFault::Call(CallFault::OutOfMemory),
             reason => SearchingFault::Logs(reason),
-        }
-    }
-}
-
-impl From<CertificateFault> for SearchingFault {
-    ghost from_gives = { λ reason fault. fault ≡ from_certificate reason };
-
-    fn from(reason: CertificateFault) -> SearchingFault {
-        match reason {
-            CertificateFault::OutOfMemory => SearchingFault::Call(CallFault::OutOfMemory),
-            reason => SearchingFault::Certificate(reason),
         }
     }
 }

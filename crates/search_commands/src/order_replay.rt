@@ -1,6 +1,6 @@
 //! Where a list of ids goes wrong as an order.
 
-ghost use Rattle.std.specs.Prelude.{◌≡◌, ◌<◌, ◌^◌, ◌↔◌, ℕ, IsTrue, IfOk, IfSome, MatchOption, length, slice_index, vec_len};
+ghost use Rattle.std.specs.Prelude.{◌≡◌, ◌<◌, ◌^◌, ◌↔◌, IsTrue, IfOk, IfSome, MatchOption, length, vec_len};
 ghost use Rattle.flat_replay.specs.Memory.{IsAnsweredBy};
 ghost use Rattle.flat_replay.specs.inner.Words.{word_at};
 ghost use Rattle.search_commands.specs.OrderTexts.{ComeInOrder, IsFirstWrongId};
@@ -21,7 +21,7 @@ pub(crate) fn first_wrong_id(
         (IsFirstWrongId trace.now ids.now)) }
     ensures in_range { IfOk result (λ wrong. IfSome wrong (λ place. place < 2 ^ 63)) }
 {
-    let mut next = zeros(alloc, trace.cores().len())?;
+    let mut next = vec![in alloc; 0u64; trace.cores().len()]?;
     let mut memory = BTreeMap::new(alloc);
     'replaying: for (place, id) in ids.iter().enumerate() {
         let Some(access) = trace.operation(id) else {
@@ -37,14 +37,6 @@ pub(crate) fn first_wrong_id(
         memory.insert(access.addr(), access.word_left())?;
     }
     Ok(None)
-}
-
-/// `length` zeros.
-fn zeros(alloc: Global, length: usize) -> Result<Vec<u64>, AllocError>
-    ensures length { IfOk result (λ v. vec_len v ≡ length) }
-    ensures zero { IfOk result (λ v. (k : ℕ) → slice_index v.items k ≡ 0) }
-{
-    vec![in alloc; 0; length]
 }
 
 /// Whether an operation may find the word that the memory has at its address: a load or a swap reads it.

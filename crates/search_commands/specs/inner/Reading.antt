@@ -1,15 +1,11 @@
--- What the reading of a trace's text answers, and why files aren't opened.
-use Rattle.std.specs.Prelude.{◌≡◌, ◌<◌, ⊤, ℕ, List, length, Option, Some, Result, Ok, Err, IfSome}
+-- What the reading of a trace's text answers.
+use Rattle.std.specs.Prelude.{⊤, ℕ, List, Option, Result, Ok, Err}
 use Rattle.std.specs.Borrow.{Bor}
-use Rattle.std.specs.List.{AllZip}
-use Rattle.call_devices.specs.Files.{Files, one_more_unopened}
 use Rattle.call_devices.specs.declared.call_fault.CallFault.TheVariants.{OutOfMemory}
 use Rattle.mem_op.specs.Consistency.{Operation}
 use Rattle.trace.specs.Texts.{HasFirstFault, SpellsTrace}
 use Rattle.trace.specs.declared.fault.TraceFault.{TraceFault}
 use Rattle.trace.specs.declared.fault.TraceFault.TheVariants.{BadTraceLine, TooMany, OutOfMemory as NoTraceMemory}
-use Rattle.verdict.specs.declared.judge_fault.JudgeFault.{JudgeFault}
-use Rattle.verdict.specs.declared.judge_fault.JudgeFault.TheVariants.{Read, OutOfMemory as NoLogMemory}
 use Rattle.search_commands.specs.declared.fault.SearchingFault.{SearchingFault}
 use Rattle.search_commands.specs.declared.fault.SearchingFault.TheVariants.{Trace, TraceUnread, Logs, Call}
 use Rattle.search_commands.specs.Traces.{AreNoLogs, IsTextFault}
@@ -34,16 +30,6 @@ IsNoTrace told unread name (Trace fault) = IsTextFault told name fault
 IsNoTrace told unread name TraceUnread = unread name
 IsNoTrace told unread name (Call OutOfMemory) = ⊤
 IsNoTrace told unread name fault = ⊥
-
--- the opening of this file failed, or memory ran out
-abbrev pub IsOpenFault : Files → Files → List (Bor (List ℕ)) → JudgeFault → Type 0
-IsOpenFault old new names (Read file) = (file < length names) × (new ≡ one_more_unopened old)
-IsOpenFault old new names NoLogMemory = new ≡ old
-IsOpenFault old new names fault = ⊥
-
--- these are sources of the files of these names: each tells the bytes that the folder tells
-abbrev pub AreSourcesOf : {S : Type 0} → (List ℕ → Option (List ℕ)) → (S → Option (List ℕ)) → List S → List (Bor (List ℕ)) → Type 0
-AreSourcesOf told remaining sources names = AllZip (λ source name. IfSome (told name.now) (λ bytes. remaining source ≡ Some bytes)) sources names
 
 -- why there are no logs in the files of these names
 abbrev pub AreLogless : (List ℕ → Option (List ℕ)) → (List ℕ → Type 0) → List (Bor (List ℕ)) → SearchingFault → Type 0

@@ -5,8 +5,10 @@ use Rattle.verdict.specs.Bases.{verdict_in}
 use Rattle.verdict.specs.declared.judge_fault.Count.TheVariants.{Files, Workers, Programs}
 use Rattle.verdict.specs.declared.judge_fault.JudgeFault.TheVariants.{BadConfig}
 use Rattle.call_devices.specs.Files.{IsUnread}
-use Rattle.judge_commands.specs.Checking.{AreNotAsMany, AreSourcesOf}
-use Rattle.judge_commands.proofs.Checks.{not_opened, only_opened, told_by_sources, unread_at}
+use Rattle.call_devices.specs.LogFiles.{AreSourcesOf}
+use Rattle.call_devices.proofs.LogFiles.{only_opened, told_by_sources, unread_at}
+use Rattle.judge_commands.specs.Checking.{AreNotAsMany}
+use Rattle.judge_commands.proofs.Checks.{not_opened}
 use Rattle.judge_commands.proofs.Explained.{checked_against, err_in, flat_by, reader_failed_in, some_set, yes_in}
 use Rattle.judge_commands.proofs.check_files.examine_files.Goals as goal
 

@@ -3,9 +3,9 @@ use Rattle.std.proofs.lemmas.Slice.Zip.{AllZip-long}
 use Rattle.verdict.specs.Counts.{IsInRange}
 use Rattle.call_devices.specs.Files.{IsUnread}
 use Rattle.call_devices.specs.Sinks.{sink_of}
-use Rattle.judge_commands.specs.Checking.{AreSourcesOf}
+use Rattle.call_devices.specs.LogFiles.{AreSourcesOf}
+use Rattle.call_devices.proofs.LogFiles.{files_refused, only_opened, told_by_sources}
 use Rattle.judge_commands.specs.Faults.{from_judge, from_merge}
-use Rattle.judge_commands.proofs.Checks.{only_opened, told_by_sources}
 use Rattle.judge_commands.proofs.Orders.{consistent_if, merged, not_counted, not_opened, reads_at, taken}
 use Rattle.judge_commands.proofs.order_files.order.Goals as goal
 
@@ -16,7 +16,7 @@ returns-in_err-check_counts-clause-exact g c =
     let is : c.from_residual.result ≡ Err (from_judge c.in_err-check_counts.field-0.0) = search rules in
     let many : c.len.result ≡ vec_len c.args.asked.now.files = search rules in
     rw is (not_counted old.told (IsUnread g.F.Source.ByteSource.remaining g.F.Source.ByteSource.failed old old) c.args.asked.now (sink_of g.O.ByteSink.contents g.O.ByteSink.failed c.args.out.now) c.len.result c.in_err-check_counts.field-0.0 many
-    c.in_err-check_counts.ensures.ok c.in_err-check_counts.ensures.err c.in_err-check_counts.ensures.files c.in_err-check_counts.ensures.workers)
+    (files_refused c.len.result c.in_err-check_counts.field-0.0 c.in_err-check_counts.ensures.ok c.in_err-check_counts.ensures.err c.in_err-check_counts.ensures.files c.in_err-check_counts.ensures.workers))
 
 pub returns-in_err-sources-clause-exact : goal.returns-in_err-sources-clause-exact
 returns-in_err-sources-clause-exact g c =

@@ -3,14 +3,16 @@ use Rattle.std.specs.Borrow.{Bor}
 use Rattle.std.specs.Global.{Vec}
 use Rattle.log_record.specs.Entries.{record_lists}
 use Rattle.log_record.specs.declared.record.Record.{Record}
-use Rattle.judge_commands.specs.Upgrading.{IsUnspelled, Spelled}
 use Rattle.verdict.specs.Counts.{IsInRange}
 use Rattle.judge_commands.specs.Faults.{from_judge}
 use Rattle.call_devices.specs.Files.{Files, IsUnread}
+use Rattle.call_devices.specs.LogFiles.{IsUnspelled, Spelled}
+use Rattle.call_devices.proofs.Files.{keeps_told}
+use Rattle.call_devices.proofs.LogFiles.{files_refused, only_read}
 use Rattle.call_devices.specs.Logs.{ArePut, ArePutUpTo, IsUnwritten, KeepsOthers}
 use Rattle.log_record.specs.declared.format.Format.TheVariants.{Two}
 use Rattle.judge_commands.specs.inner.Reading.{read_log_of}
-use Rattle.judge_commands.proofs.Upgrades.{keeps_unspelled, not_counted, not_read, not_written, written}
+use Rattle.judge_commands.proofs.Upgrades.{not_counted, not_read, not_written, written}
 use Rattle.judge_commands.specs.declared.fault.JudgingFault.TheVariants.{Call}
 use Rattle.judge_commands.proofs.upgrade_files.upgrade.Goals as goal
 
@@ -20,13 +22,13 @@ returns-in_err-check_counts-clause-exact g c =
     let is : c.from_residual.result ≡ Err (from_judge c.in_err-check_counts.field-0.0) = search rules in
     let files : c.len.result ≡ vec_len c.args.asked.now.files = search rules in
     rw is (not_counted old (IsUnread g.F.Source.ByteSource.remaining g.F.Source.ByteSource.failed old old) c.args.asked.now c.len.result c.in_err-check_counts.field-0.0 files
-    c.in_err-check_counts.ensures.ok c.in_err-check_counts.ensures.err c.in_err-check_counts.ensures.files c.in_err-check_counts.ensures.workers)
+    (files_refused c.len.result c.in_err-check_counts.field-0.0 c.in_err-check_counts.ensures.ok c.in_err-check_counts.ensures.err c.in_err-check_counts.ensures.files c.in_err-check_counts.ensures.workers))
 
 pub returns-in_err-read-clause-exact : goal.returns-in_err-read-clause-exact
 returns-in_err-read-clause-exact g c =
     let files = g.F.Folder.files in
     let old = files c.args.folder.now in
-    let new = files c.read_files.new.folder in
+    let new = files c.read_log_files.new.folder in
     let unread = IsUnread g.F.Source.ByteSource.remaining g.F.Source.ByteSource.failed old new in
     let is : c.from_residual-in_err-read.result ≡ Err (from_judge c.in_err-read.field-0.0) = search rules in
     let range : IsInRange (vec_len c.args.asked.now.files) = search rules in
@@ -37,9 +39,9 @@ pub returns-in_err-read-clause-files : goal.returns-in_err-read-clause-files
 returns-in_err-read-clause-files g c name none =
     let files = g.F.Folder.files in
     let old = files c.args.folder.now in
-    let new = files c.read_files.new.folder in
+    let new = files c.read_log_files.new.folder in
     let unread = IsUnread g.F.Source.ByteSource.remaining g.F.Source.ByteSource.failed old new in
-    ap (λ (told : List ℕ → Option (List ℕ)). told name) (keeps_unspelled old new unread c.as_slice.result.now c.in_err-read.field-0.0 c.in_err-read.ensures.err)
+    ap (λ (told : List ℕ → Option (List ℕ)). told name) (keeps_told old new (only_read old new unread c.as_slice.result.now c.in_err-read.field-0.0 c.in_err-read.ensures.err))
 
 -- the logs that were read are those that are written
 read_logs : (told : List ℕ → Option (List ℕ)) (names given : List (Bor (List ℕ))) (read written : List (Vec Record)) → names ≡ given → read ≡ written

@@ -1,6 +1,6 @@
 use Rattle.std.proofs.Common.{rules}
-use Rattle.search_commands.proofs.LogReads.{not_many}
-use Rattle.search_commands.proofs.log_files.trace_of.Goals as goal
+use Rattle.call_devices.proofs.LogTraces.{not_many}
+use Rattle.call_devices.proofs.log_files.trace_of.Goals as goal
 
 pub unreachable-requires : goal.unreachable-requires
 unreachable-requires c =

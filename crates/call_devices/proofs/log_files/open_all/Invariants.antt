@@ -1,7 +1,7 @@
 -- The files so far are opened, and the folder is as it was.
 use Rattle.std.proofs.Common.{◌≡◌, take}
-use Rattle.search_commands.specs.inner.Reading.{AreSourcesOf}
-use Rattle.search_commands.proofs.log_files.open_all.Given as goal
+use Rattle.call_devices.specs.LogFiles.{AreSourcesOf}
+use Rattle.call_devices.proofs.log_files.open_all.Given as goal
 
 abbrev pub invariant-opening : goal.invariant-opening
 invariant-opening g l = record {

@@ -1,6 +1,6 @@
 use Rattle.std.proofs.Common.{rules, ◌≡◌, ◌++◌, ◌∷◌, ◌∙◌, []}
-use Rattle.search_commands.proofs.Sources.{one_file_more}
-use Rattle.search_commands.proofs.log_files.open_all.Goals as goal
+use Rattle.call_devices.proofs.LogFiles.{one_file_more}
+use Rattle.call_devices.proofs.log_files.open_all.Goals as goal
 
 pub opening-preserved : goal.opening-preserved
 opening-preserved g c =

@@ -1,0 +1,44 @@
+-- The logs in files, or why there are none. `told` gives what the folder tells of the file of each name.
+use Rattle.std.specs.Prelude.{◌≡◌, ◌<◌, ℕ, List, length, Option, Some, IfSome}
+use Rattle.std.specs.Borrow.{Bor}
+use Rattle.std.specs.List.{AllZip, HoldsAt}
+use Rattle.log_file.specs.Devices.{Tells}
+use Rattle.log_file.specs.Sets.{IsFirstOfSet, SpellSet}
+use Rattle.log_record.specs.declared.record.Record.{Record}
+use Rattle.verdict.specs.declared.judge_fault.JudgeFault.{JudgeFault}
+use Rattle.verdict.specs.declared.judge_fault.JudgeFault.TheVariants.{Log, Read, OutOfMemory}
+use Rattle.call_devices.specs.Files.{Files, IsOnlyRead, one_more_unopened}
+
+-- these are sources of the files of these names: each tells the bytes that the folder tells
+abbrev pub AreSourcesOf : {S : Type 0} → (List ℕ → Option (List ℕ)) → (S → Option (List ℕ)) → List S → List (Bor (List ℕ)) → Type 0
+AreSourcesOf told remaining sources names = AllZip (λ source name. IfSome (told name.now) (λ bytes. remaining source ≡ Some bytes)) sources names
+
+-- these are the texts of the files, of each that the folder tells
+abbrev pub AreTextsOf : (List ℕ → Option (List ℕ)) → List (Bor (List ℕ)) → List (List ℕ) → Type 0
+AreTextsOf told names texts = AllZip (λ name text. Tells (told name.now) text) names texts
+
+-- the texts of the files spell logs of which this holds
+abbrev pub Spelled : (List ℕ → Option (List ℕ)) → List (Bor (List ℕ)) → (List (List Record) → Type 0) → Type 0
+Spelled told names Holds =
+    (texts : List (List ℕ)) × AreTextsOf told names texts × ((logs : List (List Record)) × SpellSet texts logs × Holds logs)
+
+-- ---- why there are none
+
+-- the opening of this file failed, or memory ran out
+abbrev pub IsOpenFault : Files → Files → List (Bor (List ℕ)) → JudgeFault → Type 0
+IsOpenFault old new names (Read file) = (file < length names) × (new ≡ one_more_unopened old)
+IsOpenFault old new names OutOfMemory = new ≡ old
+IsOpenFault old new names other = ⊥
+
+-- this is the number of one of the names, that of a file that can't be read
+abbrev pub IsUnreadAt : (List ℕ → Type 0) → List (Bor (List ℕ)) → ℕ → Type 0
+IsUnreadAt unread names file = (file < length names) × HoldsAt (λ name. unread name.now) names file
+
+-- Why no logs are read from the files of these names: their first fault, a file that can't be opened or read, of whose name `unread` holds,
+-- or lack of memory. The folder is as it was, but for an opening that failed.
+abbrev pub IsUnspelled : Files → Files → (List ℕ → Type 0) → List (Bor (List ℕ)) → JudgeFault → Type 0
+IsUnspelled old new unread names (Log file line fault) =
+    (new ≡ old) × (texts : List (List ℕ)) × AreTextsOf old.told names texts × IsFirstOfSet texts file line fault
+IsUnspelled old new unread names (Read file) = IsOnlyRead old new × IsUnreadAt unread names file
+IsUnspelled old new unread names OutOfMemory = IsOnlyRead old new
+IsUnspelled old new unread names other = ⊥
