@@ -1,15 +1,22 @@
 -- What explaining comes to, from what its parts answer.
-use Rattle.std.proofs.Common.{◌≡◌, ap, subst, refl, inl, inr, ℕ, List, length, Option, None, Some, Result, Ok, Err, vec_len, option_copied}
+use Rattle.std.proofs.Common.{◌≡◌, ap, subst, refl, inl, inr, ◌+◌, ℕ, List, [], ◌∷◌, length, arith, Option, None, Some, Result, Ok, Err, vec_len, option_copied}
 use Rattle.std.specs.Prelude.{IfOk, IsErrOf, option_map}
 use Rattle.std.specs.Borrow.{Bor}
+use Rattle.std.proofs.lemmas.Slice.Zip.{AllZip-long}
+use Rattle.core_check.specs.FaultOrder.{core_fault_cmp}
+use Rattle.core_check.specs.declared.fault.RuleFault.{RuleFault}
+use Rattle.line_stamps.specs.Least.{least_of}
 use Rattle.command_line.specs.declared.request.Check.{Check}
 use Rattle.log_record.specs.declared.record.Record.{Record}
 use Rattle.core_program.specs.SetParts.{SetParts}
 use Rattle.core_program.specs.declared.instruction.Instruction.{Instruction}
-use Rattle.log_file.specs.Sets.{ReaderFailed}
-use Rattle.verdict.specs.CoreFaultsOf.{given}
+use Rattle.log_file.specs.Sets.{ReaderFailed, SpellFrom, SpellSet}
+use Rattle.log_file.proofs.Sets.{spelled_short}
+use Rattle.verdict.specs.CoreFaultsOf.{core_faults, given}
+use Rattle.verdict.specs.declared.basis.Basis.{Basis}
+use Rattle.verdict.specs.declared.basis.Basis.TheVariants.{Logs, Index}
 use Rattle.verdict.specs.Counts.{IsInRange, IsOutOfRange}
-use Rattle.verdict.specs.Bases.{IsExaminationOf, IsExaminedBy, verdict_in}
+use Rattle.verdict.specs.Bases.{IsBasisOf, IsExaminationOf, IsExaminedBy, verdict_in}
 use Rattle.verdict.specs.Judgement.{IsYes, OnYes, SpellFlatRunBy, TellsFailures}
 use Rattle.verdict.specs.VerdictOf.{run_verdict_of, verdict_of}
 use Rattle.verdict.specs.declared.answer.Verdict.{Verdict}
@@ -20,11 +27,12 @@ use Rattle.verdict.specs.declared.judge_fault.JudgeFault.TheVariants.{BadConfig,
 use Rattle.std.proofs.KnownBytes.{Keeps-refl}
 use Rattle.command_line.specs.declared.request.Explain.{Explain}
 use Rattle.call_devices.specs.Files.{Files}
-use Rattle.call_devices.specs.LogFiles.{AreTextsOf, IsUnreadAt}
+use Rattle.call_devices.specs.LogFiles.{AreTextsOf, IsUnreadAt, Spelled}
 use Rattle.call_devices.specs.Sinks.{Sink}
 use Rattle.call_devices.specs.declared.call_fault.CallFault.TheVariants.{Output, OutOfMemory}
 use Rattle.judge_commands.specs.Checking.{AreInRange, AreNotAsMany, FilesRunFlatBy, IsAnswerAgainst, IsChecked, IsCheckedAgainst, IsUnprogrammedBy}
 use Rattle.judge_commands.specs.Explaining.{IsExplained}
+use Rattle.judge_commands.specs.inner.Reading.{AreLogsOf, HoldsRecords}
 use Rattle.judge_commands.specs.declared.fault.JudgingFault.{JudgingFault}
 use Rattle.judge_commands.specs.declared.fault.JudgingFault.TheVariants.{PictureUnwritten, Call}
 use Rattle.judge_commands.proofs.Checks.{checked}
@@ -69,11 +77,39 @@ pub flat_by : (told : List ℕ → Option (List ℕ)) (asked : Check) (programs 
 flat_by told asked None texts tell runs = tt
 flat_by told asked (Some programs) texts tell runs = (texts, tell, runs)
 
--- what is examined is some set
-pub some_set : (programs : Option (List (List Instruction))) (texts : List (List ℕ)) (result : Result Examined JudgeFault) → IsExaminedBy programs texts result
-    → IfOk result (λ examined. (logs : List (List Record)) × IsExaminationOf programs logs examined)
-some_set programs texts (Ok examined) by = (by.0, by.2)
-some_set programs texts (Err fault) by = tt
+-- what is examined is the set that the texts of the files spell
+pub examined_set : (told : List ℕ → Option (List ℕ)) (names : List (Bor (List ℕ))) (programs : Option (List (List Instruction))) (texts : List (List ℕ)) (result : Result Examined JudgeFault)
+    → AreTextsOf told names texts → IsExaminedBy programs texts result → IfOk result (λ examined. Spelled told names (λ logs. IsExaminationOf programs logs examined))
+examined_set told names programs texts (Ok examined) tell by = (texts, tell, by)
+examined_set told names programs texts (Err fault) tell by = tt
+
+as_many : (core cores : ℕ) (texts : List (List ℕ)) (logs : List (List Record)) → SpellFrom core cores texts logs → length logs ≡ length texts
+as_many core cores [] [] spell = refl
+as_many core cores [] (log ∷ logs) spell = absurd spell
+as_many core cores (text ∷ texts) [] spell = absurd spell
+as_many core cores (text ∷ texts) (log ∷ logs) spell = let rest = as_many (core + 1) cores texts logs spell.1 in omega (arith, rest)
+
+-- these are the logs that its verdict stands on
+pub logs_examined : (told : List ℕ → Option (List ℕ)) (unread : List ℕ → Type 0) (programs : Option (List (List Instruction))) (asked : Check) (texts : List (List ℕ)) (logs : List (List Record)) (examined : Examined)
+    → IsChecked told unread asked (Ok examined.verdict) → AreTextsOf told asked.files.items texts → SpellSet texts logs → IsExaminationOf programs logs examined
+    → AreLogsOf logs examined.basis (vec_len asked.files)
+logs_examined told unread programs asked texts logs examined (against, are, (range, judged)) tell spell is = record {
+  many = (
+      let as_texts : length logs ≡ length texts = as_many 0 (length texts) texts logs spell in
+      let as_names : length texts ≡ length asked.files.items = AllZip-long _ _ texts tell in
+      let filled = asked.files.ok in
+      omega (arith, as_texts, as_names, filled)
+      );
+  few = range.0.1;
+  short = spelled_short 0 (length texts) texts logs spell;
+  held = held_by (least_of core_fault_cmp (core_faults programs logs)) examined.basis is.basis;
+}
+  where
+    held_by : (o : Option RuleFault) (basis : Basis) → IsBasisOf o logs basis → HoldsRecords logs basis
+    held_by (Some fault) (Logs set) of = of
+    held_by (Some fault) (Index index) of = absurd of
+    held_by None (Logs set) of = absurd of
+    held_by None (Index index) of = of.0
 
 -- ---- no verdict to explain
 

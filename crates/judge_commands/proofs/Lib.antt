@@ -2,4 +2,5 @@ mod Checks
 mod Explained
 mod Orders
 mod OtherOrders
+mod OwnLogs
 mod Upgrades

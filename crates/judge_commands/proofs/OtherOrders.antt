@@ -1,13 +1,19 @@
--- What is told of an answer to a search for another order.
-use Rattle.std.proofs.Common.{◌≡◌, ◌++◌, subst, List, ℕ, Result, Ok, Err, inl, inr}
-use Rattle.std.specs.Prelude.{IfOk}
+-- What is told of an answer to a search for another order, and the logs that it is made over.
+use Rattle.std.proofs.Common.{◌≡◌, ◌∙◌, ◌<◌, ◌≤◌, ◌++◌, ap, sym, subst, List, ℕ, Result, Ok, Err, inl, inr, arith, get_or, length, vec_len}
+use Rattle.std.specs.Prelude.{All, IfOk}
 use Rattle.std.specs.Global.{Vec}
+use Rattle.std.proofs.lemmas.List.{get_or-map, length-map}
+use Rattle.log_record.specs.Entries.{record_lists}
+use Rattle.log_record.specs.declared.record.Record.{Record}
 use Rattle.mem_op.specs.Consistency.{Operation}
+use Rattle.mem_op.specs.Limits.{operation_limit}
 use Rattle.mem_op.specs.declared.id.OpId.{OpId}
 use Rattle.refutation.specs.Answers.{IsRight}
 use Rattle.refutation.specs.declared.answer.Answer.{Answer}
 use Rattle.refutation.specs.declared.answer.Answer.TheVariants as found
+use Rattle.verdict.specs.declared.basis.Basis.{Basis}
 use Rattle.judge_commands.specs.OtherOrders.{TellsOrder, another_text, none_text}
+use Rattle.judge_commands.specs.inner.Reading.{AreLogsOf}
 
 -- an order is told as one
 pub tells_another : {T E : Type 0} (bytes : T → List ℕ) (cores : List (List Operation)) (answer : Answer) (order : Vec OpId) (made : Result T E) → IsRight cores answer
@@ -19,3 +25,16 @@ tells_another bytes cores answer order (Err fault) right is same = tt
 pub tells_none : (cores : List (List Operation)) (answer : Answer) (steps : _) (text argument : List ℕ) → IsRight cores answer → answer ≡ found.Refutation steps
     → text ≡ none_text ++ argument → TellsOrder cores text
 tells_none cores answer steps text argument right is same = inr (inl ((argument, same), subst (IsRight cores) is right))
+
+-- ---- the trace of the logs
+
+-- the logs that a verdict stands on are short enough for a trace
+pub short_logs : (vs : List (Vec Record)) (logs : List (List Record)) (basis : Basis) (cores : ℕ) → record_lists vs ≡ logs → AreLogsOf logs basis cores → All (λ log. vec_len log ≤ operation_limit) vs
+short_logs vs logs basis cores same are k d below =
+    let long = length-map vs (λ (log : Vec Record). log.items) in
+    let as_many : length (record_lists vs) ≡ length logs = ap length same in
+    let there : k < length logs = omega arith in
+    let is : get_or logs k d.items ≡ (get_or vs k d).items = ap (λ ls. get_or ls k d.items) (sym same) ∙ get_or-map (λ (log : Vec Record). log.items) vs k d d.items below in
+    let few : length (get_or vs k d).items ≤ operation_limit = subst (λ (log : List Record). length log ≤ operation_limit) is (are.short k d.items there) in
+    let filled = (get_or vs k d).ok in
+    omega (arith, few, filled)

@@ -8,12 +8,15 @@ use Rattle.command_line.specs.declared.request.Explain.{Explain}
 use Rattle.explain.specs.Pictures.{HasPicture}
 use Rattle.explanation_picture.specs.Pictures.{IsPicture}
 use Rattle.log_file.specs.Devices.{Failed, Tells}
+use Rattle.log_record.specs.Entries.{operations_of}
 use Rattle.verdict.specs.Texts.{verdict_text}
 use Rattle.verdict.specs.declared.answer.Verdict.{Verdict}
 use Rattle.call_devices.specs.Sinks.{line}
 use Rattle.judge_commands.specs.Checking.{IsChecked}
+use Rattle.judge_commands.specs.OtherOrders.{TellsOther}
 use Rattle.call_devices.specs.declared.call_fault.CallFault.TheVariants.{Output, OutOfMemory}
 use Rattle.call_devices.specs.Files.{Files}
+use Rattle.call_devices.specs.LogFiles.{Spelled}
 use Rattle.call_devices.specs.Sinks.{HasFailed, Sink, TakesBeginning}
 use Rattle.judge_commands.specs.declared.fault.JudgingFault.{JudgingFault}
 use Rattle.judge_commands.specs.declared.fault.JudgingFault.TheVariants.{PictureUnwritten, Call}
@@ -23,9 +26,15 @@ abbrev pub IsPictureName : Option (Bor (List ℕ)) → List ℕ → Type 0
 IsPictureName None name = ⊥
 IsPictureName (Some given) name = name ≡ given.now
 
--- the line of a verdict, and then what there is to tell of it
-abbrev pub BeginsWithVerdict : Verdict → List ℕ → Type 0
-BeginsWithVerdict verdict text = (more : List ℕ) × (text ≡ line (verdict_text verdict) ++ more)
+-- what is told of another order, which is true of the operations of the set that the texts of the files spell
+abbrev pub TellsOtherOf : (List ℕ → Option (List ℕ)) → Explain → Verdict → List ℕ → Type 0
+TellsOtherOf told asked verdict text =
+    Spelled told asked.check.files.items (λ logs. TellsOther asked.no_search verdict (operations_of logs) text)
+
+-- the line of a verdict, then why it is so, and last what is told of another order
+abbrev pub TellsVerdict : (List ℕ → Option (List ℕ)) → Explain → Verdict → List ℕ → Type 0
+TellsVerdict told asked verdict text =
+    (why : List ℕ) × (last : List ℕ) × (text ≡ line (verdict_text verdict) ++ (why ++ last)) × TellsOtherOf told asked verdict last
 
 -- a picture was put under this name, and nothing else
 pub record PutsPicture (old new : Files) (name : List ℕ) : Type 0 where
@@ -54,10 +63,10 @@ Judged old unread asked Holds = (verdict : Verdict) × IsChecked old.told unread
 abbrev pub IsExplained : Files → Files → (List ℕ → Type 0) → Explain → Sink → Sink → Result Verdict JudgingFault → Type 0
 IsExplained old new unread asked out out' (Ok verdict) =
     IsChecked old.told unread asked.check (Ok verdict) × PutsPictureAt verdict old new asked.picture
-    × (text : List ℕ) × BeginsWithVerdict verdict text × Appends out.contents out'.contents text
+    × (text : List ℕ) × TellsVerdict old.told asked verdict text × Appends out.contents out'.contents text
 IsExplained old new unread asked out out' (Err (Call Output)) =
     Judged old unread asked.check (λ verdict. PutsPictureAt verdict old new asked.picture × HasFailed out out'
-    × (text : List ℕ) × BeginsWithVerdict verdict text × TakesBeginning out out' text)
+    × (text : List ℕ) × TellsVerdict old.told asked verdict text × TakesBeginning out out' text)
 IsExplained old new unread asked out out' (Err PictureUnwritten) =
     Judged old unread asked.check (λ verdict. FailsPictureAt verdict old new asked.picture) × Keeps out.contents out'.contents
 IsExplained old new unread asked out out' (Err (Call OutOfMemory)) = Keeps out.contents out'.contents

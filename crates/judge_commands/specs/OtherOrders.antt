@@ -1,6 +1,10 @@
 -- What is told of an order that explains all values, whatever the times say.
-use Rattle.std.specs.Prelude.{◌≡◌, ◌⊎◌, ℕ, List, ◌++◌, codes}
+use Rattle.std.specs.Prelude.{◌≡◌, ◌≢◌, ◌≤◌, ◌⊎◌, Bool, false, ℕ, List, [], ◌++◌, codes}
 use Rattle.mem_op.specs.Consistency.{Operation, IsConsistent}
+use Rattle.refutation_text.specs.FirstLines.{operation_count}
+use Rattle.verdict.specs.declared.answer.Verdict.{Verdict}
+use Rattle.verdict.specs.declared.answer.Verdict.TheVariants.{Yes, No}
+use Rattle.verdict.specs.declared.rule.Rule.TheVariants.{Program}
 
 abbrev pub another_text : List ℕ
 another_text = codes "\nanother order explains all values: the times are wrong, or the sources\n"
@@ -16,3 +20,19 @@ abbrev pub TellsOrder : List (List Operation) → List ℕ → Type 0
 TellsOrder cores text =
     ((text ≡ another_text) × IsConsistent cores)
     ⊎ ((((argument : List ℕ) × (text ≡ none_text ++ argument)) × ¬ (IsConsistent cores)) ⊎ (text ≡ undecided_text))
+
+-- it is by its order that a set got No, and not by a program: another order may mend that
+abbrev pub IsWrongByOrder : Verdict → Type 0
+IsWrongByOrder (Yes count) = ⊥
+IsWrongByOrder (No fault) = fault.rule ≢ Program
+
+-- another order of these operations is searched: that isn't declined, their set got No by its order, and they are at most 100,000
+pub record IsSearched (is_declined : Bool) (verdict : Verdict) (cores : List (List Operation)) : Type 0 where
+  pub asked : is_declined ≡ false
+  pub wrong : IsWrongByOrder verdict
+  pub few : operation_count cores ≤ 100000
+
+-- what is told of another order of these operations, whose set got this verdict: nothing where none is searched
+abbrev pub TellsOther : Bool → Verdict → List (List Operation) → List ℕ → Type 0
+TellsOther is_declined verdict cores text =
+    (IsSearched is_declined verdict cores × TellsOrder cores text) ⊎ ((¬ (IsSearched is_declined verdict cores)) × (text ≡ []))

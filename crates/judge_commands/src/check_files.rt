@@ -1,8 +1,8 @@
 //! The check of the logs of a set.
 
-ghost use Rattle.std.specs.Prelude.{◌≡◌, List, IfErr, IfOk, OnOk, MatchResult, option_map};
+ghost use Rattle.std.specs.Prelude.{◌≡◌, IfErr, IfOk, OnOk, MatchResult, option_map};
 ghost use Rattle.call_devices.specs.Files.{IsOnlyRead, IsUnread};
-ghost use Rattle.log_record.specs.declared.record.Record.{Record};
+ghost use Rattle.call_devices.specs.LogFiles.{Spelled};
 ghost use Rattle.verdict.specs.Bases.{IsExaminationOf, verdict_in};
 ghost use Rattle.verdict.specs.CoreFaultsOf.{given};
 ghost use Rattle.verdict.specs.Judgement.{IsYes};
@@ -65,8 +65,8 @@ pub(crate) fn examine_asked<R: Threads + Sync, F: Folder>(
         asked.now (Err fault)) }
     ensures quiet { OnOk result (F.files folder.new ≡ F.files folder.old) }
     ensures read { IsOnlyRead (F.files folder.old) (F.files folder.new) }
-    ensures examined { IfOk result (λ found. (logs : List (List Record))
-        × IsExaminationOf (option_map (λ set. set.programs) found.programs) logs found.examined) }
+    ensures examined { IfOk result (λ found. Spelled (F.files folder.old).told asked.now.files.items
+        (λ logs. IsExaminationOf (option_map (λ set. set.programs) found.programs) logs found.examined)) }
     ensures sound { IfOk result (λ found. IsYes found.examined.verdict
         → checking.FilesAreConsistent (F.files folder.old).told asked.now) }
     ensures flat { IfOk result (λ found. IsYes found.examined.verdict
@@ -116,8 +116,8 @@ fn examine_files<R: Threads + Sync, F: Folder>(
         (given programs.entry) asked.now (verdict_in result) }
     ensures quiet { OnOk result (F.files folder.new ≡ F.files folder.old) }
     ensures read { IsOnlyRead (F.files folder.old) (F.files folder.new) }
-    ensures examined { IfOk result (λ examined. (logs : List (List Record))
-        × IsExaminationOf (given programs.entry) logs examined) }
+    ensures examined { IfOk result (λ examined. Spelled (F.files folder.old).told asked.now.files.items
+        (λ logs. IsExaminationOf (given programs.entry) logs examined)) }
     ensures sound { IfOk result (λ examined. IsYes examined.verdict
         → checking.FilesAreConsistent (F.files folder.old).told asked.now) }
     ensures flat { IfOk result (λ examined. IsYes examined.verdict

@@ -1,6 +1,7 @@
 //! The commands that judge logs in files: `check`, `order`, `explain` and `upgrade`.
 #![tactic(auto)]
 
+mod basis_logs;
 mod check_files;
 mod fault;
 mod order_files;

@@ -1,15 +1,18 @@
 //! Whether a set that got No has another order, one that explains all values.
 
-ghost use Rattle.std.specs.Prelude.{IfOk, string_bytes};
-ghost use Rattle.judge_commands.specs.OtherOrders.{TellsOrder};
+ghost use Rattle.std.specs.Prelude.{◌≡◌, ◌↔◌, List, IfOk, IsTrue, false, string_bytes};
+ghost use Rattle.log_record.specs.Entries.{operations_of};
+ghost use Rattle.log_record.specs.declared.record.Record.{Record};
+ghost use Rattle.judge_commands.specs.OtherOrders.{IsWrongByOrder, TellsOrder, TellsOther};
+ghost use Rattle.judge_commands.specs.inner.Reading.{AreLogsOf};
 
-use address_check::AddressIndex;
-use log_record::{Entry, Record};
+use super::basis_logs::logs_of;
+use call_devices::trace_of;
 use refutation::Answer;
 use refutation_text::{argue, count_of};
 use search::{SearchWatch, search_watched};
 use std::alloc::{AllocError, Global};
-use trace::{Refusal, Trace};
+use trace::Trace;
 use verdict::{Basis, Examined, Rule, Verdict};
 
 /// The most operations of a set for which another order is searched.
@@ -37,11 +40,15 @@ pub(crate) fn other_order<W: SearchWatch>(
     watch: &W,
     examined: &Examined,
     cores: usize,
-) -> Result<String, AllocError> {
+) -> Result<String, AllocError>
+    requires { (logs : List (List Record)) × AreLogsOf logs examined.now.basis cores }
+    ensures { (logs : List (List Record)) → AreLogsOf logs examined.now.basis cores
+        → IfOk result (λ text. TellsOther false examined.now.verdict (operations_of logs) (string_bytes text)) }
+{
     if !is_wrong_by_its_order(&examined.verdict) {
         return Ok(String::new(alloc));
     }
-    let trace = trace_of(alloc, &examined.basis, cores)?;
+    let trace = trace_of_basis(alloc, &examined.basis, cores)?;
     if count_of(&trace) > MOST_SEARCHED {
         return Ok(String::new(alloc));
     }
@@ -49,7 +56,9 @@ pub(crate) fn other_order<W: SearchWatch>(
 }
 
 /// Whether it is by its order that a set got No, which another order may mend.
-fn is_wrong_by_its_order(verdict: &Verdict) -> bool {
+fn is_wrong_by_its_order(verdict: &Verdict) -> bool
+    ensures { IsTrue result ↔ IsWrongByOrder verdict.now }
+{
     match verdict {
         Verdict::Yes(_) => false,
         Verdict::No(fault) => fault.rule != Rule::Program,
@@ -78,38 +87,12 @@ fn whether_another<W: SearchWatch>(
     }
 }
 
-/// The trace of the set on which a verdict stands.
-fn trace_of(alloc: Global, basis: &Basis, cores: usize) -> Result<Trace, AllocError> {
-    let logs = match basis {
-        Basis::Logs(set) => set.logs(alloc)?,
-        Basis::Index(index) => logs_of(alloc, index, cores)?,
-    };
-    match Trace::from_logs(alloc, logs.as_slice()) {
-        Ok(trace) => Ok(trace),
-        Err(Refusal::TooMany | Refusal::OutOfMemory) => Err(AllocError),
-    }
-}
-
-/// The logs of a set again, of which an index has all records.
-fn logs_of(
-    alloc: Global,
-    index: &AddressIndex,
-    cores: usize,
-) -> Result<Vec<Vec<Record>>, AllocError> {
-    let mut entries = Vec::from_slice(alloc, index.all())?;
-    entries.sort_unstable_by_key(|entry| entry.id());
-    let mut logs = Vec::with_capacity(alloc, cores)?;
-    for core in 0..cores {
-        logs.push(log_of(alloc, entries.as_slice(), core as u64)?)?;
-    }
-    Ok(logs)
-}
-
-/// The records of a core.
-fn log_of(alloc: Global, entries: &[Entry], core: u64) -> Result<Vec<Record>, AllocError> {
-    entries
-        .iter()
-        .filter(|entry| entry.id().core.get() == core)
-        .map(|entry| entry.logged())
-        .collect(alloc)
+/// The trace of the set that a verdict stands on, of so many cores.
+fn trace_of_basis(alloc: Global, basis: &Basis, cores: usize) -> Result<Trace, AllocError>
+    requires { (logs : List (List Record)) × AreLogsOf logs basis.now cores }
+    ensures { (logs : List (List Record)) → AreLogsOf logs basis.now cores
+        → IfOk result (λ trace. trace ≡ operations_of logs) }
+{
+    let logs = logs_of(alloc, basis, cores)?;
+    trace_of(alloc, logs.as_slice())
 }

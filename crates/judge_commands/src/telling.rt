@@ -1,16 +1,20 @@
 //! The verdict on the logs of a set, and why it is so.
 
-ghost use Rattle.std.specs.Prelude.{◌≡◌, ◌↔◌, ◌++◌, List, IfErr, IfOk, IfSome, IsSome, IsTrue, OnOk, MatchResult, string_bytes};
+ghost use Rattle.std.specs.Prelude.{◌≡◌, ◌↔◌, ◌++◌, ℕ, List, IfErr, IfOk, IfSome, IsSome, IsTrue, OnOk, MatchResult, string_bytes, vec_len};
 ghost use Rattle.explain.specs.Pictures.{HasPicture, IsDrawn};
 ghost use Rattle.explanation_picture.specs.Pictures.{IsPicture};
+ghost use Rattle.log_record.specs.Entries.{operations_of};
 ghost use Rattle.log_record.specs.declared.record.Record.{Record};
 ghost use Rattle.verdict.specs.CoreFaultsOf.{given};
 ghost use Rattle.verdict.specs.Bases.{IsExaminationOf};
 ghost use Rattle.verdict.specs.Judgement.{IsYes};
+ghost use Rattle.verdict.specs.Texts.{verdict_text};
 ghost use Rattle.judge_commands.specs.Checking as checking;
 ghost use Rattle.judge_commands.specs.Explaining as explaining;
 ghost use Rattle.call_devices.specs.Files.{IsOnlyRead, IsUnread, KeepsFiles};
-ghost use Rattle.call_devices.specs.Sinks.{sink_of};
+ghost use Rattle.call_devices.specs.Sinks.{line, sink_of};
+ghost use Rattle.judge_commands.specs.OtherOrders.{TellsOther};
+ghost use Rattle.judge_commands.specs.inner.Reading.{AreLogsOf};
 
 use super::check_files::examine_asked;
 use super::fault::JudgingFault;
@@ -111,8 +115,8 @@ fn tell<R: Threads + Sync, W: SearchWatch, F: Folder>(
         asked.now.check (Err fault)) }
     ensures quiet { OnOk result (F.files folder.new ≡ F.files folder.old) }
     ensures read { IsOnlyRead (F.files folder.old) (F.files folder.new) }
-    ensures text { IfOk result (λ told.
-        explaining.BeginsWithVerdict told.verdict (string_bytes told.text)) }
+    ensures text { IfOk result (λ told. explaining.TellsVerdict (F.files folder.old).told asked.now
+        told.verdict (string_bytes told.text)) }
     ensures picture { IfOk result (λ told. IfSome told.picture (λ svg. IsPicture svg.items)) }
     ensures drawn { IsSome asked.now.picture → IfOk result (λ told. IsSome told.picture ↔ HasPicture told.verdict) }
     ensures sound { IfOk result (λ told. IsYes told.verdict
@@ -139,7 +143,12 @@ fn last_lines<W: SearchWatch>(
     watch: &W,
     examined: &Examined,
     asked: &Explain<'_>,
-) -> Result<String, AllocError> {
+) -> Result<String, AllocError>
+    requires { (logs : List (List Record))
+        × AreLogsOf logs examined.now.basis (vec_len asked.now.check.files) }
+    ensures { (logs : List (List Record)) → AreLogsOf logs examined.now.basis (vec_len asked.now.check.files)
+        → IfOk result (λ text. TellsOther asked.now.no_search examined.now.verdict (operations_of logs) (string_bytes text)) }
+{
     if asked.no_search {
         return Ok(String::new(alloc));
     }
@@ -158,8 +167,8 @@ fn words(
 ) -> Result<Told, AllocError>
     requires { (logs : List (List Record)) × IsExaminationOf (given programs) logs examined.now }
     ensures verdict { IfOk result (λ told. told.verdict ≡ examined.now.verdict) }
-    ensures text { IfOk result (λ told.
-        explaining.BeginsWithVerdict told.verdict (string_bytes told.text)) }
+    ensures text { IfOk result (λ told. (why : List ℕ)
+        × (string_bytes told.text ≡ line (verdict_text told.verdict) ++ (why ++ last.now))) }
     ensures picture { IfOk result (λ told. IfSome told.picture (λ svg. IsPicture svg.items)) }
     ensures drawn { IsTrue is_drawn → IfOk result (λ told. IsSome told.picture ↔ HasPicture told.verdict) }
 {

@@ -6,6 +6,7 @@ use Rattle.verdict.specs.Bases.{IsExaminationOf}
 use Rattle.verdict.specs.declared.answer.Verdict.{Verdict}
 use Rattle.verdict.specs.declared.judge_fault.JudgeFault.{JudgeFault}
 use Rattle.call_devices.specs.Files.{Files, IsUnread}
+use Rattle.call_devices.specs.LogFiles.{Spelled}
 use Rattle.call_devices.proofs.Files.{only_read_after}
 use Rattle.judge_commands.specs.Checking as checking
 use Rattle.judge_commands.specs.Faults.{from_judge}
@@ -76,8 +77,10 @@ returns-in_err-examined-clause-read g c = only_read_after _ _ _ c.in_ok-programs
 
 pub returns-clause-examined : goal.returns-clause-examined
 returns-clause-examined g c =
+    let names = c.args.asked.now.files.items in
     let is = given_is c.as_ref.result c.in_ok-programs.programs c.as_ref.ensures.value in
-    (c.in_ok-examined.ensures.examined.0, subst (λ given. IsExaminationOf given c.in_ok-examined.ensures.examined.0 c.in_ok-examined.examined) is c.in_ok-examined.ensures.examined.1)
+    subst (λ (files : Files). Spelled files.told names (λ logs. IsExaminationOf (option_map (λ s. s.programs) c.in_ok-programs.programs) logs c.in_ok-examined.examined)) c.in_ok-programs.ensures.quiet
+    (subst (λ given. Spelled (g.F.Folder.files c.read_given.new.folder).told names (λ logs. IsExaminationOf given logs c.in_ok-examined.examined)) is c.in_ok-examined.ensures.examined)
 
 pub returns-clause-read : goal.returns-clause-read
 returns-clause-read g c = only_read_after _ _ _ c.in_ok-programs.ensures.quiet c.in_ok-examined.ensures.read

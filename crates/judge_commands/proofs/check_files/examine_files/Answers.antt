@@ -9,7 +9,7 @@ use Rattle.call_devices.specs.LogFiles.{AreSourcesOf}
 use Rattle.call_devices.proofs.LogFiles.{only_opened, told_by_sources, unread_at}
 use Rattle.judge_commands.specs.Checking.{AreNotAsMany}
 use Rattle.judge_commands.proofs.Checks.{not_opened}
-use Rattle.judge_commands.proofs.Explained.{checked_against, err_in, flat_by, reader_failed_in, some_set, yes_in}
+use Rattle.judge_commands.proofs.Explained.{checked_against, err_in, examined_set, flat_by, reader_failed_in, yes_in}
 use Rattle.judge_commands.proofs.check_files.examine_files.Goals as goal
 
 pub returns-in_err-sources-clause-exact : goal.returns-in_err-sources-clause-exact
@@ -64,5 +64,9 @@ returns-clause-flat g c =
 
 pub returns-clause-examined : goal.returns-clause-examined
 returns-clause-examined g c =
+    let told = (g.F.Folder.files c.args.folder.now).told in
+    let remaining = g.F.Source.ByteSource.remaining in
+    let names = c.args.asked.now.files.items in
+    let are : AreSourcesOf told remaining c.as_mut_slice.result.now names = search rules in
     let (texts, tell, upto, by, answers, when_yes) = c.examine.ensures.exact in
-    some_set (given c.args.programs) texts c.examine.result by
+    examined_set told names (given c.args.programs) texts c.examine.result (told_by_sources told remaining _ names texts are tell) by

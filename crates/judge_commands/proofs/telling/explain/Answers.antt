@@ -1,8 +1,12 @@
-use Rattle.std.proofs.Common.{◌≡◌, ap, rules, List, ℕ, Err}
-use Rattle.std.specs.Prelude.{Option}
-use Rattle.call_devices.specs.Files.{IsUnread}
-use Rattle.call_devices.specs.Sinks.{sink_of}
+use Rattle.std.proofs.Common.{◌≡◌, ap, rules, subst, List, ℕ, Err}
+use Rattle.std.specs.Prelude.{Option, string_bytes}
+use Rattle.std.proofs.KnownBytes.{Keeps-refl}
+use Rattle.call_devices.specs.Files.{Files, IsUnread}
+use Rattle.call_devices.specs.Sinks.{HasFailed, TakesBeginning, sink_of}
+use Rattle.call_devices.specs.declared.call_fault.CallFault.TheVariants.{Output}
 use Rattle.call_devices.proofs.Files.{keeps_told}
+use Rattle.judge_commands.specs.Explaining.{FailsPictureAt, PutsPictureAt}
+use Rattle.judge_commands.specs.declared.fault.JudgingFault.TheVariants.{Call}
 use Rattle.judge_commands.proofs.Explained.{untold}
 use Rattle.judge_commands.proofs.telling.explain.Goals as goal
 
@@ -16,3 +20,24 @@ returns-in_err-told-clause-exact g c =
     let unread = IsUnread g.F.Source.ByteSource.remaining g.F.Source.ByteSource.failed (files c.args.folder.now) (files c.tell.new.folder) in
     let is : c.from_residual.result ≡ Err c.in_err-told.field-0.0 = search rules in
     rw is (untold (files c.args.folder.now) (files c.tell.new.folder) unread c.args.asked.now (sink_of g.O.ByteSink.contents g.O.ByteSink.failed c.args.out.now) c.in_err-told.field-0.0 c.in_err-told.ensures.exact)
+
+pub returns-in_err-put_picture-clause-exact : goal.returns-in_err-put_picture-clause-exact
+returns-in_err-put_picture-clause-exact g c =
+    let files = g.F.Folder.files in
+    let new = files c.put_picture.new.folder in
+    let told = c.in_ok-told.told in
+    let fails = subst (λ (f : Files). FailsPictureAt told.verdict f new c.args.asked.now.picture) c.in_ok-told.ensures.quiet c.in_err-put_picture.ensures.err.1 in
+    let is : c.from_residual-in_err-put_picture.result ≡ Err c.in_err-put_picture.field-0.0 = search rules in
+    rw (is, c.in_err-put_picture.ensures.err.0) ((told.verdict, c.in_ok-told.ensures.exact, fails), Keeps-refl (g.O.ByteSink.contents c.args.out.now))
+
+pub returns-in_err-write_all-clause-exact : goal.returns-in_err-write_all-clause-exact
+returns-in_err-write_all-clause-exact g c =
+    let files = g.F.Folder.files in
+    let new = files c.put_picture.new.folder in
+    let told = c.in_ok-told.told in
+    let sink = sink_of g.O.ByteSink.contents g.O.ByteSink.failed in
+    let puts = subst (λ (f : Files). PutsPictureAt told.verdict f new c.args.asked.now.picture) c.in_ok-told.ensures.quiet c.in_ok-put_picture.ensures.ok in
+    let is : c.from_residual-in_err-write_all.result ≡ Err (Call Output) = search rules in
+    let failed : HasFailed (sink c.args.out.now) (sink c.write_all.new.sink) = search rules in
+    let begun : TakesBeginning (sink c.args.out.now) (sink c.write_all.new.sink) (string_bytes told.text) = search rules in
+    rw is (told.verdict, c.in_ok-told.ensures.exact, (puts, failed, string_bytes told.text, c.in_ok-told.ensures.text, begun))
