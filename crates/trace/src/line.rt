@@ -82,11 +82,7 @@ fn swap(bytes: &[u8]) -> Option<(Access, &[u8])>
     let (again, rest) = cell(mark(b";", rest)?)?;
     let (stored, rest) = word(b":=", rest)?;
     let rest = mark(b"}", rest)?;
-    if addr == again {
-        Some((Access::swap(addr, read, stored), rest))
-    } else {
-        None
-    }
+    (addr == again).then_some((Access::swap(addr, read, stored), rest))
 }
 
 /// A load, a store or a swap.
@@ -142,20 +138,12 @@ fn said_of(core: CoreId, bytes: &[u8]) -> Option<TraceLine>
     ensures { result ≡ said_of core bytes.now }
 {
     if let Some(rest) = mark(b"sync", bytes) {
-        return if is_ended(rest) {
-            Some(TraceLine::Nothing)
-        } else {
-            None
-        };
+        return is_ended(rest).then_some(TraceLine::Nothing);
     }
     let Some((access, rest)) = operation(bytes) else {
         return None;
     };
-    if is_ended(rest) {
-        Some(TraceLine::Performs(core, access))
-    } else {
-        None
-    }
+    is_ended(rest).then_some(TraceLine::Performs(core, access))
 }
 
 /// `T:`: the core.
