@@ -32,9 +32,5 @@ pub fn confirm(alloc: Global, trace: &Trace, claim: Answer) -> Result<Answer, Al
         Answer::Refutation(refutation) => refutes(alloc, trace, refutation)?,
         Answer::Undecided => true,
     };
-    if shown {
-        Ok(claim)
-    } else {
-        Ok(Answer::Undecided)
-    }
+    Ok(if shown { claim } else { Answer::Undecided })
 }

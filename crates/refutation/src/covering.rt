@@ -23,12 +23,7 @@ pub(crate) struct Reading {
 fn lies_in(ranges: &[Range], point: &Point) -> bool
     ensures { result ≡ list_any (λ range. is_in range point.now) ranges.now }
 {
-    for range in ranges {
-        if is_up_to(&range.first, point) && is_up_to(point, &range.last) {
-            return true;
-        }
-    }
-    false
+    ranges.iter().any(|range| is_up_to(&range.first, point) && is_up_to(point, &range.last))
 }
 
 /// Whether an operation may give a read its value.

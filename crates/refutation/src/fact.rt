@@ -2,11 +2,9 @@
 
 ghost use Rattle.std.specs.Prelude.{◌≡◌, slice_get};
 ghost use Rattle.refutation.specs.Facts.{earlier_of, later_of};
-ghost use Rattle.refutation.specs.declared.fact.Fact.TheVariants.{Before, Source};
 
 use super::step::{Point, Range};
 use mem_op::OpId;
-use std::marker::Model;
 
 /// What holds of an order in the present case.
 #[derive(Clone, Copy, Debug)]
@@ -17,54 +15,13 @@ pub(crate) enum Fact {
     Source(OpId, Range),
 }
 
-/// A fact that is in force.
-#[derive(Clone, Copy, Debug)]
-pub(crate) struct Known {
-    fact: Fact,
-}
-
-impl Model for Known {
-    ghost use Rattle.refutation.specs.declared.fact.Fact.{Fact};
-
-    ghost Value = { Fact };
-
-    ghost view = { λ k. k.fact };
-
-    ghost inverse = { λ fact. record { fact = fact } };
-}
-
-impl Known {
-    /// That one point is before another.
-    pub(crate) fn before(earlier: Point, later: Point) -> Known
-        ensures { result ≡ Before earlier later }
-    {
-        Known {
-            fact: Fact::Before(earlier, later),
-        }
-    }
-
-    /// That the source of a read lies in a range.
-    pub(crate) fn source(read: OpId, range: Range) -> Known
-        ensures { result ≡ Source read range }
-    {
-        Known {
-            fact: Fact::Source(read, range),
-        }
-    }
-
-    /// The fact.
-    pub(crate) fn get(&self) -> Fact
-        ensures { result ≡ self.now }
-    {
-        self.fact
-    }
-
+impl Fact {
     /// The point that is before the other.
     pub(crate) fn earlier(&self) -> Point
         ensures { result ≡ earlier_of self.now }
     {
-        match self.fact {
-            Fact::Before(earlier, _) => earlier,
+        match self {
+            Fact::Before(earlier, _) => *earlier,
             Fact::Source(_, range) => range.first,
         }
     }
@@ -73,15 +30,15 @@ impl Known {
     pub(crate) fn later(&self) -> Point
         ensures { result ≡ later_of self.now }
     {
-        match self.fact {
-            Fact::Before(_, later) => later,
-            Fact::Source(read, _) => Point::At(read),
+        match self {
+            Fact::Before(_, later) => *later,
+            Fact::Source(read, _) => Point::At(*read),
         }
     }
 }
 
 /// The fact of a number.
-pub(crate) fn fact_at(facts: &[Known], number: usize) -> Option<Known>
+pub(crate) fn fact_at(facts: &[Fact], number: usize) -> Option<Fact>
     ensures { result ≡ slice_get facts.now number }
 {
     facts.get(number).copied()

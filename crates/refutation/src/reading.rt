@@ -14,10 +14,7 @@ use mem_op::{CoreId, OpId, OpIndex};
 fn ends_word(bytes: &[u8]) -> bool
     ensures { result ≡ ends_word bytes.now }
 {
-    match bytes {
-        [] => true,
-        [first, ..] => *first == b' ',
-    }
+    matches!(bytes, [] | [b' ', ..])
 }
 
 /// The core of this number.
@@ -116,11 +113,7 @@ pub(crate) fn fact(bytes: &[u8]) -> Option<(u64, &[u8])>
         return None;
     };
     let number = number?;
-    if ends_word(rest) {
-        Some((number, rest))
-    } else {
-        None
-    }
+    ends_word(rest).then_some((number, rest))
 }
 
 /// An id with ` :` after it, and the bytes after them.

@@ -7,7 +7,7 @@ ghost use Rattle.refutation.specs.Rules.{Gives, AreTwo, HasItsSourceIn, IsOtherW
 ghost use Rattle.refutation.specs.inner.Answers.{TellsGiven, TellsOne, TellsReading, IsCaseOf};
 
 use super::covering::{Reading, cover};
-use super::fact::{Fact, Known, fact_at};
+use super::fact::{Fact, fact_at};
 use super::path::{is_cycle, leads};
 use super::step::{Point, Range, Step};
 use mem_op::OpId;
@@ -28,14 +28,11 @@ fn reading(trace: &Trace, id: &OpId) -> Option<Reading>
 }
 
 /// That a read's source lies in a range, for each of these ranges.
-fn sources(alloc: Global, read: &OpId, ranges: &[Range]) -> Result<Vec<Known>, AllocError>
+fn sources(alloc: Global, read: &OpId, ranges: &[Range]) -> Result<Vec<Fact>, AllocError>
     ensures { IfOk result (λ facts. facts.items ≡ map (λ range. Source read.now range) ranges.now) }
 {
-    let mut facts = Vec::new(alloc);
-    for range in ranges {
-        facts.push(Known::source(*read, *range))?;
-    }
-    Ok(facts)
+    let facts = ranges.iter().map(|range| Fact::Source(*read, *range));
+    facts.collect(alloc)
 }
 
 /// The cases of a split by a read's source. None where it may lie outside of the ranges.
@@ -44,7 +41,7 @@ fn by_source(
     trace: &Trace,
     read: &OpId,
     ranges: &[Range],
-) -> Result<Option<Vec<Known>>, AllocError>
+) -> Result<Option<Vec<Fact>>, AllocError>
     ensures { IfOk result (TellsGiven (λ given.
         HasItsSourceIn trace.now read.now ranges.now × (given ≡ map (λ range. Source read.now range) ranges.now))) }
 {
@@ -67,17 +64,16 @@ fn by_order(
     trace: &Trace,
     one: &OpId,
     other: &OpId,
-) -> Result<Option<Vec<Known>>, AllocError>
+) -> Result<Option<Vec<Fact>>, AllocError>
     ensures { IfOk result (TellsGiven (λ given. AreTwo trace.now one.now other.now
         × (given ≡ Before (At one.now) (At other.now) ∷ Before (At other.now) (At one.now) ∷ []))) }
 {
     if !are_two(trace, one, other) {
         return Ok(None);
     }
-    let mut facts = Vec::new(alloc);
-    facts.push(Known::before(Point::At(*one), Point::At(*other)))?;
-    facts.push(Known::before(Point::At(*other), Point::At(*one)))?;
-    Ok(Some(facts))
+    let (one, other) = (Point::At(*one), Point::At(*other));
+    let (first, second) = (Fact::Before(one, other), Fact::Before(other, one));
+    Ok(Some(vec![in alloc; first, second]?))
 }
 
 /// Whether an operation writes the address of a read, and is neither the read nor the last point of its source.
@@ -93,19 +89,19 @@ fn is_other_write(trace: &Trace, read: &OpId, last: &Point, write: &OpId) -> boo
 /// That a read is before a write, to which the path leads from the last point of the read's source.
 fn from_read(
     trace: &Trace,
-    facts: &[Known],
+    facts: &[Fact],
     source: usize,
     write: &OpId,
     path: &[usize],
-) -> Option<Known>
+) -> Option<Fact>
     ensures { TellsOne (IsFromRead trace.now facts.now source write.now path.now) result }
 {
-    let Fact::Source(read, range) = fact_at(facts, source)?.get() else {
+    let Fact::Source(read, range) = fact_at(facts, source)? else {
         return None;
     };
     let at = Point::At(*write);
     if is_other_write(trace, &read, &range.last, write) && leads(facts, &range.last, path, &at) {
-        Some(Known::before(Point::At(read), at))
+        Some(Fact::Before(Point::At(read), at))
     } else {
         None
     }
@@ -114,45 +110,43 @@ fn from_read(
 /// That a write, from which the path leads to a read, is before the last point of the read's source.
 fn write_order(
     trace: &Trace,
-    facts: &[Known],
+    facts: &[Fact],
     source: usize,
     write: &OpId,
     path: &[usize],
-) -> Option<Known>
+) -> Option<Fact>
     ensures { TellsOne (IsWriteOrder trace.now facts.now source write.now path.now) result }
 {
-    let Fact::Source(read, range) = fact_at(facts, source)?.get() else {
+    let Fact::Source(read, range) = fact_at(facts, source)? else {
         return None;
     };
     let at = Point::At(*write);
     if is_other_write(trace, &read, &range.last, write)
         && leads(facts, &at, path, &Point::At(read))
     {
-        Some(Known::before(at, range.last))
+        Some(Fact::Before(at, range.last))
     } else {
         None
     }
 }
 
 /// The one case of a fact that follows.
-fn one_case(alloc: Global, fact: Option<Known>) -> Result<Option<Vec<Known>>, AllocError>
+fn one_case(alloc: Global, fact: Option<Fact>) -> Result<Option<Vec<Fact>>, AllocError>
     ensures { IfOk result (λ facts. IsCaseOf fact facts) }
 {
     let Some(fact) = fact else {
         return Ok(None);
     };
-    let mut facts = Vec::new(alloc);
-    facts.push(fact)?;
-    Ok(Some(facts))
+    Ok(Some(vec![in alloc; fact]?))
 }
 
 /// The facts of the cases that a step gives, where these are in force. None where the step isn't right.
 pub(crate) fn given(
     alloc: Global,
     trace: &Trace,
-    facts: &[Known],
+    facts: &[Fact],
     step: &Step,
-) -> Result<Option<Vec<Known>>, AllocError>
+) -> Result<Option<Vec<Fact>>, AllocError>
     ensures { IfOk result (TellsGiven (Gives trace.now facts.now step.now)) }
 {
     match step {
@@ -174,12 +168,6 @@ pub(crate) fn given(
             alloc,
             write_order(trace, facts, *source, write, path.as_slice()),
         ),
-        Step::Cycle { path } => {
-            if is_cycle(facts, path.as_slice()) {
-                Ok(Some(Vec::new(alloc)))
-            } else {
-                Ok(None)
-            }
-        }
+        Step::Cycle { path } => { Ok(is_cycle(facts, path.as_slice()).then_some(Vec::new(alloc))) }
     }
 }
