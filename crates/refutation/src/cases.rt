@@ -4,7 +4,7 @@ ghost use Rattle.std.specs.Prelude.{◌≡◌, [], ◌∷◌, ◌++◌, ℕ, IfO
 ghost use Rattle.refutation.specs.Refuting.{split};
 ghost use Rattle.refutation.specs.inner.Waiting.{waiting_on};
 
-use super::fact::Fact;
+use super::fact::Known;
 use std::alloc::{AllocError, Global};
 use std::marker::Model;
 
@@ -12,7 +12,7 @@ use std::marker::Model;
 #[derive(Clone, Copy, Debug)]
 struct Waiting {
     kept: usize,
-    fact: Fact,
+    fact: Known,
 }
 
 impl Model for Waiting {
@@ -28,7 +28,7 @@ impl Model for Waiting {
 /// The cases that are open, of which there is one: the facts in force in the first, and the others, which wait.
 #[derive(Drop)]
 pub(crate) struct Cases {
-    facts: Vec<Fact>,
+    facts: Vec<Known>,
     waiting: Vec<Waiting>,
 }
 
@@ -47,7 +47,7 @@ impl Model for Cases {
 fn add_cases(
     waiting: &mut Vec<Waiting>,
     kept: usize,
-    mut given: Vec<Fact>,
+    mut given: Vec<Known>,
 ) -> Result<(), AllocError>
     ensures { OnOk result (reverse waiting.new.items ≡ map (waiting_on kept) given.items ++ reverse waiting.old.items) }
 {
@@ -69,14 +69,14 @@ impl Cases {
     }
 
     /// The facts in force in the first.
-    pub(crate) fn facts(&self) -> &[Fact]
+    pub(crate) fn facts(&self) -> &[Known]
         ensures { result.now ≡ self.now.facts }
     {
         &self.facts
     }
 
     /// The cases that are left when the first is split into those of these facts. None where none is.
-    pub(crate) fn split(self, given: Vec<Fact>) -> Result<Option<Cases>, AllocError>
+    pub(crate) fn split(self, given: Vec<Known>) -> Result<Option<Cases>, AllocError>
         ensures { IfOk result (λ left. let now = split self.facts given.items ++ self.others in
             MatchOption left (now ≡ []) (λ next. now ≡ next.facts ∷ next.others)) }
     {

@@ -52,18 +52,33 @@ fn push_ranges(text: &mut String, ranges: &[Range]) -> Result<(), AllocError>
 }
 
 /// Puts the numbers of a path behind a text.
-#[tactic(auto, using(decimal_text::proofs::Printing::numeral_decimal))]
 fn push_path(text: &mut String, path: &[usize]) -> Result<(), AllocError>
     ensures { OnOk result (string_bytes text.new ≡ string_bytes text.old ++ spaced numeral path.now) }
 {
     for number in path {
-        write!(text, " {number}")?;
+        push_number(text, *number)?;
     }
     Ok(())
 }
 
+/// Puts a number behind a text.
+#[tactic(auto, using(decimal_text::proofs::Printing::numeral_decimal))]
+fn push_number(text: &mut String, number: usize) -> Result<(), AllocError>
+    ensures { OnOk result (string_bytes text.new ≡ string_bytes text.old ++ 32 ∷ numeral number) }
+{
+    write!(text, " {number}")
+}
+
+/// Puts the number of a fact and a space behind a text.
+#[tactic(auto, using(decimal_text::proofs::Printing::numeral_decimal))]
+fn push_source(text: &mut String, source: usize) -> Result<(), AllocError>
+    ensures { OnOk result (string_bytes text.new ≡ string_bytes text.old ++ (numeral source ++ 32 ∷ [])) }
+{
+    write!(text, "{source} ")
+}
+
 /// Puts the number of a fact, a write and a path behind a text.
-#[tactic(auto, using(decimal_text::proofs::Printing::numeral_decimal), unfolding(crate::specs::Grammar::reason_text))]
+#[tactic(auto, unfolding(crate::specs::Grammar::reason_text))]
 fn push_reason(
     text: &mut String,
     source: usize,
@@ -72,8 +87,9 @@ fn push_reason(
 ) -> Result<(), AllocError>
     ensures { OnOk result (string_bytes text.new ≡ string_bytes text.old ++ reason_text source write.now path.now) }
 {
+    push_source(text, source)?;
     let write = Point::At(*write);
-    write!(text, "{source} {write} :")?;
+    write!(text, "{write} :")?;
     push_path(text, path.as_slice())
 }
 

@@ -36,12 +36,8 @@ fn index_of(number: u64) -> Option<OpIndex>
 pub(crate) fn id(bytes: &[u8]) -> Option<(OpId, &[u8])>
     ensures { front_now result ≡ id_at bytes.now }
 {
-    let Some((core, rest)) = read_field(b'.', bytes) else {
-        return None;
-    };
-    let Some((index, rest)) = read_number(rest) else {
-        return None;
-    };
+    let (core, rest) = read_field(b'.', bytes)?;
+    let (index, rest) = read_number(rest)?;
     let core = core_of(core?)?;
     let index = index_of(index?)?;
     Some((OpId { core, index }, rest))
@@ -97,11 +93,8 @@ pub(crate) fn range(bytes: &[u8]) -> Option<(Range, &[u8])>
     if let Some(behind) = after_text(b"..", rest) {
         return last(first, behind);
     }
-    if !ends_word(rest) {
-        return None;
-    }
     let last = first;
-    Some((Range { first, last }, rest))
+    ends_word(rest).then_some((Range { first, last }, rest))
 }
 
 /// A space and then the number of a fact, and the bytes after them.
@@ -109,9 +102,7 @@ pub(crate) fn range(bytes: &[u8]) -> Option<(Range, &[u8])>
 pub(crate) fn fact(bytes: &[u8]) -> Option<(u64, &[u8])>
     ensures { front_now result ≡ fact_at bytes.now }
 {
-    let Some((number, rest)) = read_number(after_text(b" ", bytes)?) else {
-        return None;
-    };
+    let (number, rest) = read_number(after_text(b" ", bytes)?)?;
     let number = number?;
     ends_word(rest).then_some((number, rest))
 }
@@ -132,8 +123,6 @@ pub(crate) fn named(bytes: &[u8]) -> Option<(OpId, &[u8])>
 pub(crate) fn source(bytes: &[u8]) -> Option<(u64, &[u8])>
     ensures { front_now result ≡ source_at bytes.now }
 {
-    let Some((number, rest)) = read_field(b' ', bytes) else {
-        return None;
-    };
+    let (number, rest) = read_field(b' ', bytes)?;
     Some((number?, rest))
 }

@@ -7,7 +7,7 @@ ghost use Rattle.refutation.specs.Rules.{Gives, AreTwo, HasItsSourceIn, IsOtherW
 ghost use Rattle.refutation.specs.inner.Answers.{TellsGiven, TellsOne, TellsReading, IsCaseOf};
 
 use super::covering::{Reading, cover};
-use super::fact::{Fact, fact_at};
+use super::fact::{Fact, Known, fact_at};
 use super::path::{is_cycle, leads};
 use super::step::{Point, Range, Step};
 use mem_op::OpId;
@@ -28,10 +28,12 @@ fn reading(trace: &Trace, id: &OpId) -> Option<Reading>
 }
 
 /// That a read's source lies in a range, for each of these ranges.
-fn sources(alloc: Global, read: &OpId, ranges: &[Range]) -> Result<Vec<Fact>, AllocError>
+fn sources(alloc: Global, read: &OpId, ranges: &[Range]) -> Result<Vec<Known>, AllocError>
     ensures { IfOk result (λ facts. facts.items ≡ map (λ range. Source read.now range) ranges.now) }
 {
-    let facts = ranges.iter().map(|range| Fact::Source(*read, *range));
+    let facts = ranges
+        .iter()
+        .map(|range| Known::new(Fact::Source(*read, *range)));
     facts.collect(alloc)
 }
 
@@ -41,7 +43,7 @@ fn by_source(
     trace: &Trace,
     read: &OpId,
     ranges: &[Range],
-) -> Result<Option<Vec<Fact>>, AllocError>
+) -> Result<Option<Vec<Known>>, AllocError>
     ensures { IfOk result (TellsGiven (λ given.
         HasItsSourceIn trace.now read.now ranges.now × (given ≡ map (λ range. Source read.now range) ranges.now))) }
 {
@@ -64,7 +66,7 @@ fn by_order(
     trace: &Trace,
     one: &OpId,
     other: &OpId,
-) -> Result<Option<Vec<Fact>>, AllocError>
+) -> Result<Option<Vec<Known>>, AllocError>
     ensures { IfOk result (TellsGiven (λ given. AreTwo trace.now one.now other.now
         × (given ≡ Before (At one.now) (At other.now) ∷ Before (At other.now) (At one.now) ∷ []))) }
 {
@@ -72,7 +74,8 @@ fn by_order(
         return Ok(None);
     }
     let (one, other) = (Point::At(*one), Point::At(*other));
-    let (first, second) = (Fact::Before(one, other), Fact::Before(other, one));
+    let first = Known::new(Fact::Before(one, other));
+    let second = Known::new(Fact::Before(other, one));
     Ok(Some(vec![in alloc; first, second]?))
 }
 
@@ -89,49 +92,43 @@ fn is_other_write(trace: &Trace, read: &OpId, last: &Point, write: &OpId) -> boo
 /// That a read is before a write, to which the path leads from the last point of the read's source.
 fn from_read(
     trace: &Trace,
-    facts: &[Fact],
+    facts: &[Known],
     source: usize,
     write: &OpId,
     path: &[usize],
-) -> Option<Fact>
+) -> Option<Known>
     ensures { TellsOne (IsFromRead trace.now facts.now source write.now path.now) result }
 {
-    let Fact::Source(read, range) = fact_at(facts, source)? else {
+    let Fact::Source(read, range) = fact_at(facts, source)?.get() else {
         return None;
     };
     let at = Point::At(*write);
-    if is_other_write(trace, &read, &range.last, write) && leads(facts, &range.last, path, &at) {
-        Some(Fact::Before(Point::At(read), at))
-    } else {
-        None
-    }
+    let is_right = is_other_write(trace, &read, &range.last, write)
+        && leads(facts, &range.last, path, &at);
+    is_right.then_some(Known::new(Fact::Before(Point::At(read), at)))
 }
 
 /// That a write, from which the path leads to a read, is before the last point of the read's source.
 fn write_order(
     trace: &Trace,
-    facts: &[Fact],
+    facts: &[Known],
     source: usize,
     write: &OpId,
     path: &[usize],
-) -> Option<Fact>
+) -> Option<Known>
     ensures { TellsOne (IsWriteOrder trace.now facts.now source write.now path.now) result }
 {
-    let Fact::Source(read, range) = fact_at(facts, source)? else {
+    let Fact::Source(read, range) = fact_at(facts, source)?.get() else {
         return None;
     };
     let at = Point::At(*write);
-    if is_other_write(trace, &read, &range.last, write)
-        && leads(facts, &at, path, &Point::At(read))
-    {
-        Some(Fact::Before(at, range.last))
-    } else {
-        None
-    }
+    let is_right = is_other_write(trace, &read, &range.last, write)
+        && leads(facts, &at, path, &Point::At(read));
+    is_right.then_some(Known::new(Fact::Before(at, range.last)))
 }
 
 /// The one case of a fact that follows.
-fn one_case(alloc: Global, fact: Option<Fact>) -> Result<Option<Vec<Fact>>, AllocError>
+fn one_case(alloc: Global, fact: Option<Known>) -> Result<Option<Vec<Known>>, AllocError>
     ensures { IfOk result (λ facts. IsCaseOf fact facts) }
 {
     let Some(fact) = fact else {
@@ -144,9 +141,9 @@ fn one_case(alloc: Global, fact: Option<Fact>) -> Result<Option<Vec<Fact>>, Allo
 pub(crate) fn given(
     alloc: Global,
     trace: &Trace,
-    facts: &[Fact],
+    facts: &[Known],
     step: &Step,
-) -> Result<Option<Vec<Fact>>, AllocError>
+) -> Result<Option<Vec<Known>>, AllocError>
     ensures { IfOk result (TellsGiven (Gives trace.now facts.now step.now)) }
 {
     match step {
