@@ -2,9 +2,8 @@
 
 ghost use Rattle.std.specs.Prelude.{◌≡◌, ◌^◌};
 ghost use Rattle.decimal_text.specs.Reading.{front_now};
-ghost use Rattle.mem_op.specs.Limits.{operation_limit};
 ghost use Rattle.refutation.specs.Grammar.{is_same_point};
-ghost use Rattle.refutation.specs.inner.Reading.{ends_word, at_end, below, id_at, point_at, last_at, range_at, fact_at, named_at, source_at};
+ghost use Rattle.refutation.specs.inner.Reading.{ends_word, at_end, id_at, point_at, last_at, range_at, fact_at, named_at, source_at};
 
 use super::step::{Point, Range};
 use decimal_text::{after_text, read_field, read_number};
@@ -17,20 +16,6 @@ fn ends_word(bytes: &[u8]) -> bool
     matches!(bytes, [] | [b' ', ..])
 }
 
-/// The core of this number.
-fn core_of(number: u64) -> Option<CoreId>
-    ensures { result ≡ below 64 number }
-{
-    CoreId::new(number).ok()
-}
-
-/// The index of this number.
-fn index_of(number: u64) -> Option<OpIndex>
-    ensures { result ≡ below operation_limit number }
-{
-    OpIndex::new(number).ok()
-}
-
 /// An id, and the bytes after it.
 #[tactic(auto, unfolding(crate::specs::inner::Reading::id_at))]
 pub(crate) fn id(bytes: &[u8]) -> Option<(OpId, &[u8])>
@@ -38,8 +23,8 @@ pub(crate) fn id(bytes: &[u8]) -> Option<(OpId, &[u8])>
 {
     let (core, rest) = read_field(b'.', bytes)?;
     let (index, rest) = read_number(rest)?;
-    let core = core_of(core?)?;
-    let index = index_of(index?)?;
+    let core = CoreId::new(core?).ok()?;
+    let index = OpIndex::new(index?).ok()?;
     Some((OpId { core, index }, rest))
 }
 
