@@ -106,8 +106,9 @@ fn find(
 }
 
 /// Searches an order of operations that have no times: those of core 0 in program order, then those of core 1, and so on,
-/// each core's up to its end. Makes so many steps at most. Answers the status, tells the rest in `out`, and puts the text
-/// that shows a yes or a no at the front of the buffer `text`, where it has room for `out.length` bytes:
+/// each core's up to its end. Makes `budget` steps at most. Answers the status, tells the rest in `out`, and puts the text
+/// that shows a yes or a no at the front of the buffer `text`. Where the buffer has no room for its `out.length` bytes, it
+/// stays as it was, and the answer holds all the same:
 ///
 /// 0: yes, by the order of this text. 1: no, by the refutation of this text. 2: an operation is none, and `core`,
 /// `index`, `number`: 22 where its kind is none, 23 where the core has more than 1,048,576. 3: the number of cores isn't

@@ -1,6 +1,6 @@
 //! An operation without times, in numbers.
 
-ghost use Rattle.std.specs.Prelude.{◌≡◌, ◌↔◌, ◌≤◌, IsTrue};
+ghost use Rattle.std.specs.Prelude.{◌≡◌};
 ghost use Rattle.tardis_c.specs.Accesses.{IsAccess, operation_of};
 
 use super::in_numbers::InNumbers;
