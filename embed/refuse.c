@@ -22,23 +22,36 @@ int main(void) {
                               {.kind = 0, .addr = 200, .value = 9, .ts = 5, .source_core = 1},
                               {.kind = 1, .addr = 200, .value = 9, .ts = 3},
                               {.kind = 0, .addr = 100, .value = 7, .ts = 4, .source_core = 0}};
+    TardisAccess accesses[4] = {{.kind = 1, .addr = 0, .value = 1}, {.kind = 0, .addr = 1},
+                                {.kind = 1, .addr = 1, .value = 1}, {.kind = 0, .addr = 0}};
+    const char *names[4] = {"text", "operations", "search that finds no order", "search that finds one"};
     int wrong = 0;
-    for (int which = 0; which < 2; which++) {
+    for (int which = 0; which < 4; which++) {
         int none = 0, right = 0, other = 0;
-        for (long n = 0; n < 100; n++) {
-            TardisVerdict v;
+        for (long n = 0; n < 400; n++) {
+            TardisVerdict v = {0};
+            TardisFinding f = {0};
+            uint8_t found[200] = {0};
             long before = held;
+            int status, number, count;
+            accesses[3].value = which == 3;
             left = n;
-            int status = which ? tardis_check_operations(ops, 4, ends, 2, &v)
+            if (which < 2) {
+                status = which ? tardis_check_operations(ops, 4, ends, 2, &v)
                                : tardis_check((const uint8_t *)text, text_ends[1], text_ends, 2, &v);
+                number = v.number, count = v.count == 4;
+            } else {
+                status = tardis_search_operations(accesses, 4, ends, 2, 1000, found, sizeof found, &f);
+                number = f.number, count = f.length && found[f.length - 1] == '\n' && !found[f.length];
+            }
             left = -1;
             if (held != before) other++;
-            else if (status == TARDIS_NO_MEMORY && v.number == 10) none++;
-            else if (status == TARDIS_YES && v.count == 4) right++;
+            else if (status == TARDIS_NO_ANSWER && number == 10 && !found[0]) none++;
+            else if (status == (which == 2 ? TARDIS_NO : TARDIS_YES) && count) right++;
             else other++;
         }
         wrong += other + (none == 0) + (right == 0);
-        printf("%s: %d refused, %d right, %d other\n", which ? "operations" : "text", none, right, other);
+        printf("%s: %d refused, %d right, %d other\n", names[which], none, right, other);
     }
     return wrong != 0;
 }

@@ -1,24 +1,27 @@
 /* The proved judge of sequential consistency, as a library.
  *
+ * tardis_check and tardis_check_operations judge what cores did by the times that they logged. tardis_search_operations
+ * needs no times, and looks for an order.
+ *
  * What the logs of a set are stands in docs/FORMATS.md. All logs of a set lie behind each other in one array, without a
  * space between them: the log of core k, of as many cores as there are ends, ends where ends[k] says, and begins where
  * the one before it ends. So ends[0] is the length of the log of core 0, and the last end is the length of the array.
  *
  * Each function answers a status, and tells the rest in *out, where what an answer doesn't have is 0:
  *
- *   TARDIS_YES         count: how many operations there are. They are sequentially consistent
- *   TARDIS_NO          core, index, rule: the first operation that breaks a rule
+ *   TARDIS_YES         the operations are sequentially consistent
+ *   TARDIS_NO          of a check: an operation breaks a rule. Of a search: no order exists
  *   TARDIS_REFUSED     number, and where: see each function
  *   TARDIS_BAD_COUNT   number 6: there are fewer than 1 or more than 64 logs
- *   TARDIS_NO_MEMORY   number 10: malloc or realloc gave none
+ *   TARDIS_NO_ANSWER   number 10: malloc or realloc gave no memory. number 44: the search gave up
  *   TARDIS_BAD_ENDS    an end is less than the one before it, or the last isn't the length of the array
  *
- * The first five are the exit statuses of the command `tardis check`.
+ * The first five are the exit statuses of the commands `tardis check` and `tardis search`.
  *
  * The proofs leave to the caller that
  *
  *   - no pointer is null, also where its length is 0, and each array takes less than 2^63 bytes
- *   - nobody writes the array, the ends or *out during the call, and *out overlaps neither
+ *   - nobody writes the array, the ends, the buffer or *out during the call, and neither the buffer nor *out overlaps another
  *   - malloc, realloc and free are one allocator's, and align to 16
  *   - the call isn't made in a signal handler, nor in the forked child of a program with threads
  *
@@ -40,7 +43,7 @@ enum {
     TARDIS_NO = 1,
     TARDIS_REFUSED = 2,
     TARDIS_BAD_COUNT = 3,
-    TARDIS_NO_MEMORY = 4,
+    TARDIS_NO_ANSWER = 4,
     TARDIS_BAD_ENDS = 5
 };
 
@@ -48,13 +51,13 @@ enum {
 enum { TARDIS_CORE_ORDER = 1, TARDIS_PROGRAM = 2, TARDIS_SOURCE = 3, TARDIS_VALUE = 4 };
 
 typedef struct TardisVerdict {
-    uint64_t count;
-    uint64_t core;
-    uint64_t index;
-    uint64_t file;
-    uint64_t line;
-    uint32_t rule;
-    uint32_t number;
+    uint64_t count;  /* after TARDIS_YES: how many operations there are */
+    uint64_t core;   /* after TARDIS_NO: the first operation that breaks a rule is operation index of core core, */
+    uint64_t index;  /* .. both counted from 0. After TARDIS_REFUSED of operations: the one that is none */
+    uint64_t file;   /* after TARDIS_REFUSED of text: the log that has a fault, counted from 0 */
+    uint64_t line;   /* .. and its line, counted from 1 */
+    uint32_t rule;   /* after TARDIS_NO: which rule */
+    uint32_t number; /* after a refusal: its number, of those in docs/FORMATS.md */
 } TardisVerdict;
 
 /* Judges logs as text. TARDIS_REFUSED tells file, line and number: the first fault of the least log that has one, which
@@ -80,6 +83,36 @@ enum { TARDIS_LOAD = 0, TARDIS_STORE = 1, TARDIS_SWAP = 2, TARDIS_INITIAL = 255 
  * 1.3 MB from malloc, and frees them. */
 uint8_t tardis_check_operations(const TardisOperation *operations, size_t operations_len, const size_t *ends,
                                 size_t ends_len, TardisVerdict *out);
+
+/* One operation without a time: a line of a trace. */
+typedef struct TardisAccess {
+    uint64_t addr;  /* the address of the word */
+    uint64_t value; /* the word that was loaded or stored; of a swap the one that it stored */
+    uint64_t read;  /* of a swap: the word that it read. Else anything */
+    uint8_t kind;   /* TARDIS_LOAD, TARDIS_STORE or TARDIS_SWAP */
+} TardisAccess;
+
+typedef struct TardisFinding {
+    uint64_t length; /* after TARDIS_YES and TARDIS_NO: how many bytes the text has that shows it */
+    uint64_t core;   /* after TARDIS_REFUSED: operation index of core core is none */
+    uint64_t index;
+    uint32_t number; /* after a refusal: its number */
+} TardisFinding;
+
+/* Searches an order of operations that have no times: those of each core in program order. It makes at most budget steps;
+ * the command `tardis search` makes 100,000,000, and 100 for each operation. The answer depends on the operations and the
+ * budget alone.
+ *
+ * After TARDIS_YES the text that shows it is an order (docs/FORMATS.md), after TARDIS_NO a refutation (docs/SEARCH.md): the
+ * command `tardis confirm` takes either. The text stands at the front of the buffer, without a 0 behind it, where
+ * out->length is at most text_len. Else the buffer is too small, and nothing is written to it: the answer holds, and
+ * out->length tells how much room the text needs. text_len may be 0. After any other status the buffer is as it was.
+ *
+ * TARDIS_REFUSED tells core, index and number: 22 for the first operation whose kind is none, 23 where a core has more than
+ * 1,048,576 operations. It takes memory from malloc as `tardis search` does, and that of the text, and frees all. */
+uint8_t tardis_search_operations(const TardisAccess *operations, size_t operations_len, const size_t *ends,
+                                 size_t ends_len, uint64_t budget, uint8_t *text, size_t text_len,
+                                 TardisFinding *out);
 
 #ifdef __cplusplus
 }

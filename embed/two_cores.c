@@ -1,4 +1,4 @@
-/* Writes the logs of two cores into one buffer, and has them judged. */
+/* Writes the logs of two cores into one buffer, and has them judged. Then searches an order of operations without times. */
 #include <stdio.h>
 #include <string.h>
 
@@ -45,5 +45,16 @@ int main(void) {
     printf("bytes behind the last log: status %d\n", status);
     status = tardis_check((const uint8_t *)core0, 0, falls, 0, &v);
     printf("no log: status %d number %u\n", status, v.number);
+    const TardisAccess buffering[4] = {{.addr = 0, .value = 1, .kind = TARDIS_STORE}, {.addr = 1, .kind = TARDIS_LOAD},
+                                       {.addr = 1, .value = 1, .kind = TARDIS_STORE}, {.addr = 0, .kind = TARDIS_LOAD}};
+    const size_t halves[2] = {2, 4}, shorter[2] = {2, 3};
+    uint8_t found[200];
+    TardisFinding f;
+    status = tardis_search_operations(buffering, 4, halves, 2, 1000, found, sizeof found, &f);
+    printf("store buffering: status %d\n%.*s", status, (int)f.length, (const char *)found);
+    status = tardis_search_operations(buffering, 4, halves, 2, 1000, found, 0, &f);
+    printf("without a buffer: status %d, %d bytes of text\n", status, (int)f.length);
+    status = tardis_search_operations(buffering, 3, shorter, 2, 1000, found, sizeof found, &f);
+    printf("without the last load: status %d\n%.*s", status, (int)f.length, (const char *)found);
     return 0;
 }

@@ -18,5 +18,6 @@ mod tournament;
 
 pub use judging::{merge_judge, merged_verdict};
 pub use merge_fault::MergeFault;
+pub use order_text::print_order;
 pub use record_judging::records_verdict;
 pub use record_slice::{RecordSlice, Recorded};

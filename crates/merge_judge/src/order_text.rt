@@ -1,9 +1,9 @@
-//! The text of an order, written in pieces.
+//! The text of an order, as a whole or written in pieces.
 
 ghost use Rattle.std.specs.Prelude.{◌≡◌, ◌++◌, ℕ, List, [], IfOk, IsErrOf, OnOk, string_bytes};
 ghost use Rattle.std.specs.Io.KnownBytes.{Appends};
 ghost use Rattle.log_file.specs.Devices.{TellsFailure};
-ghost use Rattle.merge_judge.specs.OrderText.{end_line, id_line};
+ghost use Rattle.merge_judge.specs.OrderText.{end_line, id_line, order_text};
 ghost use Rattle.merge_judge.specs.inner.Writing.{IsWritten};
 
 use super::order::Order;
@@ -42,6 +42,18 @@ fn push_end(text: &mut String, count: u64) -> Result<(), AllocError>
     ensures { OnOk result (string_bytes text.new ≡ string_bytes text.old ++ end_line count) }
 {
     writeln!(text, "end {count}")
+}
+
+/// The text of an order. Err where memory was refused.
+pub fn print_order(alloc: Global, order: &[OpId]) -> Result<String, AllocError>
+    ensures { IfOk result (λ text. string_bytes text ≡ order_text order.now) }
+{
+    let mut text = String::new(alloc);
+    'printing: for id in order {
+        push_id(&mut text, *id)?;
+    }
+    push_end(&mut text, order.len() as u64)?;
+    Ok(text)
 }
 
 impl OrderText {

@@ -24,6 +24,7 @@ pub enum Answer {
 /// refused.
 pub fn confirm(alloc: Global, trace: &Trace, claim: Answer) -> Result<Answer, AllocError>
     ensures right { IfOk result (IsRight trace.now) }
+    ensures shown { IfOk result (IsShown trace.now) }
     ensures kept { IfOk result (λ answer. IsShown trace.now claim → answer ≡ claim) }
     ensures undecided { IfOk result (λ answer. ¬ IsShown trace.now claim → answer ≡ Answer.Undecided) }
 {

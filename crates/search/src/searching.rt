@@ -1,7 +1,7 @@
 //! The search. What it finds is shown to be right before it is answered.
 
 ghost use Rattle.std.specs.Prelude.{IfOk};
-ghost use Rattle.refutation.specs.Answers.{IsRight};
+ghost use Rattle.refutation.specs.Answers.{IsRight, IsShown};
 
 use super::numbering::{id, refutation};
 use super::shrinking::shrink;
@@ -17,6 +17,7 @@ use trace::Trace;
 /// so many steps. The answer depends on the trace and the budget alone. Err where memory was refused.
 pub fn search(alloc: Global, trace: &Trace, budget: u64) -> Result<Answer, AllocError>
     ensures right { IfOk result (IsRight trace.now) }
+    ensures shown { IfOk result (IsShown trace.now) }
 {
     search_watched(alloc, trace, budget, &Unwatched)
 }
@@ -29,6 +30,7 @@ pub fn search_watched<W: SearchWatch>(
     watch: &W,
 ) -> Result<Answer, AllocError>
     ensures right { IfOk result (IsRight trace.now) }
+    ensures shown { IfOk result (IsShown trace.now) }
 {
     let found = guess_watched(alloc, trace, budget, watch);
     watch.found();

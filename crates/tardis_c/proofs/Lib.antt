@@ -1,4 +1,5 @@
 mod Cut
+mod Found
 mod Numbers
 mod Parts
 mod Told

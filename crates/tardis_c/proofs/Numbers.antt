@@ -1,12 +1,10 @@
 -- Operations in numbers.
-use Rattle.std.proofs.Common.{rules, ◌≡◌, ℕ, suc, ◌+◌, ◌<◌, ◌≤◌, ◌^◌, List, [], ◌∷◌, ◌++◌, length, map, take, get_or, Some, refl, sym, ap, subst, arith}
-use Rattle.std.specs.Prelude.{All, IsTrue, true, false, if◌then◌else◌, ◌==◌, slice_get}
+use Rattle.std.proofs.Common.{rules, ◌≡◌, ℕ, suc, ◌+◌, ◌<◌, ◌≤◌, ◌^◌, List, [], ◌∷◌, length, map, refl, sym, ap, subst, arith}
+use Rattle.std.specs.Prelude.{All, IsTrue, true, false, if◌then◌else◌, ◌==◌}
 use Rattle.std.specs.List.{AllByRecursion}
 use Rattle.std.proofs.lemmas.List.{length-map}
-use Rattle.std.proofs.lemmas.List.Elements.{All-cons, All-head, All-more, All-nil, All-tail}
-use Rattle.std.proofs.lemmas.Option.{slice_get-get_or}
+use Rattle.std.proofs.lemmas.List.Elements.{All-cons, All-head, All-nil, All-tail}
 use Rattle.mem_op.specs.Limits.{operation_limit}
-use Rattle.mem_op.specs.declared.id.Source.{Source}
 use Rattle.mem_op.specs.declared.id.Source.TheVariants.{Init, Store as From}
 use Rattle.log_record.specs.declared.act.Act.{Act}
 use Rattle.log_record.specs.declared.act.Act.TheVariants.{Load, Store, Swap}
@@ -14,7 +12,8 @@ use Rattle.log_record.specs.declared.format.Format.TheVariants.{Two}
 use Rattle.log_record.specs.declared.record.Record.{Record}
 use Rattle.log_record.specs.Line.{ActFits, FitsIn, SourceFits, has_act}
 use Rattle.merge_judge.specs.Records.{AreOfLog, GivenLog, logs_from, records_of}
-use Rattle.tardis_c.specs.Operations.{AreOperations, IsFirstBad, IsOperation, act_of, logs_of, record_of, source_of}
+use Rattle.tardis_c.specs.Faults.{AreOperations}
+use Rattle.tardis_c.specs.Operations.{IsOperation, act_of, logs_of, record_of, source_of}
 use Rattle.tardis_c.specs.declared.tardis_operation.TardisOperation.{TardisOperation}
 
 -- ---- the source of an operation
@@ -89,31 +88,20 @@ late_is_none op late is = absurd (let ts = is.1.numbers.ts in omega (arith, late
 pub other_is_none : (op : TardisOperation) → 2 < op.kind → IsOperation op → false ≡ true
 other_is_none op other is = absurd (omega (arith, other, is.0))
 
--- ---- those of a core
-
-abbrev pub zeros : TardisOperation
-zeros = record { value = 0; read = 0; ts = 0; rank = 0; source_index = 0; addr = 0; kind = 0; source_core = 0 }
-
-pub more_good : (ops : List TardisOperation) (i : ℕ) → i < length ops → All IsOperation (take i ops) → IsOperation (get_or ops i zeros) → All IsOperation (take (i + 1) ops)
-more_good ops i within all good = All-more IsOperation ops i zeros within all good
-
-pub first_bad_there : (ops : List TardisOperation) (i : ℕ) → i < length ops → All IsOperation (take i ops) → (IsOperation (get_or ops i zeros) → ⊥) → IsFirstBad ops i
-first_bad_there ops i within all bad = record { before = all; op = get_or ops i zeros; there = slice_get-get_or ops i zeros within; bad = bad }
-
 -- ---- those of all cores
 
 fit_all : (ops : List TardisOperation) → All IsOperation ops → AllByRecursion (FitsIn Two) (map record_of ops)
 fit_all [] all = tt
 fit_all (op ∷ ops) all = ((All-head IsOperation op ops all).1, fit_all ops (All-tail IsOperation op ops all))
 
-of_log : (ops : List TardisOperation) → AreOperations ops → AreOfLog (map record_of ops)
+of_log : (ops : List TardisOperation) → AreOperations IsOperation ops → AreOfLog (map record_of ops)
 of_log ops are = record { few = omega (arith, length-map ops record_of, are.0); fit = fit_all ops are.1 }
 
 -- the logs of their sources
-pub sources_good : (core cores : ℕ) (parts : List (List TardisOperation)) → All AreOperations parts → All (λ (log : GivenLog). AreOfLog log.records) (logs_from core cores (logs_of parts))
+pub sources_good : (core cores : ℕ) (parts : List (List TardisOperation)) → All (AreOperations IsOperation) parts → All (λ (log : GivenLog). AreOfLog log.records) (logs_from core cores (logs_of parts))
 sources_good core cores [] all = All-nil (λ (log : GivenLog). AreOfLog log.records)
 sources_good core cores (part ∷ parts) all =
-    All-cons (λ (log : GivenLog). AreOfLog log.records) _ (logs_from (core + 1) cores (logs_of parts)) (of_log part (All-head AreOperations part parts all)) (sources_good (core + 1) cores parts (All-tail AreOperations part parts all))
+    All-cons (λ (log : GivenLog). AreOfLog log.records) _ (logs_from (core + 1) cores (logs_of parts)) (of_log part (All-head (AreOperations IsOperation) part parts all)) (sources_good (core + 1) cores parts (All-tail (AreOperations IsOperation) part parts all))
 
 pub sources_are : (core cores : ℕ) (logs : List (List Record)) → records_of (logs_from core cores logs) ≡ logs
 sources_are core cores [] = refl

@@ -1,12 +1,13 @@
 -- The logs in a buffer, one after another.
-use Rattle.std.proofs.Common.{◌≡◌, ℕ, zero, suc, ◌+◌, ◌<◌, ◌≤◌, List, [], ◌∷◌, ◌++◌, length, take, drop, get_or, Some, sym, ap, subst, ◌∙◌, arith}
+use Rattle.std.proofs.Common.{◌≡◌, ℕ, zero, suc, ◌+◌, ◌<◌, ◌≤◌, List, [], ◌∷◌, ◌++◌, length, take, drop, get_or, Some, refl, sym, ap, subst, ◌∙◌, arith}
 use Rattle.std.specs.Prelude.{All, slice_get, slice_range}
 use Rattle.std.proofs.lemmas.List.{drop_more, take_all}
-use Rattle.tardis_c.specs.Operations.{AreOperations, IsFaultOf, IsFirstFault}
+use Rattle.std.proofs.lemmas.List.Elements.{All-more}
+use Rattle.std.proofs.lemmas.Option.{get_or_from_slice_get, slice_get-get_or, slice_get_within}
+use Rattle.tardis_c.specs.Faults.{AreOperations, IsFaultOf, IsFirstBad, IsFirstFault}
 use Rattle.tardis_c.specs.Parts.{AreEndsFrom, parts_from, parts_of}
 use Rattle.tardis_c.specs.declared.operations_fault.OperationsFault.{OperationsFault}
 use Rattle.tardis_c.specs.declared.operations_fault.OperationsFault.TheVariants.{OutOfMemory, OutOfRange, TooMany}
-use Rattle.tardis_c.specs.declared.tardis_operation.TardisOperation.{TardisOperation}
 use Rattle.tardis_c.proofs.Cut.{ends_within, parts_many}
 
 -- ---- what stands first in the rest of a list
@@ -31,6 +32,14 @@ stands_at {X = X} (z ∷ xs) (suc k) x ys h =
       taken = ap (λ (l : List X). z ∷ l) later.taken;
       rest = later.rest;
     }
+
+-- ---- one more operation
+
+pub more_good : {X : Type 0} → (IsOne : X → Type 0) (ops : List X) (i : ℕ) (d : X) → i < length ops → All IsOne (take i ops) → IsOne (get_or ops i d) → All IsOne (take (i + 1) ops)
+more_good IsOne ops i d within all good = All-more IsOne ops i d within all good
+
+pub first_bad_there : {X : Type 0} → (IsOne : X → Type 0) (ops : List X) (i : ℕ) (d : X) → i < length ops → All IsOne (take i ops) → (IsOne (get_or ops i d) → ⊥) → IsFirstBad IsOne ops i
+first_bad_there IsOne ops i d within all bad = record { before = all; op = get_or ops i d; there = slice_get-get_or ops i d within; bad = bad }
 
 -- ---- one more log
 
@@ -63,7 +72,22 @@ pub all_parts : {X : Type 0} → (buffer : List X) (ends : List ℕ) (core : ℕ
 all_parts buffer ends core is = take_all core (parts_of buffer ends) (let many = parts_many 0 buffer ends in omega (arith, is, many))
 
 -- a fault of the next core is the first
-pub first_fault : (parts : List (List TardisOperation)) (core : ℕ) (part : List TardisOperation) (fault : OperationsFault) → All AreOperations (take core parts) → slice_get parts core ≡ Some part → IsFaultOf core part fault → IsFirstFault parts fault
-first_fault parts core part OutOfMemory all there is = absurd is
-first_fault parts core part (TooMany at) all there (same, many) = subst (λ n. IsFirstFault parts (TooMany n)) (sym same) (all, (part, there, many))
-first_fault parts core part (OutOfRange at index) all there (same, few, bad) = subst (λ n. IsFirstFault parts (OutOfRange n index)) (sym same) (all, (part, there, few, bad))
+pub first_fault : {X : Type 0} → (IsOne : X → Type 0) (parts : List (List X)) (core : ℕ) (part : List X) (fault : OperationsFault) → All (AreOperations IsOne) (take core parts) → slice_get parts core ≡ Some part → IsFaultOf IsOne core part fault → IsFirstFault IsOne parts fault
+first_fault IsOne parts core part OutOfMemory all there is = absurd is
+first_fault IsOne parts core part (TooMany at) all there (same, many) = subst (λ n. IsFirstFault IsOne parts (TooMany n)) (sym same) (all, (part, there, many))
+first_fault IsOne parts core part (OutOfRange at index) all there (same, few, bad) = subst (λ n. IsFirstFault IsOne parts (OutOfRange n index)) (sym same) (all, (part, there, few, bad))
+
+-- and it isn't want of memory
+pub not_memory : {X : Type 0} → (IsOne : X → Type 0) (core : ℕ) (part : List X) (fault : OperationsFault) → IsFaultOf IsOne core part fault → fault ≡ OutOfMemory → ⊥
+not_memory IsOne core part fault is memory = subst (λ f. IsFaultOf IsOne core part f) memory is
+
+-- what all elements are, one is
+at : {X : Type 0} → (P : X → Type 0) (xs : List X) (i : ℕ) (x : X) → All P xs → slice_get xs i ≡ Some x → P x
+at P xs i x all there = subst P (get_or_from_slice_get xs i x x there) (all i x (slice_get_within xs i x there))
+
+-- where there is a first fault, lack of memory aside, the operations of some core are none
+pub first_fault_bad : {X : Type 0} → (IsOne : X → Type 0) (parts : List (List X)) (fault : OperationsFault) → IsFirstFault IsOne parts fault → (fault ≡ OutOfMemory → ⊥) → All (AreOperations IsOne) parts → ⊥
+first_fault_bad IsOne parts OutOfMemory first other all = other refl
+first_fault_bad IsOne parts (TooMany core) (before, (part, there, many)) other all = (let are = at (AreOperations IsOne) parts core part all there in omega (arith, many, are.0))
+first_fault_bad IsOne parts (OutOfRange core index) (before, (part, there, few, bad)) other all =
+    bad.bad (at IsOne part index bad.op (at (AreOperations IsOne) parts core part all there).1 bad.there)

@@ -13,7 +13,8 @@ use Rattle.verdict.specs.VerdictOf.{verdict_of}
 use Rattle.tardis_c.specs.declared.operations_fault.OperationsFault.{OperationsFault}
 use Rattle.tardis_c.specs.declared.operations_fault.OperationsFault.TheVariants as bad
 use Rattle.tardis_c.specs.declared.tardis_operation.TardisOperation.{TardisOperation}
-use Rattle.tardis_c.specs.Operations.{AreOperations, IsFirstFault, logs_of}
+use Rattle.tardis_c.specs.Faults.{AreOperations, IsFirstFault}
+use Rattle.tardis_c.specs.Operations.{IsOperation, logs_of}
 use Rattle.tardis_c.specs.declared.tardis_verdict.TardisVerdict.{TardisVerdict}
 
 abbrev pub number_of : FormatFault → ℕ
@@ -62,8 +63,8 @@ IsToldTo texts status told =
 
 -- the verdict on the logs of the operations, or why they are none
 abbrev pub IsAnswerOf : List (List TardisOperation) → Result Verdict OperationsFault → Type 0
-IsAnswerOf parts (Ok verdict) = All AreOperations parts × (verdict ≡ verdict_of (logs_of parts))
-IsAnswerOf parts (Err fault) = IsFirstFault parts fault
+IsAnswerOf parts (Ok verdict) = All (AreOperations IsOperation) parts × (verdict ≡ verdict_of (logs_of parts))
+IsAnswerOf parts (Err fault) = IsFirstFault IsOperation parts fault
 
 abbrev pub operations_status : Result Verdict OperationsFault → ℕ
 operations_status (Ok verdict) = status_of (Ok verdict)

@@ -22,10 +22,10 @@ use std::alloc::Global;
 use verdict::{JudgeFault, Verdict, check_counts};
 
 /// The status of a call whose ends aren't those of the buffer's logs.
-const BAD_ENDS: u8 = 5;
+pub(crate) const BAD_ENDS: u8 = 5;
 
 /// The status of a call with too few or too many logs.
-const BAD_COUNT: u8 = 3;
+pub(crate) const BAD_COUNT: u8 = 3;
 
 /// The verdict on the set of logs that lie in the buffer.
 fn text_verdict(alloc: Global, bytes: &[u8], ends: &[usize]) -> Result<Verdict, JudgeFault>

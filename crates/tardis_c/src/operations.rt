@@ -1,21 +1,21 @@
-//! Operations in numbers, as the logs of a set.
+//! The operations of the cores, in numbers.
 
-ghost use Rattle.std.specs.Prelude.{◌≡◌, ◌≤◌, All, MatchOption, MatchResult, length};
-ghost use Rattle.tardis_c.specs.Operations.{AreOperations, IsFaultOf, IsFirstBad, IsFirstFault, IsOperation};
+ghost use Rattle.std.specs.Prelude.{◌≡◌, ◌≤◌, All, IsErrOf, MatchOption, MatchResult, length};
+ghost use Rattle.tardis_c.specs.Faults.{AreOperations, IsFaultOf, IsFirstBad, IsFirstFault};
 ghost use Rattle.tardis_c.specs.Parts.{AreEnds, parts_of};
 
+use super::in_numbers::InNumbers;
 use super::operations_fault::OperationsFault;
-use super::tardis_operation::{TardisOperation, is_operation};
 
 /// How many operations a core has at most.
 const MOST_OPERATIONS: usize = 1_048_576;
 
 /// The index of the first that is no operation.
-fn first_bad(operations: &[TardisOperation]) -> Option<usize>
-    ensures { MatchOption result (All IsOperation operations.now) (IsFirstBad operations.now) }
+fn first_bad<T: InNumbers>(operations: &[T]) -> Option<usize>
+    ensures { MatchOption result (All T.in_range operations.now) (IsFirstBad T.in_range operations.now) }
 {
     for index in 0..operations.len() {
-        if !is_operation(&operations[index]) {
+        if !operations[index].is_in_range() {
             return Some(index);
         }
     }
@@ -23,8 +23,8 @@ fn first_bad(operations: &[TardisOperation]) -> Option<usize>
 }
 
 /// Ok where a core may have done these operations.
-fn check_part(core: usize, operations: &[TardisOperation]) -> Result<(), OperationsFault>
-    ensures { MatchResult result (λ _. AreOperations operations.now) (IsFaultOf core operations.now) }
+fn check_part<T: InNumbers>(core: usize, operations: &[T]) -> Result<(), OperationsFault>
+    ensures { MatchResult result (λ _. AreOperations T.in_range operations.now) (IsFaultOf T.in_range core operations.now) }
 {
     if operations.len() > MOST_OPERATIONS {
         return Err(OperationsFault::TooMany { core });
@@ -35,15 +35,16 @@ fn check_part(core: usize, operations: &[TardisOperation]) -> Result<(), Operati
     }
 }
 
-/// Ok where each core may have done its operations.
-pub(crate) fn check_parts(
-    operations: &[TardisOperation],
+/// Ok where each core may have done its operations. It takes no memory.
+pub(crate) fn check_parts<T: InNumbers>(
+    operations: &[T],
     ends: &[usize],
 ) -> Result<(), OperationsFault>
     requires { AreEnds operations.now ends.now }
-    ensures { MatchResult result
-        (λ _. All AreOperations (parts_of operations.now ends.now))
-        (IsFirstFault (parts_of operations.now ends.now)) }
+    ensures parts { MatchResult result
+        (λ _. All (AreOperations T.in_range) (parts_of operations.now ends.now))
+        (IsFirstFault T.in_range (parts_of operations.now ends.now)) }
+    ensures memory { ¬ IsErrOf result OperationsFault.OutOfMemory }
 {
     let mut from = 0;
     for core in 0..ends.len() {

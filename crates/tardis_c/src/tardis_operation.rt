@@ -4,6 +4,7 @@ ghost use Rattle.std.specs.Prelude.{◌≡◌, ◌↔◌, ◌≤◌, IsTrue};
 ghost use Rattle.log_record.specs.Line.{ActFits, SourceFits};
 ghost use Rattle.tardis_c.specs.Operations.{IsOperation, act_of, record_of, source_of};
 
+use super::in_numbers::InNumbers;
 use line_stamps::{Rank, Stamp};
 use log_record::{Act, Record};
 use mem_op::{Addr, CoreId, OpId, OpIndex, Source};
@@ -57,23 +58,24 @@ fn has_source(operation: &TardisOperation) -> bool
     operation.source_index < MOST_OPERATIONS
 }
 
-/// Whether the numbers are those of an operation.
-#[tactic(auto, using(crate::proofs::Numbers::late_is_none, crate::proofs::Numbers::other_is_none, crate::proofs::Numbers::is_load, crate::proofs::Numbers::is_store, crate::proofs::Numbers::is_swap, crate::proofs::Numbers::source_of_load, crate::proofs::Numbers::source_of_swap))]
-pub(crate) fn is_operation(operation: &TardisOperation) -> bool
-    ensures { IsTrue result ↔ IsOperation operation.now }
-{
-    let _value = operation.value;
-    let _read = operation.read;
-    let _rank = operation.rank;
-    let _addr = operation.addr;
-    if operation.ts > LAST_STAMP {
-        return false;
-    }
-    match operation.kind {
-        0 => has_source(operation),
-        1 => true,
-        2 => has_source(operation),
-        _ => false,
+impl InNumbers for TardisOperation {
+    ghost in_range = { λ operation. IsOperation operation };
+
+    #[tactic(auto, using(crate::proofs::Numbers::late_is_none, crate::proofs::Numbers::other_is_none, crate::proofs::Numbers::is_load, crate::proofs::Numbers::is_store, crate::proofs::Numbers::is_swap, crate::proofs::Numbers::source_of_load, crate::proofs::Numbers::source_of_swap))]
+    fn is_in_range(&self) -> bool {
+        let _value = self.value;
+        let _read = self.read;
+        let _rank = self.rank;
+        let _addr = self.addr;
+        if self.ts > LAST_STAMP {
+            return false;
+        }
+        match self.kind {
+            0 => has_source(self),
+            1 => true,
+            2 => has_source(self),
+            _ => false,
+        }
     }
 }
 

@@ -87,9 +87,10 @@ impl Trace {
         }
     }
 
-    /// The trace of these operations; 23 TooMany where there are more than 64 cores, or one has more than 1,048,576.
+    /// The trace of these operations, core 0's first; 23 TooMany where there are more than 64 cores, or one has more than
+    /// 1,048,576.
     #[tactic(auto, using(crate::proofs::Growth::size_is))]
-    pub(crate) fn of(alloc: Global, cores: Vec<Vec<Access>>) -> Result<Trace, Refusal>
+    pub fn of(alloc: Global, cores: Vec<Vec<Access>>) -> Result<Trace, Refusal>
         ensures trace { IfOk result (λ trace. trace ≡ operation_lists cores.items) }
         ensures refused { IfErr result (IsRefusalOfAll (operation_lists cores.items)) }
     {

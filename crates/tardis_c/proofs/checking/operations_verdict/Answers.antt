@@ -2,7 +2,6 @@
 use Rattle.std.proofs.Common.{◌≡◌, ◌∙◌, ap, length, map, subst, sym, List}
 use Rattle.std.specs.Prelude.{All}
 use Rattle.std.proofs.lemmas.List.{length-map}
-use Rattle.log_record.specs.declared.record.Record.{Record}
 use Rattle.verdict.specs.VerdictOf.{verdict_of}
 use Rattle.merge_judge.specs.Records.{AreOfLog, GivenLog, logs_from, records_of}
 use Rattle.tardis_c.specs.Operations.{logs_of, record_of}
@@ -23,10 +22,10 @@ records_verdict-requires-clause-sources c =
 pub records_verdict-requires-clause-logs : goal.records_verdict-requires-clause-logs
 records_verdict-requires-clause-logs c =
     subst (λ (ss : List GivenLog). All (λ (log : GivenLog). AreOfLog log.records) ss) (sym (c.as_mut_slice.ensures.value ∙ c.in_ok-sources.ensures))
-    (sources_good 0 (length c.args.ends.now) (parts_of c.args.operations.now c.args.ends.now) c.in_ok-check_parts.ensures)
+    (sources_good 0 (length c.args.ends.now) (parts_of c.args.operations.now c.args.ends.now) c.in_ok-check_parts.ensures.parts)
 
 pub returns-in-Ok : goal.returns-in-Ok
 returns-in-Ok c =
     let n = length c.args.ends.now in
     let logs = logs_of (parts_of c.args.operations.now c.args.ends.now) in
-    (c.in_ok-check_parts.ensures, c.in-Ok.ensures.exact ∙ ap verdict_of (ap records_of (c.as_mut_slice.ensures.value ∙ c.in_ok-sources.ensures) ∙ sources_are 0 n logs))
+    (c.in_ok-check_parts.ensures.parts, c.in-Ok.ensures.exact ∙ ap verdict_of (ap records_of (c.as_mut_slice.ensures.value ∙ c.in_ok-sources.ensures) ∙ sources_are 0 n logs))

@@ -1,0 +1,32 @@
+//! What a search finds.
+
+ghost use Rattle.std.specs.Prelude.{List, IfOk};
+ghost use Rattle.mem_op.specs.Consistency.{Operation};
+ghost use Rattle.refutation.specs.Answers.{IsShown};
+ghost use Rattle.tardis_c.specs.Found.{Shows};
+
+use merge_judge::print_order;
+use refutation::Answer;
+use std::alloc::{AllocError, Global};
+
+/// What a search finds, with a text that shows it.
+#[derive(Drop)]
+pub enum Finding {
+    /// The operations are consistent, by the order of this text.
+    Order(String),
+    /// They aren't, by the refutation of this text.
+    Refutation(String),
+    /// Neither was found.
+    Undecided,
+}
+
+/// An answer with its text, which shows of all operations what the answer shows.
+pub(crate) fn finding_of(alloc: Global, answer: &Answer) -> Result<Finding, AllocError>
+    ensures { IfOk result (λ finding. (cores : List (List Operation)) → IsShown cores answer.now → Shows cores finding) }
+{
+    match answer {
+        Answer::Order(order) => Ok(Finding::Order(print_order(alloc, order)?)),
+        Answer::Refutation(refutation) => Ok(Finding::Refutation(refutation.print(alloc)?)),
+        Answer::Undecided => Ok(Finding::Undecided),
+    }
+}

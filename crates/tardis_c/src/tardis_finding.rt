@@ -1,0 +1,94 @@
+//! What a search finds, in numbers and bytes.
+
+ghost use Rattle.std.specs.Prelude.{◌≡◌};
+ghost use Rattle.tardis_c.specs.Found.{finding_status, finding_told, nothing_found, text_of, with_text};
+
+use super::finding::Finding;
+use super::operations_fault::OperationsFault;
+
+/// What a search finds beside the status. A field that the answer doesn't have is 0.
+#[repr(C)]
+#[derive(Clone, Copy)]
+pub struct TardisFinding {
+    /// With a Yes or a No: how many bytes its text has.
+    pub length: u64,
+    /// Where an operation is none: its core.
+    pub core: u64,
+    /// Where an operation is none: its index.
+    pub index: u64,
+    /// With a refusal: its number.
+    pub number: u32,
+}
+
+/// Nothing at all.
+const NOTHING: TardisFinding = TardisFinding {
+    length: 0,
+    core: 0,
+    index: 0,
+    number: 0,
+};
+
+/// What is told of a number alone.
+pub(crate) fn numbered(number: u32) -> TardisFinding
+    ensures { result ≡ record nothing_found { number = number } }
+{
+    TardisFinding { number, ..NOTHING }
+}
+
+/// The status of what was found.
+pub(crate) fn finding_status(answer: &Result<Finding, OperationsFault>) -> u8
+    ensures { result ≡ finding_status answer.now }
+{
+    match answer {
+        Ok(Finding::Order(_)) => 0,
+        Ok(Finding::Refutation(_)) => 1,
+        Ok(Finding::Undecided) | Err(OperationsFault::OutOfMemory) => 4,
+        Err(OperationsFault::TooMany { .. }) | Err(OperationsFault::OutOfRange { .. }) => 2,
+    }
+}
+
+/// What is told of it beside its status.
+pub(crate) fn finding_told(answer: &Result<Finding, OperationsFault>) -> TardisFinding
+    ensures { result ≡ finding_told answer.now }
+{
+    match answer {
+        Ok(Finding::Order(text)) | Ok(Finding::Refutation(text)) => TardisFinding {
+            length: text.len() as u64,
+            ..NOTHING
+        },
+        Ok(Finding::Undecided) => numbered(44),
+        Err(OperationsFault::OutOfMemory) => numbered(10),
+        Err(OperationsFault::TooMany { core }) => TardisFinding {
+            core: *core as u64,
+            index: 1_048_576,
+            number: 23,
+            ..NOTHING
+        },
+        Err(OperationsFault::OutOfRange { core, index }) => TardisFinding {
+            core: *core as u64,
+            index: *index as u64,
+            number: 22,
+            ..NOTHING
+        },
+    }
+}
+
+/// The bytes of the text that was found.
+fn text_of(answer: &Result<Finding, OperationsFault>) -> &[u8]
+    ensures { result.now ≡ text_of answer.now }
+{
+    match answer {
+        Ok(Finding::Order(text)) | Ok(Finding::Refutation(text)) => text.as_bytes(),
+        Ok(Finding::Undecided) | Err(_) => b"",
+    }
+}
+
+/// Puts the text that was found at the front of a buffer that has room for it.
+pub(crate) fn put_text(answer: &Result<Finding, OperationsFault>, buffer: &mut [u8])
+    ensures { buffer.new ≡ with_text (text_of answer.now) buffer.old }
+{
+    let text = text_of(answer);
+    if text.len() <= buffer.len() {
+        buffer[..text.len()].copy_from_slice(text);
+    }
+}
