@@ -29,39 +29,41 @@ struct Touch {
 /// Numbers the addresses and classes of these cores' operations. Gives the operations and the stores of each class.
 pub(crate) fn number(alloc: Global, cores: &[Vec<Access>]) -> Tried<(Operations, Candidates)> {
     let mut operations = Operations::new(alloc, cores)?;
-    let mut touches = Vec::new(alloc);
-    for (access, place) in cores.iter().flatten().zip(1..=u32::MAX) {
-        push_touches(&mut touches, access, place)?;
-    }
-    touches.sort_unstable();
     let mut candidates = Candidates {
         starts: Vec::new(alloc),
         stores: Vec::new(alloc),
         words: 0,
     };
+    let touches = touches(alloc, cores)?;
     let mut last = None;
-    for touch in touches {
-        candidates.enter(last, touch, &mut operations.all)?;
-        last = Some(touch);
+    for class in touches.chunk_by(|one, other| one.addr == other.addr && one.word == other.word) {
+        let addr = class.first().map(|touch| touch.addr);
+        candidates.words = candidates.words.saturating_add(u32::from(addr != last));
+        candidates.enter(class, &mut operations.all)?;
+        last = addr;
     }
     candidates.starts.push(short(candidates.stores.len())?)?;
     Ok((operations, candidates))
 }
 
-/// Appends what an operation did.
-fn push_touches(touches: &mut Vec<Touch>, access: &Access, place: Place) -> Tried<()> {
-    let addr = access.addr();
-    let read = access.read().map(|word| (word, false));
-    let stored = access.is_store_to(addr).then(|| (access.word_left(), true));
-    for (word, stores) in read.into_iter().chain(stored) {
-        touches.push(Touch {
-            addr,
-            word,
-            place,
-            stores,
-        })?;
+/// What these cores' operations did, in the order of addresses, words and places.
+fn touches(alloc: Global, cores: &[Vec<Access>]) -> Tried<Vec<Touch>> {
+    let mut touches = Vec::new(alloc);
+    for (access, place) in cores.iter().flatten().zip(1..=u32::MAX) {
+        let addr = access.addr();
+        let read = access.read().map(|word| (word, false));
+        let stored = access.is_store_to(addr).then(|| (access.word_left(), true));
+        touches.extend(
+            read.into_iter().chain(stored).map(|(word, stores)| Touch {
+                addr,
+                word,
+                place,
+                stores,
+            }),
+        )?;
     }
-    Ok(())
+    touches.sort_unstable();
+    Ok(touches)
 }
 
 impl Candidates {
@@ -71,24 +73,30 @@ impl Candidates {
         part(&self.stores, at(starts, class), at(starts, next))
     }
 
-    /// Enters a touch after the last one, in the order of addresses, words and places.
-    fn enter(&mut self, last: Option<Touch>, touch: Touch, all: &mut [Operation]) -> Tried<()> {
-        if last.is_none_or(|last| last.addr != touch.addr) {
-            self.words = self.words.saturating_add(1);
+    /// The stores of a class that are a core's. A swap that stores what it reads is one of them, too.
+    pub(crate) fn of_core(&self, class: u32, operations: &Operations, core: u32) -> &[Place] {
+        let all = self.of(class);
+        let from = all.partition_point(|store| operations.core(*store) < core);
+        let to = all.partition_point(|store| operations.core(*store) <= core);
+        all.get(from..to).unwrap_or(&[])
+    }
+
+    /// Enters what read or stored the next word at an address.
+    fn enter(&mut self, touches: &[Touch], all: &mut [Operation]) -> Tried<()> {
+        let class = short(self.starts.len())?;
+        self.starts.push(short(self.stores.len())?)?;
+        if touches.first().is_some_and(|touch| touch.word == 0) {
+            self.stores.push(START)?;
         }
-        if last.is_none_or(|last| last.addr != touch.addr || last.word != touch.word) {
-            self.starts.push(short(self.stores.len())?)?;
-            if touch.word == 0 {
-                self.stores.push(START)?;
+        for touch in touches {
+            let operation = all.get_mut(touch.place as usize).ok_or(Stop::GivenUp)?;
+            operation.word = self.words.saturating_sub(1);
+            if touch.stores {
+                operation.stores = true;
+                self.stores.push(touch.place)?;
+            } else {
+                operation.class = class;
             }
-        }
-        let operation = all.get_mut(touch.place as usize);
-        let operation = operation.ok_or(Stop::GivenUp)?;
-        operation.word = self.words.saturating_sub(1);
-        if touch.stores {
-            self.stores.push(touch.place)?;
-        } else {
-            operation.class = short(self.starts.len())?.saturating_sub(1);
         }
         Ok(())
     }

@@ -1,8 +1,7 @@
 //! Chains of facts that lead from one operation to another.
 
-use super::facts::Fact;
 use super::knowledge::Knowledge;
-use super::stop::{NONE, Place, Tried, at, put};
+use super::stop::{NONE, Place, START, Tried, at, put};
 use std::alloc::Global;
 use std::iter::successors;
 
@@ -32,19 +31,17 @@ struct Walk {
 impl Knowledge {
     /// A shortest chain of facts below `limit` by which one operation is before another.
     pub(crate) fn chain(&self, from: Place, to: Place, limit: u32) -> Tried<Option<Vec<u32>>> {
-        if self.operations.reaches(from, to) {
+        let (core, end_core) = (self.operations.core(from), self.operations.core(to));
+        if from == START || from <= to && core == end_core {
             return Ok(Some(Vec::new(self.alloc)));
-        }
-        if !self.is_before(from, to) {
-            return Ok(None);
         }
         let mut walk = Walk {
             hops: Vec::new(self.alloc),
             reached: self.clocks.of(to).to_vec(self.alloc)?,
-            end_core: self.operations.core(to),
+            end_core,
             limit,
         };
-        walk.hop(from, self.operations.core(from), NONE, NONE)?;
+        walk.hop(from, core, NONE, NONE)?;
         for number in 0..u32::MAX {
             let Some(hop) = walk.hops.get(number as usize).copied() else {
                 break;
@@ -58,9 +55,17 @@ impl Knowledge {
 
     /// Goes on by the facts that lead from the places of a hop. Says whether the end was reached.
     fn walk_from(&self, walk: &mut Walk, from: u32, hop: Hop) -> Tried<bool> {
-        let facts = (hop.place..hop.until).flat_map(|place| self.facts.of(place));
-        for (number, Fact { later, .. }) in facts {
-            if number < walk.limit && walk.hop(later, self.operations.core(later), number, from)? {
+        let facts = &self.facts;
+        let led = (hop.place..hop.until).flat_map(|place| {
+            let facts_of = successors(
+                facts.latest(place),
+                move |(_, fact)| facts.numbered(fact.next),
+            );
+            facts_of.take(facts.all.len())
+        });
+        for (number, fact) in led {
+            let core = self.operations.core(fact.later);
+            if number < walk.limit && walk.hop(fact.later, core, number, from)? {
                 return Ok(true);
             }
         }

@@ -1,15 +1,37 @@
 //! What is known to be before each operation.
 
-use super::core_set::CoreSet;
 use super::operations::Operations;
 use super::stop::{Place, Stop, Tried};
 use std::alloc::Global;
 
-/// An entry that rose, and what it was.
-#[derive(Clone, Copy)]
-pub(crate) struct Rise {
-    entry: usize,
-    before: Place,
+/// A set of cores, of which there are at most 64.
+#[derive(Clone, Copy, PartialEq, Eq)]
+pub(crate) struct CoreSet {
+    /// A bit for each core.
+    bits: u64,
+}
+
+impl CoreSet {
+    /// All cores.
+    pub(crate) const ALL: CoreSet = CoreSet { bits: u64::MAX };
+
+    /// No core.
+    pub(crate) const NONE: CoreSet = CoreSet { bits: 0 };
+
+    /// Whether a core is one of them.
+    pub(crate) fn contains(self, core: u32) -> bool {
+        self.bits >> (core & 63) & 1 == 1
+    }
+
+    /// Adds a core.
+    pub(crate) fn insert(&mut self, core: usize) {
+        self.bits |= 1u64 << (core & 63);
+    }
+
+    /// Adds others.
+    pub(crate) fn extend(&mut self, others: CoreSet) {
+        self.bits |= others.bits;
+    }
 }
 
 /// Of each operation and each core a place: the core's operations below it are the operation itself or before it.
@@ -17,8 +39,8 @@ pub(crate) struct Rise {
 pub(crate) struct Clocks {
     cores: usize,
     entries: Vec<Place>,
-    /// What rose since the trail is kept.
-    pub(crate) trail: Vec<Rise>,
+    /// The entries that rose since the trail is kept, each with what it was before.
+    pub(crate) trail: Vec<(usize, Place)>,
     pub(crate) is_trailed: bool,
 }
 
@@ -29,12 +51,9 @@ impl Clocks {
         let length = operations.all.len().saturating_mul(cores);
         let mut entries = Vec::with_capacity(alloc, length)?;
         for (operation, next) in operations.all.iter().zip(1..=u32::MAX) {
-            let row = entries.len();
-            entries.extend_from_slice(&operations.starts)?;
-            let own = row.saturating_add(operation.core() as usize);
-            if let Some(own) = entries.get_mut(own) {
-                *own = next;
-            }
+            let starts = operations.starts.iter().zip(0..=u32::MAX);
+            let own = operation.core();
+            entries.extend(starts.map(|(start, core)| if core == own { next } else { *start }))?;
         }
         Ok(Clocks {
             cores,
@@ -58,56 +77,36 @@ impl Clocks {
     /// The clock of an operation.
     pub(crate) fn of(&self, place: Place) -> &[Place] {
         let row = self.row(place);
-        self.entries
-            .get(row..row.saturating_add(self.cores))
-            .unwrap_or(&[])
+        let own = self.entries.get(row..row.saturating_add(self.cores));
+        own.unwrap_or(&[])
     }
 
     /// What is before one operation is before another: gives the cores whose entries rose.
     pub(crate) fn join(&mut self, earlier: Place, later: Place) -> Tried<CoreSet> {
         let (from, to) = (self.row(earlier), self.row(later));
-        if self.is_trailed {
-            self.keep(from, to)?;
-        }
-        let (low, cores) = (from.min(to), self.cores);
-        let Some((front, back)) = self.entries.split_at_mut_checked(from.max(to)) else {
-            return Err(Stop::GivenUp);
-        };
-        let front = front.get_mut(low..low.saturating_add(cores));
-        match (front, back.get_mut(..cores)) {
-            (Some(front), Some(back)) if from < to => Ok(raise(front, back)),
-            (Some(front), Some(back)) => Ok(raise(back, front)),
-            _ => Err(Stop::GivenUp),
-        }
-    }
-
-    /// Notes in the trail the entries of the row at `to` that are to rise to those of the row at `from`.
-    fn keep(&mut self, from: usize, to: usize) -> Tried<()> {
-        for (from, entry) in (from..).zip(to..to.saturating_add(self.cores)) {
-            let before = self.entries.get(entry).copied().ok_or(Stop::GivenUp)?;
-            if self.entries.get(from).is_some_and(|least| before < *least) {
-                self.trail.push(Rise { entry, before })?;
+        let mut risen = CoreSet::NONE;
+        for core in 0..self.cores {
+            let least = self.entries.get(from.saturating_add(core)).copied();
+            let least = least.ok_or(Stop::GivenUp)?;
+            let entry = to.saturating_add(core);
+            let before = self.entries.get_mut(entry).ok_or(Stop::GivenUp)?;
+            if *before < least {
+                risen.insert(core);
+                if self.is_trailed {
+                    self.trail.push((entry, *before))?;
+                }
+                *before = least;
             }
         }
-        Ok(())
+        Ok(risen)
     }
 
     /// Takes back what rose since the trail had this many rises.
     pub(crate) fn undo(&mut self, mark: usize) -> Tried<()> {
-        for rise in self.trail.iter().skip(mark).rev() {
-            *self.entries.get_mut(rise.entry).ok_or(Stop::GivenUp)? = rise.before;
+        for (entry, before) in self.trail.iter().skip(mark).rev() {
+            *self.entries.get_mut(*entry).ok_or(Stop::GivenUp)? = *before;
         }
         self.trail.truncate(mark);
         Ok(())
     }
-}
-
-/// Raises each entry to that of another clock: gives the cores whose entries rose.
-fn raise(lower: &[Place], upper: &mut [Place]) -> CoreSet {
-    let mut risen = CoreSet::NONE;
-    for (core, (entry, least)) in upper.iter_mut().zip(lower).enumerate() {
-        risen.insert_if(core, *entry < *least);
-        *entry = (*entry).max(*least);
-    }
-    risen
 }

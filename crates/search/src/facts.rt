@@ -19,34 +19,9 @@ pub(crate) struct Fact {
 pub(crate) struct Facts {
     pub(crate) all: Vec<Fact>,
     /// Of each operation the last fact in which it is the earlier one, or NONE.
-    pub(crate) latest: Vec<u32>,
+    latest: Vec<u32>,
     /// Of each read the fact that says where its source is, or NONE.
     pub(crate) sources: Vec<u32>,
-}
-
-/// The facts in which one operation is the earlier one, with their numbers, from the last one on.
-#[derive(Drop)]
-pub(crate) struct FactsOf<'a> {
-    /// Those up to the next one, at least.
-    facts: &'a [Fact],
-    next: u32,
-}
-
-impl Iterator for FactsOf<'_> {
-    ghost use Rattle.std.specs.Prelude.{length};
-    ghost use Rattle.std.specs.Iterator.{at_most};
-
-    type Item = (u32, Fact);
-
-    ghost remaining = { λ s. at_most (length s.facts.now) };
-
-    fn next(&mut self) -> Option<(u32, Fact)> {
-        let number = self.next;
-        let fact = *self.facts.get(number as usize)?;
-        self.facts = self.facts.get(..number as usize)?;
-        self.next = fact.next;
-        Some((number, fact))
-    }
 }
 
 impl Facts {
@@ -69,12 +44,14 @@ impl Facts {
         self.all.get(number as usize).copied()
     }
 
-    /// Those in which an operation is the earlier one, from the last one on.
-    pub(crate) fn of(&self, earlier: Place) -> FactsOf<'_> {
-        FactsOf {
-            facts: &self.all,
-            next: at(&self.latest, earlier),
-        }
+    /// The fact of a number, with its number.
+    pub(crate) fn numbered(&self, number: u32) -> Option<(u32, Fact)> {
+        Some((number, self.get(number)?))
+    }
+
+    /// The last fact in which an operation is the earlier one, with its number. The others follow by `next`.
+    pub(crate) fn latest(&self, earlier: Place) -> Option<(u32, Fact)> {
+        self.numbered(at(&self.latest, earlier))
     }
 
     /// Whether a fact says where a read's source is.

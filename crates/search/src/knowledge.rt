@@ -1,22 +1,14 @@
 //! All that is known of the orders that a trace can have.
 
 use super::candidates::{Candidates, number};
-use super::clocks::Clocks;
-use super::core_set::CoreSet;
+use super::clocks::{Clocks, CoreSet};
 use super::facts::Facts;
 use super::operations::Operations;
 use super::stop::{Conflict, Place, Stop, Tried, at};
-use super::stores::{Stores, last_below};
+use super::stores::{Stores, count_first};
 use std::alloc::Global;
 use std::collections::VecDeque;
 use trace::Access;
-
-/// An operation whose clock rose for some cores.
-#[derive(Clone, Copy)]
-pub(crate) struct Risen {
-    pub(crate) place: Place,
-    pub(crate) cores: CoreSet,
-}
 
 /// What is known of each order that keeps program order and in which each read has its word.
 #[derive(Drop)]
@@ -31,8 +23,9 @@ pub(crate) struct Knowledge {
     pub(crate) entered: Vec<Place>,
     /// The reads that came in with more than one candidate.
     pub(crate) open: Vec<Place>,
-    /// The operations whose clocks rose, and for which nothing was concluded from that yet.
-    pub(crate) risen: VecDeque<Risen>,
+    /// The operations whose clocks rose, each with the cores for which it did, and for which nothing was concluded from that
+    /// yet.
+    pub(crate) risen: VecDeque<(Place, CoreSet)>,
     /// How many steps the search may still make.
     pub(crate) left: u64,
 }
@@ -73,13 +66,22 @@ impl Knowledge {
 
     /// The last store of a core to the address of an operation at a place that is known to be before it.
     pub(crate) fn last_store(&self, place: Place, core: u32) -> Option<Place> {
-        let operation = self.operations.get(place);
-        let bound = if core == operation.core() {
-            place
-        } else {
-            self.clocks.entry(place, core)
-        };
-        last_below(self.stores.active(operation.word, core), bound)
+        let entry = self.clocks.entry(place, core);
+        let stores = self.stores.active(self.operations.get(place).word, core);
+        let count = count_first(stores, |store| store < entry && store != place);
+        stores.get(..count)?.last().copied()
+    }
+
+    /// Of each core that has one the last store to a read's address that is before it.
+    pub(crate) fn last_stores(&self, read: Place) -> Tried<Vec<Place>> {
+        let cores = self.operations.cores();
+        let last = cores.filter_map(|core| self.last_store(read, core));
+        Ok(last.collect(self.alloc)?)
+    }
+
+    /// Whether one store is after another, so that it hides it from what comes later.
+    pub(crate) fn hides(&self, hiding: Place, hidden: Place) -> bool {
+        hiding != hidden && self.is_before(hidden, hiding)
     }
 
     /// Whether an operation reads, and can have its word from a store to its address.
@@ -96,6 +98,14 @@ impl Knowledge {
         let number = self.facts.push(earlier, later, basis)?;
         self.flow(earlier, later, number)?;
         Ok(number)
+    }
+
+    /// Adds that one operation is another, or is before it, where that isn't known.
+    pub(crate) fn learn(&mut self, earlier: Place, later: Place, basis: u32) -> Tried<()> {
+        if !self.is_before(earlier, later) {
+            self.add(earlier, later, basis)?;
+        }
+        Ok(())
     }
 
     /// What is before one operation is before another, by a fact. The case is closed where the second is before the
@@ -116,9 +126,9 @@ impl Knowledge {
     /// Notes that the clock of an operation rose for some cores, if for any.
     pub(crate) fn note(&mut self, place: Place, cores: CoreSet) -> Tried<()> {
         match self.risen.back_mut() {
-            _ if cores.is_empty() => {}
-            Some(last) if last.place == place => last.cores.extend(cores),
-            _ => self.risen.push_back(Risen { place, cores })?,
+            _ if cores == CoreSet::NONE => {}
+            Some(last) if last.0 == place => last.1.extend(cores),
+            _ => self.risen.push_back((place, cores))?,
         }
         Ok(())
     }

@@ -4,9 +4,6 @@
 mod candidates;
 mod chains;
 mod clocks;
-mod closing;
-mod core_set;
-mod exclusion;
 mod explanation;
 mod facts;
 mod knowledge;

@@ -1,8 +1,8 @@
 //! A proof that no order exists as a refutation, whose facts are named by their places among those in force.
 
 use super::operations::Operations;
-use super::proof::{Derived, Line, Part, Rule};
-use super::stop::{Place, START, Stop, Tried};
+use super::proof::{Derived, Line, Rule};
+use super::stop::{Place, START, Stop, Tried, at};
 use mem_op::{CoreId, OpId, OpIndex};
 use refutation::{Path, Point, Range, Ranges, Refutation, Step};
 use std::alloc::Global;
@@ -12,6 +12,8 @@ use std::alloc::Global;
 struct Numbering<'a> {
     alloc: Global,
     operations: &'a Operations,
+    /// The operations that the lines name by their numbers in this list.
+    places: &'a [Place],
     /// The facts in force.
     facts: Vec<u32>,
     /// The facts of the cases that wait, each with how many facts it stands on.
@@ -22,20 +24,19 @@ struct Numbering<'a> {
 pub(crate) fn refutation(
     alloc: Global,
     operations: &Operations,
+    places: &[Place],
     reversed: &[Line],
 ) -> Tried<Refutation> {
     let mut numbering = Numbering {
         alloc,
         operations,
+        places,
         facts: Vec::new(alloc),
         waiting: Vec::new(alloc),
     };
-    let mut steps = Vec::new(alloc);
-    for line in reversed.iter().rev() {
-        steps.push(numbering.step(line)?)?;
-        numbering.follow(line)?;
-    }
-    Ok(Refutation::new(steps))
+    let lines = reversed.iter().rev();
+    let steps = lines.map(|line| numbering.step(line));
+    Ok(Refutation::new(steps.try_collect(alloc)?))
 }
 
 /// The id of the operation at a place.
@@ -48,29 +49,48 @@ pub(crate) fn id(operations: &Operations, place: Place) -> Tried<OpId> {
 }
 
 impl Numbering<'_> {
-    /// The step that a line is, where these facts are in force.
-    fn step(&self, line: &Line) -> Tried<Step> {
-        Ok(match line {
-            Line::Read(read, parts) => Step::Read {
-                read: id(self.operations, *read)?,
-                ranges: self.ranges(parts)?,
-            },
-            Line::Order(one, other, _) => Step::Order {
-                one: id(self.operations, *one)?,
-                other: id(self.operations, *other)?,
-            },
-            Line::Derived(derived) => self.derived(derived)?,
+    /// The step that a line is. It goes on to the facts that are in force after it.
+    fn step(&mut self, line: &Line) -> Tried<Step> {
+        let step = match line {
+            Line::Derived(derived) => return self.derived(derived),
+            Line::Read(read, ranges, fact) => {
+                self.wait(ranges.len(), *fact)?;
+                let ranges = ranges.iter().map(|range| self.range(*range));
+                Step::Read {
+                    read: self.id(*read)?,
+                    ranges: Ranges::new(ranges.try_collect(self.alloc)?),
+                }
+            }
+            Line::Order(one, other, fact) => {
+                self.wait(2, *fact)?;
+                Step::Order {
+                    one: self.id(*one)?,
+                    other: self.id(*other)?,
+                }
+            }
             Line::Cycle(path) => Step::Cycle {
                 path: self.path(path)?,
             },
-        })
+        };
+        if let Some((fact, below)) = self.waiting.pop() {
+            self.facts.truncate(below);
+            self.facts.push(fact)?;
+        }
+        Ok(step)
     }
 
-    /// The step of from-read or of write-order.
-    fn derived(&self, derived: &Derived) -> Tried<Step> {
+    /// Lets so many cases wait, each of which begins with a fact of this number.
+    fn wait(&mut self, cases: usize, fact: u32) -> Tried<()> {
+        let waiting = self.waiting.len().saturating_add(cases);
+        Ok(self.waiting.resize(waiting, (fact, self.facts.len()))?)
+    }
+
+    /// The step of from-read or of write-order. It goes on to the facts that are in force after it.
+    fn derived(&mut self, derived: &Derived) -> Tried<Step> {
         let source = self.number(derived.source)?;
-        let write = id(self.operations, derived.store)?;
+        let write = self.id(derived.store)?;
         let path = self.path(&derived.path)?;
+        self.facts.push(derived.fact)?;
         Ok(match derived.rule {
             Rule::WriteOrder => Step::WriteOrder {
                 source,
@@ -85,56 +105,34 @@ impl Numbering<'_> {
         })
     }
 
-    /// The point of a place that a line names.
-    fn point(&self, place: Place) -> Tried<Point> {
-        if place == START {
+    /// The id of an operation that a line names.
+    fn id(&self, number: Place) -> Tried<OpId> {
+        id(self.operations, at(self.places, number))
+    }
+
+    /// The point that a line names.
+    fn point(&self, number: Place) -> Tried<Point> {
+        if number == START {
             return Ok(Point::Init);
         }
-        Ok(Point::At(id(self.operations, place)?))
+        Ok(Point::At(self.id(number)?))
     }
 
     /// The range of a case of a read.
-    fn range(&self, part: &Part) -> Tried<Range> {
-        let (first, last) = (self.point(part.first)?, self.point(part.last)?);
+    fn range(&self, (first, last): (Place, Place)) -> Tried<Range> {
+        let (first, last) = (self.point(first)?, self.point(last)?);
         Ok(Range { first, last })
-    }
-
-    /// The ranges of the cases of a read.
-    fn ranges(&self, parts: &[Part]) -> Tried<Ranges> {
-        let ranges = parts.iter().map(|part| self.range(part));
-        Ok(Ranges::new(ranges.try_collect(self.alloc)?))
     }
 
     /// The place of a fact among those in force.
     fn number(&self, fact: u32) -> Tried<usize> {
-        let mut facts = self.facts.iter();
-        facts
-            .rposition(|number| *number == fact)
-            .ok_or(Stop::GivenUp)
+        let place = self.facts.iter().rposition(|number| *number == fact);
+        place.ok_or(Stop::GivenUp)
     }
 
     /// The path by these facts.
     fn path(&self, facts: &[u32]) -> Tried<Path> {
         let numbers = facts.iter().map(|fact| self.number(*fact));
         Ok(Path::new(numbers.try_collect(self.alloc)?))
-    }
-
-    /// Goes on to the facts that are in force after a line.
-    fn follow(&mut self, line: &Line) -> Tried<()> {
-        let below = self.facts.len();
-        match line {
-            Line::Derived(derived) => return Ok(self.facts.push(derived.fact)?),
-            Line::Read(_, parts) => {
-                self.waiting
-                    .extend(parts.iter().rev().map(|part| (part.fact, below)))?;
-            }
-            Line::Order(_, _, fact) => self.waiting.extend_from_slice(&[(*fact, below); 2])?,
-            Line::Cycle(_) => {}
-        }
-        if let Some((fact, below)) = self.waiting.pop() {
-            self.facts.truncate(below);
-            self.facts.push(fact)?;
-        }
-        Ok(())
     }
 }

@@ -1,6 +1,6 @@
 //! The operations of all cores in one list.
 
-use super::stop::{NONE, Place, START, Tried, at, short};
+use super::stop::{NONE, Place, Tried, at, short};
 use std::alloc::Global;
 use std::ops::Range;
 use trace::Access;
@@ -46,19 +46,13 @@ pub(crate) struct Operations {
 }
 
 impl Operations {
-    /// The operations of these cores, with words and classes that are still to be numbered.
+    /// The operations of these cores, of which nothing but the core is told yet.
     pub(crate) fn new(alloc: Global, cores: &[Vec<Access>]) -> Tried<Operations> {
         let mut all = vec![in alloc; BEGINNING; 1]?;
         let mut starts = Vec::new(alloc);
         for (core, own) in (0..=u8::MAX).zip(cores) {
             starts.push(short(all.len())?)?;
-            all.extend(
-                own.iter().map(|access| Operation {
-                    core,
-                    stores: access.is_store_to(access.addr()),
-                    ..BEGINNING
-                }),
-            )?;
+            all.extend(own.iter().map(|_| Operation { core, ..BEGINNING }))?;
         }
         Ok(Operations { all, starts })
     }
@@ -84,14 +78,10 @@ impl Operations {
         (core, place.saturating_sub(at(&self.starts, core)))
     }
 
-    /// The operation at a place, where it is one of this core.
-    pub(crate) fn of_core(&self, core: u32, place: Place) -> Option<Operation> {
-        let operation = self.all.get(place as usize).copied();
-        operation.filter(|operation| operation.core() == core)
-    }
-
-    /// Whether one place is another, or before it in program order.
-    pub(crate) fn reaches(&self, from: Place, to: Place) -> bool {
-        from == START || from <= to && self.core(from) == self.core(to)
+    /// The operation of a core that comes next where each core is at its place in a list, with this place.
+    pub(crate) fn next(&self, places: &[Place], core: u32) -> Option<(Place, Operation)> {
+        let place = at(places, core);
+        let operation = self.all.get(place as usize).copied()?;
+        (operation.core() == core).then_some((place, operation))
     }
 }

@@ -1,22 +1,8 @@
 //! Proofs that a case is closed, which grow from their end.
 
-use super::stop::{Place, Tried, at};
+use super::stop::{Place, Tried};
 use std::alloc::Global;
 use std::collections::BTreeSet;
-
-/// A range of candidates of a read, with the number of the fact that its case begins with.
-#[derive(Clone, Copy)]
-pub(crate) struct Part {
-    pub(crate) first: Place,
-    pub(crate) last: Place,
-    pub(crate) fact: u32,
-}
-
-impl Part {
-    pub(crate) fn new(first: Place, last: Place, fact: u32) -> Part {
-        Part { first, last, fact }
-    }
-}
 
 /// By which rule a fact follows.
 #[derive(Clone, Copy, PartialEq, Eq)]
@@ -43,36 +29,14 @@ pub(crate) struct Derived {
 /// A step of a proof. Its facts have the numbers that the search gave them.
 #[derive(Drop)]
 pub(crate) enum Line {
-    /// The source of a read lies in one of these ranges: a case for each.
-    Read(Place, Vec<Part>),
-    /// One of two operations is before the other: two cases, both of which begin with a fact of this number.
+    /// The source of a read lies in one of these ranges: a case for each, which begins with a fact of this number.
+    Read(Place, Vec<(Place, Place)>, u32),
+    /// One of two operations is before the other: two cases, each of which begins with a fact of this number.
     Order(Place, Place, u32),
     /// A fact follows.
     Derived(Derived),
     /// These facts lead back to where they begin, so the case is closed.
     Cycle(Vec<u32>),
-}
-
-impl Line {
-    /// The line, where the operations that it names by their numbers in a list are those of the list.
-    pub(crate) fn among(mut self, places: &[Place]) -> Line {
-        match &mut self {
-            Line::Read(read, parts) => {
-                *read = at(places, *read);
-                for part in parts {
-                    part.first = at(places, part.first);
-                    part.last = at(places, part.last);
-                }
-            }
-            Line::Order(one, other, _) => {
-                *one = at(places, *one);
-                *other = at(places, *other);
-            }
-            Line::Derived(derived) => derived.store = at(places, derived.store),
-            Line::Cycle(_) => {}
-        }
-        self
-    }
 }
 
 /// The lines that close a case, last one first, and the facts that they need and that aren't shown by them.
@@ -91,15 +55,23 @@ impl Proof {
         }
     }
 
-    /// Puts a line before the others.
-    pub(crate) fn prepend(&mut self, line: Line) -> Tried<()> {
-        Ok(self.reversed.push(line)?)
-    }
-
-    /// Puts another proof before this one.
-    pub(crate) fn prepend_proof(&mut self, mut other: Proof) -> Tried<()> {
+    /// Puts another proof, of which nothing is left, before this one.
+    pub(crate) fn prepend_proof(&mut self, other: &mut Proof) -> Tried<()> {
         self.needs.append(&mut other.needs)?;
         Ok(self.reversed.append(&mut other.reversed)?)
+    }
+
+    /// Puts a step of from-read or of write-order before the others, which needs its path.
+    pub(crate) fn derive(&mut self, derived: Derived) -> Tried<()> {
+        self.need(&derived.path)?;
+        Ok(self.reversed.push(Line::Derived(derived))?)
+    }
+
+    /// Closes a case by a fact in it and a path that leads back, which is needed.
+    pub(crate) fn close(&mut self, fact: u32, mut path: Vec<u32>) -> Tried<()> {
+        self.need(&path)?;
+        path.insert(0, fact)?;
+        Ok(self.reversed.push(Line::Cycle(path))?)
     }
 
     /// Needs facts.

@@ -1,23 +1,22 @@
 //! What follows from the source of a read.
 
-use super::core_set::CoreSet;
+use super::clocks::CoreSet;
 use super::knowledge::Knowledge;
 use super::stop::{NONE, Place, START, Tried, at, put};
 use super::stores::count_first;
 
 impl Knowledge {
-    /// Gives a read its source, after which the first store of each core comes after the read.
+    /// Gives a read its source, after which the first store of each core comes after the read. All is to be concluded from
+    /// the read.
     pub(crate) fn set_source(&mut self, read: Place, source: Place) -> Tried<()> {
         let basis = self.add(source, read, NONE)?;
         put(&mut self.facts.sources, read, basis)?;
         for core in self.operations.cores() {
-            if let Some(store) = self.first_store_after(source, core, read)
-                && !self.is_before(read, store)
-            {
-                self.add(read, store, basis)?;
+            if let Some(store) = self.first_store_after(source, core, read) {
+                self.learn(read, store, basis)?;
             }
         }
-        Ok(())
+        self.note(read, CoreSet::ALL)
     }
 
     /// The first store of a core to a read's address that is known to be after the read's source, other than the read.
@@ -33,44 +32,31 @@ impl Knowledge {
         later.find(|store| *store != source && *store != read)
     }
 
-    /// Applies the rules to an operation whose clock rose for some cores.
-    pub(crate) fn apply_rules(&mut self, place: Place, cores: CoreSet) -> Tried<()> {
-        let operation = self.operations.get(place);
-        if operation.reads() {
-            self.order_stores_before(place, cores)?;
-        }
-        if operation.stores {
-            self.order_reads_before(place, cores)?;
-        }
-        Ok(())
-    }
-
-    /// The stores before a read are before its source.
-    fn order_stores_before(&mut self, read: Place, cores: CoreSet) -> Tried<()> {
+    /// The stores before a read whose clock rose for some cores are before its source.
+    pub(crate) fn order_stores_before(&mut self, read: Place, cores: CoreSet) -> Tried<()> {
         let basis = at(&self.facts.sources, read);
         let source = match self.facts.get(basis) {
             Some(fact) if fact.earlier != START => fact.earlier,
             _ => return Ok(()),
         };
-        for core in self.operations.cores() {
-            if cores.contains(core)
-                && let Some(store) = self.last_store(read, core)
-                && store != source
-                && !self.is_before(store, source)
-            {
-                self.add(store, source, basis)?;
+        for core in self.operations.cores().filter(|core| cores.contains(*core)) {
+            if let Some(store) = self.last_store(read, core) {
+                self.learn(store, source, basis)?;
             }
         }
         Ok(())
     }
 
-    /// The reads of the stores before a store are before it. Each core's last store before it stands for the others, and
+    /// The reads of the stores before a store whose clock rose for some cores are before it. Each core's last store before it stands for the others, and
     /// the own core's for those before that one, to which the rule was applied already.
-    fn order_reads_before(&mut self, store: Place, cores: CoreSet) -> Tried<()> {
-        let own = self.last_store(store, self.operations.core(store));
-        for core in self.operations.cores() {
-            if cores.contains(core)
-                && let Some(last) = self.last_store(store, core)
+    pub(crate) fn order_reads_before(&mut self, store: Place, cores: CoreSet) -> Tried<()> {
+        let operation = self.operations.get(store);
+        if !operation.stores {
+            return Ok(());
+        }
+        let own = self.last_store(store, operation.core());
+        for core in self.operations.cores().filter(|core| cores.contains(*core)) {
+            if let Some(last) = self.last_store(store, core)
                 && own.is_none_or(|own| own == last || !self.is_before(last, own))
             {
                 self.order_readers(last, store)?;
@@ -81,18 +67,15 @@ impl Knowledge {
 
     /// The reads of one store are before another, which is after it.
     fn order_readers(&mut self, source: Place, store: Place) -> Tried<()> {
-        let mut number = at(&self.facts.latest, source);
+        let mut next = self.facts.latest(source);
         for _ in 0..self.facts.all.len() {
-            let Some(fact) = self.facts.get(number) else {
+            let Some((number, fact)) = next else {
                 break;
             };
-            if self.facts.is_source(number, &fact)
-                && fact.later != store
-                && !self.is_before(fact.later, store)
-            {
-                self.add(fact.later, store, number)?;
+            if self.facts.is_source(number, &fact) {
+                self.learn(fact.later, store, number)?;
             }
-            number = fact.next;
+            next = self.facts.numbered(fact.next);
         }
         Ok(())
     }

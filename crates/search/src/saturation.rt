@@ -1,8 +1,7 @@
 //! How the operations come in, and what is concluded from each.
 
-use super::core_set::CoreSet;
-use super::knowledge::{Knowledge, Risen};
-use super::operations::Operation;
+use super::clocks::CoreSet;
+use super::knowledge::Knowledge;
 use super::stop::{Conflict, NONE, Place, Stop, Tried, at, put};
 use super::watch::{SearchWatch, Watched};
 
@@ -28,10 +27,10 @@ impl Knowledge {
     fn enter_turn(&mut self) -> Tried<bool> {
         let mut came = false;
         for turn in 0..self.operations.cores().end.saturating_mul(TURN) {
-            if let Some((place, operation)) = self.next_to_enter(turn / TURN)
-                && !self.waits_for_source(place, &operation)
+            if let Some((place, operation)) = self.operations.next(&self.entered, turn / TURN)
+                && !self.waits_for_source(place, operation.class)
             {
-                self.enter(place, &operation)?;
+                self.enter(place)?;
                 came = true;
             }
         }
@@ -41,29 +40,24 @@ impl Knowledge {
     /// Lets the next operation of some core come in, where all of them wait: there is a cycle, which will show.
     fn enter_any(&mut self) -> Tried<bool> {
         let mut cores = self.operations.cores();
-        let next = cores.find_map(|core| self.next_to_enter(core));
-        if let Some((place, operation)) = next {
-            self.enter(place, &operation)?;
+        let next = cores.find_map(|core| self.operations.next(&self.entered, core));
+        if let Some((place, _)) = next {
+            self.enter(place)?;
         }
         Ok(next.is_some())
     }
 
-    /// The next operation of a core that hasn't come in, with its place.
-    fn next_to_enter(&self, core: u32) -> Option<(Place, Operation)> {
-        let place = at(&self.entered, core);
-        Some((place, self.operations.of_core(core, place)?))
-    }
-
-    /// Whether the only source that a read can have hasn't come in.
-    fn waits_for_source(&self, place: Place, operation: &Operation) -> bool {
-        match self.candidates.of(operation.class) {
-            [source] => *source != place && !self.has_entered(*source),
+    /// Whether the only source that a read of this class can have hasn't come in.
+    fn waits_for_source(&self, read: Place, class: u32) -> bool {
+        match self.candidates.of(class) {
+            [source] => *source != read && !self.has_entered(*source),
             _ => false,
         }
     }
 
     /// Lets an operation come in, and concludes what follows.
-    fn enter(&mut self, place: Place, operation: &Operation) -> Tried<()> {
+    fn enter(&mut self, place: Place) -> Tried<()> {
+        let operation = self.operations.get(place);
         let core = operation.core();
         let previous = place.saturating_sub(1);
         if self.operations.core(previous) == core {
@@ -74,27 +68,31 @@ impl Knowledge {
             self.stores.activate(operation.word, core)?;
         }
         if operation.reads() {
-            self.find_source(place, operation)?;
+            let candidates = self.candidates.of(operation.class).iter().copied();
+            let mut others = candidates.filter(|store| *store != place);
+            let left = (others.next(), others.next());
+            if !self.take_source(place, left)? {
+                self.open.push(place)?;
+            }
         }
         self.note(place, CoreSet::ALL)?;
         self.conclude()
     }
 
-    /// Gives a read its source, where one alone gives its word whatever the order is.
-    fn find_source(&mut self, read: Place, operation: &Operation) -> Tried<()> {
-        let candidates = self.candidates.of(operation.class).iter().copied();
-        let mut others = candidates.filter(|store| *store != read);
-        match (others.next(), others.next()) {
-            (Some(source), None) => self.set_source(read, source),
-            (Some(_), Some(_)) => Ok(self.open.push(read)?),
-            (None, _) => Err(Stop::Closed(Conflict::NoSource(read))),
+    /// Gives a read the first of the sources that are left to it, where there is no other. Says whether it did.
+    fn take_source(&mut self, read: Place, left: (Option<Place>, Option<Place>)) -> Tried<bool> {
+        let (first, other) = left;
+        let source = first.ok_or(Stop::Closed(Conflict::NoSource(read)))?;
+        if other.is_none() {
+            self.set_source(read, source)?;
         }
+        Ok(other.is_none())
     }
 
     /// Concludes what follows from the clocks that rose, until nothing more does.
     pub(crate) fn conclude(&mut self) -> Tried<()> {
         for _ in 0..self.left {
-            let Some(Risen { place, cores }) = self.risen.pop_front() else {
+            let Some((place, cores)) = self.risen.pop_front() else {
                 return Ok(());
             };
             self.spend(1)?;
@@ -111,15 +109,16 @@ impl Knowledge {
         if next < at(&self.entered, self.operations.core(place)) {
             self.raise(place, next)?;
         }
-        let mut number = at(&self.facts.latest, place);
+        let mut next = self.facts.latest(place);
         for _ in 0..self.facts.all.len() {
-            let Some(fact) = self.facts.get(number) else {
+            let Some((number, fact)) = next else {
                 break;
             };
             self.flow(place, fact.later, number)?;
-            number = fact.next;
+            next = self.facts.numbered(fact.next);
         }
-        self.apply_rules(place, cores)
+        self.order_stores_before(place, cores)?;
+        self.order_reads_before(place, cores)
     }
 
     /// Gives each open read its source of which all candidates but one are excluded, until there is none.
@@ -146,15 +145,26 @@ impl Knowledge {
             return Ok(false);
         }
         let left = self.candidates_left(read, 2)?;
-        match left.as_slice() {
-            [] => Err(Stop::Closed(Conflict::NoSource(read))),
-            [source] => {
-                self.set_source(read, *source)?;
-                self.note(read, CoreSet::ALL)?;
-                self.conclude()?;
-                Ok(true)
-            }
-            _ => Ok(false),
+        let left = (left.first().copied(), left.get(1).copied());
+        let is_settled = self.take_source(read, left)?;
+        self.conclude()?;
+        Ok(is_settled)
+    }
+
+    /// The candidates of a read that aren't excluded, at most so many.
+    pub(crate) fn candidates_left(&self, read: Place, limit: usize) -> Tried<Vec<Place>> {
+        let class = self.operations.get(read).class;
+        let last = self.last_stores(read)?;
+        let mut left = Vec::new(self.alloc);
+        for core in self.operations.cores() {
+            let stores = self.candidates.of_core(class, &self.operations, core);
+            let hidden = self.last_store(read, core).unwrap_or(0);
+            let first = stores.partition_point(|store| *store < hidden);
+            let stores = stores.get(first..).unwrap_or(&[]).iter().copied();
+            let before = stores.take_while(|store| !self.is_before(read, *store));
+            let open = before.filter(|store| !last.iter().any(|last| self.hides(*last, *store)));
+            left.extend(open.take(limit.saturating_sub(left.len())))?;
         }
+        Ok(left)
     }
 }

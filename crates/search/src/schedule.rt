@@ -1,21 +1,19 @@
 //! An order as far as it goes: the operations are performed one after the other.
 
 use super::knowledge::Knowledge;
-use super::operations::Operation;
 use super::stop::{NONE, Place, START, Stop, Tried, at, put, short};
 use super::watch::{SearchWatch, Watched};
 use std::alloc::Global;
+use std::iter::successors;
 
-/// Whether a core can go on.
+/// What comes of a core's next operation, where nothing has to come before it.
 #[derive(Clone, Copy, PartialEq, Eq)]
 pub(crate) enum Move {
-    /// It can perform a load.
+    /// A load can be performed.
     Load,
-    /// It can perform a store or a swap.
+    /// A store or a swap can be performed.
     Store,
-    /// Others have to come before, or it has performed all its operations.
-    Waits,
-    /// Its address has another word than the one that it read.
+    /// Its source is open, and its address has another word than the one that it read.
     OtherWord,
     /// It would write over a word that others are known to read still.
     Held,
@@ -76,12 +74,12 @@ impl Schedule {
 
     /// The core whose load is performed next: nothing is lost by loads. One core after the other performs its own.
     fn choose_load(&self, known: &Knowledge) -> Option<u32> {
-        let cores = (self.loading..known.operations.cores().end).chain(0..self.loading);
-        let mut loads = cores.filter(|core| {
-            let next = self.next(known, *core);
+        let mut cores = (self.loading..known.operations.cores().end).chain(0..self.loading);
+        cores.find(|core| {
+            let next = known.operations.next(&self.positions, *core);
             next.is_some_and(|(_, next)| !next.stores)
-        });
-        loads.find(|core| self.try_move(known, *core) == Move::Load)
+                && self.try_move(known, *core) == Some(Move::Load)
+        })
     }
 
     /// The core whose store is performed next. First comes a store that nobody reads, where all sources are known:
@@ -89,7 +87,7 @@ impl Schedule {
     fn choose_store(&self, known: &Knowledge) -> Option<u32> {
         let cores = (self.storing..known.operations.cores().end).chain(0..self.storing);
         let mut best = None;
-        for core in cores.filter(|core| self.try_move(known, *core) == Move::Store) {
+        for core in cores.filter(|core| self.try_move(known, *core) == Some(Move::Store)) {
             let store = at(&self.positions, core);
             if known.open.is_empty() && !self.is_held(known, store, NONE) {
                 return Some(core);
@@ -105,33 +103,25 @@ impl Schedule {
     /// How many other cores are at a read that can have its word from the store at which a core is.
     fn count_waiting(&self, known: &Knowledge, own: u32, store: Place) -> usize {
         let others = known.operations.cores().filter(|core| *core != own);
-        let nexts = others.filter_map(|core| self.next(known, core));
+        let nexts = others.filter_map(|core| known.operations.next(&self.positions, core));
         let waiting = nexts.filter(|(place, _)| known.can_read(*place, store));
         waiting.count()
     }
 
-    /// What a core would perform next, with its place.
-    fn next(&self, known: &Knowledge, core: u32) -> Option<(Place, Operation)> {
-        let place = at(&self.positions, core);
-        Some((place, known.operations.of_core(core, place)?))
-    }
-
-    /// Whether a core can go on.
-    pub(crate) fn try_move(&self, known: &Knowledge, core: u32) -> Move {
-        let Some((place, operation)) = self.next(known, core) else {
-            return Move::Waits;
-        };
+    /// What comes of a core's next operation. None where others have to come before, or there is none.
+    fn try_move(&self, known: &Knowledge, core: u32) -> Option<Move> {
+        let (place, operation) = known.operations.next(&self.positions, core)?;
         let last = at(&self.memory, operation.word);
         if self.waits(known, place) {
-            Move::Waits
+            None
         } else if operation.reads() && !known.can_read(place, last) {
-            Move::OtherWord
+            (at(&known.facts.sources, place) == NONE).then_some(Move::OtherWord)
         } else if !operation.stores {
-            Move::Load
+            Some(Move::Load)
         } else if self.is_held(known, last, place) {
-            Move::Held
+            Some(Move::Held)
         } else {
-            Move::Store
+            Some(Move::Store)
         }
     }
 
@@ -143,12 +133,11 @@ impl Schedule {
         entries.any(|(entry, position)| entry > position && *entry != own)
     }
 
-    /// The operations at which cores are that can go on so.
-    pub(crate) fn places(&self, known: &Knowledge, such: Move) -> Tried<Vec<Place>> {
-        let cores = known.operations.cores();
-        let able = cores.filter(|core| self.try_move(known, *core) == such);
-        let places = able.map(|core| at(&self.positions, core));
-        Ok(places.collect(known.alloc)?)
+    /// The first core's next operation of which this comes.
+    pub(crate) fn stuck(&self, known: &Knowledge, such: Move) -> Option<Place> {
+        let mut cores = known.operations.cores();
+        let core = cores.find(|core| self.try_move(known, *core) == Some(such))?;
+        Some(at(&self.positions, core))
     }
 
     /// Performs a core's next operation.
@@ -170,11 +159,14 @@ impl Schedule {
 
     /// Whether a read other than this one is known to have a store's word, and wasn't performed.
     fn is_held(&self, known: &Knowledge, store: Place, but: Place) -> bool {
+        let facts = &known.facts;
+        let of_store = successors(facts.latest(store), |(_, fact)| facts.numbered(fact.next));
+        let mut of_store = of_store.take(facts.all.len());
         store != START
-            && known.facts.of(store).any(|(number, fact)| {
+            && of_store.any(|(number, fact)| {
                 fact.later != but
                     && at(&self.when, fact.later) == NONE
-                    && known.facts.is_source(number, &fact)
+                    && facts.is_source(number, &fact)
             })
     }
 
@@ -182,10 +174,8 @@ impl Schedule {
     pub(crate) fn repair(&mut self, known: &Knowledge, mark: u32) -> Tried<()> {
         let end = known.facts.mark()?;
         for _ in 0..self.order.len() {
-            let allowed = (mark..end)
-                .filter_map(|number| self.allowed(known, number))
-                .min();
-            let length = allowed.unwrap_or(NONE) as usize;
+            let allowed = (mark..end).filter_map(|number| self.allowed(known, number));
+            let length = allowed.min().unwrap_or(NONE) as usize;
             if length >= self.order.len() {
                 break;
             }

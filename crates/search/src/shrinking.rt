@@ -4,9 +4,9 @@
 
 use super::knowledge::Knowledge;
 use super::proof::Line;
-use super::splits::{Outcome, Search};
-use super::stop::{Place, START, Stop, Tried};
-use super::watch::{Unwatched, Watched};
+use super::splits::Search;
+use super::stop::{Place, START, Stop, Tried, at, short};
+use super::watch::Unwatched;
 use std::alloc::Global;
 use trace::Access;
 
@@ -18,44 +18,53 @@ const STEPS: u64 = 2000;
 
 const STEPS_EACH: u64 = 20;
 
-/// The operations of a trace of which some are tried, the lines of the shortest proof so far, last one first, and the
-/// operations that it names.
+/// A shortest proof so far, of a trace of which some operations are tried.
 #[derive(Drop)]
 struct Shrinking<'a> {
     cores: &'a [Vec<Access>],
     known: &'a mut Knowledge,
+    /// The lines of the proof, last one first.
     best: Vec<Line>,
+    /// The operations that the lines name by their numbers in this list.
+    places: Vec<Place>,
+    /// Those that are named, but for those of ranges.
     named: Vec<Place>,
 }
 
-/// A proof that isn't longer than this one, of the trace of these cores: its lines, last one first.
+/// A proof that isn't longer than this one, of the trace of these cores: its lines, last one first, and the list by whose
+/// numbers they name operations.
 pub(crate) fn shrink(
     cores: &[Vec<Access>],
     known: &mut Knowledge,
     best: Vec<Line>,
-) -> Tried<Vec<Line>> {
+) -> Tried<(Vec<Line>, Vec<Place>)> {
+    let places = 0..short(known.operations.all.len())?;
+    let places: Vec<Place> = places.collect(known.alloc)?;
     let mut shrinking = Shrinking {
         cores,
-        named: named(known.alloc, &best)?,
+        named: named(known.alloc, &best, &places)?,
         known,
         best,
+        places,
     };
     for _ in 0..shrinking.best.len() {
         if !shrinking.leave_out_each()? {
             break;
         }
     }
-    Ok(shrinking.best)
+    Ok((shrinking.best, shrinking.places))
 }
 
-/// The operations that a proof names, but for those of ranges.
-fn named(alloc: Global, proof: &[Line]) -> Tried<Vec<Place>> {
+/// The operations that a proof names by their numbers in a list, but for those of ranges.
+fn named(alloc: Global, proof: &[Line], places: &[Place]) -> Tried<Vec<Place>> {
     let mut named = Vec::new(alloc);
     for line in proof {
         match line {
-            Line::Read(place, _) => named.push(*place)?,
-            Line::Derived(derived) => named.push(derived.store)?,
-            Line::Order(one, other, _) => named.extend_from_slice(&[*one, *other])?,
+            Line::Read(read, _, _) => named.push(at(places, *read))?,
+            Line::Derived(derived) => named.push(at(places, derived.store))?,
+            Line::Order(one, other, _) => {
+                named.extend_from_slice(&[at(places, *one), at(places, *other)])?;
+            }
             Line::Cycle(_) => {}
         }
     }
@@ -84,34 +93,24 @@ impl Shrinking<'_> {
     /// Takes a proof that some operations have no order, with all candidates of their reads, if one is found that
     /// isn't longer.
     fn attempt(&mut self, kept: &[Place]) -> Tried<()> {
-        if let Some(proof) = self.refute(kept)?
-            && proof.len() <= self.best.len()
-        {
-            self.named = named(self.known.alloc, &proof)?;
-            self.named.retain(|place| kept.binary_search(place).is_ok());
-            self.best = proof;
-        }
-        Ok(())
-    }
-
-    /// A proof that some operations have no order, with all candidates of their reads.
-    fn refute(&mut self, kept: &[Place]) -> Tried<Option<Vec<Line>>> {
         let places = self.with_candidates(kept)?;
         let steps = STEPS.saturating_add(STEPS_EACH.saturating_mul(places.len() as u64));
         if places.len() > LIMIT || self.known.left < steps {
-            return Ok(None);
+            return Ok(());
         }
         let trace = self.small_trace(&places, kept)?;
         let mut search = Search::new(self.known.alloc, &trace, steps)?;
-        let found = search.run(&mut Watched::new(&Unwatched, steps));
+        let found = search.run(&Unwatched);
         self.known.spend(steps.saturating_sub(search.known.left))?;
         match found {
-            Ok(Outcome::Proof(lines)) => {
-                let lines = lines.into_iter().map(|line| line.among(&places));
-                Ok(Some(lines.collect(self.known.alloc)?))
+            Ok(Some(lines)) if lines.len() <= self.best.len() => {
+                self.named = named(self.known.alloc, &lines, &places)?;
+                self.named.retain(|place| kept.binary_search(place).is_ok());
+                (self.best, self.places) = (lines, places);
+                Ok(())
             }
             Err(Stop::Refused) => Err(Stop::Refused),
-            _ => Ok(None),
+            _ => Ok(()),
         }
     }
 

@@ -1,14 +1,12 @@
 //! The search by cases.
 
-use super::core_set::CoreSet;
 use super::knowledge::Knowledge;
 use super::operations::Operations;
-use super::proof::{Line, Part, Proof};
+use super::proof::{Line, Proof};
 use super::schedule::{Move, Schedule};
 use super::stop::{Conflict, NONE, Place, START, Stop, Tried, at, short};
 use super::watch::{SearchWatch, Watched};
 use std::alloc::Global;
-use std::mem;
 use trace::Access;
 
 /// Up to how many operations reads are given their sources in each case as soon as all other candidates are excluded.
@@ -16,15 +14,6 @@ const SMALL: usize = 4000;
 
 /// How many steps the explanation of a conflict counts as.
 const EXPLANATION: u64 = 20;
-
-/// What the search found.
-#[derive(Drop)]
-pub(crate) enum Outcome {
-    /// An order of all operations, behind what comes before them.
-    Order(Vec<Place>),
-    /// A proof that there is none: its lines, last one first.
-    Proof(Vec<Line>),
-}
 
 /// A split into cases, one of which is looked at.
 #[derive(Drop)]
@@ -37,8 +26,10 @@ struct Split {
     trail: usize,
     /// The number of the first fact of each case.
     mark: u32,
-    /// How the cases before the current one were closed.
-    proofs: Vec<Proof>,
+    /// The number of the current case.
+    current: usize,
+    /// How the cases before it are closed.
+    closed: Proof,
 }
 
 /// The state of the search.
@@ -61,20 +52,19 @@ impl Search {
         })
     }
 
-    /// Searches until there is an order or a proof that there is none.
-    pub(crate) fn run<W: SearchWatch>(&mut self, watched: &mut Watched<'_, W>) -> Tried<Outcome> {
-        let mut step = self.known.saturate(watched);
+    /// Searches until there is an order or a proof that there is none: its lines, last one first. None where there is an
+    /// order.
+    pub(crate) fn run<W: SearchWatch>(&mut self, watch: &W) -> Tried<Option<Vec<Line>>> {
+        let mut watched = Watched::new(watch, self.known.left);
+        let mut step = self.known.saturate(&mut watched);
         for _ in 0..self.known.left {
             self.known.spend(1)?;
             watched.tell(self.known.left);
             step = match step {
-                Ok(()) if self.schedule.run(&mut self.known, watched)? => {
-                    let none = Vec::new(self.known.alloc);
-                    return Ok(Outcome::Order(mem::replace(&mut self.schedule.order, none)));
-                }
+                Ok(()) if self.schedule.run(&mut self.known, &mut watched)? => return Ok(None),
                 Ok(()) => self.split(),
                 Err(Stop::Closed(conflict)) => match self.close(conflict)? {
-                    Some(proof) => return Ok(Outcome::Proof(proof.reversed)),
+                    Some(proof) => return Ok(Some(proof.reversed)),
                     None => self.take_case(),
                 },
                 Err(stop) => return Err(stop),
@@ -83,43 +73,42 @@ impl Search {
         Err(Stop::GivenUp)
     }
 
-    /// Lets all go but the operations.
-    pub(crate) fn into_operations(self) -> Operations {
-        self.known.operations
+    /// Lets all go but the operations, and those that were performed in their order, behind what comes before them.
+    pub(crate) fn into_order(self) -> (Operations, Vec<Place>) {
+        let (known, schedule) = (self.known, self.schedule);
+        (known.operations, schedule.order)
     }
 
     /// Splits where the schedule is stuck, and takes up the first case: by the order of a store that would write over a word
     /// that others are known to read still and of the store of that word, or else by the source of a read whose address
     /// has another word.
     fn split(&mut self) -> Tried<()> {
-        let (alloc, known) = (self.known.alloc, &self.known);
-        let (is_of_source, cases) = match self.schedule.places(known, Move::Held)?.first() {
+        let known = &self.known;
+        let held = self.schedule.stuck(known, Move::Held);
+        let cases = match held {
             Some(store) => {
-                let last = at(&self.schedule.memory, known.operations.get(*store).word);
-                let cases = vec![in alloc; (*store, last), (last, *store)]?;
-                (false, cases)
+                let last = at(&self.schedule.memory, known.operations.get(store).word);
+                vec![in known.alloc; (store, last), (last, store)]?
             }
-            None => {
-                let stuck = self.schedule.places(known, Move::OtherWord)?;
-                let mut stuck = stuck.iter().copied();
-                let read = stuck.find(|read| at(&known.facts.sources, *read) == NONE);
-                let cases = self.likely_sources(read.ok_or(Stop::GivenUp)?)?;
-                (true, cases)
-            }
+            None => self.likely_sources()?,
         };
         self.known.clocks.is_trailed = true;
         self.splits.push(Split {
-            is_of_source,
+            is_of_source: held.is_none(),
             cases,
             trail: self.known.clocks.trail.len(),
             mark: self.known.facts.mark()?,
-            proofs: Vec::new(alloc),
+            current: 0,
+            closed: Proof::new(self.known.alloc),
         })?;
         self.take_case()
     }
 
-    /// The candidates of a read, each with the read, those first that are the least far from where the schedule is.
-    fn likely_sources(&self, read: Place) -> Tried<Vec<(Place, Place)>> {
+    /// The candidates of a read whose address has another word, each with the read, those first that are the least far from
+    /// where the schedule is.
+    fn likely_sources(&self) -> Tried<Vec<(Place, Place)>> {
+        let read = self.schedule.stuck(&self.known, Move::OtherWord);
+        let read = read.ok_or(Stop::GivenUp)?;
         let length = short(self.schedule.order.len())?;
         let mut sources = self.known.candidates_left(read, usize::MAX)?;
         sources.sort_unstable_by_key(|store| (self.distance(*store, length), *store));
@@ -144,10 +133,9 @@ impl Search {
     fn take_case(&mut self) -> Tried<()> {
         let split = self.splits.last().ok_or(Stop::GivenUp)?;
         let (is_of_source, mark) = (split.is_of_source, split.mark);
-        let (earlier, later) = *split.cases.get(split.proofs.len()).ok_or(Stop::GivenUp)?;
+        let (earlier, later) = *split.cases.get(split.current).ok_or(Stop::GivenUp)?;
         if is_of_source {
             self.known.set_source(later, earlier)?;
-            self.known.note(later, CoreSet::ALL)?;
         } else {
             self.known.add(earlier, later, NONE)?;
         }
@@ -171,35 +159,27 @@ impl Search {
             if proof.take_need(split.mark).is_none() {
                 continue;
             }
-            split.proofs.push(proof)?;
-            if split.proofs.len() < split.cases.len() {
+            proof.prepend_proof(&mut split.closed)?;
+            split.current = split.current.saturating_add(1);
+            if split.current < split.cases.len() {
+                split.closed = proof;
                 self.splits.push(split)?;
                 return Ok(None);
             }
-            proof = self.join_cases(split)?;
+            self.join_cases(&mut proof, &split)?;
         }
         self.known.show(&mut proof, 0)?;
         Ok(Some(proof))
     }
 
-    /// The proof that a split whose cases are closed leaves nothing.
-    fn join_cases(&self, split: Split) -> Tried<Proof> {
-        let (mark, alloc) = (split.mark, self.known.alloc);
+    /// Puts before a proof that closes all cases of a split the step that makes them.
+    fn join_cases(&self, proof: &mut Proof, split: &Split) -> Tried<()> {
         let (one, other) = *split.cases.first().ok_or(Stop::GivenUp)?;
-        let mut joined = Proof::new(alloc);
-        for proof in split.proofs.into_iter().rev() {
-            joined.prepend_proof(proof)?;
+        if !split.is_of_source {
+            return Ok(proof.reversed.push(Line::Order(one, other, split.mark))?);
         }
-        if split.is_of_source {
-            let kept = split
-                .cases
-                .iter()
-                .map(|(store, _)| Part::new(*store, *store, mark));
-            let kept: Vec<Part> = kept.collect(alloc)?;
-            self.known.close_read(&mut joined, other, &kept, mark)?;
-        } else {
-            joined.prepend(Line::Order(one, other, mark))?;
-        }
-        Ok(joined)
+        let kept = split.cases.iter().map(|(store, _)| *store);
+        let kept: Vec<Place> = kept.collect(self.known.alloc)?;
+        self.known.close_read(proof, other, &kept, split.mark)
     }
 }

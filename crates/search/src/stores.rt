@@ -18,53 +18,51 @@ pub(crate) struct Stores {
 impl Stores {
     /// The stores of these operations, to addresses below `words`. None is active.
     pub(crate) fn new(alloc: Global, operations: &Operations, words: u32) -> Tried<Stores> {
-        let cores = operations.cores().end;
-        let slots = (words as usize).saturating_mul(cores as usize);
         let all = 0..short(operations.all.len())?;
         let stored = all.filter(|place| operations.get(*place).stores);
         let mut places: Vec<Place> = stored.collect(alloc)?;
         places.sort_unstable_by_key(|place| (operations.get(*place).word, *place));
-        let mut stores = Stores {
+        let cores = operations.cores().end;
+        let mut starts = Vec::new(alloc);
+        for (start, place) in (0..=u32::MAX).zip(&places) {
+            let operation = operations.get(*place);
+            let slot = slot(cores, operation.word, operation.core());
+            starts.resize((slot as usize).saturating_add(1), start)?;
+        }
+        let slots = (slot(cores, words, 0) as usize).saturating_add(1);
+        starts.resize(slots, short(places.len())?)?;
+        Ok(Stores {
             cores,
-            starts: Vec::new(alloc),
-            ends: vec![in alloc; 0; slots.saturating_add(1)]?,
+            ends: starts.to_vec(alloc)?,
+            starts,
             places,
-        };
-        for operation in operations.all.iter().filter(|operation| operation.stores) {
-            stores.activate(operation.word, operation.core())?;
-        }
-        let mut sum = 0u32;
-        for count in &stores.ends {
-            stores.starts.push(sum)?;
-            sum = sum.saturating_add(*count);
-        }
-        stores.ends = stores.starts.to_vec(alloc)?;
-        Ok(stores)
-    }
-
-    fn slot(&self, word: u32, core: u32) -> u32 {
-        word.saturating_mul(self.cores).saturating_add(core)
+        })
     }
 
     /// All stores of a core to an address.
     pub(crate) fn all(&self, word: u32, core: u32) -> &[Place] {
-        let (starts, slot) = (&self.starts, self.slot(word, core));
+        let (starts, slot) = (&self.starts, slot(self.cores, word, core));
         let next = slot.saturating_add(1);
         part(&self.places, at(starts, slot), at(starts, next))
     }
 
     /// The active stores of a core to an address.
     pub(crate) fn active(&self, word: u32, core: u32) -> &[Place] {
-        let slot = self.slot(word, core);
+        let slot = slot(self.cores, word, core);
         part(&self.places, at(&self.starts, slot), at(&self.ends, slot))
     }
 
     /// Makes one more store of a core to an address active.
     pub(crate) fn activate(&mut self, word: u32, core: u32) -> Tried<()> {
-        let slot = self.slot(word, core);
+        let slot = slot(self.cores, word, core);
         let end = at(&self.ends, slot);
         put(&mut self.ends, slot, end.saturating_add(1))
     }
+}
+
+/// The slot of an address and a core, where there are so many cores.
+fn slot(cores: u32, word: u32, core: u32) -> u32 {
+    word.saturating_mul(cores).saturating_add(core)
 }
 
 /// How many of the first of these places are such, where those that are stand first. It looks from the end on.
@@ -83,10 +81,4 @@ pub(crate) fn count_first<F: Fn(Place) -> bool>(places: &[Place], is_such: F) ->
         }
     }
     high
-}
-
-/// The last of these ascending places that is below a bound.
-pub(crate) fn last_below(places: &[Place], bound: Place) -> Option<Place> {
-    let count = count_first(places, |place| place < bound);
-    places.get(..count)?.last().copied()
 }
