@@ -3,12 +3,7 @@
 ghost use Rattle.std.specs.Prelude.{IfOk};
 ghost use Rattle.refutation.specs.Answers.{IsRight, IsShown};
 
-use super::numbering::{id, refutation};
-use super::shrinking::shrink;
-use super::splits::Search;
-use super::stop::{Stop, Tried};
-use super::watch::{SearchWatch, Unwatched};
-use mem_op::OpId;
+use guessing::{SearchWatch, Unwatched};
 use refutation::{Answer, confirm};
 use std::alloc::{AllocError, Global};
 use trace::Trace;
@@ -32,7 +27,7 @@ pub fn search_watched<W: SearchWatch>(
     ensures right { IfOk result (IsRight trace.now) }
     ensures shown { IfOk result (IsShown trace.now) }
 {
-    let found = answer(find(alloc, trace, budget, watch));
+    let found = guessing::guess(alloc, trace, budget, watch);
     watch.found();
     confirm(alloc, trace, found?)
 }
@@ -40,27 +35,5 @@ pub fn search_watched<W: SearchWatch>(
 /// What the search finds, which nobody has confirmed. What isn't shown of it would be a bug of the search, and tests ask for
 /// it.
 pub fn guess(alloc: Global, trace: &Trace, budget: u64) -> Result<Answer, AllocError> {
-    answer(find(alloc, trace, budget, &Unwatched))
-}
-
-/// What was found, or that nothing is decided.
-fn answer(found: Tried<Answer>) -> Result<Answer, AllocError> {
-    match found {
-        Err(Stop::Refused) => Err(AllocError),
-        found => Ok(found.unwrap_or(Answer::Undecided)),
-    }
-}
-
-/// An order, or a refutation. The search may give up.
-fn find<W: SearchWatch>(alloc: Global, trace: &Trace, budget: u64, watch: &W) -> Tried<Answer> {
-    let mut search = Search::new(alloc, trace.cores(), budget)?;
-    let Some(reversed) = search.run(watch)? else {
-        let (operations, order) = search.into_order();
-        let ids = order.iter().skip(1).map(|place| id(&operations, *place));
-        let ids: Vec<OpId> = ids.try_collect(alloc)?;
-        return Ok(Answer::Order(ids));
-    };
-    let (lines, places) = shrink(trace.cores(), &mut search.known, reversed)?;
-    let (operations, _) = search.into_order();
-    Ok(Answer::Refutation(refutation(alloc, &operations, &places, &lines)?))
+    guessing::guess(alloc, trace, budget, &Unwatched)
 }

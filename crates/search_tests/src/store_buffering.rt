@@ -1,7 +1,7 @@
-//! The refutation of store buffering, and what is refused in its place.
+//! What is refused in place of the refutation of store buffering.
 
-use super::refuted::{expect_refuted, store_buffering, text_of};
-use refutation::{Answer, CertificateFault, Refutation, confirm, first_bad_line};
+use super::refuted::{store_buffering, text_of};
+use refutation::{CertificateFault, Refutation, first_bad_line};
 use std::alloc::Global;
 use std::test::*;
 
@@ -23,25 +23,6 @@ fn text_with(alloc: Global, place: usize, line: &str) -> Result<String, Fail> {
         lines.push(if at == place { line } else { *own })?;
     }
     text_of(alloc, &lines)
-}
-
-#[test]
-fn both_loads_of_old_words_are_refuted(rt: HostRuntime) -> Result<(), Fail> {
-    let text = text_of(rt.alloc(), &LINES)?;
-    let trace = store_buffering(rt.alloc(), 0)?;
-    expect_refuted(&rt, rt.alloc(), &trace, text.as_str())
-}
-
-// The source of 1.1 is then the store 0.0, which isn't in its range.
-#[test]
-fn a_trace_that_is_consistent_is_not_refuted(rt: HostRuntime) -> Result<(), Fail> {
-    let text = text_of(rt.alloc(), &LINES)?;
-    let trace = store_buffering(rt.alloc(), 1)?;
-    assert_eq!(rt;
-        first_bad_line(rt.alloc(), &trace, text.as_bytes())?,
-        Some(4)
-    );
-    Ok(())
 }
 
 #[test]
@@ -151,19 +132,6 @@ fn a_text_that_ends_early_is_refused(rt: HostRuntime) -> Result<(), Fail> {
             Some(line),
             "{count}"
         );
-    }
-    Ok(())
-}
-
-#[test]
-fn an_answer_is_given_back_where_it_is_shown(rt: HostRuntime) -> Result<(), Fail> {
-    let text = text_of(rt.alloc(), &LINES)?;
-    for (second, refuted) in [(0, true), (1, false)] {
-        let trace = store_buffering(rt.alloc(), second)?;
-        let claim = Answer::Refutation(Refutation::parse(rt.alloc(), text.as_bytes())?);
-        let answer = confirm(rt.alloc(), &trace, claim)?;
-        assert_eq!(rt; matches!(&answer, Answer::Refutation(_)), refuted);
-        assert_eq!(rt; matches!(&answer, Answer::Undecided), !refuted);
     }
     Ok(())
 }

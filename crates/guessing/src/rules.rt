@@ -36,7 +36,7 @@ impl Knowledge {
     pub(crate) fn order_stores_before(&mut self, read: Place, cores: CoreSet) -> Tried<()> {
         let basis = at(&self.facts.sources, read);
         let source = match self.facts.get(basis) {
-            Some(fact) if fact.earlier != START => fact.earlier,
+            Some((_, fact)) if fact.earlier != START => fact.earlier,
             _ => return Ok(()),
         };
         for core in self.operations.cores().filter(|core| cores.contains(*core)) {
@@ -75,7 +75,7 @@ impl Knowledge {
             if self.facts.is_source(number, &fact) {
                 self.learn(fact.later, store, number)?;
             }
-            next = self.facts.numbered(fact.next);
+            next = self.facts.get(fact.next);
         }
         Ok(())
     }

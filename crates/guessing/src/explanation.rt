@@ -3,7 +3,7 @@
 use super::facts::Fact;
 use super::knowledge::Knowledge;
 use super::proof::{Derived, Line, Proof, Rule};
-use super::stop::{Conflict, NONE, Place, Stop, Tried};
+use super::stop::{Conflict, NONE, Place, Stop, Tried, short};
 use std::iter::successors;
 
 /// The number of the from-read in the case of a candidate that another store hides from a read.
@@ -28,26 +28,17 @@ impl Knowledge {
     /// The proof that a case is closed, which needs the facts of the conflict.
     pub(crate) fn explain(&self, conflict: Conflict) -> Tried<Proof> {
         let mut proof = Proof::new(self.alloc);
-        let mark = self.facts.mark()?;
+        let mark = short(self.facts.all.len())?;
         match conflict {
             Conflict::NoSource(read) => self.close_read(&mut proof, read, &[], mark)?,
             Conflict::Cycle(number) => {
-                let fact = self.fact(number)?;
+                let (_, fact) = self.facts.get(number).ok_or(Stop::GivenUp)?;
                 proof.need(&[number])?;
-                proof.close(number, self.path(fact.later, fact.earlier, mark)?)?;
+                let path = self.chain(fact.later, fact.earlier, mark)?;
+                proof.close(number, path.ok_or(Stop::GivenUp)?)?;
             }
         }
         Ok(proof)
-    }
-
-    /// The fact of a number.
-    fn fact(&self, number: u32) -> Tried<Fact> {
-        self.facts.get(number).ok_or(Stop::GivenUp)
-    }
-
-    /// A chain of facts, which has to be there.
-    fn path(&self, from: Place, to: Place, limit: u32) -> Tried<Vec<u32>> {
-        self.chain(from, to, limit)?.ok_or(Stop::GivenUp)
     }
 
     /// Puts before a proof the steps that show the facts from `least` on that it needs.
@@ -56,7 +47,7 @@ impl Knowledge {
             let Some(number) = proof.take_need(least) else {
                 break;
             };
-            let fact = self.fact(number)?;
+            let (_, fact) = self.facts.get(number).ok_or(Stop::GivenUp)?;
             if fact.basis == NONE {
                 self.close_read(proof, fact.later, &[fact.earlier], number)?;
             } else {
@@ -68,18 +59,19 @@ impl Knowledge {
 
     /// Puts before a proof the step of from-read or of write-order that shows a fact.
     fn derive(&self, proof: &mut Proof, number: u32, fact: Fact) -> Tried<()> {
-        let source = self.fact(fact.basis)?;
+        let (_, source) = self.facts.get(fact.basis).ok_or(Stop::GivenUp)?;
         let (rule, store, from, to) = if fact.earlier == source.later {
             (Rule::FromRead, fact.later, source.earlier, fact.later)
         } else {
             (Rule::WriteOrder, fact.earlier, fact.earlier, source.later)
         };
+        let path = self.chain(from, to, number)?;
         proof.need(&[fact.basis])?;
         proof.derive(Derived {
             rule,
             source: fact.basis,
             store,
-            path: self.path(from, to, number)?,
+            path: path.ok_or(Stop::GivenUp)?,
             fact: number,
         })
     }

@@ -129,9 +129,8 @@ impl Shrinking<'_> {
 
     /// The trace of the operations at these places. A swap that isn't kept is there for what it stores alone.
     fn small_trace(&self, places: &[Place], kept: &[Place]) -> Tried<Vec<Vec<Access>>> {
-        let alloc = self.known.alloc;
-        let none = self.cores.iter().map(|_| Vec::new(alloc));
-        let mut trace: Vec<Vec<Access>> = none.collect(alloc)?;
+        let none = self.cores.iter().map(|_| Vec::new(self.known.alloc));
+        let mut trace: Vec<Vec<Access>> = none.collect(self.known.alloc)?;
         for place in places.iter().copied().filter(|place| *place != START) {
             let (core, index) = self.known.operations.position(place);
             let own = self.cores.get(core as usize).ok_or(Stop::GivenUp)?;

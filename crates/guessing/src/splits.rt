@@ -5,7 +5,7 @@ use super::operations::Operations;
 use super::proof::{Line, Proof};
 use super::schedule::{Move, Schedule};
 use super::stop::{Conflict, NONE, Place, START, Stop, Tried, at, short};
-use super::watch::{SearchWatch, Watched};
+use super::watch::SearchWatch;
 use std::alloc::Global;
 use trace::Access;
 
@@ -55,13 +55,12 @@ impl Search {
     /// Searches until there is an order or a proof that there is none: its lines, last one first. None where there is an
     /// order.
     pub(crate) fn run<W: SearchWatch>(&mut self, watch: &W) -> Tried<Option<Vec<Line>>> {
-        let mut watched = Watched::new(watch, self.known.left);
-        let mut step = self.known.saturate(&mut watched);
+        let mut step = self.known.saturate(watch);
         for _ in 0..self.known.left {
             self.known.spend(1)?;
-            watched.tell(self.known.left);
+            self.known.tell(watch);
             step = match step {
-                Ok(()) if self.schedule.run(&mut self.known, &mut watched)? => return Ok(None),
+                Ok(()) if self.schedule.run(&mut self.known, watch)? => return Ok(None),
                 Ok(()) => self.split(),
                 Err(Stop::Closed(conflict)) => match self.close(conflict)? {
                     Some(proof) => return Ok(Some(proof.reversed)),
@@ -97,7 +96,7 @@ impl Search {
             is_of_source: held.is_none(),
             cases,
             trail: self.known.clocks.trail.len(),
-            mark: self.known.facts.mark()?,
+            mark: short(self.known.facts.all.len())?,
             current: 0,
             closed: Proof::new(self.known.alloc),
         })?;

@@ -2,7 +2,7 @@
 
 use super::knowledge::Knowledge;
 use super::stop::{NONE, Place, START, Stop, Tried, at, put, short};
-use super::watch::{SearchWatch, Watched};
+use super::watch::SearchWatch;
 use std::alloc::Global;
 use std::iter::successors;
 
@@ -55,14 +55,10 @@ impl Schedule {
     }
 
     /// Performs what can be performed. Says whether that was all.
-    pub(crate) fn run<W: SearchWatch>(
-        &mut self,
-        known: &mut Knowledge,
-        watched: &mut Watched<'_, W>,
-    ) -> Tried<bool> {
+    pub(crate) fn run<W: SearchWatch>(&mut self, known: &mut Knowledge, watch: &W) -> Tried<bool> {
         self.loading = 0;
         for _ in 0..known.left {
-            watched.tell(known.left);
+            known.tell(watch);
             let load = self.choose_load(known);
             let Some(core) = load.or_else(|| self.choose_store(known)) else {
                 break;
@@ -92,20 +88,15 @@ impl Schedule {
             if known.open.is_empty() && !self.is_held(known, store, NONE) {
                 return Some(core);
             }
-            let waiting = self.count_waiting(known, core, store);
+            let others = known.operations.cores().filter(|other| *other != core);
+            let nexts = others.filter_map(|other| known.operations.next(&self.positions, other));
+            let waiting = nexts.filter(|(read, _)| known.can_read(*read, store));
+            let waiting = waiting.count();
             if best.is_none_or(|(most, _)| waiting > most) {
                 best = Some((waiting, core));
             }
         }
         best.map(|(_, core)| core)
-    }
-
-    /// How many other cores are at a read that can have its word from the store at which a core is.
-    fn count_waiting(&self, known: &Knowledge, own: u32, store: Place) -> usize {
-        let others = known.operations.cores().filter(|core| *core != own);
-        let nexts = others.filter_map(|core| known.operations.next(&self.positions, core));
-        let waiting = nexts.filter(|(place, _)| known.can_read(*place, store));
-        waiting.count()
     }
 
     /// What comes of a core's next operation. None where others have to come before, or there is none.
@@ -160,7 +151,7 @@ impl Schedule {
     /// Whether a read other than this one is known to have a store's word, and wasn't performed.
     fn is_held(&self, known: &Knowledge, store: Place, but: Place) -> bool {
         let facts = &known.facts;
-        let of_store = successors(facts.latest(store), |(_, fact)| facts.numbered(fact.next));
+        let of_store = successors(facts.latest(store), |(_, fact)| facts.get(fact.next));
         let mut of_store = of_store.take(facts.all.len());
         store != START
             && of_store.any(|(number, fact)| {
@@ -172,7 +163,7 @@ impl Schedule {
 
     /// Takes back what facts from this one on no longer allow.
     pub(crate) fn repair(&mut self, known: &Knowledge, mark: u32) -> Tried<()> {
-        let end = known.facts.mark()?;
+        let end = short(known.facts.all.len())?;
         for _ in 0..self.order.len() {
             let allowed = (mark..end).filter_map(|number| self.allowed(known, number));
             let length = allowed.min().unwrap_or(NONE) as usize;
@@ -186,7 +177,7 @@ impl Schedule {
 
     /// How many of the operations that were performed a fact allows, as far as it tells by itself.
     fn allowed(&self, known: &Knowledge, number: u32) -> Option<u32> {
-        let fact = known.facts.get(number)?;
+        let (_, fact) = known.facts.get(number)?;
         let (earlier, later) = (at(&self.when, fact.earlier), at(&self.when, fact.later));
         let word = known.operations.get(fact.later).word;
         match (later, known.facts.is_source(number, &fact)) {

@@ -34,8 +34,7 @@ pub(crate) fn refutation(
         facts: Vec::new(alloc),
         waiting: Vec::new(alloc),
     };
-    let lines = reversed.iter().rev();
-    let steps = lines.map(|line| numbering.step(line));
+    let steps = reversed.iter().rev().map(|line| numbering.step(line));
     Ok(Refutation::new(steps.try_collect(alloc)?))
 }
 

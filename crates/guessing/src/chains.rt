@@ -57,11 +57,8 @@ impl Knowledge {
     fn walk_from(&self, walk: &mut Walk, from: u32, hop: Hop) -> Tried<bool> {
         let facts = &self.facts;
         let led = (hop.place..hop.until).flat_map(|place| {
-            let facts_of = successors(
-                facts.latest(place),
-                move |(_, fact)| facts.numbered(fact.next),
-            );
-            facts_of.take(facts.all.len())
+            let led = successors(facts.latest(place), move |(_, fact)| facts.get(fact.next));
+            led.take(facts.all.len())
         });
         for (number, fact) in led {
             let core = self.operations.core(fact.later);

@@ -17,14 +17,8 @@ pub(crate) struct Candidates {
     pub(crate) words: u32,
 }
 
-/// What an operation did at an address: it read a word there, or it stored one.
-#[derive(Clone, Copy, PartialEq, Eq, PartialOrd, Ord)]
-struct Touch {
-    addr: Address,
-    word: Word,
-    place: Place,
-    stores: bool,
-}
+/// What an operation did: the address, a word that it read or stored there, its place, and whether it stored the word.
+type Touch = (Address, Word, Place, bool);
 
 /// Numbers the addresses and classes of these cores' operations. Gives the operations and the stores of each class.
 pub(crate) fn number(alloc: Global, cores: &[Vec<Access>]) -> Tried<(Operations, Candidates)> {
@@ -36,8 +30,8 @@ pub(crate) fn number(alloc: Global, cores: &[Vec<Access>]) -> Tried<(Operations,
     };
     let touches = touches(alloc, cores)?;
     let mut last = None;
-    for class in touches.chunk_by(|one, other| one.addr == other.addr && one.word == other.word) {
-        let addr = class.first().map(|touch| touch.addr);
+    for class in touches.chunk_by(|one, other| one.0 == other.0 && one.1 == other.1) {
+        let addr = class.first().map(|(addr, ..)| *addr);
         candidates.words = candidates.words.saturating_add(u32::from(addr != last));
         candidates.enter(class, &mut operations.all)?;
         last = addr;
@@ -51,16 +45,10 @@ fn touches(alloc: Global, cores: &[Vec<Access>]) -> Tried<Vec<Touch>> {
     let mut touches = Vec::new(alloc);
     for (access, place) in cores.iter().flatten().zip(1..=u32::MAX) {
         let addr = access.addr();
-        let read = access.read().map(|word| (word, false));
-        let stored = access.is_store_to(addr).then(|| (access.word_left(), true));
-        touches.extend(
-            read.into_iter().chain(stored).map(|(word, stores)| Touch {
-                addr,
-                word,
-                place,
-                stores,
-            }),
-        )?;
+        let read = access.read().map(|word| (addr, word, place, false));
+        let is_stored = access.is_store_to(addr);
+        let stored = is_stored.then(|| (addr, access.word_left(), place, true));
+        touches.extend(read.into_iter().chain(stored))?;
     }
     touches.sort_unstable();
     Ok(touches)
@@ -85,15 +73,15 @@ impl Candidates {
     fn enter(&mut self, touches: &[Touch], all: &mut [Operation]) -> Tried<()> {
         let class = short(self.starts.len())?;
         self.starts.push(short(self.stores.len())?)?;
-        if touches.first().is_some_and(|touch| touch.word == 0) {
+        if touches.first().is_some_and(|(_, word, ..)| *word == 0) {
             self.stores.push(START)?;
         }
-        for touch in touches {
-            let operation = all.get_mut(touch.place as usize).ok_or(Stop::GivenUp)?;
+        for (_, _, place, stores) in touches {
+            let operation = all.get_mut(*place as usize).ok_or(Stop::GivenUp)?;
             operation.word = self.words.saturating_sub(1);
-            if touch.stores {
+            if *stores {
                 operation.stores = true;
-                self.stores.push(touch.place)?;
+                self.stores.push(*place)?;
             } else {
                 operation.class = class;
             }

@@ -26,13 +26,16 @@ pub(crate) struct Knowledge {
     /// The operations whose clocks rose, each with the cores for which it did, and for which nothing was concluded from that
     /// yet.
     pub(crate) risen: VecDeque<(Place, CoreSet)>,
-    /// How many steps the search may still make.
+    /// How many steps the search may make, and how many of them are left.
+    pub(crate) budget: u64,
     pub(crate) left: u64,
+    /// How many steps its watch was told that it has made.
+    pub(crate) told: u64,
 }
 
 impl Knowledge {
     /// Nothing is known, and no operation has come in. The search may make so many steps.
-    pub(crate) fn new(alloc: Global, cores: &[Vec<Access>], left: u64) -> Tried<Knowledge> {
+    pub(crate) fn new(alloc: Global, cores: &[Vec<Access>], budget: u64) -> Tried<Knowledge> {
         let (operations, candidates) = number(alloc, cores)?;
         Ok(Knowledge {
             alloc,
@@ -42,7 +45,9 @@ impl Knowledge {
             entered: operations.starts.to_vec(alloc)?,
             open: Vec::new(alloc),
             risen: VecDeque::new(alloc),
-            left,
+            budget,
+            left: budget,
+            told: 0,
             operations,
             candidates,
         })
@@ -88,7 +93,7 @@ impl Knowledge {
     pub(crate) fn can_read(&self, read: Place, store: Place) -> bool {
         let class = self.operations.get(read).class;
         match self.facts.get(at(&self.facts.sources, read)) {
-            Some(fact) => fact.earlier == store,
+            Some((_, fact)) => fact.earlier == store,
             None => self.candidates.of(class).binary_search(&store).is_ok(),
         }
     }

@@ -3,16 +3,16 @@
 use super::clocks::CoreSet;
 use super::knowledge::Knowledge;
 use super::stop::{Conflict, NONE, Place, Stop, Tried, at, put};
-use super::watch::{SearchWatch, Watched};
+use super::watch::SearchWatch;
 
 /// How many operations of a core come in before the next core's.
 const TURN: u32 = 4;
 
 impl Knowledge {
     /// Lets all operations come in, the cores in turns, and concludes what follows.
-    pub(crate) fn saturate<W: SearchWatch>(&mut self, watched: &mut Watched<'_, W>) -> Tried<()> {
+    pub(crate) fn saturate<W: SearchWatch>(&mut self, watch: &W) -> Tried<()> {
         for _ in 0..self.operations.all.len() {
-            watched.tell(self.left);
+            self.tell(watch);
             if !self.enter_turn()? && !self.enter_any()? {
                 break;
             }
@@ -115,7 +115,7 @@ impl Knowledge {
                 break;
             };
             self.flow(place, fact.later, number)?;
-            next = self.facts.numbered(fact.next);
+            next = self.facts.get(fact.next);
         }
         self.order_stores_before(place, cores)?;
         self.order_reads_before(place, cores)

@@ -34,24 +34,14 @@ impl Facts {
         })
     }
 
-    /// The number that the next one will have.
-    pub(crate) fn mark(&self) -> Tried<u32> {
-        short(self.all.len())
+    /// The fact of a number, behind this number.
+    pub(crate) fn get(&self, number: u32) -> Option<(u32, Fact)> {
+        Some((number, *self.all.get(number as usize)?))
     }
 
-    /// The fact of a number.
-    pub(crate) fn get(&self, number: u32) -> Option<Fact> {
-        self.all.get(number as usize).copied()
-    }
-
-    /// The fact of a number, with its number.
-    pub(crate) fn numbered(&self, number: u32) -> Option<(u32, Fact)> {
-        Some((number, self.get(number)?))
-    }
-
-    /// The last fact in which an operation is the earlier one, with its number. The others follow by `next`.
+    /// The last fact in which an operation is the earlier one, behind its number. The others follow by `next`.
     pub(crate) fn latest(&self, earlier: Place) -> Option<(u32, Fact)> {
-        self.numbered(at(&self.latest, earlier))
+        self.get(at(&self.latest, earlier))
     }
 
     /// Whether a fact says where a read's source is.
@@ -61,7 +51,7 @@ impl Facts {
 
     /// Appends a fact, and gives its number.
     pub(crate) fn push(&mut self, earlier: Place, later: Place, basis: u32) -> Tried<u32> {
-        let number = self.mark()?;
+        let number = short(self.all.len())?;
         let next = at(&self.latest, earlier);
         self.all.push(Fact {
             earlier,
@@ -75,7 +65,7 @@ impl Facts {
 
     /// Takes back the facts from this one on.
     pub(crate) fn undo(&mut self, mark: u32) -> Tried<()> {
-        for number in (mark..self.mark()?).rev() {
+        for number in (mark..short(self.all.len())?).rev() {
             let fact = self.all.pop().ok_or(Stop::GivenUp)?;
             put(&mut self.latest, fact.earlier, fact.next)?;
             if self.is_source(number, &fact) {
