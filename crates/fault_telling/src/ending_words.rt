@@ -77,9 +77,10 @@ pub(crate) fn push_forbid(
     text.push_str(
         "A forbidden outcome is written forbid K .., a value for each register of show, in their order.\n",
     )?;
-    let Some(registers) = shown_count(bytes) else {
-        return text.push_str("It comes after the line show, and there is none.\n");
-    };
+    if begun_before(bytes, b"show ", number) == 0 {
+        return text.push_str("It comes after the line show, and there is none before it.\n");
+    }
+    let registers = shown_count(bytes).unwrap_or(0);
     let words = words_of(alloc, line_of(bytes, number))?;
     let values = words.as_slice().get(1..).unwrap_or(&[]);
     if registers != values.len() {

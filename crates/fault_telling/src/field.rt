@@ -63,7 +63,7 @@ impl Display for Field {
             Field::Skip => "skip",
             Field::Format => "format",
             Field::Name => "name",
-            Field::CoresWord => "word cores",
+            Field::CoresWord => "word before N",
             Field::Cores => "number of cores",
             Field::Shown => "register",
         })
@@ -114,7 +114,7 @@ impl Display for Trouble {
             Trouble::NoRegister => f.write_str("is none of r0 to r15"),
             Trouble::NoFormat => f.write_str("is neither 1 nor 2"),
             Trouble::NoName => f.write_str("isn't 1 to 32 letters, digits, + and -"),
-            Trouble::NoCores => f.write_str("stands in its place"),
+            Trouble::NoCores => f.write_str("isn't cores"),
             Trouble::NoShown => f.write_str(
                 "isn't written C.rN, for register rN, r0 to r15, of core C",
             ),

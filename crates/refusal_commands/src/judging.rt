@@ -8,7 +8,7 @@ ghost use Rattle.refusal_commands.specs.Telling as telling;
 use call_devices::{CallFault, Folder, read_text};
 use command_line::Check;
 use core_program::{ProgramFault, ProgramSet};
-use fault_telling::{Place, Refused, Telling};
+use fault_telling::{Kind, Place, Refused, Telling};
 use judge_commands::JudgingFault;
 use log_file::{ByteSink, FormatFault, LogFault, LogReader, write_all};
 use mem_op::CoreId;
@@ -76,7 +76,7 @@ fn refusal_text<F: Folder>(
 }
 
 /// What is told of a file that can't be opened or read.
-fn unread_text(alloc: Global, name: Option<&str>) -> Result<String, AllocError> {
+pub(crate) fn unread_text(alloc: Global, name: Option<&str>) -> Result<String, AllocError> {
     match name {
         Some(name) => format!(in alloc; "{name}: it can't be opened or read.\n"),
         None => Ok(String::new(alloc)),
@@ -138,7 +138,7 @@ fn log_fault(alloc: Global, bytes: &[u8], core: CoreId, cores: usize) -> Option<
 }
 
 /// What is told of a set of programs that was refused.
-fn programs_text<F: Folder>(
+pub(crate) fn programs_text<F: Folder>(
     alloc: Global,
     folder: &mut F,
     name: Option<&str>,
@@ -156,7 +156,7 @@ fn programs_text<F: Folder>(
     let refused = match fault {
         ProgramFault::TooLong(_) => Refused::TooLong,
         ProgramFault::SkipPastEnd(_) => Refused::SkipPastEnd,
-        _ => Refused::BadLine,
+        _ => Refused::BadLine(Kind::Programs),
     };
     let bytes = programs_again(alloc, folder, file, fault);
     let telling = Telling {
