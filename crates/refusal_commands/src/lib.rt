@@ -2,6 +2,7 @@
 #![tactic(auto)]
 
 mod filed;
+mod first;
 mod judging;
 
 pub use filed::{FileFault, tell_file};
