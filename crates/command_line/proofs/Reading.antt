@@ -1,5 +1,5 @@
 -- What the reading of the words gives, by the cases of its parts.
-use Rattle.std.proofs.Common.{arith, ◌≡◌, ◌∙◌, ◌⊎◌, ◌↔◌, ◌∷◌, ◌≤◌, ◌<◌, ap, sym, codes, subst, refl, ℕ, Bool, IsTrue, length, slice_index_or, List, [], Option, None, Some, Result, Ok, Err, Bor, inl, inr, option_map}
+use Rattle.std.proofs.Common.{arith, ◌≡◌, ◌∙◌, ◌⊎◌, ◌↔◌, ◌∷◌, ◌≤◌, ◌<◌, ap, sym, codes, subst, refl, ℕ, Bool, IsTrue, true, false, length, slice_index_or, List, [], Option, None, Some, Result, Ok, Err, Bor, inl, inr, option_map}
 use Rattle.std.specs.Prelude.{unwrap_or}
 use Rattle.std.specs.Str.{bytes_eq}
 use Rattle.std.specs.Str.Parse.{ParsesUnsigned}
@@ -9,15 +9,19 @@ use Rattle.clap.specs.Kinds.{Kinds, HasKind, IsAmong}
 use Rattle.clap.specs.Matches.{ReadsOne}
 use Rattle.clap.specs.Words.{Row, Text, first_of, kind_of, subcommand_of}
 use Rattle.clap.specs.declared.error.Error.{Error}
-use Rattle.clap.specs.declared.error.kind.ErrorKind.TheVariants as kind
-use Rattle.command_line.specs.Asking.{AreOverIn, AskVersion, IsNumber, IsNumberOf, IsOverIn, IsRefusalOf, IsStrayIn, texts}
+use Rattle.clap.specs.declared.error.kind.ErrorKind.TheVariants as error_kind
+use Rattle.command_line.specs.Asking.{AreMarked, AreOverIn, AskVersion, Asks, IsCommandLine, IsExplaining, IsMisusedIn, IsNumber, IsNumberOf, IsOverIn, IsRefusalOf, IsStrayIn, IsStrayOf, StandNotAlone, files_given, is_litmus, is_programs, texts}
 use Rattle.command_line.specs.Grammar.{tardis}
 use Rattle.command_line.specs.declared.refusal.Refusal.{Refusal}
 use Rattle.command_line.specs.declared.refusal.Refusal.TheVariants.{Usage, OutOfMemory}
+use Rattle.command_line.specs.declared.request.FileKind.{FileKind}
+use Rattle.command_line.specs.declared.request.FileKind.TheVariants as of_file
+use Rattle.command_line.specs.declared.request.Request.{Request}
+use Rattle.command_line.specs.declared.request.Request.TheVariants as request
 
 -- an error that isn't lack of memory has one of the kinds of fault that the words have
 pub refused : (words : List Text) (kinds : Kinds) (error : Error) (r : Refusal) → kinds ≡ fault_of tardis words → HasKind kinds error
-    → (kind_of error ≡ kind.OutOfMemory → r ≡ OutOfMemory) → IsRefusalOf words r
+    → (kind_of error ≡ error_kind.OutOfMemory → r ≡ OutOfMemory) → IsRefusalOf words r
 refused words kinds error OutOfMemory is has memory = tt
 refused words kinds error (Usage text) is (inl out) memory =
     let bad : Usage text ≡ OutOfMemory = memory out in
@@ -30,21 +34,57 @@ pub stray : (words : List Text) (named : Text × List Row) (r : Refusal) → sub
 stray words named (Usage text) is which files = inr (inl (named, is, which, files))
 stray words named OutOfMemory is which files = tt
 
--- a picture would be drawn over a file that is read
-pub drawn_over : (words : List Text) (named : Text × List Row) (r : Refusal) → subcommand_of tardis words ≡ Some named → named.0 ≡ codes "explain"
-    → IsOverIn named.1 r → IsRefusalOf words r
-drawn_over words named (Usage text) is explains over = inr (inr (inl (named, is, explains, over)))
-drawn_over words named OutOfMemory is explains over = tt
+-- a picture would be drawn over a file that is read, or a file that isn't a log isn't alone
+pub unexplained : (words : List Text) (named : Text × List Row) (r : Refusal) → subcommand_of tardis words ≡ Some named → named.0 ≡ codes "explain"
+    → IsMisusedIn named.1 r → IsRefusalOf words r
+unexplained words named (Usage text) is explains (inl over) = inr (inr (inl (named, is, explains, over)))
+unexplained words named (Usage text) is explains (inr mixed) = inr (inr (inr (inr (named, is, explains, mixed))))
+unexplained words named OutOfMemory is explains misused = tt
+
+-- and what is asked for where all is right
+pub explaining : (words : List Text) (named : Text × List Row) (asked : Request) → IsCommandLine words → subcommand_of tardis words ≡ Some named
+    → named.0 ≡ codes "explain" → IsExplaining named.1 asked → Asks words asked
+explaining words named (request.Explain explain) line is explains asked = (line, (named, is, (explains, asked)))
+explaining words named (request.Inspect inspect) line is explains asked = (line, (named, is, (explains, asked)))
+explaining words named (request.Check check) line is explains asked = absurd asked
+explaining words named (request.Order order) line is explains asked = absurd asked
+explaining words named (request.Upgrade upgrade) line is explains asked = absurd asked
+explaining words named (request.Sim sim) line is explains asked = absurd asked
+explaining words named (request.Run run) line is explains asked = absurd asked
+explaining words named (request.Litmus litmus) line is explains asked = absurd asked
+explaining words named (request.Search search) line is explains asked = absurd asked
+explaining words named (request.Confirm confirm) line is explains asked = absurd asked
+explaining words named request.Version line is explains asked = absurd asked
+
+-- an explanation of logs is misused only by its picture
+pub over_only : (rows : List Row) (r : Refusal) → IsOverIn rows r → IsMisusedIn rows r
+over_only rows (Usage text) over = inl over
+over_only rows OutOfMemory over = tt
+
+-- both flags are there, or one, and its file isn't alone
+pub mixed_both : (rows : List Row) (r : Refusal) → AreMarked true true rows → IsMisusedIn rows r
+mixed_both rows (Usage text) marks = inr (true, true, marks, tt)
+mixed_both rows OutOfMemory marks = tt
+
+pub mixed_one : (rows : List Row) (of : FileKind) (r : Refusal) → AreMarked (is_litmus of) (is_programs of) rows → StandNotAlone rows → IsMisusedIn rows r
+mixed_one rows of_file.Litmus (Usage text) marks others = inr (true, false, marks, others)
+mixed_one rows of_file.Programs (Usage text) marks others = inr (false, true, marks, others)
+mixed_one rows of OutOfMemory marks others = tt
+
+pub mixed_files : (rows : List Row) (of : FileKind) (r : Refusal) → AreMarked (is_litmus of) (is_programs of) rows → IsStrayOf false (files_given rows) r
+    → IsMisusedIn rows r
+mixed_files rows of (Usage text) marks stray = mixed_one rows of (Usage text) marks (inl stray.1)
+mixed_files rows of OutOfMemory marks stray = tt
 
 -- the numbers of a run would be put over one of its files
 pub sim_over : (words : List Text) (named : Text × List Row) (r : Refusal) → subcommand_of tardis words ≡ Some named → named.0 ≡ codes "sim"
     → AreOverIn (first_of (codes "schedule") named.1) named.1 r → IsRefusalOf words r
-sim_over words named (Usage text) is sims over = inr (inr (inr (named, is, inl (sims, over))))
+sim_over words named (Usage text) is sims over = inr (inr (inr (inl (named, is, inl (sims, over)))))
 sim_over words named OutOfMemory is sims over = tt
 
 pub run_over : (words : List Text) (named : Text × List Row) (r : Refusal) → subcommand_of tardis words ≡ Some named → named.0 ≡ codes "run"
     → AreOverIn None named.1 r → IsRefusalOf words r
-run_over words named (Usage text) is runs over = inr (inr (inr (named, is, inr (runs, over))))
+run_over words named (Usage text) is runs over = inr (inr (inr (inl (named, is, inr (runs, over)))))
 run_over words named OutOfMemory is runs over = tt
 
 -- the text of a number, read

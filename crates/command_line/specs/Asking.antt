@@ -1,5 +1,5 @@
 -- What the words of a command line ask for, and when they ask for nothing.
-use Rattle.std.specs.Prelude.{◌≡◌, ◌≢◌, ◌<◌, ◌^◌, ◌⊎◌, ◌||◌, ⊤, ℕ, Bool, true, false, List, [], ◌∷◌, Option, Some, None, IfSome, IsSomeAnd, map, option_map, unwrap_or, codes}
+use Rattle.std.specs.Prelude.{◌≡◌, ◌≢◌, ◌<◌, ◌^◌, ◌⊎◌, ◌||◌, ⊤, ℕ, Bool, true, false, List, [], ◌∷◌, Option, Some, None, IfSome, IsSome, IsSomeAnd, map, option_map, unwrap_or, codes}
 use Rattle.std.specs.Borrow.{Bor}
 use Rattle.std.specs.List.{list_any}
 use Rattle.std.specs.Option.{option_map_or}
@@ -14,6 +14,9 @@ use Rattle.command_line.specs.declared.refusal.Refusal.TheVariants.{Usage, OutOf
 use Rattle.command_line.specs.declared.request.Check.{Check}
 use Rattle.command_line.specs.declared.request.Confirm.{Confirm}
 use Rattle.command_line.specs.declared.request.Explain.{Explain}
+use Rattle.command_line.specs.declared.request.FileKind.{FileKind}
+use Rattle.command_line.specs.declared.request.FileKind.TheVariants as kind
+use Rattle.command_line.specs.declared.request.Inspect.{Inspect}
 use Rattle.command_line.specs.declared.request.Limits.{Limits}
 use Rattle.command_line.specs.declared.request.Litmus.{Litmus}
 use Rattle.command_line.specs.declared.request.Order.{Order}
@@ -75,15 +78,48 @@ is_read program files name = option_map_or (λ text. bytes_eq text name) program
 abbrev pub is_drawn_over : List Row → Bool
 is_drawn_over rows = option_map_or (is_read (first_of (codes "program") rows) (files_given rows)) (first_of (codes "svg") rows) false
 
+-- whether a file of this kind is marked by `--litmus`, and by `--programs`
+abbrev pub is_litmus : FileKind → Bool
+is_litmus kind.Litmus = true
+is_litmus kind.Programs = false
+
+abbrev pub is_programs : FileKind → Bool
+is_programs kind.Litmus = false
+is_programs kind.Programs = true
+
+-- whether `--litmus` is there, and whether `--programs` is
+pub record AreMarked (litmus programs : Bool) (rows : List Row) : Type 0 where
+  pub litmus_flag : IsFlag (one_of (codes "litmus") rows) litmus
+  pub programs_flag : IsFlag (one_of (codes "programs") rows) programs
+
 -- A check of the files that were given by one worker, against the programs that were given, the file for a picture that was, which is
--- none of those, and whether another order is searched
+-- none of those, and whether another order is searched; neither flag says that a file isn't a log
 pub record IsExplain (rows : List Row) (explain : Explain) : Type 0 where
+  pub marks : AreMarked false false rows
   pub workers : explain.check.workers ≡ 1
   pub program : text_of explain.check.program ≡ first_of (codes "program") rows
   pub picture : text_of explain.picture ≡ first_of (codes "svg") rows
   pub no_search : IsFlag (one_of (codes "no-search") rows) explain.no_search
   pub files : texts explain.check.files.items ≡ unwrap_or (all_of (codes "FILE") rows) []
   pub apart : is_drawn_over rows ≡ false
+
+-- no option is there that is of logs
+pub record LackLogOptions (rows : List Row) : Type 0 where
+  pub program : first_of (codes "program") rows ≡ None
+  pub picture : first_of (codes "svg") rows ≡ None
+  pub no_search : IsFlag (one_of (codes "no-search") rows) false
+
+-- the one file that was given is looked at, of the kind that a flag says, without an option that is of logs
+pub record IsInspect (rows : List Row) (inspect : Inspect) : Type 0 where
+  pub marks : AreMarked (is_litmus inspect.kind) (is_programs inspect.kind) rows
+  pub file : files_given rows ≡ inspect.file.now ∷ []
+  pub alone : LackLogOptions rows
+
+-- an explanation of logs, or a look at one other file
+abbrev pub IsExplaining : List Row → Request → Type 0
+IsExplaining rows (request.Explain explain) = IsExplain rows explain
+IsExplaining rows (request.Inspect inspect) = IsInspect rows inspect
+IsExplaining rows other = ⊥
 
 -- the files that were given, anew in format 2, under the name that was given
 pub record IsUpgrade (rows : List Row) (upgrade : Upgrade) : Type 0 where
@@ -169,6 +205,7 @@ abbrev pub IsAskedBy : Text × List Row → Request → Type 0
 IsAskedBy named (request.Check check) = (named.0 ≡ codes "check") × IsCheck named.1 check
 IsAskedBy named (request.Order order) = (named.0 ≡ codes "order") × IsOrder named.1 order
 IsAskedBy named (request.Explain explain) = (named.0 ≡ codes "explain") × IsExplain named.1 explain
+IsAskedBy named (request.Inspect inspect) = (named.0 ≡ codes "explain") × IsInspect named.1 inspect
 IsAskedBy named (request.Upgrade upgrade) = (named.0 ≡ codes "upgrade") × IsUpgrade named.1 upgrade
 IsAskedBy named (request.Sim sim) = (named.0 ≡ codes "sim") × IsSim named.1 sim
 IsAskedBy named (request.Run run) = (named.0 ≡ codes "run") × IsThreaded named.1 run
@@ -215,6 +252,35 @@ LackLogs words =
     (named : Text × List Row) × (subcommand_of tardis words ≡ Some named) × ((named.0 ≡ codes "search") ⊎ (named.0 ≡ codes "confirm"))
     × HasStrayFiles named.1
 
+-- an option is there that is of logs
+abbrev pub HaveLogOption : List Row → Type 0
+HaveLogOption rows =
+    IsSome (first_of (codes "program") rows) ⊎ (IsSome (first_of (codes "svg") rows) ⊎ IsFlag (one_of (codes "no-search") rows) true)
+
+-- the files aren't one, or an option stands there that is of logs
+abbrev pub StandNotAlone : List Row → Type 0
+StandNotAlone rows = ((name : Text) → files_given rows ≢ name ∷ []) ⊎ HaveLogOption rows
+
+-- a flag says that the file isn't a log, and another file, another flag or an option stands beside it
+abbrev pub AreMixedBy : Bool → Bool → List Row → Type 0
+AreMixedBy true true rows = ⊤
+AreMixedBy true false rows = StandNotAlone rows
+AreMixedBy false true rows = StandNotAlone rows
+AreMixedBy false false rows = ⊥
+
+abbrev pub AreMixed : List Row → Type 0
+AreMixed rows = (litmus : Bool) × (programs : Bool) × AreMarked litmus programs rows × AreMixedBy litmus programs rows
+
+-- what is explained is refused for its usage only where a picture would be drawn over a file that is read, or a file that isn't a log
+-- isn't alone
+abbrev pub IsMisusedIn : List Row → Refusal → Type 0
+IsMisusedIn rows (Usage text) = (is_drawn_over rows ≡ true) ⊎ AreMixed rows
+IsMisusedIn rows OutOfMemory = ⊤
+
+-- the words ask for a look at a file that isn't a log, and it isn't alone
+abbrev pub MixFiles : List Text → Type 0
+MixFiles words = (named : Text × List Row) × (subcommand_of tardis words ≡ Some named) × (named.0 ≡ codes "explain") × AreMixed named.1
+
 -- only an explanation whose picture would be drawn over a file that it reads is refused for its usage
 abbrev pub IsOverIn : List Row → Refusal → Type 0
 IsOverIn rows (Usage text) = is_drawn_over rows ≡ true
@@ -245,7 +311,7 @@ CountOver words =
 
 -- the words are a command line, and ask for what isn't done
 abbrev pub AreMisused : List Text → Type 0
-AreMisused words = LackLogs words ⊎ (DrawOver words ⊎ CountOver words)
+AreMisused words = LackLogs words ⊎ (DrawOver words ⊎ (CountOver words ⊎ MixFiles words))
 
 -- only words that aren't a command line of the program, or ask for what isn't done, are refused for their usage
 abbrev pub IsRefusalOf : List Text → Refusal → Type 0

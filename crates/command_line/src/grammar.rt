@@ -85,8 +85,8 @@ fn explain<'a>(alloc: Global) -> Result<Command<'a>, AllocError>
     let command = named(
         alloc,
         "explain",
-        "Judges logs, and tells why they get that verdict",
-        "Example: tardis explain --svg why.svg log.0 log.1",
+        "Judges logs, and tells why they get that verdict, or why a file is refused",
+        "Examples: tardis explain --svg why.svg log.0 log.1\n          tardis explain --litmus SB.litmus",
     );
     let arguments = [
         Argument::file("program", "The programs whose logs these have to be"),
@@ -95,7 +95,9 @@ fn explain<'a>(alloc: Global) -> Result<Command<'a>, AllocError>
             "The file that a picture of it goes to [default: none]",
         ),
         Argument::flag("no-search", "Looks for no other order of logs that get No"),
-        Argument::files(LOGS_HELP),
+        Argument::flag("litmus", "FILE is a litmus test, and is only read"),
+        Argument::flag("programs", "FILE is a set of programs, and is only read"),
+        Argument::files("The logs, that of core 0 first; with --litmus or --programs one file"),
     ];
     with_arguments(alloc, command, &arguments)
 }

@@ -2,6 +2,7 @@
 #![tactic(auto)]
 
 mod argument;
+mod explaining;
 mod grammar;
 mod names;
 mod refusal;
@@ -10,6 +11,7 @@ mod words;
 
 pub use refusal::Refusal;
 pub use request::{
-    Check, Confirm, Explain, Limits, Litmus, Order, Request, Run, Search, Sim, TraceFiles, Upgrade,
+    Check, Confirm, Explain, FileKind, Inspect, Limits, Litmus, Order, Request, Run, Search, Sim,
+    TraceFiles, Upgrade,
 };
 pub use words::read;

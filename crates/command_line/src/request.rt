@@ -9,6 +9,8 @@ pub enum Request<'a> {
     Order(Order<'a>),
     /// The verdict on a set of logs, and why it is so.
     Explain(Explain<'a>),
+    /// Whether a file can be read as what it has to be, and what is wrong with it.
+    Inspect(Inspect<'a>),
     /// A set of logs, written anew in format 2.
     Upgrade(Upgrade<'a>),
     /// A run of the machine, one event after the other.
@@ -52,6 +54,24 @@ pub struct Explain<'a> {
     pub picture: Option<&'a str>,
     /// Whether no other order of a set that gets No is searched.
     pub no_search: bool,
+}
+
+/// What a file that isn't a log has to be.
+#[derive(Clone, Copy, Debug, PartialEq, Eq)]
+pub enum FileKind {
+    /// A litmus test.
+    Litmus,
+    /// The programs of a machine's cores.
+    Programs,
+}
+
+/// Asks whether a file can be read as what it has to be.
+#[derive(Debug, Drop)]
+pub struct Inspect<'a> {
+    /// What it has to be.
+    pub kind: FileKind,
+    /// The name of the file.
+    pub file: &'a str,
 }
 
 /// Asks for a set of logs in format 2.

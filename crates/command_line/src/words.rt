@@ -9,11 +9,12 @@ ghost use Rattle.clap.specs.declared.error.kind.ErrorKind.TheVariants as kind;
 ghost use Rattle.command_line.specs.Asking as asking;
 ghost use Rattle.command_line.specs.inner.Numbers.{HasNumbers, takes_number};
 
+use super::explaining::explaining_of;
 use super::grammar::tardis;
 use super::names::is_run_file;
 use super::refusal::Refusal;
 use super::request::{
-    Check, Confirm, Explain, Limits, Litmus, Order, Request, Run, Search, Sim, TraceFiles, Upgrade,
+    Check, Confirm, Limits, Litmus, Order, Request, Run, Search, Sim, TraceFiles, Upgrade,
 };
 use clap::error::ErrorKind;
 use clap::{ArgMatches, Error};
@@ -48,7 +49,7 @@ pub fn read<'a>(alloc: Global, words: &'a [&'a str]) -> Result<Request<'a>, Refu
         return Ok(Request::Litmus(litmus_of(asked)));
     }
     if name == "explain" {
-        return Ok(Request::Explain(explain_of(alloc, asked)?));
+        return explaining_of(alloc, asked);
     }
     if name == "upgrade" {
         return Ok(Request::Upgrade(upgrade_of(alloc, asked)?));
@@ -93,73 +94,13 @@ fn order_of<'a>(alloc: Global, matches: &ArgMatches<'a>) -> Result<Order<'a>, Al
     })
 }
 
-/// What the words after `explain` ask for, or why they ask for nothing.
-fn explain_of<'a>(alloc: Global, matches: &ArgMatches<'a>) -> Result<Explain<'a>, Refusal>
-    ensures explain { IfOk result (asking.IsExplain (rows_of (found_of matches.now))) }
-    ensures usage { IfErr result (asking.IsOverIn (rows_of (found_of matches.now))) }
-{
-    let files = files_of(alloc, matches)?;
-    let program = name_of(matches, "program");
-    let picture = name_of(matches, "svg");
-    if is_drawn_over(picture, program, files.as_slice()) {
-        return Err(misuse(alloc, DRAWN_OVER));
-    }
-    Ok(Explain {
-        check: Check {
-            workers: 1,
-            program,
-            files,
-        },
-        picture,
-        no_search: flag_of(matches, "no-search"),
-    })
-}
-
-/// Whether the file for a picture, if there is one, is that of the programs or one of these.
-fn is_drawn_over(picture: Option<&str>, program: Option<&str>, files: &[&str]) -> bool
-    ensures { result ≡ option_map_or (asking.is_read (asking.text_of program.entry) (asking.texts files.now))
-        (asking.text_of picture.entry) false }
-{
-    match picture {
-        Some(name) => is_name(program, name) || is_among(name, files),
-        None => false,
-    }
-}
-
-/// Whether a file is there, and has this name.
-fn is_name(file: Option<&str>, name: &str) -> bool
-    ensures { result ≡ option_map_or (λ text. bytes_eq text name.now) (asking.text_of file.entry) false }
-{
-    match file {
-        Some(file) => file == name,
-        None => false,
-    }
-}
-
-/// Whether one of the files has this name.
-fn is_among(name: &str, files: &[&str]) -> bool
-    ensures { result ≡ list_any (λ text. bytes_eq text name.now) (asking.texts files.now) }
-{
-    let mut is_among = false;
-    for file in files {
-        if *file == name {
-            is_among = true;
-        }
-    }
-    is_among
-}
-
 /// The refusal of what isn't done, with what the user is told of it.
-fn misuse(alloc: Global, text: &str) -> Refusal {
+pub(crate) fn misuse(alloc: Global, text: &str) -> Refusal {
     match String::from_str(alloc, text) {
         Ok(text) => Refusal::Usage(text),
         Err(_) => Refusal::OutOfMemory,
     }
 }
-
-/// What the user is told of a picture that would be drawn over a file that is read.
-const DRAWN_OVER: &str =
-    "error: the picture would take the place of a file that is read\n\nFor more information, try '--help'.\n";
 
 /// What the words after `upgrade` ask for.
 fn upgrade_of<'a>(alloc: Global, matches: &ArgMatches<'a>) -> Result<Upgrade<'a>, AllocError>
@@ -202,7 +143,7 @@ fn confirm_of<'a>(alloc: Global, matches: &ArgMatches<'a>) -> Result<Confirm<'a>
         });
     }
     Ok(Confirm {
-        certificate: only(alloc, files.as_slice())?,
+        certificate: only(alloc, files.as_slice(), STRAY_FILE)?,
         trace: TraceFiles::One(first),
     })
 }
@@ -219,17 +160,17 @@ fn trace_of<'a>(
     if are_logs {
         return Ok(TraceFiles::Logs(files));
     }
-    Ok(TraceFiles::One(only(alloc, files.as_slice())?))
+    Ok(TraceFiles::One(only(alloc, files.as_slice(), STRAY_FILE)?))
 }
 
-/// The name of the only file, or the refusal of others.
-fn only<'a>(alloc: Global, files: &[&'a str]) -> Result<&'a str, Refusal>
+/// The name of the only file, or the refusal of others, with what the user is told of them.
+pub(crate) fn only<'a>(alloc: Global, files: &[&'a str], text: &str) -> Result<&'a str, Refusal>
     ensures one { IfOk result (λ name. asking.texts files.now ≡ name.now ∷ []) }
     ensures usage { IfErr result (asking.IsStrayOf false (asking.texts files.now)) }
 {
     match files {
         [name] => Ok(name),
-        _ => Err(misuse(alloc, STRAY_FILE)),
+        _ => Err(misuse(alloc, text)),
     }
 }
 
@@ -345,14 +286,14 @@ fn number_of(matches: &ArgMatches<'_>, name: &str) -> Option<u64>
 }
 
 /// Whether an option that takes nothing is there.
-fn flag_of(matches: &ArgMatches<'_>, name: &str) -> bool
+pub(crate) fn flag_of(matches: &ArgMatches<'_>, name: &str) -> bool
     ensures { asking.IsFlag (one_of name.now (rows_of (found_of matches.now))) result }
 {
     matches.get_flag(name)
 }
 
 /// The name of the file that an option gives, or none where the option isn't there.
-fn name_of<'a>(matches: &ArgMatches<'a>, option: &str) -> Option<&'a str>
+pub(crate) fn name_of<'a>(matches: &ArgMatches<'a>, option: &str) -> Option<&'a str>
     ensures { asking.text_of result ≡ first_of option.now (rows_of (found_of matches.now)) }
 {
     matches.get_str(option)
@@ -366,7 +307,10 @@ fn word_of<'a>(matches: &ArgMatches<'a>, place: &str) -> &'a str
 }
 
 /// The names of the files.
-fn files_of<'a>(alloc: Global, matches: &ArgMatches<'a>) -> Result<Vec<&'a str>, AllocError>
+pub(crate) fn files_of<'a>(
+    alloc: Global,
+    matches: &ArgMatches<'a>,
+) -> Result<Vec<&'a str>, AllocError>
     ensures { IfOk result (λ names. asking.texts names.items
         ≡ unwrap_or (all_of (codes "FILE") (rows_of (found_of matches.now))) []) }
 {

@@ -1,5 +1,5 @@
 -- The line of a number, from the parts between line feeds.
-use Rattle.std.proofs.Common.{◌≡◌, ◌∙◌, suc, ap, refl, sym, ℕ, Bor, List, [], ◌∷◌, Option, None, Some, option_map, slice_index_or}
+use Rattle.std.proofs.Common.{◌≡◌, ◌∙◌, suc, ap, refl, sym, ℕ, Bor, List, [], Option, None, Some, option_map}
 use Rattle.std.specs.Prelude.{slice_get, unwrap_or}
 use Rattle.std.proofs.lemmas.Option.{unwrap_or-slice_get}
 use Rattle.log_file.specs.Log.{line}

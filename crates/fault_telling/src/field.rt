@@ -14,6 +14,11 @@ pub(crate) enum Field {
     Old,
     Register,
     Skip,
+    Format,
+    Name,
+    CoresWord,
+    Cores,
+    Shown,
 }
 
 impl Field {
@@ -25,16 +30,21 @@ impl Field {
             Field::Stamp => Some("281474976710656"),
             Field::Rank => Some("4294967295"),
             Field::Skip => Some("4095"),
-            Field::Source | Field::Register => None,
+            Field::Cores => Some("64"),
+            _ => None,
         }
     }
 
     /// What is wrong with a word in this field.
     pub(crate) fn trouble(self, word: &str) -> Option<Trouble> {
         match (self, self.greatest()) {
-            (Field::Skip, _) if word == "0" => Some(Trouble::Zero),
+            (Field::Skip | Field::Cores, _) if word == "0" => Some(Trouble::Zero),
             (_, Some(greatest)) => number_trouble(word, greatest),
             (Field::Register, None) => register_trouble(word),
+            (Field::Format, None) => (word != "1" && word != "2").then_some(Trouble::NoFormat),
+            (Field::Name, None) => (!is_name(word)).then_some(Trouble::NoName),
+            (Field::CoresWord, None) => (word != "cores").then_some(Trouble::NoCores),
+            (Field::Shown, None) => shown_trouble(word),
             _ => source_trouble(word),
         }
     }
@@ -51,6 +61,11 @@ impl Display for Field {
             Field::Old => "old",
             Field::Register => "register",
             Field::Skip => "skip",
+            Field::Format => "format",
+            Field::Name => "name",
+            Field::CoresWord => "word before N",
+            Field::Cores => "number of cores",
+            Field::Shown => "register",
         })
     }
 }
@@ -74,6 +89,14 @@ pub(crate) enum Trouble {
     NoSource,
     /// It isn't a register.
     NoRegister,
+    /// It isn't a format.
+    NoFormat,
+    /// It isn't the name of a test.
+    NoName,
+    /// It isn't the word before the number of cores.
+    NoCores,
+    /// It isn't a register of a core.
+    NoShown,
 }
 
 impl Display for Trouble {
@@ -89,6 +112,12 @@ impl Display for Trouble {
                 f.write_str("is neither init nor C.I, for operation I of core C, counted from 0")
             }
             Trouble::NoRegister => f.write_str("is none of r0 to r15"),
+            Trouble::NoFormat => f.write_str("is neither 1 nor 2"),
+            Trouble::NoName => f.write_str("isn't 1 to 32 letters, digits, + and -"),
+            Trouble::NoCores => f.write_str("isn't cores"),
+            Trouble::NoShown => f.write_str(
+                "isn't written C.rN, for register rN, r0 to r15, of core C",
+            ),
         }
     }
 }
@@ -141,6 +170,25 @@ fn register_trouble(word: &str) -> Option<Trouble> {
     match word.strip_prefix('r') {
         Some(number) if number_trouble(number, "15").is_none() => None,
         _ => Some(Trouble::NoRegister),
+    }
+}
+
+/// Whether a word may be the name of a test.
+fn is_name(word: &str) -> bool {
+    let is_short = !word.is_empty() && word.len() <= 32;
+    is_short
+        && word.bytes().all(|byte| byte.is_ascii_alphanumeric() || byte == b'+' || byte == b'-')
+}
+
+/// What is wrong with a word where a register of a core is shown.
+fn shown_trouble(word: &str) -> Option<Trouble> {
+    let mut parts = word.split('.');
+    match (parts.next(), parts.next(), parts.next()) {
+        (Some(core), Some(register), None)
+            if number_trouble(core, "63").is_none() && register_trouble(register).is_none() => {
+            None
+        }
+        _ => Some(Trouble::NoShown),
     }
 }
 

@@ -1,6 +1,7 @@
 //! What is told of a file that a reader refused: the line of the fault, what it should be, and what has usually gone wrong.
 #![tactic(auto)]
 
+mod ending_words;
 mod field;
 mod lines;
 mod log_words;
@@ -13,4 +14,5 @@ mod telling;
 
 pub use lines::line_of;
 pub use place::Place;
+pub use program_words::Kind;
 pub use telling::{Refused, Telling};

@@ -1,23 +1,34 @@
 //! What is told of a line of a set of programs, or of a litmus test.
 
+use super::ending_words::{push_forbid, push_show, shown_count};
 use super::lines::{is_whole, line_of, words_of};
-use super::shape::{INSTRUCTIONS, push_departure, shape_of};
+use super::shape::{INSTRUCTIONS, SET_HEADER, TEST_HEADER, push_departure, shape_of};
 use super::slip::first_slip;
 use std::alloc::{AllocError, Global};
+
+/// What a text of programs has to be.
+#[derive(Clone, Copy, Debug, PartialEq, Eq)]
+pub enum Kind {
+    /// A set of programs.
+    Programs,
+    /// A litmus test.
+    Litmus,
+}
 
 /// Adds what is told of a line that isn't as a set of programs or a litmus test says, whose bytes are these.
 pub(crate) fn push_bad_line(
     alloc: Global,
     text: &mut String,
+    kind: Kind,
     bytes: &[u8],
     number: u64,
 ) -> Result<(), AllocError> {
     let line = line_of(bytes, number);
-    if !is_whole(bytes, number) {
-        return push_cut_off(text, line);
-    }
     if number > 1 && line_of(bytes, number - 1) == b"end".as_slice() {
         return text.push_str("It comes after the line end, which is the last.\n");
+    }
+    if !is_whole(bytes, number) {
+        return push_cut_off(text, line);
     }
     if line.is_empty() {
         return text.push_str("It is empty; there are no empty lines.\n");
@@ -26,9 +37,9 @@ pub(crate) fn push_bad_line(
         return write!(text, "{slip}\n");
     }
     if number == 1 {
-        return push_first(text, line);
+        return push_first(alloc, text, kind, line);
     }
-    push_later(alloc, text, bytes, line)
+    push_later(alloc, text, kind, bytes, number)
 }
 
 /// Adds what is told of a last line without a line feed.
@@ -40,47 +51,93 @@ fn push_cut_off(text: &mut String, line: &[u8]) -> Result<(), AllocError> {
     })
 }
 
-/// Adds how a first line is written.
-fn push_first(text: &mut String, line: &[u8]) -> Result<(), AllocError> {
-    text.push_str(if line.starts_with(b"tardis-litmus") {
-        "The first line is written tardis-litmus 1 NAME cores N, with 2 in place of 1 where there are swaps; NAME has 1 to 32 letters, digits, + and -, and N is 1 to 64.\n"
-    } else if line.starts_with(b"tardis-programs") {
-        "The first line is written tardis-programs 1 cores N, with 2 in place of 1 where there are swaps; N is 1 to 64.\n"
-    } else {
-        "The first line is written tardis-programs 1 cores N, or of a litmus test tardis-litmus 1 NAME cores N.\n"
-    })
-}
-
-/// Adds what is told of a later line.
-fn push_later(
-    alloc: Global,
-    text: &mut String,
-    bytes: &[u8],
-    line: &[u8],
-) -> Result<(), AllocError> {
+/// Adds how a first line is written, and where this one departs from that.
+fn push_first(alloc: Global, text: &mut String, kind: Kind, line: &[u8]) -> Result<(), AllocError> {
+    let header = match kind {
+        Kind::Programs => SET_HEADER,
+        Kind::Litmus => TEST_HEADER,
+    };
     let words = words_of(alloc, line)?;
     let Some((first, fields)) = words.as_slice().split_first() else {
         return Ok(());
     };
+    if *first == header.first {
+        return push_departure(text, &header, fields);
+    }
+    write!(text, "{} is written {}.\n", header.noun, header.written)?;
+    text.push_str(if *first == "tardis-litmus" {
+        "It begins a litmus test, which tardis litmus runs.\n"
+    } else if *first == "tardis-programs" {
+        "It begins a set of programs, which tardis sim and tardis run run.\n"
+    } else if *first == "tardis-log" {
+        "It begins a log.\n"
+    } else if *first == "core" {
+        "It begins a section: the first line before it is missing.\n"
+    } else {
+        ""
+    })
+}
+
+/// Adds what is told of a later line, the one of this number.
+fn push_later(
+    alloc: Global,
+    text: &mut String,
+    kind: Kind,
+    bytes: &[u8],
+    number: u64,
+) -> Result<(), AllocError> {
+    let words = words_of(alloc, line_of(bytes, number))?;
+    let Some((first, fields)) = words.as_slice().split_first() else {
+        return Ok(());
+    };
     if *first == "core" || *first == "end" {
-        return text.push_str(
-            "The sections are core 0, core 1 and so on, in this order, as many as the first line says; end is the last line.\n",
+        return push_section(text, kind, bytes, first);
+    }
+    let is_ending = *first == "show" || *first == "forbid";
+    if is_ending && kind == Kind::Programs {
+        return write!(
+            text,
+            "A set of programs has no line {first}, which is of litmus tests.\n"
         );
     }
     if *first == "show" {
-        return text.push_str(
-            "After the last section stands one line show C.rN .. of 1 to 8 registers, as show 0.r0 1.r0.\n",
-        );
+        return push_show(alloc, text, bytes, number);
     }
     if *first == "forbid" {
-        return push_forbid(text, bytes, fields.len());
+        return push_forbid(alloc, text, bytes, number);
     }
+    push_instruction(text, bytes, first, fields)
+}
+
+/// Adds what is told of a line that begins as that of a section, or as the last one.
+fn push_section(
+    text: &mut String,
+    kind: Kind,
+    bytes: &[u8],
+    first: &str,
+) -> Result<(), AllocError> {
+    text.push_str(
+        "The sections are core 0, core 1 and so on, in this order, as many as the first line says; end is the last line.\n",
+    )?;
+    if kind == Kind::Litmus && first == "end" && shown_count(bytes).is_none() {
+        return text.push_str("Before it one line show C.rN .. is due, and there is none.\n");
+    }
+    Ok(())
+}
+
+/// Adds how an instruction with this first word is written, and where these words after it depart from that.
+fn push_instruction(
+    text: &mut String,
+    bytes: &[u8],
+    first: &str,
+    fields: &[&str],
+) -> Result<(), AllocError> {
     let Some(shape) = shape_of(&INSTRUCTIONS, first) else {
         return text.push_str(
             "An instruction begins with ld, st, sr, ai, jz or, in format 2, sw.\n",
         );
     };
-    if *first == "sw" && says_format_one(line_of(bytes, 1)) {
+    if first == "sw" && says_format_one(line_of(bytes, 1)) {
         return text.push_str(
             "A swap is in format 2 alone, and the first line says format 1: write 2 there.\n",
         );
@@ -91,33 +148,4 @@ fn push_later(
 /// Whether a first line says format 1.
 fn says_format_one(line: &[u8]) -> bool {
     line.starts_with(b"tardis-programs 1 ") || line.starts_with(b"tardis-litmus 1 ")
-}
-
-/// Adds what is told of a line of a forbidden outcome with so many values.
-fn push_forbid(text: &mut String, bytes: &[u8], values: usize) -> Result<(), AllocError> {
-    text.push_str(
-        "A forbidden outcome is written forbid K .., a value for each register of show, in their order.\n",
-    )?;
-    let Some(registers) = shown_count(bytes) else {
-        return text.push_str("It comes after the line show, and there is none before it.\n");
-    };
-    if registers != values {
-        return write!(
-            text,
-            "It has {values} values, and show has {registers} registers.\n"
-        );
-    }
-    text.push_str(
-        "At most 16 lines say forbid; values are 0 to 18446744073709551615, in decimal.\n",
-    )
-}
-
-/// How many registers the line `show` has, where there is one.
-fn shown_count(bytes: &[u8]) -> Option<usize> {
-    for line in bytes.split(|byte| *byte == b'\n') {
-        if line.starts_with(b"show ") {
-            return Some(line.iter().filter(|byte| **byte == b' ').count());
-        }
-    }
-    None
 }

@@ -91,6 +91,22 @@ pub(crate) const INSTRUCTIONS: [Shape; 6] = [
     },
 ];
 
+/// The shape of the first line of a litmus test.
+pub(crate) const TEST_HEADER: Shape = Shape {
+    noun: "The first line",
+    first: "tardis-litmus",
+    written: "tardis-litmus 1 NAME cores N, with 2 in place of 1 where there are swaps; NAME has 1 to 32 letters, digits, + and -, and N is 1 to 64",
+    fields: &[Field::Format, Field::Name, Field::CoresWord, Field::Cores],
+};
+
+/// The shape of the first line of a set of programs.
+pub(crate) const SET_HEADER: Shape = Shape {
+    noun: "The first line",
+    first: "tardis-programs",
+    written: "tardis-programs 1 cores N, with 2 in place of 1 where there are swaps; N is 1 to 64",
+    fields: &[Field::Format, Field::CoresWord, Field::Cores],
+};
+
 /// The shape with this first word.
 pub(crate) fn shape_of(shapes: &[Shape], first: &str) -> Option<Shape> {
     for shape in shapes {

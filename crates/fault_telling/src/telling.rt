@@ -6,7 +6,7 @@ ghost use Rattle.fault_telling.specs.Places.{place_text};
 use super::lines::line_of;
 use super::log_words::{RefusedLog, push_log};
 use super::place::Place;
-use super::program_words::push_bad_line;
+use super::program_words::{Kind, push_bad_line};
 use super::shown::Shown;
 use log_file::FormatFault;
 use std::alloc::{AllocError, Global};
@@ -21,7 +21,7 @@ pub enum Refused {
         fault: FormatFault,
     },
     /// A set of programs or a litmus test, at a line that isn't as it should be.
-    BadLine,
+    BadLine(Kind),
     /// A set of programs or a litmus test, at the 4,097th instruction of a section.
     TooLong,
     /// A set of programs or a litmus test, at a jump past the end of its program.
@@ -67,7 +67,9 @@ impl<'a> Telling<'a> {
                 };
                 push_log(alloc, &mut text, &refused, bytes)?;
             }
-            Refused::BadLine => push_bad_line(alloc, &mut text, bytes, self.place.line)?,
+            Refused::BadLine(kind) => {
+                push_bad_line(alloc, &mut text, kind, bytes, self.place.line)?;
+            }
             Refused::TooLong => text.push_str("A program has at most 4096 instructions.\n")?,
             Refused::SkipPastEnd => text.push_str(
                 "It skips further than to just past the last instruction.\n",

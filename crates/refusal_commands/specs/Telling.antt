@@ -10,6 +10,10 @@ use Rattle.call_devices.specs.Sinks.{Sink, Takes}
 use Rattle.call_devices.specs.declared.call_fault.CallFault.TheVariants.{Programs}
 use Rattle.judge_commands.specs.declared.fault.JudgingFault.{JudgingFault}
 use Rattle.judge_commands.specs.declared.fault.JudgingFault.TheVariants.{Judge, Call}
+use Rattle.litmus_test.specs.declared.fault.LitmusFault.{LitmusFault}
+use Rattle.litmus_test.specs.declared.fault.LitmusFault.TheVariants as test
+use Rattle.refusal_commands.specs.declared.filed.FileFault.{FileFault}
+use Rattle.refusal_commands.specs.declared.filed.FileFault.TheVariants as filed
 
 -- the text begins with this name and this number of a line
 abbrev pub BeginsAt : List ℕ → ℕ → List ℕ → Type 0
@@ -41,3 +45,33 @@ abbrev pub IsOfFile : JudgingFault → Type 0
 IsOfFile (Judge (Log file line fault)) = ⊤
 IsOfFile (Call (Programs fault)) = ⊤
 IsOfFile other = ⊥
+
+-- ---- of a file that isn't a log
+
+-- the line of the fault of a litmus test
+abbrev pub test_line : LitmusFault → Option ℕ
+test_line (test.BadLitmusLine line) = Some line
+test_line (test.BadLine line) = Some line
+test_line (test.TooLong line) = Some line
+test_line (test.SkipPastEnd line) = Some line
+test_line test.OutOfMemory = None
+
+-- the text begins with this name and this line, where there is one
+abbrev pub BeginsAtLine : List ℕ → Option ℕ → List ℕ → Type 0
+BeginsAtLine name at text = (line : ℕ) × (at ≡ Some line) × BeginsAt name line text
+
+-- of a file that was refused, the text begins with its name and the line of its fault
+abbrev pub IsToldOfFile : List ℕ → FileFault → List ℕ → Type 0
+IsToldOfFile name (filed.Test fault) text = BeginsAtLine name (test_line fault) text
+IsToldOfFile name (filed.Programs fault) text = BeginsAtLine name (program_line fault) text
+IsToldOfFile name filed.Unread text = ⊤
+
+-- the sink took such a text, or failed after a beginning of it, or there was no memory for one
+abbrev pub TellsOfFile : List ℕ → FileFault → Sink → Sink → Type 0
+TellsOfFile name fault old new = (text : List ℕ) × ((text ≡ []) ⊎ IsToldOfFile name fault text) × Takes old new text
+
+-- the file could be read, so it is read again
+abbrev pub IsReadAgain : FileFault → Type 0
+IsReadAgain (filed.Test fault) = ⊤
+IsReadAgain (filed.Programs fault) = ⊤
+IsReadAgain filed.Unread = ⊥

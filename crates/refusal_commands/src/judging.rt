@@ -1,14 +1,15 @@
 //! What is told of the refusal of an explanation.
 
-ghost use Rattle.std.specs.Prelude.{◌≡◌, ◌⊎◌, ℕ, List, [], IfOk, string_bytes};
+ghost use Rattle.std.specs.Prelude.{◌≡◌, ◌⊎◌, ◌++◌, ℕ, List, [], IfOk, IsSome, string_bytes};
 ghost use Rattle.call_devices.specs.Files.{IsOnlyRead};
 ghost use Rattle.call_devices.specs.Sinks.{Takes, sink_of};
 ghost use Rattle.refusal_commands.specs.Telling as telling;
 
+use super::first::first_text;
 use call_devices::{CallFault, Folder, read_text};
 use command_line::Check;
 use core_program::{ProgramFault, ProgramSet};
-use fault_telling::{Place, Refused, Telling};
+use fault_telling::{Kind, Place, Refused, Telling};
 use judge_commands::JudgingFault;
 use log_file::{ByteSink, FormatFault, LogFault, LogReader, write_all};
 use mem_op::CoreId;
@@ -76,7 +77,7 @@ fn refusal_text<F: Folder>(
 }
 
 /// What is told of a file that can't be opened or read.
-fn unread_text(alloc: Global, name: Option<&str>) -> Result<String, AllocError> {
+pub(crate) fn unread_text(alloc: Global, name: Option<&str>) -> Result<String, AllocError> {
     match name {
         Some(name) => format!(in alloc; "{name}: it can't be opened or read.\n"),
         None => Ok(String::new(alloc)),
@@ -106,7 +107,20 @@ fn log_text<F: Folder>(
         refused: Refused::Log { file, files, fault },
         bytes: bytes.as_ref().map(|bytes| bytes.as_slice()),
     };
-    telling.print(alloc)
+    let text = telling.print(alloc)?;
+    if bytes.is_none() || fault != FormatFault::Truncated {
+        return Ok(text);
+    }
+    let first = first_text(alloc, folder, asked.files.as_slice())?;
+    with_more(text, first.as_str())
+}
+
+/// A text with more after it.
+fn with_more(mut text: String, more: &str) -> Result<String, AllocError>
+    ensures { IfOk result (λ whole. string_bytes whole ≡ string_bytes text ++ more.now) }
+{
+    text.push_str(more)?;
+    Ok(text)
 }
 
 /// The bytes of a log that is read again, where they have this fault; none of a file that can be read once.
@@ -118,7 +132,8 @@ fn log_again<F: Folder>(
     files: usize,
     fault: LogFault,
 ) -> Option<Vec<u8>>
-    ensures { IsOnlyRead (F.files folder.old) (F.files folder.new) }
+    ensures read { IsOnlyRead (F.files folder.old) (F.files folder.new) }
+    ensures quiet { IsSome result → F.files folder.new ≡ F.files folder.old }
 {
     let bytes = read_text(alloc, folder, name).ok()?;
     let core = CoreId::new(file as u64).ok()?;
@@ -138,7 +153,7 @@ fn log_fault(alloc: Global, bytes: &[u8], core: CoreId, cores: usize) -> Option<
 }
 
 /// What is told of a set of programs that was refused.
-fn programs_text<F: Folder>(
+pub(crate) fn programs_text<F: Folder>(
     alloc: Global,
     folder: &mut F,
     name: Option<&str>,
@@ -156,7 +171,7 @@ fn programs_text<F: Folder>(
     let refused = match fault {
         ProgramFault::TooLong(_) => Refused::TooLong,
         ProgramFault::SkipPastEnd(_) => Refused::SkipPastEnd,
-        _ => Refused::BadLine,
+        _ => Refused::BadLine(Kind::Programs),
     };
     let bytes = programs_again(alloc, folder, file, fault);
     let telling = Telling {

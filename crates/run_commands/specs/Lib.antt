@@ -1,4 +1,5 @@
 pub mod Faults
+pub mod Inspecting
 pub mod Leaving
 pub mod Numbers
 pub mod Programmed

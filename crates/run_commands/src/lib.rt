@@ -3,6 +3,7 @@
 
 mod config;
 mod fault;
+mod inspected;
 mod left;
 mod logs;
 mod simulated;
@@ -11,6 +12,7 @@ mod threaded;
 mod watch;
 
 pub use fault::RunningFault;
+pub use inspected::inspect;
 pub use simulated::sim;
 pub use table::count_outcomes;
 pub use threaded::run;

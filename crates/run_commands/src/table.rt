@@ -32,7 +32,11 @@ fn has_forbidden(table: &Table) -> bool
 }
 
 /// The test in a file of the folder: 28 where it can't be opened or read.
-fn read_test<F: Folder>(alloc: Global, folder: &mut F, name: &str) -> Result<Litmus, RunningFault>
+pub(crate) fn read_test<F: Folder>(
+    alloc: Global,
+    folder: &mut F,
+    name: &str,
+) -> Result<Litmus, RunningFault>
     ensures ok { IfOk result (λ test. tabling.IsTestIn (F.files folder.old).told name.now test) }
     ensures err { IfErr result (tabling.IsUntested (F.files folder.old).told
         (IsUnread F.Source.remaining F.Source.failed

@@ -10,11 +10,24 @@ const FAULT: u8 = 2;
 /// The exit status of a call that was refused since a file can't be read, among others.
 const FAILED: u8 = 4;
 
-/// A sink that knows whether anything was written to it.
+/// What was told on a sink, by its beginning.
+#[derive(Clone, Copy, PartialEq, Eq)]
+pub(crate) enum Told {
+    /// Nothing.
+    Nothing,
+    /// That a litmus test is refused.
+    Test,
+    /// That programs are refused.
+    Programs,
+    /// Something else.
+    Other,
+}
+
+/// A sink that knows what it was told.
 #[derive(Drop)]
 pub(crate) struct Noted<W> {
     sink: W,
-    is_used: bool,
+    told: Told,
 }
 
 impl<W: ByteSink> Noted<W> {
@@ -22,13 +35,24 @@ impl<W: ByteSink> Noted<W> {
     pub(crate) fn new(sink: W) -> Noted<W> {
         Noted {
             sink,
-            is_used: false,
+            told: Told::Nothing,
         }
     }
 
-    /// Whether anything was written.
-    pub(crate) fn is_used(&self) -> bool {
-        self.is_used
+    /// What was told.
+    pub(crate) fn told(&self) -> Told {
+        self.told
+    }
+}
+
+/// What a first piece tells.
+fn told_by(piece: &[u8]) -> Told {
+    if piece.starts_with(b"refused: litmus") {
+        Told::Test
+    } else if piece.starts_with(b"refused: programs") {
+        Told::Programs
+    } else {
+        Told::Other
     }
 }
 
@@ -38,7 +62,9 @@ impl<W: ByteSink> ByteSink for Noted<W> {
     ghost failed = { λ noted. W.failed noted.sink };
 
     fn write(&mut self, piece: &[u8]) -> Result<usize, WriteFailed> {
-        self.is_used = true;
+        if self.told == Told::Nothing {
+            self.told = told_by(piece);
+        }
         self.sink.write(piece)
     }
 
@@ -47,9 +73,9 @@ impl<W: ByteSink> ByteSink for Noted<W> {
     }
 }
 
-/// Tells a terminal where to read on after a call with these words that ended with this status, and told something on standard error or
-/// not; and after an explanation of a file that can't be read what the system says.
-pub(crate) fn tell_after(rt: &HostRuntime, words: &[&str], status: u8, is_told: bool) {
+/// Tells a terminal where to read on after a call with these words that ended with this status, and told this on standard error; and after
+/// an explanation of a file that can't be read what the system says.
+pub(crate) fn tell_after(rt: &HostRuntime, words: &[&str], status: u8, told: Told) {
     let command = words.get(1).copied();
     if command == Some("explain") && status == FAILED {
         tell_system(rt, words);
@@ -57,14 +83,14 @@ pub(crate) fn tell_after(rt: &HostRuntime, words: &[&str], status: u8, is_told: 
     if !rt.stderr().is_terminal() {
         return;
     }
-    if let Some(hint) = hint_of(command.unwrap_or(""), status, is_told) {
+    if let Some(hint) = hint_of(command.unwrap_or(""), status, told) {
         let _ = eprintln!(rt; "{hint}");
     }
 }
 
 /// Where a user reads on after a call of this command.
-fn hint_of(command: &str, status: u8, is_told: bool) -> Option<&'static str> {
-    if command == "litmus" && status == 1 && !is_told {
+fn hint_of(command: &str, status: u8, told: Told) -> Option<&'static str> {
+    if command == "litmus" && status == 1 && told == Told::Nothing {
         return Some(
             "a forbidden outcome was seen, and each run got yes: the test forbids what may happen; the machine is right",
         );
@@ -72,6 +98,12 @@ fn hint_of(command: &str, status: u8, is_told: bool) -> Option<&'static str> {
     let reads_logs = command == "check" || command == "order" || command == "upgrade";
     if reads_logs && (status == FAULT || status == FAILED) {
         return Some("tardis explain FILE.. tells more");
+    }
+    if command == "litmus" && told == Told::Test {
+        return Some("tardis explain --litmus TEST tells more");
+    }
+    if (command == "sim" || command == "run") && told == Told::Programs {
+        return Some("tardis explain --programs PROGRAMS tells more");
     }
     None
 }

@@ -52,6 +52,6 @@ fn main(rt: HostRuntime) -> ExitCode {
         &mut out,
         &mut err,
     );
-    tell_after(&rt, words.as_slice(), status, err.is_used());
+    tell_after(&rt, words.as_slice(), status, err.told());
     ExitCode::from(status)
 }

@@ -17,7 +17,7 @@ use Rattle.tardis_command.specs.declared.answer.Answer.{Answer}
 use Rattle.tardis_command.specs.declared.answer.Answer.TheVariants as answer
 use Rattle.tardis_command.specs.inner.Apart.{HasApart}
 use Rattle.tardis_command.specs.inner.Printing.{IsUnprinted}
-use Rattle.tardis_command.specs.Endings.{Answered, Ending, EndsBy, IsAnswered, IsDoneBy, IsOfFileOf, IsPrinted, Misused, Refused, Says, Sink, Takes, TellsMore, Unprinted, Unread, Untold, line, status_of}
+use Rattle.tardis_command.specs.Endings.{Answered, Ending, EndsBy, IsAnswered, IsDoneBy, IsOfFileOf, IsOfOne, IsPrinted, Misused, Refused, Says, Sink, Takes, TellsMore, Unprinted, Unread, Untold, line, status_of}
 use Rattle.judge_commands.specs.Checking.{IsChecked, IsUnprogrammedBy}
 use Rattle.judge_commands.specs.Explaining.{IsExplained}
 use Rattle.call_devices.specs.Files.{Files, IsOnlyRead, KeepsFiles}
@@ -31,7 +31,12 @@ use Rattle.search_commands.specs.declared.answer.SearchAnswer.TheVariants as sea
 use Rattle.search_commands.specs.declared.fault.SearchingFault.{SearchingFault}
 use Rattle.search_commands.specs.declared.fault.SearchingFault.TheVariants as searching
 use Rattle.verdict.specs.declared.judge_fault.JudgeFault.TheVariants as judge
-use Rattle.tardis_command.specs.Faults.{command_fault_text, fault_status, from_judging, from_searching}
+use Rattle.tardis_command.specs.Faults.{command_fault_text, fault_status, file_fault, from_judging, from_running, from_searching}
+use Rattle.command_line.specs.declared.request.FileKind.{FileKind}
+use Rattle.command_line.specs.declared.request.FileKind.TheVariants as of_file
+use Rattle.run_commands.specs.Inspecting.{IsUnreadable}
+use Rattle.run_commands.specs.declared.fault.RunningFault.{RunningFault}
+use Rattle.run_commands.specs.declared.fault.RunningFault.TheVariants as running
 use Rattle.tardis_command.specs.declared.fault.CommandFault.{CommandFault}
 use Rattle.tardis_command.specs.declared.fault.CommandFault.TheVariants.{Call}
 use Rattle.call_devices.specs.declared.call_fault.CallFault.TheVariants.{Output, OutOfMemory, Programs}
@@ -135,6 +140,15 @@ checked_again : (told : List ℕ → Option (List ℕ)) (unread unread' : List �
 checked_again told unread unread' asked fault (inl memory) = inl memory
 checked_again told unread unread' asked fault (inr is) = inr (is.0, unprogrammed_again told unread unread' asked.program fault is.1)
 
+-- why a file isn't a test or programs is the same however the folder was read after it
+inspected_again : (told : List ℕ → Option (List ℕ)) (unread unread' : List ℕ → Type 0) (kind : FileKind) (name : List ℕ) (fault : RunningFault)
+    → IsOfOne (file_fault (from_running fault)) → IsUnreadable told unread kind name fault → IsUnreadable told unread' kind name fault
+inspected_again told unread unread' of_file.Litmus name (running.Test reason) again is = is
+inspected_again told unread unread' of_file.Litmus name (running.Call (Programs reason)) again is = is
+inspected_again told unread unread' of_file.Programs name (running.Call (Programs reason)) again is = is
+inspected_again told unread unread' of_file.Programs name (running.Test reason) again is = absurd is
+inspected_again told unread unread' kind name other again is = absurd again
+
 -- nor does the refusal of an explanation, for the fault of a file, depend on that
 explained_again : (before middle after : Files) (unread unread' : List ℕ → Type 0) (asked : Explain) (out out' : Sink) (fault : JudgingFault)
     → IsOfFileOf (request.Explain asked) (from_judging fault) → IsExplained before middle unread asked out out' (Err fault)
@@ -155,6 +169,17 @@ done_again before middle after unread unread' (request.Explain explain) out out'
 done_again before middle after unread unread' (request.Explain explain) out out' (Untold told) fault answered again done = absurd done
 done_again before middle after unread unread' (request.Explain explain) out out' Unread fault answered again done = absurd done
 done_again before middle after unread unread' (request.Explain explain) out out' (Misused text) fault answered again done = absurd done
+done_again before middle after unread unread' (request.Inspect asked) out out' (Refused reason) fault answered again done =
+    let ((own, is, came), keeps) = done in
+    let same : fault ≡ reason = cc in
+    ((own, is, inspected_again before.told unread unread' asked.kind asked.file.now own (subst (λ (f : CommandFault). IsOfOne (file_fault f)) (same ∙ is) again) came), keeps)
+done_again before middle after unread unread' (request.Inspect asked) out out' (Answered own) fault answered again done = cc
+done_again before middle after unread unread' (request.Inspect asked) out out' (Unprinted own) fault answered again done =
+    let same : fault ≡ Call Output = cc in
+    absurd (subst (λ (f : CommandFault). IsOfOne (file_fault f)) same again)
+done_again before middle after unread unread' (request.Inspect asked) out out' (Untold told) fault answered again done = absurd done
+done_again before middle after unread unread' (request.Inspect asked) out out' Unread fault answered again done = absurd done
+done_again before middle after unread unread' (request.Inspect asked) out out' (Misused text) fault answered again done = absurd done
 done_again before middle after unread unread' other out out' ending fault answered again done = absurd again
 
 -- the folder was read again for a refusal, or it wasn't
@@ -168,9 +193,11 @@ done_after before middle after unread asked out out' ending fault answered (inr 
 
 -- where an answer wasn't printed, nothing more is told
 unprinted_more : (before after : Files) (unread : List ℕ → Type 0) (asked : Request) (out middle out' : Sink) (own : Answer) (fault : CommandFault)
-    → IsDoneBy before after unread asked out middle (Unprinted own) → TellsMore asked fault middle out' → out' ≡ middle
-unprinted_more before after unread (request.Explain explain) out middle out' own fault done more = absurd done
-unprinted_more before after unread other out middle out' own fault done more = more
+    → fault ≡ Call Output → IsDoneBy before after unread asked out middle (Unprinted own) → TellsMore asked fault middle out' → out' ≡ middle
+unprinted_more before after unread (request.Explain explain) out middle out' own fault is done more = absurd done
+unprinted_more before after unread (request.Inspect asked) out middle out' own fault is done more =
+    subst (λ (f : CommandFault). TellsMore (request.Inspect asked) f middle out') is more
+unprinted_more before after unread other out middle out' own fault is done more = more
 
 module _ (before after : Files) (unread : List ℕ → Type 0) (words : List (List ℕ)) (out err : Sink) where
   pub ends_misused : (err' : Sink) (text : List ℕ) → ¬ (IsCommandLine words) ⊎ AreMisused words → Takes err err' text
@@ -202,7 +229,7 @@ module _ (before after : Files) (unread : List ℕ → Type 0) (words : List (Li
   ends_told asked (Answered answer) fault middle out' err' status asks answered done more takes same = cc
   ends_told asked (Unprinted answer) fault middle out' err' status asks answered done more takes same =
       let is : fault ≡ Call Output = cc in
-      let quiet = unprinted_more before after unread asked out middle out' answer fault done more in (
+      let quiet = unprinted_more before after unread asked out middle out' answer fault is done more in (
         Unprinted answer,
         same ∙ ap fault_status is,
         record {

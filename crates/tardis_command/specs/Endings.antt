@@ -1,21 +1,23 @@
 -- How a call of the program ends.
-use Rattle.std.specs.Prelude.{◌≡◌, ◌⊎◌, ⊤, ℕ, List, Option, Result, Ok, Err}
+use Rattle.std.specs.Prelude.{◌≡◌, ◌⊎◌, ⊤, ℕ, List, Option, None, Some, Result, Ok, Err}
 use Rattle.std.specs.Io.KnownBytes.{Appends, Keeps}
 use Rattle.command_line.specs.Asking.{AreMisused, Asks, IsCommandLine}
 use Rattle.command_line.specs.Names.{IsLogName}
 use Rattle.command_line.specs.declared.request.Request.{Request}
-use Rattle.command_line.specs.declared.request.Request.TheVariants.{Check, Order, Explain, Upgrade, Sim, Run, Litmus, Search, Confirm, Version as AskedVersion}
+use Rattle.command_line.specs.declared.request.Request.TheVariants.{Check, Order, Explain, Inspect, Upgrade, Sim, Run, Litmus, Search, Confirm, Version as AskedVersion}
 use Rattle.tardis_command.specs.Answers.{answer_status, answer_text, told_text}
 use Rattle.judge_commands.specs.Checking.{FilesAreConsistent, FilesRunFlat, IsChecked, TextsAreConsistent}
 use Rattle.judge_commands.specs.Explaining.{IsExplained, IsPictureName}
 use Rattle.call_devices.specs.Files.{Files}
-use Rattle.tardis_command.specs.Faults.{command_fault_text, fault_status, from_judging, from_running, from_searching}
+use Rattle.tardis_command.specs.Faults.{command_fault_text, fault_status, file_fault, from_judging, from_running, from_searching}
 use Rattle.mem_op.specs.Consistency.{IsConsistent}
+use Rattle.run_commands.specs.Inspecting.{IsInspected}
 use Rattle.run_commands.specs.Leaving.{LeavesYes}
 use Rattle.run_commands.specs.Numbers.{IsLeftName}
 use Rattle.judge_commands.specs.Ordering.{IsOrdered, TakesOrder}
 use Rattle.judge_commands.specs.declared.fault.JudgingFault.TheVariants as judging
-use Rattle.refusal_commands.specs.Telling.{IsOfFile, TellsOf}
+use Rattle.refusal_commands.specs.Telling.{IsOfFile, IsReadAgain, TellsOf, TellsOfFile}
+use Rattle.refusal_commands.specs.declared.filed.FileFault.{FileFault}
 use Rattle.search_commands.specs.Confirming.{IsConfirmed}
 use Rattle.search_commands.specs.Searching.{IsOutputName, IsSearched}
 use Rattle.search_commands.specs.Traces.{TellsTrace}
@@ -24,7 +26,7 @@ use Rattle.run_commands.specs.Simulating.{IsRun}
 use Rattle.run_commands.specs.Tabling.{IsCounted}
 use Rattle.judge_commands.specs.Upgrading.{IsUpgraded}
 use Rattle.tardis_command.specs.declared.answer.Answer.{Answer}
-use Rattle.tardis_command.specs.declared.answer.Answer.TheVariants.{Judged, Ordered, Explained, Searched, Counted, Done, Version}
+use Rattle.tardis_command.specs.declared.answer.Answer.TheVariants.{Judged, Ordered, Explained, Readable, Searched, Counted, Done, Version}
 use Rattle.tardis_command.specs.declared.fault.CommandFault.{CommandFault}
 use Rattle.tardis_command.specs.declared.fault.CommandFault.TheVariants.{Judging, Call}
 use Rattle.call_devices.specs.declared.call_fault.CallFault.{CallFault}
@@ -144,6 +146,7 @@ abbrev pub IsDoneBy : Files → Files → (List ℕ → Type 0) → Request → 
 IsDoneBy old new unread (Check asked) out out' ending = IsPrinted (Says Judged from_judging (IsChecked old.told unread asked)) out out' ending
 IsDoneBy old new unread (Order asked) out out' ending = IsWritten (Says Ordered from_judging (IsOrdered old.told unread asked out out')) ending
 IsDoneBy old new unread (Explain asked) out out' ending = IsWritten (Says Explained from_judging (IsExplained old new unread asked out out')) ending
+IsDoneBy old new unread (Inspect asked) out out' ending = IsPrinted (Says (Readable asked.kind) from_running (IsInspected old.told unread asked)) out out' ending
 IsDoneBy old new unread (Upgrade asked) out out' ending = IsPrinted (Says Done from_judging (IsUpgraded old new unread asked)) out out' ending
 IsDoneBy old new unread (Sim asked) out out' ending = IsPrinted (Says Done from_running (IsRun old new unread asked)) out out' ending
 IsDoneBy old new unread (Run asked) out out' ending = IsPrinted (Says Done from_running (IsThreadRun old new unread asked)) out out' ending
@@ -152,16 +155,28 @@ IsDoneBy old new unread (Confirm asked) out out' ending = IsWritten (Says Search
 IsDoneBy old new unread AskedVersion out out' ending = IsPrinted (Says (λ told. Version) Call (IsUntouched old new)) out out' ending
 IsDoneBy old new unread (Litmus asked) out out' ending = IsWritten (Says Counted from_running (IsCounted old.told unread asked out out')) ending
 
--- what standard output took more of a refusal: of an explanation's what is told of it, and of others nothing
+-- what standard output took more of the refusal of a file of this name that isn't a log: nothing, where it is for another reason
+abbrev pub TellsFile : List ℕ → Option FileFault → Sink → Sink → Type 0
+TellsFile name None out out' = out' ≡ out
+TellsFile name (Some fault) out out' = TellsOfFile name fault out out'
+
+-- what standard output took more of a refusal: of an explanation's and of a look at a file what is told of it, and of others nothing
 abbrev pub TellsMore : Request → CommandFault → Sink → Sink → Type 0
 TellsMore (Explain asked) (Judging fault) out out' = TellsOf asked.check fault out out'
 TellsMore (Explain asked) (Call fault) out out' = TellsOf asked.check (judging.Call fault) out out'
+TellsMore (Inspect asked) fault out out' = TellsFile asked.file.now (file_fault fault) out out'
 TellsMore asked fault out out' = out' ≡ out
 
--- it is the refusal of an explanation, for the fault of a file
+-- it is for the fault of a file that could be read
+abbrev pub IsOfOne : Option FileFault → Type 0
+IsOfOne None = ⊥
+IsOfOne (Some fault) = IsReadAgain fault
+
+-- it is the refusal of an explanation or of a look at a file, for the fault of a file
 abbrev pub IsOfFileOf : Request → CommandFault → Type 0
 IsOfFileOf (Explain asked) (Judging fault) = IsOfFile fault
 IsOfFileOf (Explain asked) (Call fault) = IsOfFile (judging.Call fault)
+IsOfFileOf (Inspect asked) fault = IsOfOne (file_fault fault)
 IsOfFileOf asked fault = ⊥
 
 -- how an ending is answered: by the answer, or by a fault

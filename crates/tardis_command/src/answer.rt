@@ -3,6 +3,7 @@
 ghost use Rattle.std.specs.Prelude.{◌≡◌};
 ghost use Rattle.tardis_command.specs.Answers.{answer_status};
 
+use command_line::FileKind;
 use search_commands::SearchAnswer;
 use std::fmt;
 use std::fmt::Display;
@@ -17,6 +18,8 @@ pub enum Answer {
     Ordered(Verdict),
     /// The verdict on a set of logs, with what there is to tell of it.
     Explained(Verdict),
+    /// A file of this kind can be read, and is for so many cores.
+    Readable(FileKind, usize),
     /// Whether a trace is consistent, by a search or by a certificate.
     Searched(SearchAnswer),
     /// A table of the outcomes of a litmus test was written, and whether one of them is forbidden.
@@ -44,7 +47,10 @@ impl Answer {
             }
             Answer::Searched(answer) => answer.status(),
             Answer::Counted(true) => 1,
-            Answer::Counted(false) | Answer::Done(_) | Answer::Version => 0,
+            Answer::Counted(false)
+            | Answer::Readable(_, _)
+            | Answer::Done(_)
+            | Answer::Version => 0,
         }
     }
 }
@@ -59,6 +65,12 @@ impl Display for Answer {
         match self {
             Answer::Judged(verdict) | Answer::Ordered(verdict) | Answer::Explained(verdict) => {
                 write!(f, "{verdict}")
+            }
+            Answer::Readable(FileKind::Litmus, cores) => {
+                write!(f, "right: a litmus test of {cores} cores")
+            }
+            Answer::Readable(FileKind::Programs, cores) => {
+                write!(f, "right: programs of {cores} cores")
             }
             Answer::Searched(answer) => write!(f, "{answer}"),
             Answer::Counted(_) => f.write_str(""),

@@ -8,14 +8,14 @@ ghost use Rattle.tardis_command.specs.Endings as endings;
 ghost use Rattle.tardis_command.specs.inner.Apart.{HasApart};
 
 use super::answer::Answer;
-use super::fault::CommandFault;
+use super::fault::{CommandFault, file_fault};
 use super::output::{print_answer, refuse, tell, tell_answer};
 use call_devices::{CallFault, Folder};
 use command_line::{Refusal, Request, read};
 use judge_commands::{JudgingFault, check, explain, order, upgrade};
 use log_file::ByteSink;
-use refusal_commands::tell_refusal;
-use run_commands::{Watch, count_outcomes, run, sim};
+use refusal_commands::{tell_file, tell_refusal};
+use run_commands::{Watch, count_outcomes, inspect, run, sim};
 use search_commands::{SearchWatch, confirm, search};
 use std::alloc::Global;
 use std::sync::Wait;
@@ -28,7 +28,7 @@ const USAGE: u8 = 3;
 /// answers the exit status: 0 for Yes or done, 1 for No or a forbidden outcome, 2 where a log, the
 /// programs, the schedule, the test, the trace or the certificate are refused, 3 where the words are or a number is out of range, else 4. An answer goes to standard
 /// output, all else to standard error; where an order goes to standard output, its verdict goes to
-/// standard error. Of a refused explanation more is told on standard output. In the folder nothing is put but the logs of a run or of an
+/// standard error. Of a refused explanation, or a refused look at a file, more is told on standard output. In the folder nothing is put but the logs of a run or of an
 /// upgrade, a run's numbers, the picture of an explanation, and what a search finds.
 pub fn command<
     R: Threads + Wait + Sync,
@@ -79,7 +79,7 @@ pub fn command<
     }
 }
 
-/// Tells on standard output more of a refusal, where an explanation was asked for.
+/// Tells on standard output more of a refusal, where an explanation or a look at a file was asked for.
 fn tell_more<F: Folder, O: ByteSink>(
     alloc: Global,
     folder: &mut F,
@@ -99,6 +99,11 @@ fn tell_more<F: Folder, O: ByteSink>(
         (Request::Explain(asked), CommandFault::Call(fault)) => {
             let fault = JudgingFault::Call(*fault);
             tell_refusal(alloc, folder, &asked.check, &fault, out);
+        }
+        (Request::Inspect(asked), fault) => {
+            if let Some(fault) = file_fault(fault) {
+                tell_file(alloc, folder, asked.file, fault, out);
+            }
         }
         _ => {}
     }
@@ -142,6 +147,10 @@ fn perform<R: Threads + Wait + Sync, W: Watch + SearchWatch + Sync, F: Folder, O
         Request::Explain(asked) => Ok(Answer::Explained(explain(
             rt, alloc, watch, folder, asked, out,
         )?)),
+        Request::Inspect(asked) => {
+            let cores = inspect(alloc, folder, asked)?;
+            print_answer(alloc, out, Answer::Readable(asked.kind, cores))
+        }
         Request::Sim(asked) => {
             let operations = sim(alloc, folder, asked)?;
             print_answer(alloc, out, Answer::Done(operations))

@@ -6,7 +6,8 @@ use Rattle.clap.specs.Faults.{fault_of, is_simple_and_free}
 use Rattle.clap.specs.Words.{App, Text}
 use Rattle.command_line.specs.Asking.{texts}
 use Rattle.command_line.proofs.Numbers.{numbers_named}
-use Rattle.command_line.proofs.Reading.{drawn_over, refused, run_over, sim_over, stray}
+use Rattle.std.proofs.lemmas.Result.{IfErr-weaker, IfOk-weaker}
+use Rattle.command_line.proofs.Reading.{explaining, refused, run_over, sim_over, stray, unexplained}
 use Rattle.command_line.proofs.Subcommands.{found_named, names_own}
 use Rattle.command_line.proofs.words.read.Goals as goal
 
@@ -73,19 +74,19 @@ returns-then-eq-4-clause-request c =
     c.in-Some.ensures.name c.in-Some.ensures.rows in
     (words.0, (_, words.1, ((bytes_eq-Decides c.in-Some.name.now (codes "litmus")).0 (sym c.eq-4.ensures ∙ c.if-eq-4.true), c.litmus_of.ensures)))
 
-pub returns-in_err-explain_of-clause-usage : goal.returns-in_err-explain_of-clause-usage
-returns-in_err-explain_of-clause-usage c =
+pub returns-then-eq-5-clause-usage : goal.returns-then-eq-5-clause-usage
+returns-then-eq-5-clause-usage c =
     let words = found_named _ (texts c.args.words.now) c.in-Ok.matches c.in-Some.name.now _ c.in_ok-tardis.ensures.app c.in-Ok.ensures.matches c.in-Ok.ensures.kinds
     c.in-Some.ensures.name c.in-Some.ensures.rows in
     let named : c.in-Some.name.now ≡ codes "explain" = (bytes_eq-Decides c.in-Some.name.now (codes "explain")).0 (sym c.eq-5.ensures ∙ c.if-eq-5.true) in
-    let is : c.from_residual-in_err-explain_of.result ≡ Err c.in_err-explain_of.field-0.0 = search rules in
-    rw is (drawn_over (texts c.args.words.now) _ c.in_err-explain_of.field-0.0 words.1 named c.in_err-explain_of.ensures.usage)
+    IfErr-weaker c.explaining_of.result _ _ (λ refusal misused. unexplained (texts c.args.words.now) _ refusal words.1 named misused) c.explaining_of.ensures.usage
 
 pub returns-then-eq-5-clause-request : goal.returns-then-eq-5-clause-request
 returns-then-eq-5-clause-request c =
     let words = found_named _ (texts c.args.words.now) c.in-Ok.matches c.in-Some.name.now _ c.in_ok-tardis.ensures.app c.in-Ok.ensures.matches c.in-Ok.ensures.kinds
     c.in-Some.ensures.name c.in-Some.ensures.rows in
-    (words.0, (_, words.1, ((bytes_eq-Decides c.in-Some.name.now (codes "explain")).0 (sym c.eq-5.ensures ∙ c.if-eq-5.true), c.in_ok-explain_of.ensures.explain)))
+    let named : c.in-Some.name.now ≡ codes "explain" = (bytes_eq-Decides c.in-Some.name.now (codes "explain")).0 (sym c.eq-5.ensures ∙ c.if-eq-5.true) in
+    IfOk-weaker c.explaining_of.result _ _ (λ asked explains. explaining (texts c.args.words.now) _ asked words.0 words.1 named explains) c.explaining_of.ensures.asked
 
 pub returns-then-eq-6-clause-request : goal.returns-then-eq-6-clause-request
 returns-then-eq-6-clause-request c =

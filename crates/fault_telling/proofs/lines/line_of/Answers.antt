@@ -1,4 +1,4 @@
-use Rattle.std.proofs.Common.{arith, rules, tests, ap, refl, suc, ◌≡◌, ◌∙◌, ℕ, Bor, List, [], option_map}
+use Rattle.std.proofs.Common.{arith, rules, tests, ap, refl, suc, ◌≡◌, ◌∙◌, ℕ, Bor, List, option_map}
 use Rattle.std.specs.Prelude.{slice_get}
 use Rattle.std.proofs.lemmas.Iterator.Consumers.{nth_from_yields_List}
 use Rattle.std.proofs.lemmas.Iterator.Splits.{YieldsList-from_slice_split}

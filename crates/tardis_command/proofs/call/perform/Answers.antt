@@ -1,9 +1,12 @@
-use Rattle.std.proofs.Common.{rules, ◌≡◌, inl, refl, Err}
+use Rattle.std.proofs.Common.{rules, ◌≡◌, inl, refl, ℕ, List, Option, Err}
 use Rattle.call_devices.specs.Files.{IsUnread}
 use Rattle.call_devices.specs.declared.call_fault.CallFault.TheVariants.{OutOfMemory}
 use Rattle.judge_commands.specs.Checking.{IsChecked}
 use Rattle.judge_commands.specs.Upgrading.{IsUpgraded}
 use Rattle.judge_commands.specs.declared.fault.JudgingFault.TheVariants as judging
+use Rattle.command_line.specs.declared.request.FileKind.{FileKind}
+use Rattle.command_line.specs.declared.request.FileKind.TheVariants as of_file
+use Rattle.run_commands.specs.Inspecting.{IsInspected, IsUnreadable}
 use Rattle.run_commands.specs.Running.{IsThreadRun}
 use Rattle.run_commands.specs.Simulating.{IsRun}
 use Rattle.run_commands.specs.declared.fault.RunningFault.TheVariants as running
@@ -11,7 +14,7 @@ use Rattle.run_commands.proofs.Leaving.{run_leaves, sim_leaves}
 use Rattle.tardis_command.specs.Answers.{answer_status}
 use Rattle.tardis_command.specs.Endings.{Answered, IsUntouched, Refused, sink_of}
 use Rattle.tardis_command.specs.Faults.{from_judging, from_running, from_searching}
-use Rattle.tardis_command.specs.declared.answer.Answer.TheVariants.{Judged, Ordered, Explained, Searched, Counted, Done, Version}
+use Rattle.tardis_command.specs.declared.answer.Answer.TheVariants.{Judged, Ordered, Explained, Readable, Searched, Counted, Done, Version}
 use Rattle.tardis_command.specs.declared.fault.CommandFault.TheVariants.{Call}
 use Rattle.tardis_command.proofs.Ends.{keeps_told_of, printed, printed_yes, refused_at_once, right_no, right_yes, whatever}
 use Rattle.tardis_command.proofs.call.perform.Goals as goal
@@ -32,6 +35,13 @@ pub returns-in_err-explain-in-Explain-clause-exact : goal.returns-in_err-explain
 returns-in_err-explain-in-Explain-clause-exact g c =
     let is : c.from_residual-in_err-explain-in-Explain.result ≡ Err (from_judging c.in_err-explain-in-Explain.field-0.0) = search rules in
     rw c.in-Explain.is (Refused (from_judging c.in_err-explain-in-Explain.field-0.0), is, (c.in_err-explain-in-Explain.field-0.0, refl, c.in_err-explain-in-Explain.ensures.exact))
+
+pub returns-in_err-cores-in-Inspect-clause-exact : goal.returns-in_err-cores-in-Inspect-clause-exact
+returns-in_err-cores-in-Inspect-clause-exact g c =
+    let files = g.F.Folder.files in
+    let unread = IsUnread g.F.Source.ByteSource.remaining g.F.Source.ByteSource.failed (files c.args.folder.now) (files c.inspect.new.folder) in
+    let is : c.from_residual-in_err-cores-in-Inspect.result ≡ Err (from_running c.in_err-cores-in-Inspect.field-0.0) = search rules in
+    rw c.in-Inspect.is (refused_at_once (Readable c.in-Inspect.asked.kind) from_running (IsInspected (files c.args.folder.now).told unread c.in-Inspect.asked) _ c.in_err-cores-in-Inspect.field-0.0 _ is c.in_err-cores-in-Inspect.ensures.cores)
 
 pub returns-in_err-operations-in-Sim-clause-exact : goal.returns-in_err-operations-in-Sim-clause-exact
 returns-in_err-operations-in-Sim-clause-exact g c =
@@ -89,6 +99,22 @@ returns-in_ok-order-in-Order-clause-exact g c = rw c.in-Order.is (Answered (Orde
 
 pub returns-in_ok-explain-in-Explain-clause-exact : goal.returns-in_ok-explain-in-Explain-clause-exact
 returns-in_ok-explain-in-Explain-clause-exact g c = rw c.in-Explain.is (Answered (Explained c.in_ok-explain-in-Explain.field-0), refl, (c.in_ok-explain-in-Explain.field-0, refl, c.in_ok-explain-in-Explain.ensures.exact))
+
+-- no memory to print that a file can be read
+without_memory : (told : List ℕ → Option (List ℕ)) (unread : List ℕ → Type 0) (kind : FileKind) (name : List ℕ) → IsUnreadable told unread kind name (running.Call OutOfMemory)
+without_memory told unread of_file.Litmus name = refl
+without_memory told unread of_file.Programs name = tt
+
+pub returns-in_ok-cores-in-Inspect-clause-exact : goal.returns-in_ok-cores-in-Inspect-clause-exact
+returns-in_ok-cores-in-Inspect-clause-exact g c =
+    let files = g.F.Folder.files in
+    let asked = c.in-Inspect.asked in
+    let told = (files c.args.folder.now).told in
+    let unread = IsUnread g.F.Source.ByteSource.remaining g.F.Source.ByteSource.failed (files c.args.folder.now) (files c.inspect.new.folder) in
+    let sink = sink_of g.O.ByteSink.contents g.O.ByteSink.failed in
+    rw c.in-Inspect.is (printed (Readable asked.kind) from_running (IsInspected told unread asked) (sink c.args.out.now) (sink c.print_answer-in-Inspect.new.out) c.in_ok-cores-in-Inspect.cores
+    c.in_ok-cores-in-Inspect.ensures.cores (running.Call OutOfMemory, refl, without_memory told unread asked.kind asked.file.now) c.print_answer-in-Inspect.result c.print_answer-in-Inspect.ensures.ok
+    c.print_answer-in-Inspect.ensures.printed c.print_answer-in-Inspect.ensures.err)
 
 pub returns-in_ok-operations-in-Sim-clause-exact : goal.returns-in_ok-operations-in-Sim-clause-exact
 returns-in_ok-operations-in-Sim-clause-exact g c =
@@ -180,6 +206,12 @@ returns-in_err-confirm-in-Confirm-clause-files g c = keeps_told_of _ _ _ c.in_er
 
 pub returns-in_ok-confirm-in-Confirm-clause-files : goal.returns-in_ok-confirm-in-Confirm-clause-files
 returns-in_ok-confirm-in-Confirm-clause-files g c = keeps_told_of _ _ _ c.in_ok-confirm-in-Confirm.ensures.read
+
+pub returns-in_err-cores-in-Inspect-clause-files : goal.returns-in_err-cores-in-Inspect-clause-files
+returns-in_err-cores-in-Inspect-clause-files g c = keeps_told_of _ _ _ c.in_err-cores-in-Inspect.ensures.read
+
+pub returns-in_ok-cores-in-Inspect-clause-files : goal.returns-in_ok-cores-in-Inspect-clause-files
+returns-in_ok-cores-in-Inspect-clause-files g c = keeps_told_of _ _ _ c.in_ok-cores-in-Inspect.ensures.read
 
 pub returns-in_err-search-in-Search-clause-files : goal.returns-in_err-search-in-Search-clause-files
 returns-in_err-search-in-Search-clause-files g c = rw c.in-Search.is c.in_err-search-in-Search.ensures.files

@@ -1,11 +1,11 @@
 -- All files have been looked at.
-use Rattle.std.proofs.Common.{◌≡◌, ◌∙◌, ap, arith, Bor}
+use Rattle.std.proofs.Common.{◌∙◌, ap, arith, Bor}
 use Rattle.std.specs.List.{list_any}
 use Rattle.std.specs.Str.{bytes_eq}
 use Rattle.std.proofs.lemmas.List.{take_all}
 use Rattle.clap.proofs.WalkLemmas.{list_any-map}
 use Rattle.clap.specs.Words.{Text}
-use Rattle.command_line.proofs.words.is_among.Goals as goal
+use Rattle.command_line.proofs.explaining.is_among.Goals as goal
 
 pub returns : goal.returns
 returns c =

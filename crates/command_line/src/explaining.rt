@@ -1,0 +1,127 @@
+//! What the words after `explain` ask for.
+
+ghost use Rattle.std.specs.Prelude.{◌≡◌, IfErr, IfOk, IsTrue, false};
+ghost use Rattle.std.specs.List.{list_any};
+ghost use Rattle.std.specs.Option.{option_map_or};
+ghost use Rattle.std.specs.Str.{bytes_eq};
+ghost use Rattle.clap.specs.Words.{found_of, rows_of};
+ghost use Rattle.command_line.specs.Asking as asking;
+
+use super::refusal::Refusal;
+use super::request::{Check, Explain, FileKind, Inspect, Request};
+use super::words::{files_of, flag_of, misuse, name_of, only};
+use clap::ArgMatches;
+use std::alloc::Global;
+
+/// What the words after `explain` ask for, or why they ask for nothing.
+pub(crate) fn explaining_of<'a>(
+    alloc: Global,
+    matches: &ArgMatches<'a>,
+) -> Result<Request<'a>, Refusal>
+    ensures asked { IfOk result (asking.IsExplaining (rows_of (found_of matches.now))) }
+    ensures usage { IfErr result (asking.IsMisusedIn (rows_of (found_of matches.now))) }
+{
+    match (flag_of(matches, "litmus"), flag_of(matches, "programs")) {
+        (false, false) => match explain_of(alloc, matches) {
+            Ok(asked) => Ok(Request::Explain(asked)),
+            Err(refusal) => Err(refusal),
+        },
+        (true, false) => inspect_of(alloc, matches, FileKind::Litmus),
+        (false, true) => inspect_of(alloc, matches, FileKind::Programs),
+        (true, true) => Err(misuse(alloc, NOT_ALONE)),
+    }
+}
+
+/// What is asked of the one file that is given, whose kind a flag tells, or why nothing is.
+fn inspect_of<'a>(
+    alloc: Global,
+    matches: &ArgMatches<'a>,
+    kind: FileKind,
+) -> Result<Request<'a>, Refusal>
+    requires { asking.AreMarked (asking.is_litmus kind) (asking.is_programs kind) (rows_of (found_of matches.now)) }
+    ensures asked { IfOk result (asking.IsExplaining (rows_of (found_of matches.now))) }
+    ensures usage { IfErr result (asking.IsMisusedIn (rows_of (found_of matches.now))) }
+{
+    let files = files_of(alloc, matches)?;
+    if has_log_option(matches) {
+        return Err(misuse(alloc, NOT_ALONE));
+    }
+    let file = only(alloc, files.as_slice(), NOT_ALONE)?;
+    Ok(Request::Inspect(Inspect { kind, file }))
+}
+
+/// Whether an option is there that is of logs.
+fn has_log_option(matches: &ArgMatches<'_>) -> bool
+    ensures some { IsTrue result → asking.HaveLogOption (rows_of (found_of matches.now)) }
+    ensures none { result ≡ false → asking.LackLogOptions (rows_of (found_of matches.now)) }
+{
+    if name_of(matches, "program").is_some() || name_of(matches, "svg").is_some() {
+        return true;
+    }
+    flag_of(matches, "no-search")
+}
+
+/// What the user is told where a file that isn't a log isn't the only one, or options stand beside it that are of logs.
+const NOT_ALONE: &str =
+    "error: with '--litmus' or with '--programs' one file is read, and no other option goes with it\n\nFor more information, try '--help'.\n";
+
+/// What the words after `explain` ask for of logs, or why they ask for nothing.
+fn explain_of<'a>(alloc: Global, matches: &ArgMatches<'a>) -> Result<Explain<'a>, Refusal>
+    requires { asking.AreMarked false false (rows_of (found_of matches.now)) }
+    ensures explain { IfOk result (asking.IsExplain (rows_of (found_of matches.now))) }
+    ensures usage { IfErr result (asking.IsOverIn (rows_of (found_of matches.now))) }
+{
+    let files = files_of(alloc, matches)?;
+    let program = name_of(matches, "program");
+    let picture = name_of(matches, "svg");
+    if is_drawn_over(picture, program, files.as_slice()) {
+        return Err(misuse(alloc, DRAWN_OVER));
+    }
+    Ok(Explain {
+        check: Check {
+            workers: 1,
+            program,
+            files,
+        },
+        picture,
+        no_search: flag_of(matches, "no-search"),
+    })
+}
+
+/// Whether the file for a picture, if there is one, is that of the programs or one of these.
+fn is_drawn_over(picture: Option<&str>, program: Option<&str>, files: &[&str]) -> bool
+    ensures { result ≡ option_map_or (asking.is_read (asking.text_of program.entry) (asking.texts files.now))
+        (asking.text_of picture.entry) false }
+{
+    match picture {
+        Some(name) => is_name(program, name) || is_among(name, files),
+        None => false,
+    }
+}
+
+/// Whether a file is there, and has this name.
+fn is_name(file: Option<&str>, name: &str) -> bool
+    ensures { result ≡ option_map_or (λ text. bytes_eq text name.now) (asking.text_of file.entry) false }
+{
+    match file {
+        Some(file) => file == name,
+        None => false,
+    }
+}
+
+/// Whether one of the files has this name.
+fn is_among(name: &str, files: &[&str]) -> bool
+    ensures { result ≡ list_any (λ text. bytes_eq text name.now) (asking.texts files.now) }
+{
+    let mut is_among = false;
+    for file in files {
+        if *file == name {
+            is_among = true;
+        }
+    }
+    is_among
+}
+
+/// What the user is told of a picture that would be drawn over a file that is read.
+const DRAWN_OVER: &str =
+    "error: the picture would take the place of a file that is read\n\nFor more information, try '--help'.\n";
