@@ -1,16 +1,15 @@
 //! What a search finds.
 
-ghost use Rattle.std.specs.Prelude.{◌≡◌, ◌≤◌, ◌^◌, IfErr, IfOk, IsTrue};
-ghost use Rattle.refutation.specs.Answers.{IsRight};
+ghost use Rattle.std.specs.Prelude.{◌≡◌, ◌≤◌, ◌^◌, IfErr, IfOk};
 ghost use Rattle.search_commands.specs.Searching.{AnswersBy, IsProof, budget_or_default};
 ghost use Rattle.search_commands.specs.inner.Finding.{IsGivenUp};
 
 use super::answer::SearchAnswer;
 use super::counting::count;
 use super::fault::SearchingFault;
-use refutation::{Answer, refutes};
+use refutation::Answer;
 use search::{SearchWatch, search_watched};
-use std::alloc::{AllocError, Global};
+use std::alloc::Global;
 use trace::Trace;
 
 /// The number of steps that a search of so many operations may make.
@@ -32,23 +31,10 @@ pub(crate) fn find<W: SearchWatch>(
     ensures proof { IfOk result (IsProof trace.now) }
     ensures err { IfErr result IsGivenUp }
 {
-    let answer = search_watched(alloc, trace, budget(given, count(trace)), watch)?;
-    if is_proof(alloc, trace, &answer)? {
-        Ok(answer)
-    } else {
-        Err(SearchingFault::Undecided)
-    }
-}
-
-/// Whether what was found shows whether the trace is consistent.
-fn is_proof(alloc: Global, trace: &Trace, found: &Answer) -> Result<bool, AllocError>
-    requires { IsRight trace.now found.now }
-    ensures { IfOk result (λ shows. IsTrue shows → IsProof trace.now found.now) }
-{
-    match found {
-        Answer::Order(_) => Ok(true),
-        Answer::Refutation(refutation) => refutes(alloc, trace, refutation),
-        Answer::Undecided => Ok(false),
+    match search_watched(alloc, trace, budget(given, count(trace)), watch)? {
+        Answer::Order(order) => Ok(Answer::Order(order)),
+        Answer::Refutation(steps) => Ok(Answer::Refutation(steps)),
+        Answer::Undecided => Err(SearchingFault::Undecided),
     }
 }
 
