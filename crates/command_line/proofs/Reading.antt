@@ -10,7 +10,7 @@ use Rattle.clap.specs.Matches.{ReadsOne}
 use Rattle.clap.specs.Words.{Row, Text, first_of, kind_of, subcommand_of}
 use Rattle.clap.specs.declared.error.Error.{Error}
 use Rattle.clap.specs.declared.error.kind.ErrorKind.TheVariants as error_kind
-use Rattle.command_line.specs.Asking.{AreMarked, AreOverIn, AskVersion, Asks, IsCommandLine, IsExplaining, IsMisusedIn, IsNumber, IsNumberOf, IsOverIn, IsRefusalOf, IsStrayIn, IsStrayOf, StandNotAlone, files_given, is_litmus, is_programs, texts}
+use Rattle.command_line.specs.Asking.{AreMarked, AreOverIn, AskVersion, Asks, IsCommandLine, IsExplaining, IsMisusedIn, IsNumber, IsNumberOf, IsOverIn, IsOverTestIn, IsRefusalOf, IsStrayIn, IsStrayOf, StandNotAlone, files_given, is_litmus, is_programs, texts}
 use Rattle.command_line.specs.Grammar.{tardis}
 use Rattle.command_line.specs.declared.refusal.Refusal.{Refusal}
 use Rattle.command_line.specs.declared.refusal.Refusal.TheVariants.{Usage, OutOfMemory}
@@ -84,8 +84,14 @@ sim_over words named OutOfMemory is sims over = tt
 
 pub run_over : (words : List Text) (named : Text × List Row) (r : Refusal) → subcommand_of tardis words ≡ Some named → named.0 ≡ codes "run"
     → AreOverIn None named.1 r → IsRefusalOf words r
-run_over words named (Usage text) is runs over = inr (inr (inr (inl (named, is, inr (runs, over)))))
+run_over words named (Usage text) is runs over = inr (inr (inr (inl (named, is, inr (inl (runs, over))))))
 run_over words named OutOfMemory is runs over = tt
+
+-- the numbers of a test's runs would be put over the file of the test
+pub litmus_over : (words : List Text) (named : Text × List Row) (r : Refusal) → subcommand_of tardis words ≡ Some named → named.0 ≡ codes "litmus"
+    → IsOverTestIn named.1 r → IsRefusalOf words r
+litmus_over words named (Usage text) is tests over = inr (inr (inr (inl (named, is, inr (inr (tests, over))))))
+litmus_over words named OutOfMemory is tests over = tt
 
 -- the text of a number, read
 pub numbered : {E : Type 0} (gives : List ℕ → Result ℕ E → Type 0) → ((t : List ℕ) (x : Result ℕ E) → gives t x → ParsesUnsigned 64 10 t x)

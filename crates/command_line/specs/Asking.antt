@@ -166,13 +166,24 @@ pub record IsThreaded (rows : List Row) (run : Run) : Type 0 where
   pub out : run.out.now ≡ out_given rows
   pub apart : AreApart run.statistics None run.programs.now run.out.now
 
--- runs of the test of the file that was given, by the numbers, as many and from the seed that were given
+-- the file of the test that was given
+abbrev pub test_given : List Row → Text
+test_given rows = unwrap_or (first_of (codes "TEST") rows) []
+
+-- whether the file for the numbers of a test's runs is that of the test
+abbrev pub is_over_test : List Row → Bool
+is_over_test rows = option_map_or (λ text. bytes_eq text (test_given rows)) (first_of (codes "stats") rows) false
+
+-- runs of the test of the file that was given, by the numbers, as many and from the seed that were given, and the file for the numbers
+-- of all runs that was, which isn't that of the test
 pub record IsLitmus (rows : List Row) (litmus : Litmus) : Type 0 where
   pub limits : AreLimits rows litmus.limits
   pub runs : IsCountOr 100 (one_of (codes "runs") rows) litmus.runs
   pub seed : IsCountOr 1 (one_of (codes "seed") rows) litmus.seed
   pub threads : IsFlag (one_of (codes "threads") rows) litmus.threads
-  pub test : litmus.test.now ≡ unwrap_or (first_of (codes "TEST") rows) []
+  pub statistics : text_of litmus.statistics ≡ first_of (codes "stats") rows
+  pub test : litmus.test.now ≡ test_given rows
+  pub apart : is_over_test rows ≡ false
 
 -- these files are those of logs, or the only one is that of a trace
 abbrev pub IsTraceOf : Bool → List Text → TraceFiles → Type 0
@@ -303,11 +314,18 @@ AreOverIn schedule rows = IsOverRunFile (first_of (codes "stats") rows) schedule
 abbrev pub AreOver : Option Text → List Row → Type 0
 AreOver schedule rows = IsSomeAnd (first_of (codes "stats") rows) (IsRunFile schedule (programs_given rows) (out_given rows))
 
--- the words ask for the numbers of a run, one event after the other or in threads, over one of the run's files
+-- only a file for the numbers of a test's runs that is that of the test is refused for its usage
+abbrev pub IsOverTestIn : List Row → Refusal → Type 0
+IsOverTestIn rows (Usage text) = is_over_test rows ≡ true
+IsOverTestIn rows OutOfMemory = ⊤
+
+-- the words ask for the numbers of a run, one event after the other or in threads, over one of the run's files, or for those of a
+-- test's runs over the file of the test
 abbrev pub CountOver : List Text → Type 0
 CountOver words =
     (named : Text × List Row) × (subcommand_of tardis words ≡ Some named)
-    × (((named.0 ≡ codes "sim") × AreOver (first_of (codes "schedule") named.1) named.1) ⊎ ((named.0 ≡ codes "run") × AreOver None named.1))
+    × (((named.0 ≡ codes "sim") × AreOver (first_of (codes "schedule") named.1) named.1)
+    ⊎ (((named.0 ≡ codes "run") × AreOver None named.1) ⊎ ((named.0 ≡ codes "litmus") × (is_over_test named.1 ≡ true))))
 
 -- the words are a command line, and ask for what isn't done
 abbrev pub AreMisused : List Text → Type 0

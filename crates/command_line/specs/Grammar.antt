@@ -98,9 +98,10 @@ run = with_names (with_stats (with_limits (new_app (codes "run"))))
 abbrev pub with_litmus_options : App → App
 with_litmus_options app = with_rule (with_number (with_number app (codes "runs")) (codes "seed")) (flag (codes "threads"))
 
--- tardis litmus [--slices N] [--lease N] [--period N] [--cache N] [--slice-lines N] [--inbox N] [--runs N] [--seed N] [--threads] TEST
+-- tardis litmus [--slices N] [--lease N] [--period N] [--cache N] [--slice-lines N] [--inbox N] [--runs N] [--seed N] [--threads]
+-- [--stats F] TEST
 abbrev pub litmus : App
-litmus = with_rule (with_litmus_options (with_limits (new_app (codes "litmus")))) (name (codes "TEST"))
+litmus = with_rule (with_stats (with_litmus_options (with_limits (new_app (codes "litmus"))))) (name (codes "TEST"))
 
 -- [--order F] [--refutation F] [--svg F]
 abbrev pub with_search_outputs : App → App

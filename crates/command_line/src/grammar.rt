@@ -189,6 +189,10 @@ fn litmus<'a>(alloc: Global) -> Result<Command<'a>, AllocError>
             "threads",
             "Runs each core in a thread; the seed has no use then",
         ),
+        Argument::file(
+            "stats",
+            "The file that the numbers of all runs go to [default: none]",
+        ),
         Argument::name("TEST", "The file of the test"),
     ];
     with_arguments(alloc, with_limits(alloc, command)?, &arguments)

@@ -124,6 +124,8 @@ pub struct Litmus<'a> {
     pub seed: u64,
     /// Whether each core runs in a thread of its own; nothing is drawn then.
     pub threads: bool,
+    /// The name of the file that the numbers of all runs go to, where one is given.
+    pub statistics: Option<&'a str>,
     /// The name of the file of the test.
     pub test: &'a str,
 }

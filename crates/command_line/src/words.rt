@@ -46,7 +46,7 @@ pub fn read<'a>(alloc: Global, words: &'a [&'a str]) -> Result<Request<'a>, Refu
         return Ok(Request::Order(order_of(alloc, asked)?));
     }
     if name == "litmus" {
-        return Ok(Request::Litmus(litmus_of(asked)));
+        return Ok(Request::Litmus(litmus_of(alloc, asked)?));
     }
     if name == "explain" {
         return explaining_of(alloc, asked);
@@ -238,18 +238,24 @@ fn check_apart(
 const COUNTED_OVER: &str =
     "error: the numbers would take the place of a file that is read, or of a log\n\nFor more information, try '--help'.\n";
 
-/// What the words after `litmus` ask for.
-fn litmus_of<'a>(matches: &ArgMatches<'a>) -> Litmus<'a>
+/// What the words after `litmus` ask for, or why they ask for nothing.
+fn litmus_of<'a>(alloc: Global, matches: &ArgMatches<'a>) -> Result<Litmus<'a>, Refusal>
     requires { HasNumbers (rows_of (found_of matches.now)) }
-    ensures { asking.IsLitmus (rows_of (found_of matches.now)) result }
+    ensures litmus { IfOk result (asking.IsLitmus (rows_of (found_of matches.now))) }
+    ensures usage { IfErr result (asking.IsOverTestIn (rows_of (found_of matches.now))) }
 {
-    Litmus {
+    let litmus = Litmus {
         limits: limits_of(matches),
         runs: count_of(matches, "runs", 100),
         seed: count_of(matches, "seed", 1),
         threads: flag_of(matches, "threads"),
+        statistics: name_of(matches, "stats"),
         test: word_of(matches, "TEST"),
+    };
+    if is_name(litmus.statistics, litmus.test) {
+        return Err(misuse(alloc, COUNTED_OVER));
     }
+    Ok(litmus)
 }
 
 /// The numbers of the machine.

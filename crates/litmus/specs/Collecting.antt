@@ -10,8 +10,11 @@ use Rattle.core_machine.specs.Parts.{CoreParts, world}
 use Rattle.litmus_test.specs.Outcomes.{is_forbidden, is_outcome}
 use Rattle.litmus_test.specs.Parts.{LitmusParts}
 use Rattle.litmus_outcome.specs.Ends.{ThreadEnd, GetsYes, SaysNo, left, outcome_of}
-use Rattle.litmus.specs.Runs.{IsRunCause, IsSeededRun, IsThreadCause, IsThreadRun, seed_of}
-use Rattle.litmus_test.specs.TableParts.{RowParts, TableParts}
+use Rattle.litmus.specs.Runs.{IsRunCause, IsSeededRun, IsThreadCause, IsThreadRun, seed_of, seeded_numbers, thread_numbers}
+use Rattle.litmus.specs.declared.collecting.Collected.{Collected}
+use Rattle.litmus_test.specs.TableParts.{RowParts}
+use Rattle.statistics.specs.Runs.{RunNumbers}
+use Rattle.statistics.specs.Totals.{totals_of}
 use Rattle.litmus_outcome.specs.declared.run_cause.RunCause.{RunCause}
 use Rattle.litmus.specs.declared.run_fault.CollectFault.{CollectFault}
 use Rattle.litmus.specs.declared.run_fault.CollectFault.TheVariants.{BadRuns, Run, OutOfMemory}
@@ -57,14 +60,15 @@ IsBadRunCount runs = (runs < 1) ⊎ (100000 < runs)
 abbrev pub AreEndsOf : (E : Type 0) → (ℕ → E → Type 0) → (E → World) → LitmusParts → List E → Type 0
 AreEndsOf E Ran at t ends = (k : ℕ) (end : E) → slice_get ends k ≡ Some end → Ran k end × GetsYes t (at end)
 
--- there are runs, one for each number below `runs`, whose outcomes the rows tell
-pub record IsTableOf (E : Type 0) (Ran : ℕ → E → Type 0) (at : E → World) (t : LitmusParts) (runs : ℕ) (table : TableParts) : Type 0 where
+-- there are runs, one for each number below `runs`, whose outcomes the rows tell, and whose numbers the totals add up
+pub record IsTableOf (E : Type 0) (Ran : ℕ → E → Type 0) (at : E → World) (numbers : E → RunNumbers) (t : LitmusParts) (runs : ℕ) (collected : Collected) : Type 0 where
   pub in_range : IsRunCount runs
   pub ends : List E
   pub count : length ends ≡ runs
   pub each : AreEndsOf E Ran at t ends
-  pub shown : table.shown ≡ t.shown
-  pub rows : AreRowsOf t (map (λ end. outcome_of t (at end)) ends) table.rows
+  pub shown : collected.table.shown ≡ t.shown
+  pub rows : AreRowsOf t (map (λ end. outcome_of t (at end)) ends) collected.table.rows
+  pub totals : collected.totals ≡ totals_of (map numbers ends)
 
 -- run k is the first that has no outcome that counts
 pub record IsFirstWithout (E : Type 0) (Ran : ℕ → E → Type 0) (at : E → World) (t : LitmusParts) (runs k : ℕ) (Why : Type 0) : Type 0 where
@@ -88,8 +92,9 @@ TellsNo OutOfMemory = ⊥
 
 -- ---- tables of seeded runs, each by its own seed
 
-abbrev pub IsSeededTable : LitmusParts → ConfigParts → ℕ → ℕ → TableParts → Type 0
-IsSeededTable t g runs seed table = IsTableOf CoreParts (λ k. IsSeededRun t g (seed_of seed k)) world t runs table
+abbrev pub IsSeededTable : LitmusParts → ConfigParts → ℕ → ℕ → Collected → Type 0
+IsSeededTable t g runs seed collected =
+    IsTableOf CoreParts (λ k. IsSeededRun t g (seed_of seed k)) world (seeded_numbers t g) t runs collected
 
 abbrev pub IsCollectFault : LitmusParts → ConfigParts → ℕ → ℕ → CollectFault → Type 0
 IsCollectFault t g runs seed fault =
@@ -97,8 +102,8 @@ IsCollectFault t g runs seed fault =
 
 -- ---- tables of runs by threads
 
-abbrev pub IsThreadTable : LitmusParts → ConfigParts → ℕ → TableParts → Type 0
-IsThreadTable t g runs table = IsTableOf ThreadEnd (λ k. IsThreadRun t g) left t runs table
+abbrev pub IsThreadTable : LitmusParts → ConfigParts → ℕ → Collected → Type 0
+IsThreadTable t g runs collected = IsTableOf ThreadEnd (λ k. IsThreadRun t g) left (thread_numbers t g) t runs collected
 
 abbrev pub IsThreadFault : LitmusParts → ConfigParts → ℕ → CollectFault → Type 0
 IsThreadFault t g runs fault = IsFaultOf ThreadEnd (λ k. IsThreadRun t g) (λ k. IsThreadCause t g) left t runs fault

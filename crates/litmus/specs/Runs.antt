@@ -1,5 +1,5 @@
 -- Runs of a test: how they come to their ends, and why one has no outcome that counts.
-use Rattle.std.specs.Prelude.{◌≡◌, ◌⊎◌, ℕ, ◌+◌, ◌%◌, ◌^◌, List, [], Some}
+use Rattle.std.specs.Prelude.{◌≡◌, ◌⊎◌, ℕ, ◌+◌, ◌%◌, ◌^◌, List, [], Some, length, map}
 use Rattle.lease_rule.specs.ConfigParts.{ConfigParts}
 use Rattle.core_program.specs.declared.instruction.Instruction.{Instruction}
 use Rattle.core_unit.specs.Parts.{UnitParts}
@@ -13,6 +13,7 @@ use Rattle.machine.specs.Runs.{IsMachineRun}
 use Rattle.simulation.specs.Events.{IsSimulatedByRun}
 use Rattle.simulation.specs.Simulating.{IsSimulationFault}
 use Rattle.simulation.specs.declared.fault.SimulationFault.{SimulationFault}
+use Rattle.statistics.specs.Runs.{RunNumbers, run_numbers}
 use Rattle.litmus_test.specs.Parts.{LitmusParts}
 use Rattle.litmus_outcome.specs.Ends.{GetsYes, IsJudgeCause, ThreadEnd, left, outcome_of}
 use Rattle.litmus_outcome.specs.declared.run_cause.RunCause.{RunCause}
@@ -40,20 +41,28 @@ IsUnendedRun programs fault = (us : List UnitParts) × (((fault.cause ≡ GaveUp
 
 -- ---- a run of either kind, which `Ran` says, and where it ended
 
--- some such run ended with this outcome, and its logs get Yes
-pub record IsEndOf (E : Type 0) (Ran : E → Type 0) (at : E → World) (t : LitmusParts) (outcome : List ℕ) : Type 0 where
+-- some such run ended with this outcome and these numbers, and its logs get Yes
+pub record IsEndOf (E : Type 0) (Ran : E → Type 0) (at : E → World) (numbers : E → RunNumbers) (t : LitmusParts) (outcome : List ℕ) (n : RunNumbers) : Type 0 where
   pub end : E
   pub run : Ran end
   pub yes : GetsYes t (at end)
   pub outcome_is : outcome ≡ outcome_of t (at end)
+  pub numbers_are : n ≡ numbers end
+
+-- the numbers of a run, where it ended
+abbrev pub seeded_numbers : LitmusParts → ConfigParts → CoreParts → RunNumbers
+seeded_numbers t g q = run_numbers (length t.programs) g.slices (map (λ seat. seat.unit) q.seats) q.slices
+
+abbrev pub thread_numbers : LitmusParts → ConfigParts → ThreadEnd → RunNumbers
+thread_numbers t g end = run_numbers (length t.programs) g.slices end.units end.slices
 
 -- the run by this seed
-abbrev pub IsSeededEnd : LitmusParts → ConfigParts → ℕ → List ℕ → Type 0
-IsSeededEnd t g seed outcome = IsEndOf CoreParts (IsSeededRun t g seed) world t outcome
+abbrev pub IsSeededEnd : LitmusParts → ConfigParts → ℕ → List ℕ → RunNumbers → Type 0
+IsSeededEnd t g seed outcome n = IsEndOf CoreParts (IsSeededRun t g seed) world (seeded_numbers t g) t outcome n
 
 -- a run by threads
-abbrev pub IsThreadEnd : LitmusParts → ConfigParts → List ℕ → Type 0
-IsThreadEnd t g outcome = IsEndOf ThreadEnd (IsThreadRun t g) left t outcome
+abbrev pub IsThreadEnd : LitmusParts → ConfigParts → List ℕ → RunNumbers → Type 0
+IsThreadEnd t g outcome n = IsEndOf ThreadEnd (IsThreadRun t g) left (thread_numbers t g) t outcome n
 
 -- ---- why a run has no outcome that counts
 

@@ -1,18 +1,61 @@
 //! What tables of all kinds of runs share.
 
-ghost use Rattle.std.specs.Prelude.{◌≡◌, ◌↔◌, ℕ, List, IfErr, IfOk, IsOk};
+ghost use Rattle.std.specs.Prelude.{◌≡◌, ◌↔◌, ℕ, List, IfErr, IfOk, IsOk, MatchResult, length};
 ghost use Rattle.litmus.specs.Collecting.{AreRowsOf, IsRunCount};
+ghost use Rattle.litmus_outcome.specs.Ends.{GetsYes, IsJudgeCause, outcome_of};
+ghost use Rattle.statistics.specs.Runs.{run_numbers};
 ghost use Rattle.litmus.specs.declared.run_fault.CollectFault.TheVariants.{BadRuns};
 ghost use Rattle.litmus.specs.inner.Tallies.{IsTally};
 
 use super::run_fault::CollectFault;
 use super::tally::rows_of;
+use lease_rule::Config;
+use litmus_outcome::{Ended, RunCause, judged_outcome};
 use litmus_test::{Litmus, Table};
+use statistics::{RunCounts, RunParts, RunTotals};
 use std::alloc::{AllocError, Global};
 use std::collections::BTreeMap;
+use std::thread::Threads;
 
 /// The most runs.
 const RUN_LIMIT: u64 = 100_000;
+
+/// What is collected of a test's runs.
+#[derive(Drop)]
+pub struct Collected {
+    /// The table of their outcomes.
+    pub table: Table,
+    /// The totals of their numbers.
+    pub totals: RunTotals,
+}
+
+/// What is kept of a run that has ended.
+#[derive(Drop)]
+pub(crate) struct Kept {
+    /// Its outcome.
+    pub(crate) outcome: Vec<u64>,
+    /// Its numbers.
+    pub(crate) counts: RunCounts,
+}
+
+/// What is kept of a run that has ended, whose logs get Yes.
+pub(crate) fn keep<R: Threads + Sync, E: Ended + RunParts>(
+    rt: &R,
+    alloc: Global,
+    test: &Litmus,
+    config: &Config,
+    end: &E,
+) -> Result<Kept, RunCause>
+    ensures { MatchResult result
+        (λ kept. GetsYes test.now (E.at_end end.now)
+        × (kept.outcome.items ≡ outcome_of test.now (E.at_end end.now))
+        × (kept.counts ≡ run_numbers (length test.now.programs) config.now.slices (E.units end.now) (E.slices end.now)))
+        (λ cause. IsJudgeCause test.now (E.at_end end.now) cause) }
+{
+    let outcome = judged_outcome(rt, alloc, test, end)?;
+    let counts = RunCounts::of(alloc, end, test.programs().len(), config.slices())?;
+    Ok(Kept { outcome, counts })
+}
 
 /// Whether a table is made of this number of runs.
 pub(crate) fn check_runs(runs: u64) -> Result<(), CollectFault>

@@ -7,6 +7,7 @@ mod seeded;
 mod tally;
 mod threaded;
 
+pub use collecting::Collected;
 pub use litmus_outcome::RunCause;
 pub use litmus_test::{Litmus, LitmusFault, Row, Shown, Table, write_table};
 pub use run_fault::CollectFault;

@@ -7,13 +7,14 @@ ghost use Rattle.litmus.specs.Runs.{IsRunCause, IsSeededEnd, IsSeededRun, IsUnsi
 ghost use Rattle.litmus.specs.declared.run_fault.CollectFault.TheVariants.{BadRuns};
 ghost use Rattle.litmus_outcome.specs.declared.run_cause.RunCause.TheVariants as cause;
 
-use super::collecting::{check_runs, table_of};
+use super::collecting::{Collected, Kept, check_runs, keep, table_of};
 use super::run_fault::CollectFault;
 use super::tally::count_outcome;
 use lease_rule::Config;
-use litmus_outcome::{RunCause, judged_outcome};
-use litmus_test::{Litmus, Table};
+use litmus_outcome::RunCause;
+use litmus_test::Litmus;
 use simulation::simulate;
+use statistics::RunTotals;
 use std::alloc::Global;
 use std::collections::BTreeMap;
 use std::thread::Threads;
@@ -32,28 +33,28 @@ fn simulate_run(alloc: Global, test: &Litmus, config: &Config, seed: u64) -> Res
     Ok(machine)
 }
 
-/// The outcome of the run of this seed, whose logs get Yes.
+/// What is kept of the run of this seed, whose logs get Yes.
 fn run_seeded<R: Threads + Sync>(
     rt: &R,
     alloc: Global,
     test: &Litmus,
     config: &Config,
     seed: u64,
-) -> Result<Vec<u64>, RunCause>
+) -> Result<Kept, RunCause>
     ensures run { MatchResult result
-        (λ outcome. IsSeededEnd test.now config.now seed outcome.items)
+        (λ kept. IsSeededEnd test.now config.now seed kept.outcome.items kept.counts)
         (λ cause. IsRunCause test.now config.now seed cause) }
     ensures yes { IfErr result (λ cause. ¬ (SaysNo cause)) }
 {
     // The set tells with its length that it has 64 programs at most.
     test.programs().len();
     let machine = simulate_run(alloc, test, config, seed)?;
-    judged_outcome(rt, alloc, test, &machine)
+    keep(rt, alloc, test, config, &machine)
 }
 
-/// Runs a test so many times, 1..100,000, and counts the outcomes. Run `k`, from 0, is by the rounds
+/// Runs a test so many times, 1..100,000, counts the outcomes, and adds up the runs' numbers. Run `k`, from 0, is by the rounds
 /// that the seed `seed + k`, wrapping, draws; its logs are judged against the test's programs, and get
-/// Yes. The first run that doesn't come to its end is answered in place of the table.
+/// Yes. The first run that doesn't come to its end is answered in place of the table and the totals.
 pub fn collect_seeded<R: Threads + Sync>(
     rt: &R,
     alloc: Global,
@@ -61,10 +62,11 @@ pub fn collect_seeded<R: Threads + Sync>(
     config: &Config,
     runs: u64,
     seed: u64,
-) -> Result<Table, CollectFault>
-    // There are runs, one for each number, whose outcomes the table counts, or a first one that has none.
+) -> Result<Collected, CollectFault>
+    // There are runs, one for each number, whose outcomes the table counts and whose numbers the totals add up, or a first one that
+    // has no outcome.
     ensures runs { MatchResult result
-        (λ table. IsSeededTable test.now config.now runs seed table)
+        (λ collected. IsSeededTable test.now config.now runs seed collected)
         (λ fault. IsCollectFault test.now config.now runs seed fault) }
     // No run is told whose logs get No: those of every run get Yes.
     ensures yes { IfErr result (λ fault. ¬ (TellsNo fault)) }
@@ -73,11 +75,16 @@ pub fn collect_seeded<R: Threads + Sync>(
 {
     check_runs(runs)?;
     let mut tally = BTreeMap::new(alloc);
+    let mut totals = RunTotals::none();
     for run in 0..runs {
         match run_seeded(rt, alloc, test, config, seed.wrapping_add(run)) {
-            Ok(outcome) => count_outcome(&mut tally, outcome)?,
+            Ok(kept) => {
+                totals.add_run(&kept.counts);
+                count_outcome(&mut tally, kept.outcome)?;
+            }
             Err(cause) => return Err(CollectFault::Run { run, cause }),
         }
     }
-    Ok(table_of(alloc, test, tally)?)
+    let table = table_of(alloc, test, tally)?;
+    Ok(Collected { table, totals })
 }

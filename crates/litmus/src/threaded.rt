@@ -6,14 +6,15 @@ ghost use Rattle.litmus_outcome.specs.Ends.{SaysNo};
 ghost use Rattle.litmus.specs.Runs.{IsThreadCause, IsThreadEnd};
 ghost use Rattle.litmus.specs.declared.run_fault.CollectFault.TheVariants.{BadRuns};
 
-use super::collecting::{check_runs, table_of};
+use super::collecting::{Collected, Kept, check_runs, keep, table_of};
 use super::run_fault::CollectFault;
 use super::tally::count_outcome;
 use lease_rule::Config;
-use litmus_outcome::{RunCause, judged_outcome};
-use litmus_test::{Litmus, Table};
+use litmus_outcome::RunCause;
+use litmus_test::Litmus;
 use machine::{Go, Pace, ThreadsFault, run_threads};
 use mem_op::CoreId;
+use statistics::RunTotals;
 use std::alloc::Global;
 use std::collections::BTreeMap;
 use std::sync::Wait;
@@ -28,37 +29,38 @@ impl Pace for Unpaced {
     }
 }
 
-/// The outcome of a run by threads, whose logs get Yes.
+/// What is kept of a run by threads, whose logs get Yes.
 fn run_threaded<R: Threads + Wait + Sync>(
     rt: &R,
     alloc: Global,
     test: &Litmus,
     config: &Config,
-) -> Result<Vec<u64>, RunCause>
+) -> Result<Kept, RunCause>
     ensures run { MatchResult result
-        (λ outcome. IsThreadEnd test.now config.now outcome.items)
+        (λ kept. IsThreadEnd test.now config.now kept.outcome.items kept.counts)
         (λ cause. IsThreadCause test.now config.now cause) }
     ensures yes { IfErr result (λ cause. ¬ (SaysNo cause)) }
 {
     match run_threads(rt, alloc, test.programs(), config, &Unpaced) {
-        Ok(end) => judged_outcome(rt, alloc, test, &end),
+        Ok(end) => keep(rt, alloc, test, config, &end),
         Err(stopped) => Err(RunCause::Threads(ThreadsFault::of(&stopped))),
     }
 }
 
-/// Runs a test so many times, 1..100,000, and counts the outcomes. Each run has a thread for each
+/// Runs a test so many times, 1..100,000, counts the outcomes, and adds up the runs' numbers. Each run has a thread for each
 /// core, and comes to its end by the order in which these happen to go on; its logs are judged against the test's
-/// programs, and get Yes. The first run that doesn't come to its end is answered in place of the table. May wait for its threads.
+/// programs, and get Yes. The first run that doesn't come to its end is answered in place of the table and the totals. May wait for its threads.
 pub fn collect_threaded<R: Threads + Wait + Sync>(
     rt: &R,
     alloc: Global,
     test: &Litmus,
     config: &Config,
     runs: u64,
-) -> Result<Table, CollectFault>
-    // There are runs, one for each number, whose outcomes the table counts, or a first one that has none.
+) -> Result<Collected, CollectFault>
+    // There are runs, one for each number, whose outcomes the table counts and whose numbers the totals add up, or a first one that
+    // has no outcome.
     ensures runs { MatchResult result
-        (λ table. IsThreadTable test.now config.now runs table)
+        (λ collected. IsThreadTable test.now config.now runs collected)
         (λ fault. IsThreadFault test.now config.now runs fault) }
     // No run is told whose logs get No: those of every run get Yes.
     ensures yes { IfErr result (λ fault. ¬ (TellsNo fault)) }
@@ -67,11 +69,16 @@ pub fn collect_threaded<R: Threads + Wait + Sync>(
 {
     check_runs(runs)?;
     let mut tally = BTreeMap::new(alloc);
+    let mut totals = RunTotals::none();
     for run in 0..runs {
         match run_threaded(rt, alloc, test, config) {
-            Ok(outcome) => count_outcome(&mut tally, outcome)?,
+            Ok(kept) => {
+                totals.add_run(&kept.counts);
+                count_outcome(&mut tally, kept.outcome)?;
+            }
             Err(cause) => return Err(CollectFault::Run { run, cause }),
         }
     }
-    Ok(table_of(alloc, test, tally)?)
+    let table = table_of(alloc, test, tally)?;
+    Ok(Collected { table, totals })
 }

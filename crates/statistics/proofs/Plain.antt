@@ -1,19 +1,20 @@
 -- Cells that need no quotes stand in a line as they are.
-use Rattle.std.proofs.Common.{◌≡◌, ◌≢◌, ℕ, ◌≤◌, ◌&&◌, ◌||◌, ◌==◌, cond, leb, Bool, true, false, List, [], ◌∷◌, ◌++◌, length, map, refl, sym, ap, subst, ◌∙◌, append-nil, arith}
+use Rattle.std.proofs.Common.{◌≡◌, ℕ, ◌≤◌, leb, true, false, List, [], ◌∷◌, ◌++◌, map, refl, sym, ap, subst, append-nil, arith}
 use Rattle.std.specs.Prelude.{codes}
 use Rattle.std.specs.List.{AllByRecursion, join_with_byte}
 use Rattle.std.proofs.lemmas.Bool.Decides.{nat_tests}
 use Rattle.csv.specs.Quoting.{needs_byte}
-use Rattle.csv.specs.Writing.{default_writer, needs_quotes, fields_text, row_text, is_blank}
+use Rattle.csv.specs.Writing.{default_writer, fields_text, row_text, is_blank}
 use Rattle.decimal_text.specs.Numbers.{numeral}
 use Rattle.decimal_text.proofs.Numbers.{AreDigits, digit_low, numeral_digits}
 use Rattle.decimal_text.specs.Reading.{is_digit}
 use Rattle.std.proofs.lemmas.Bool.{and_parts, leb-true}
 use Rattle.statistics.specs.Columns.{greatest_pts, total_in, value_in}
-use Rattle.statistics.specs.TableText.{cells_line, column_name, core_cells, core_columns, header_cells, no_slice, row_cells, slice_cells, total_cells}
+use Rattle.statistics.specs.TableText.{cells_line, column_name, core_cells, core_columns, header_cells, no_slice, row_cells, slice_cells, total_cells, totals_cells}
 use Rattle.statistics.specs.declared.column.CoreColumn.{CoreColumn}
 use Rattle.statistics.specs.declared.column.CoreColumn.TheVariants.{Operations, Loads, Stores, Swaps, Hits, ShReq, ExReq, Renewals, Upgrades, WbRep, FlushRep, Dropped, SelfIncrements}
 use Rattle.statistics.specs.declared.core_counts.CoreCounts.{CoreCounts}
+use Rattle.statistics.specs.declared.run_totals.RunTotals.{RunTotals}
 use Rattle.statistics.specs.declared.slice_counts.SliceCounts.{SliceCounts}
 use Rattle.statistics.specs.inner.Writing.{IsPlain, IsPlainRow}
 
@@ -85,6 +86,12 @@ pub total_plain : (cores : List CoreCounts) → IsPlainRow (total_cells cores)
 total_plain cores =
     plain_row (codes "total") (λ column. numeral (total_in column cores)) (numeral (greatest_pts cores)) no_slice
     refl (λ column. plain_number (total_in column cores)) (plain_number (greatest_pts cores)) none_plain
+
+pub totals_plain : (totals : RunTotals) → IsPlainRow (totals_cells totals)
+totals_plain totals = record {
+  some = omega arith;
+  each = (refl, (plain_number totals.operations, (plain_number totals.loads, (plain_number totals.stores, (plain_number totals.swaps, (plain_number totals.hits, (plain_number totals.sh_req, (plain_number totals.ex_req, (plain_number totals.renewals, (plain_number totals.upgrades, (plain_number totals.wb_rep, (plain_number totals.flush_rep, (plain_number totals.dropped, (plain_number totals.self_increments, (plain_number totals.pts, (plain_number totals.requests, (plain_number totals.give_backs, (plain_number totals.evictions, (plain_number totals.mts, tt)))))))))))))))))));
+}
 
 pub slice_plain : (s : ℕ) (n : SliceCounts) → IsPlainRow (slice_cells s n)
 slice_plain s n =

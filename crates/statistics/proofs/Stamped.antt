@@ -1,11 +1,10 @@
 -- The stamp of a replay is the one that its log and its transcript tell.
 use Rattle.std.proofs.Common.{◌≡◌, ℕ, ◌+◌, ◌-◌, Bool, true, false, List, [], ◌∷◌, ◌++◌, length, reverse, refl, sym, ap, subst, ◌∙◌, append_assoc, append-nil, length-append, arith}
 use Rattle.std.specs.Prelude.{Some, if◌then◌else◌, slice_get}
-use Rattle.std.specs.Option.{option_map_or}
 use Rattle.std.proofs.lemmas.List.{reverse-append}
 use Rattle.lease_rule.specs.ConfigParts.{ConfigParts}
 use Rattle.log_record.specs.declared.record.Record.{Record}
-use Rattle.core_unit.specs.Core.{Core, after_hit, is_due, new_core, record_of}
+use Rattle.core_unit.specs.Core.{Core, is_due, new_core, record_of}
 use Rattle.core_unit.specs.Kept.{Replays}
 use Rattle.core_unit.specs.Parts.{UnitParts}
 use Rattle.core_unit.specs.Replay.{CoreLeads, CoreStep, performs, drops, gives, gets, is_taken, bumps}

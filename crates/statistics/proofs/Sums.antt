@@ -1,5 +1,5 @@
 -- The laws of the numbers.
-use Rattle.std.proofs.Common.{◌≡◌, ◌<◌, ℕ, ◌+◌, cond, Bool, true, false, List, [], ◌∷◌, ◌++◌, length, count_by, refl, sym, ap, subst, ◌∙◌, append_assoc, append-nil, length-append, arith}
+use Rattle.std.proofs.Common.{◌≡◌, ℕ, ◌+◌, cond, Bool, true, false, List, [], ◌∷◌, ◌++◌, length, count_by, refl, sym, ap, subst, ◌∙◌, append_assoc, append-nil, length-append, arith}
 use Rattle.std.specs.Prelude.{◌&&◌, ◌==◌, Option, Some, None, if◌then◌else◌}
 use Rattle.std.proofs.lemmas.List.Sums.{sum_by-cons, sum_by_push}
 use Rattle.line_stamps.specs.Messages.{addr_of}
@@ -12,15 +12,13 @@ use Rattle.log_record.specs.declared.record.Record.{Record}
 use Rattle.manager_slice.specs.declared.managed.HistoryEntry.{HistoryEntry}
 use Rattle.manager_slice.specs.declared.managed.HistoryEntry.TheVariants.{Evicted, Served}
 use Rattle.core_unit.specs.Core.{Core, new_core, record_of}
-use Rattle.core_unit.specs.Kept.{Replays}
-use Rattle.core_unit.specs.Parts.{UnitParts}
 use Rattle.core_unit.specs.Replay.{CoreLeads, CoreStep, performs, drops, gives, gets, is_taken, bumps}
 use Rattle.core_unit.specs.declared.entry.CoreEntry.{CoreEntry}
 use Rattle.core_unit.specs.declared.entry.CoreEntry.TheVariants.{Performed, Dropped, Gave, Got, Bumped}
 use Rattle.audit.specs.Lists.{history_of, picks, put, transcript_of}
-use Rattle.audit.specs.Pairs.{Agrees, got_at, gots, served_at, serveds, slice_of}
+use Rattle.audit.specs.Pairs.{got_at, served_at, slice_of}
 use Rattle.statistics.specs.Entries.{is_load, is_load_act, is_operation, is_store, is_store_act, is_swap, is_swap_act}
-use Rattle.statistics.specs.Laws.{IsCounted, LogsAreCounted, SumsAgree, is_got_from, is_served_to}
+use Rattle.statistics.specs.Laws.{LogsAreCounted, SumsAgree, is_got_from, is_served_to}
 
 -- ---- operations
 

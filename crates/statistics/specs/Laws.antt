@@ -8,7 +8,7 @@ use Rattle.manager_slice.specs.declared.managed.HistoryEntry.TheVariants.{Evicte
 use Rattle.core_unit.specs.Kept.{Replays}
 use Rattle.core_unit.specs.Parts.{UnitParts}
 use Rattle.core_unit.specs.declared.entry.CoreEntry.{CoreEntry}
-use Rattle.core_unit.specs.declared.entry.CoreEntry.TheVariants.{Performed, Dropped, Gave, Got, Bumped}
+use Rattle.core_unit.specs.declared.entry.CoreEntry.TheVariants.{Got}
 use Rattle.audit.specs.Lists.{history_of, transcript_of}
 use Rattle.audit.specs.Pairs.{Agrees, slice_of}
 use Rattle.statistics.specs.Columns.{core_counts}

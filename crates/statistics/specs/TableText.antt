@@ -1,5 +1,5 @@
 -- The text of the numbers of cores and slices: comma-separated values, a line for the columns, one for each core, one for all cores, and
--- one for each slice.
+-- one for each slice. Of the totals over runs: a line for the columns and one for all runs.
 use Rattle.std.specs.Prelude.{ℕ, ◌+◌, List, [], ◌∷◌, ◌++◌, map, codes}
 use Rattle.std.specs.List.{join_with_byte}
 use Rattle.decimal_text.specs.Numbers.{numeral}
@@ -7,6 +7,7 @@ use Rattle.statistics.specs.Columns.{greatest_pts, total_in, value_in}
 use Rattle.statistics.specs.declared.column.CoreColumn.{CoreColumn}
 use Rattle.statistics.specs.declared.column.CoreColumn.TheVariants.{Operations, Loads, Stores, Swaps, Hits, ShReq, ExReq, Renewals, Upgrades, WbRep, FlushRep, Dropped, SelfIncrements}
 use Rattle.statistics.specs.declared.core_counts.CoreCounts.{CoreCounts}
+use Rattle.statistics.specs.declared.run_totals.RunTotals.{RunTotals}
 use Rattle.statistics.specs.declared.slice_counts.SliceCounts.{SliceCounts}
 
 -- the cells of a line, with a comma between each two
@@ -67,3 +68,30 @@ lines_from cells k (n ∷ ns) = cells_line (cells k n) ++ lines_from cells (k + 
 abbrev pub statistics_text : List CoreCounts → List SliceCounts → List ℕ
 statistics_text cores slices =
     cells_line header_cells ++ lines_from core_cells 0 cores ++ cells_line (total_cells cores) ++ lines_from slice_cells 0 slices
+
+-- all runs: every column is filled
+abbrev pub totals_cells : RunTotals → List (List ℕ)
+totals_cells totals =
+    codes "total"
+    ∷ numeral totals.operations
+    ∷ numeral totals.loads
+    ∷ numeral totals.stores
+    ∷ numeral totals.swaps
+    ∷ numeral totals.hits
+    ∷ numeral totals.sh_req
+    ∷ numeral totals.ex_req
+    ∷ numeral totals.renewals
+    ∷ numeral totals.upgrades
+    ∷ numeral totals.wb_rep
+    ∷ numeral totals.flush_rep
+    ∷ numeral totals.dropped
+    ∷ numeral totals.self_increments
+    ∷ numeral totals.pts
+    ∷ numeral totals.requests
+    ∷ numeral totals.give_backs
+    ∷ numeral totals.evictions
+    ∷ numeral totals.mts
+    ∷ []
+
+abbrev pub totals_text : RunTotals → List ℕ
+totals_text totals = cells_line header_cells ++ cells_line (totals_cells totals)

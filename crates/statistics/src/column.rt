@@ -1,6 +1,6 @@
 //! The columns of cores.
 
-ghost use Rattle.std.specs.Prelude.{◌≡◌, ◌≤◌, length};
+ghost use Rattle.std.specs.Prelude.{◌≡◌, ◌≤◌, ◌^◌, length};
 ghost use Rattle.statistics.specs.Columns.{greatest_pts, total_in, value_in};
 ghost use Rattle.statistics.specs.TableText.{column_name};
 
@@ -102,7 +102,8 @@ impl CoreColumn {
     #[tactic(auto, unfolding(crate::specs::Columns::total_in))]
     pub(crate) fn total(self, cores: &[CoreCounts]) -> u64
         requires { length cores.now ≤ 64 }
-        ensures { result ≡ total_in self cores.now }
+        ensures total { result ≡ total_in self cores.now }
+        ensures limit { result ≤ 2 ^ 38 }
     {
         let mut total = 0;
         for counts in cores {

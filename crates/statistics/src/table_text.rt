@@ -10,6 +10,7 @@ ghost use Rattle.statistics.specs.inner.Writing.{IsFresh, IsPlainRow, written};
 
 use super::column::{CORE_COLUMNS, greatest_pts};
 use super::core_counts::CoreCounts;
+use super::run_totals::RunTotals;
 use super::slice_counts::SliceCounts;
 use csv::{StringRecord, Terminator, Writer, WriterBuilder};
 use decimal_text::print_number;
@@ -190,6 +191,48 @@ pub fn print_statistics(
     write_cores(alloc, &mut writer, cores)?;
     write_line(&mut writer, &total_cells(alloc, cores)?)?;
     write_slices(alloc, &mut writer, slices)?;
+    match writer.into_inner() {
+        Ok(text) => Ok(text),
+        Err(_) => Err(AllocError),
+    }
+}
+
+/// The cells of the line of all runs.
+fn totals_cells(alloc: Global, totals: RunTotals) -> Result<StringRecord, AllocError>
+    ensures { IfOk result (λ cells. fields_of cells ≡ text.totals_cells totals) }
+{
+    let mut cells = StringRecord::new(alloc);
+    cells.push_field("total")?;
+    push_number(alloc, &mut cells, totals.operations)?;
+    push_number(alloc, &mut cells, totals.loads)?;
+    push_number(alloc, &mut cells, totals.stores)?;
+    push_number(alloc, &mut cells, totals.swaps)?;
+    push_number(alloc, &mut cells, totals.hits)?;
+    push_number(alloc, &mut cells, totals.sh_req)?;
+    push_number(alloc, &mut cells, totals.ex_req)?;
+    push_number(alloc, &mut cells, totals.renewals)?;
+    push_number(alloc, &mut cells, totals.upgrades)?;
+    push_number(alloc, &mut cells, totals.wb_rep)?;
+    push_number(alloc, &mut cells, totals.flush_rep)?;
+    push_number(alloc, &mut cells, totals.dropped)?;
+    push_number(alloc, &mut cells, totals.self_increments)?;
+    push_number(alloc, &mut cells, totals.pts)?;
+    push_number(alloc, &mut cells, totals.requests)?;
+    push_number(alloc, &mut cells, totals.give_backs)?;
+    push_number(alloc, &mut cells, totals.evictions)?;
+    push_number(alloc, &mut cells, totals.mts)?;
+    Ok(cells)
+}
+
+/// The text of the totals over runs: comma-separated values, a line for the columns and one for all runs. Err where memory was refused.
+pub fn print_totals(alloc: Global, totals: &RunTotals) -> Result<Vec<u8>, AllocError>
+    ensures { IfOk result (λ made. made.items ≡ text.totals_text totals.now) }
+{
+    let mut writer = WriterBuilder::new()
+        .terminator(Terminator::Any(b'\n'))
+        .from_writer(Vec::new(alloc));
+    write_line(&mut writer, &header_cells(alloc)?)?;
+    write_line(&mut writer, &totals_cells(alloc, *totals)?)?;
     match writer.into_inner() {
         Ok(text) => Ok(text),
         Err(_) => Err(AllocError),

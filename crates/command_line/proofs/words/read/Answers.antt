@@ -7,7 +7,7 @@ use Rattle.clap.specs.Words.{App, Text}
 use Rattle.command_line.specs.Asking.{texts}
 use Rattle.command_line.proofs.Numbers.{numbers_named}
 use Rattle.std.proofs.lemmas.Result.{IfErr-weaker, IfOk-weaker}
-use Rattle.command_line.proofs.Reading.{explaining, refused, run_over, sim_over, stray, unexplained}
+use Rattle.command_line.proofs.Reading.{explaining, litmus_over, refused, run_over, sim_over, stray, unexplained}
 use Rattle.command_line.proofs.Subcommands.{found_named, names_own}
 use Rattle.command_line.proofs.words.read.Goals as goal
 
@@ -68,11 +68,19 @@ litmus_of-requires c =
     c.in-Some.ensures.name c.in-Some.ensures.rows in
     numbers_named (texts c.args.words.now) _ words.0 words.1
 
+pub returns-in_err-litmus_of-clause-usage : goal.returns-in_err-litmus_of-clause-usage
+returns-in_err-litmus_of-clause-usage c =
+    let words = found_named _ (texts c.args.words.now) c.in-Ok.matches c.in-Some.name.now _ c.in_ok-tardis.ensures.app c.in-Ok.ensures.matches c.in-Ok.ensures.kinds
+    c.in-Some.ensures.name c.in-Some.ensures.rows in
+    let named : c.in-Some.name.now ≡ codes "litmus" = (bytes_eq-Decides c.in-Some.name.now (codes "litmus")).0 (sym c.eq-4.ensures ∙ c.if-eq-4.true) in
+    let is : c.from_residual-in_err-litmus_of.result ≡ Err c.in_err-litmus_of.field-0.0 = search rules in
+    rw is (litmus_over (texts c.args.words.now) _ c.in_err-litmus_of.field-0.0 words.1 named c.in_err-litmus_of.ensures.usage)
+
 pub returns-then-eq-4-clause-request : goal.returns-then-eq-4-clause-request
 returns-then-eq-4-clause-request c =
     let words = found_named _ (texts c.args.words.now) c.in-Ok.matches c.in-Some.name.now _ c.in_ok-tardis.ensures.app c.in-Ok.ensures.matches c.in-Ok.ensures.kinds
     c.in-Some.ensures.name c.in-Some.ensures.rows in
-    (words.0, (_, words.1, ((bytes_eq-Decides c.in-Some.name.now (codes "litmus")).0 (sym c.eq-4.ensures ∙ c.if-eq-4.true), c.litmus_of.ensures)))
+    (words.0, (_, words.1, ((bytes_eq-Decides c.in-Some.name.now (codes "litmus")).0 (sym c.eq-4.ensures ∙ c.if-eq-4.true), c.in_ok-litmus_of.ensures.litmus)))
 
 pub returns-then-eq-5-clause-usage : goal.returns-then-eq-5-clause-usage
 returns-then-eq-5-clause-usage c =

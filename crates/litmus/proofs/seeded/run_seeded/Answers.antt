@@ -1,7 +1,7 @@
 use Rattle.std.proofs.Common.{rules, ◌≡◌, ◌≤◌, Err, List, length, subst}
 use Rattle.core_program.specs.declared.instruction.Instruction.{Instruction}
 use Rattle.core_machine.specs.Parts.{CoreParts, world}
-use Rattle.litmus.specs.Runs.{IsSeededEnd, IsSeededRun, IsUnsimulated}
+use Rattle.litmus.specs.Runs.{IsSeededEnd, IsSeededRun, IsUnsimulated, seeded_numbers}
 use Rattle.litmus.proofs.Judged.{judged_end}
 use Rattle.litmus.proofs.NeverNo.{seeded_cause_is_no_no, seeded_never_no}
 use Rattle.litmus.proofs.seeded.run_seeded.Goals as goal
@@ -15,13 +15,13 @@ returns-in_err-machine-clause-yes g c =
 pub returns-clause-run : goal.returns-clause-run
 returns-clause-run g c =
     let t = c.args.test.now in
-    judged_end CoreParts (IsSeededRun t c.args.config.now c.args.seed) (IsUnsimulated t c.args.config.now c.args.seed) world t c.in_ok-machine.machine
-    c.judged_outcome.result c.in_ok-machine.ensures c.judged_outcome.ensures
+    judged_end CoreParts (IsSeededRun t c.args.config.now c.args.seed) (IsUnsimulated t c.args.config.now c.args.seed) world (seeded_numbers t c.args.config.now) t c.in_ok-machine.machine
+    c.keep.result c.in_ok-machine.ensures c.keep.ensures
 
 pub returns-clause-yes : goal.returns-clause-yes
 returns-clause-yes g c =
     let t = c.args.test.now in
     let few = subst (λ (ps : List (List Instruction)). length ps ≤ 64) c.programs.ensures.programs c.len.ensures.in_range.1 in
-    seeded_never_no t c.args.config.now c.args.seed few c.judged_outcome.result (λ o. IsSeededEnd t c.args.config.now c.args.seed o.items)
-    (judged_end CoreParts (IsSeededRun t c.args.config.now c.args.seed) (IsUnsimulated t c.args.config.now c.args.seed) world t c.in_ok-machine.machine
-    c.judged_outcome.result c.in_ok-machine.ensures c.judged_outcome.ensures)
+    seeded_never_no t c.args.config.now c.args.seed few c.keep.result (λ k. IsSeededEnd t c.args.config.now c.args.seed k.outcome.items k.counts)
+    (judged_end CoreParts (IsSeededRun t c.args.config.now c.args.seed) (IsUnsimulated t c.args.config.now c.args.seed) world (seeded_numbers t c.args.config.now) t c.in_ok-machine.machine
+    c.keep.result c.in_ok-machine.ensures c.keep.ensures)

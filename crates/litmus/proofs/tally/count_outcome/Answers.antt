@@ -1,4 +1,4 @@
-use Rattle.std.proofs.Common.{arith, ◌≡◌, ◌∙◌, ap, ◌+◌}
+use Rattle.std.proofs.Common.{arith, ◌∙◌, ap, ◌+◌}
 use Rattle.std.specs.BTreeMap.{insert_entry}
 use Rattle.litmus.proofs.Tallied.{by_items, count_most, one_more}
 use Rattle.litmus.proofs.tally.count_outcome.Goals as goal

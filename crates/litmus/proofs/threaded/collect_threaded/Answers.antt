@@ -1,16 +1,25 @@
--- One more run, and its outcome counted.
-use Rattle.std.proofs.Common.{rules, ◌≡◌, []}
+-- One more run, its outcome counted and its numbers added.
+use Rattle.std.proofs.Common.{rules, ◌≡◌, ◌<◌, ◌≤◌, ◌^◌, [], arith}
 use Rattle.litmus_outcome.specs.Ends.{ThreadEnd, left}
-use Rattle.litmus.specs.Runs.{IsThreadRun}
+use Rattle.litmus.specs.Runs.{IsThreadRun, thread_numbers}
 use Rattle.litmus.proofs.CollectedRuns.{none_so_far, one_more_run}
 use Rattle.litmus.proofs.threaded.collect_threaded.Goals as goal
 
+pub add_run-requires : goal.add_run-requires
+add_run-requires g c =
+    let most : c.args.runs ≤ 100000 = search rules in
+    let few : c.loop-run.run < 2 ^ 20 = omega arith in
+    (c.loop-run.run, few, c.loop-run.invariant.bounded)
+
 pub loop-run-preserved : goal.loop-run-preserved
 loop-run-preserved g c =
-    one_more_run ThreadEnd (λ n. IsThreadRun c.args.test.now c.args.config.now) left c.args.test.now c.loop-run.run c.loop-run.tally.entries
-    c.count_outcome.new.tally.entries c.in-Ok.outcome.items c.loop-run.invariant c.in-Ok.ensures.run c.in_ok-count_outcome-in-Ok.ensures
+    one_more_run ThreadEnd (λ n. IsThreadRun c.args.test.now c.args.config.now) left (thread_numbers c.args.test.now c.args.config.now) c.args.test.now c.loop-run.run
+    c.loop-run.tally.entries c.count_outcome.new.tally.entries c.loop-run.totals c.add_run.new.self c.in-Ok.kept.outcome.items c.in-Ok.kept.counts
+    c.loop-run.invariant c.in-Ok.ensures.run c.in_ok-count_outcome-in-Ok.ensures c.add_run.ensures.totals
+    (c.add_run.ensures.bounded c.loop-run.run c.loop-run.invariant.bounded)
 
 pub loop-run-init : goal.loop-run-init
 loop-run-init g c =
     let none : c.new-tally.result.entries ≡ [] = search rules in
-    rw none (none_so_far ThreadEnd (λ n. IsThreadRun c.args.test.now c.args.config.now) left c.args.test.now)
+    rw none (none_so_far ThreadEnd (λ n. IsThreadRun c.args.test.now c.args.config.now) left (thread_numbers c.args.test.now c.args.config.now) c.args.test.now c.none-totals.result
+    c.none-totals.ensures.totals c.none-totals.ensures.bounded)

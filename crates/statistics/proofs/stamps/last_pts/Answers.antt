@@ -1,4 +1,3 @@
-use Rattle.std.proofs.Common.{arith, ap, sym, ◌∙◌}
 use Rattle.statistics.proofs.Stamped.{pts_is}
 use Rattle.statistics.proofs.stamps.last_pts.Goals as goal
 

@@ -1,0 +1,16 @@
+-- The numbers of a run.
+use Rattle.std.specs.Prelude.{ℕ, List, map, take}
+use Rattle.core_unit.specs.Parts.{UnitParts}
+use Rattle.manager_slice.specs.Parts.{SliceParts}
+use Rattle.statistics.specs.Columns.{core_counts, slice_counts}
+use Rattle.statistics.specs.declared.core_counts.CoreCounts.{CoreCounts}
+use Rattle.statistics.specs.declared.slice_counts.SliceCounts.{SliceCounts}
+
+-- those of its cores and those of its slices
+pub record RunNumbers : Type 0 where
+  pub cores : List CoreCounts
+  pub slices : List SliceCounts
+
+-- those of so many cores and slices, or of all where there are fewer
+abbrev pub run_numbers : ℕ → ℕ → List UnitParts → List SliceParts → RunNumbers
+run_numbers cores slices us ss = record { cores = map core_counts (take cores us); slices = map slice_counts (take slices ss) }

@@ -1,0 +1,66 @@
+//! The numbers of a run.
+
+ghost use Rattle.std.specs.Prelude.{◌≡◌, ◌≤◌, IfOk, length};
+ghost use Rattle.statistics.specs.Runs.{run_numbers};
+
+use super::core_counts::CoreCounts;
+use super::run_parts::{RunParts, counts_of_cores, counts_of_slices};
+use super::slice_counts::SliceCounts;
+use std::alloc::{AllocError, Global};
+use std::marker::Model;
+
+/// The numbers of a run: those of its cores and those of its slices, at most 64 of each.
+#[derive(Drop)]
+pub struct RunCounts {
+    cores: Vec<CoreCounts>,
+    slices: Vec<SliceCounts>,
+}
+
+impl Model for RunCounts {
+    ghost use Rattle.std.specs.Prelude.{◌≤◌, length};
+    ghost use Rattle.statistics.specs.Runs.{RunNumbers};
+
+    ghost Value = { RunNumbers };
+
+    ghost view = { λ run. record { cores = run.cores.items; slices = run.slices.items } };
+
+    ghost invariant = { λ run. (length run.cores.items ≤ 64) × (length run.slices.items ≤ 64) };
+}
+
+impl RunCounts {
+    /// The numbers of so many cores and slices of a run, or of all where there are fewer.
+    pub fn of<R: RunParts>(
+        alloc: Global,
+        run: &R,
+        cores: usize,
+        slices: usize,
+    ) -> Result<RunCounts, AllocError>
+        requires cores { cores ≤ 64 }
+        requires slices { slices ≤ 64 }
+        ensures { IfOk result (λ counts.
+            counts ≡ run_numbers cores slices (R.units run.now) (R.slices run.now)) }
+    {
+        let of_cores = counts_of_cores(alloc, run, cores)?;
+        let of_slices = counts_of_slices(alloc, run, slices)?;
+        Ok(RunCounts {
+            cores: of_cores,
+            slices: of_slices,
+        })
+    }
+
+    /// Those of its cores, that of core 0 first.
+    pub fn cores(&self) -> &[CoreCounts]
+        ensures value { result.now ≡ self.now.cores }
+        ensures few { length self.now.cores ≤ 64 }
+    {
+        &self.cores
+    }
+
+    /// Those of its slices, that of slice 0 first.
+    pub fn slices(&self) -> &[SliceCounts]
+        ensures value { result.now ≡ self.now.slices }
+        ensures few { length self.now.slices ≤ 64 }
+    {
+        &self.slices
+    }
+}
