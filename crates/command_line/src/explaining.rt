@@ -7,6 +7,7 @@ ghost use Rattle.std.specs.Str.{bytes_eq};
 ghost use Rattle.clap.specs.Words.{found_of, rows_of};
 ghost use Rattle.command_line.specs.Asking as asking;
 
+use super::names::is_name;
 use super::refusal::Refusal;
 use super::request::{Check, Explain, FileKind, Inspect, Request};
 use super::words::{files_of, flag_of, misuse, name_of, only};
@@ -95,16 +96,6 @@ fn is_drawn_over(picture: Option<&str>, program: Option<&str>, files: &[&str]) -
 {
     match picture {
         Some(name) => is_name(program, name) || is_among(name, files),
-        None => false,
-    }
-}
-
-/// Whether a file is there, and has this name.
-fn is_name(file: Option<&str>, name: &str) -> bool
-    ensures { result ≡ option_map_or (λ text. bytes_eq text name.now) (asking.text_of file.entry) false }
-{
-    match file {
-        Some(file) => file == name,
         None => false,
     }
 }

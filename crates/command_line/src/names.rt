@@ -1,6 +1,8 @@
-//! The names of a run's files.
+//! The names of files.
 
-ghost use Rattle.std.specs.Prelude.{◌≡◌, ◌↔◌, IfOk, IsTrue};
+ghost use Rattle.std.specs.Prelude.{◌≡◌, ◌↔◌, IfOk, IsTrue, false};
+ghost use Rattle.std.specs.Option.{option_map_or};
+ghost use Rattle.std.specs.Str.{bytes_eq};
 ghost use Rattle.command_line.specs.Asking.{text_of};
 ghost use Rattle.command_line.specs.Names as names;
 
@@ -37,6 +39,16 @@ pub(crate) fn is_run_file(
         return Ok(true);
     }
     is_log_name(alloc, out, name)
+}
+
+/// Whether a file is there, and has this name.
+pub(crate) fn is_name(file: Option<&str>, name: &str) -> bool
+    ensures { result ≡ option_map_or (λ text. bytes_eq text name.now) (text_of file.entry) false }
+{
+    match file {
+        Some(file) => file == name,
+        None => false,
+    }
 }
 
 /// Whether a schedule is there, and has this name.

@@ -11,7 +11,7 @@ ghost use Rattle.command_line.specs.inner.Numbers.{HasNumbers, takes_number};
 
 use super::explaining::explaining_of;
 use super::grammar::tardis;
-use super::names::is_run_file;
+use super::names::{is_name, is_run_file};
 use super::refusal::Refusal;
 use super::request::{
     Check, Confirm, Limits, Litmus, Order, Request, Run, Search, Sim, TraceFiles, Upgrade,
