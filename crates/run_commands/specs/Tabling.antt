@@ -1,5 +1,5 @@
--- What the counting of a litmus test's outcomes answers, and what standard output took of their table. The sink was `old` before and
--- is `new` after.
+-- What the counting of a litmus test's outcomes answers, what standard output took of their table, and what the folder tells of the
+-- totals. The folder was `before` and is `after`, the sink was `old` before and is `new` after.
 use Rattle.std.specs.Prelude.{◌≡◌, ◌≢◌, ℕ, Bool, true, false, List, Option, None, Some, Result, Ok, Err}
 use Rattle.std.specs.Io.KnownBytes.{Appends, Keeps}
 use Rattle.std.specs.List.{AllByRecursion, list_any}
@@ -13,14 +13,18 @@ use Rattle.litmus_test.specs.Parts.{LitmusParts}
 use Rattle.litmus_test.specs.declared.fault.LitmusFault.TheVariants.{OutOfMemory as NoTestMemory}
 use Rattle.litmus_test.specs.TableParts.{TableParts}
 use Rattle.litmus_test.specs.TableText.{table_text}
+use Rattle.litmus.specs.declared.collecting.Collected.{Collected}
 use Rattle.litmus.specs.declared.run_fault.CollectFault.{CollectFault}
 use Rattle.litmus.specs.declared.run_fault.CollectFault.TheVariants.{BadRuns, Run as RunFailed}
 use Rattle.log_file.specs.Devices.{Tells}
+use Rattle.run_commands.specs.Numbers.{FailsStatistics, PutsStatistics}
 use Rattle.run_commands.specs.Programmed.{config_of}
+use Rattle.statistics.specs.TableText.{totals_text}
+use Rattle.call_devices.specs.Files.{Files, IsOnlyRead}
 use Rattle.call_devices.specs.declared.call_fault.CallFault.TheVariants.{Output, OutOfMemory}
 use Rattle.call_devices.specs.Sinks.{HasFailed, Sink, TakesBeginning}
 use Rattle.run_commands.specs.declared.fault.RunningFault.{RunningFault}
-use Rattle.run_commands.specs.declared.fault.RunningFault.TheVariants.{Config, Test, TestUnread, Collect, Call}
+use Rattle.run_commands.specs.declared.fault.RunningFault.TheVariants.{Config, Test, TestUnread, Collect, StatisticsUnwritten, Call}
 
 -- ---- what was asked for
 
@@ -46,21 +50,21 @@ Tested told asked Holds = IsInOrder asked × (t : LitmusParts) × IsTestIn told 
 
 -- ---- its table
 
--- a table of runs by threads, or of runs by a seed
-abbrev pub IsTableBy : Bool → LitmusParts → ConfigParts → ℕ → ℕ → TableParts → Type 0
-IsTableBy true t g runs seed table = IsThreadTable t g runs table
-IsTableBy false t g runs seed table = IsSeededTable t g runs seed table
+-- the table and the totals of runs by threads, or of runs by a seed
+abbrev pub IsTableBy : Bool → LitmusParts → ConfigParts → ℕ → ℕ → Collected → Type 0
+IsTableBy true t g runs seed collected = IsThreadTable t g runs collected
+IsTableBy false t g runs seed collected = IsSeededTable t g runs seed collected
 
 -- and why there is none
 abbrev pub IsFaultBy : Bool → LitmusParts → ConfigParts → ℕ → ℕ → CollectFault → Type 0
 IsFaultBy true t g runs seed fault = IsThreadFault t g runs fault
 IsFaultBy false t g runs seed fault = IsCollectFault t g runs seed fault
 
--- something holds of the table of its runs
-abbrev pub Tabled : (List ℕ → Option (List ℕ)) → Litmus → (TableParts → Type 0) → Type 0
+-- something holds of the table and the totals of its runs
+abbrev pub Tabled : (List ℕ → Option (List ℕ)) → Litmus → (Collected → Type 0) → Type 0
 Tabled told asked Holds =
-    Tested told asked (λ t. (table : TableParts)
-    × IsTableBy asked.threads t (config_of asked.limits) asked.runs asked.seed table × Holds table)
+    Tested told asked (λ t. (collected : Collected)
+    × IsTableBy asked.threads t (config_of asked.limits) asked.runs asked.seed collected × Holds collected)
 
 -- an outcome of the table is forbidden
 abbrev pub has_forbidden : TableParts → Bool
@@ -80,11 +84,17 @@ IsUntabled told unread asked other = ⊥
 
 -- ---- its text
 
--- Whether an outcome of the table is forbidden, whose text the sink took; or why there is none. Where the sink failed, it took a
--- beginning of the text, and else it holds what it held.
-abbrev pub IsCounted : (List ℕ → Option (List ℕ)) → (List ℕ → Type 0) → Litmus → Sink → Sink → Result Bool RunningFault → Type 0
-IsCounted told unread asked old new (Ok forbidden) =
-    Tabled told asked (λ table. (forbidden ≡ has_forbidden table) × Appends old.contents new.contents (table_text table))
-IsCounted told unread asked old new (Err (Call Output)) = Tabled told asked (λ table. HasFailed old new × TakesBeginning old new (table_text table))
-IsCounted told unread asked old new (Err (Call OutOfMemory)) = Keeps old.contents new.contents
-IsCounted told unread asked old new (Err fault) = IsUntabled told unread asked fault × Keeps old.contents new.contents
+-- Whether an outcome of the table is forbidden, whose text the sink took, and then the totals' text was put where a file was given for it;
+-- or why there is none. Where the sink failed, it took a beginning of the text; where the totals couldn't be put, all of it; and else it
+-- holds what it held.
+abbrev pub IsCounted : Files → Files → (List ℕ → Type 0) → Litmus → Sink → Sink → Result Bool RunningFault → Type 0
+IsCounted before after unread asked old new (Ok forbidden) =
+    Tabled before.told asked (λ collected. (forbidden ≡ has_forbidden collected.table) × Appends old.contents new.contents (table_text collected.table)
+    × PutsStatistics before after asked.statistics (totals_text collected.totals))
+IsCounted before after unread asked old new (Err (Call Output)) =
+    Tabled before.told asked (λ collected. HasFailed old new × TakesBeginning old new (table_text collected.table)) × IsOnlyRead before after
+IsCounted before after unread asked old new (Err (Call OutOfMemory)) = Keeps old.contents new.contents × IsOnlyRead before after
+IsCounted before after unread asked old new (Err StatisticsUnwritten) =
+    Tabled before.told asked (λ collected. Appends old.contents new.contents (table_text collected.table)) × FailsStatistics before after asked.statistics
+IsCounted before after unread asked old new (Err fault) =
+    IsUntabled before.told unread asked fault × Keeps old.contents new.contents × IsOnlyRead before after

@@ -1,39 +1,15 @@
 //! What a run leaves in the folder: its logs, and then its numbers.
 
-ghost use Rattle.std.specs.Prelude.{◌≡◌, ◌≤◌, ℕ, List, IfErr, IfOk, OnErr, OnOk, map, slice_get, take};
-ghost use Rattle.std.specs.Option.{option_copied};
+ghost use Rattle.std.specs.Prelude.{◌≡◌, ◌≤◌, IfErr, IfOk, OnErr, OnOk};
 ghost use Rattle.call_devices.specs.Files.{KeepsFiles};
 ghost use Rattle.call_devices.specs.Logs as logs;
-ghost use Rattle.core_unit.specs.Parts.{UnitParts};
-ghost use Rattle.manager_slice.specs.Parts.{SliceParts};
 ghost use Rattle.run_commands.specs.Numbers as numbers;
-ghost use Rattle.statistics.specs.Columns.{core_counts, slice_counts};
 
 use super::fault::RunningFault;
 use call_devices::{CallFault, Folder, LogsOfCores, write_logs};
-use core_unit::CoreUnit;
 use log_record::Format;
-use manager_slice::ManagerSlice;
-use mem_op::CoreId;
-use statistics::{CoreCounts, SliceCounts, print_statistics};
+use statistics::{RunParts, counts_of_cores, counts_of_slices, print_statistics};
 use std::alloc::{AllocError, Global};
-
-/// What tells the cores and slices of a run.
-pub(crate) trait RunParts {
-    /// The units, core 0's first.
-    ghost units: { Self → List UnitParts };
-
-    /// The slices, number 0 first.
-    ghost slices: { Self → List SliceParts };
-
-    /// A core, if it is there.
-    fn unit(&self, core: CoreId) -> Option<&CoreUnit>
-        ensures { option_copied result ≡ slice_get (units self.now) core };
-
-    /// A slice, if it is there.
-    fn slice(&self, number: usize) -> Option<&ManagerSlice>
-        ensures { option_copied result ≡ slice_get (slices self.now) number };
-}
 
 /// Where a run leaves what, and how much of it there is.
 #[derive(Clone, Copy)]
@@ -48,43 +24,6 @@ pub(crate) struct Leaving<'a> {
     pub(crate) cores: usize,
     /// How many slices there are.
     pub(crate) slices: usize,
-}
-
-/// The numbers of so many cores, or of all where there are fewer.
-fn counts_of_cores<R: RunParts>(
-    alloc: Global,
-    of: &R,
-    cores: usize,
-) -> Result<Vec<CoreCounts>, AllocError>
-    requires { cores ≤ 64 }
-    ensures { IfOk result (λ counts. counts.items ≡ map core_counts (take cores (R.units of.now))) }
-{
-    let mut counts = Vec::new(alloc);
-    for number in 0..cores {
-        let Some(unit) = of.unit(CoreId::at(number)) else {
-            return Ok(counts);
-        };
-        counts.push(CoreCounts::of(unit))?;
-    }
-    Ok(counts)
-}
-
-/// The numbers of so many slices, or of all where there are fewer.
-fn counts_of_slices<R: RunParts>(
-    alloc: Global,
-    of: &R,
-    slices: usize,
-) -> Result<Vec<SliceCounts>, AllocError>
-    ensures { IfOk result (λ counts. counts.items ≡ map slice_counts (take slices (R.slices of.now))) }
-{
-    let mut counts = Vec::new(alloc);
-    for number in 0..slices {
-        let Some(slice) = of.slice(number) else {
-            return Ok(counts);
-        };
-        counts.push(SliceCounts::of(slice))?;
-    }
-    Ok(counts)
 }
 
 /// The text of the numbers of so many cores and slices.

@@ -3,13 +3,13 @@
 ghost use Rattle.std.specs.Prelude.{◌≡◌};
 ghost use Rattle.run_commands.specs.Programmed.{log_format};
 
-use super::left::RunParts;
 use call_devices::LogsOfCores;
 use core_program::Format as ProgramFormat;
 use core_unit::CoreUnit;
 use log_record::{Format, Record};
 use manager_slice::ManagerSlice;
 use mem_op::CoreId;
+use statistics::RunParts;
 use tardis_core::Core;
 
 /// The logs of a machine.

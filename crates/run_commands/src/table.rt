@@ -1,18 +1,23 @@
 //! The outcomes of a litmus test.
 
-ghost use Rattle.std.specs.Prelude.{◌≡◌, IfErr, IfOk, MatchResult};
-ghost use Rattle.call_devices.specs.Files.{IsOnlyRead, IsUnread};
+ghost use Rattle.std.specs.Prelude.{◌≡◌, IfErr, IfOk, IfSome, MatchResult, OnOk};
+ghost use Rattle.call_devices.specs.Files.{IsOnlyRead, IsUnread, KeepsFiles};
 ghost use Rattle.call_devices.specs.Sinks.{sink_of};
+ghost use Rattle.run_commands.specs.Numbers as numbers;
 ghost use Rattle.run_commands.specs.Tabling as tabling;
+ghost use Rattle.statistics.specs.TableText.{totals_text};
 
 use super::config::config_of;
 use super::fault::RunningFault;
 use call_devices::{CallFault, Folder, read_text};
 use command_line::Litmus as Asked;
 use lease_rule::Config;
-use litmus::{CollectFault, Litmus, Table, collect_seeded, collect_threaded, write_table};
+use litmus::{
+    CollectFault, Collected, Litmus, Table, collect_seeded, collect_threaded, write_table,
+};
 use log_file::{ByteSink, ReadFault};
-use std::alloc::Global;
+use statistics::{RunTotals, print_totals};
+use std::alloc::{AllocError, Global};
 use std::sync::Wait;
 use std::thread::Threads;
 
@@ -38,6 +43,7 @@ pub(crate) fn read_test<F: Folder>(
     name: &str,
 ) -> Result<Litmus, RunningFault>
     ensures ok { IfOk result (λ test. tabling.IsTestIn (F.files folder.old).told name.now test) }
+    ensures quiet { OnOk result (F.files folder.new ≡ F.files folder.old) }
     ensures err { IfErr result (tabling.IsUntested (F.files folder.old).told
         (IsUnread F.Source.remaining F.Source.failed
         (F.files folder.old) (F.files folder.new)) name.now) }
@@ -52,14 +58,14 @@ pub(crate) fn read_test<F: Folder>(
     Ok(test)
 }
 
-/// The table of the runs of a test: of threads, or by the seed.
+/// The table and the totals of the runs of a test: of threads, or by the seed.
 fn collect<R: Threads + Wait + Sync>(
     rt: &R,
     alloc: Global,
     test: &Litmus,
     config: &Config,
     asked: &Asked<'_>,
-) -> Result<Table, CollectFault>
+) -> Result<Collected, CollectFault>
     ensures { MatchResult result
         (tabling.IsTableBy asked.now.threads test.now config.now asked.now.runs asked.now.seed)
         (tabling.IsFaultBy asked.now.threads test.now config.now asked.now.runs asked.now.seed) }
@@ -70,16 +76,17 @@ fn collect<R: Threads + Wait + Sync>(
     collect_seeded(rt, alloc, test, config, asked.runs, asked.seed)
 }
 
-/// The table of the runs that are asked for, or why there is none: 6 of the configuration, and then of
+/// The table and the totals of the runs that are asked for, or why there are none: 6 of the configuration, and then of
 /// the number of runs, comes before the test is read.
-fn table_of<R: Threads + Wait + Sync, F: Folder>(
+fn collected_of<R: Threads + Wait + Sync, F: Folder>(
     rt: &R,
     alloc: Global,
     folder: &mut F,
     asked: &Asked<'_>,
-) -> Result<Table, RunningFault>
-    ensures ok { IfOk result (λ table.
-        tabling.Tabled (F.files folder.old).told asked.now (λ made. made ≡ table)) }
+) -> Result<Collected, RunningFault>
+    ensures ok { IfOk result (λ collected.
+        tabling.Tabled (F.files folder.old).told asked.now (λ made. made ≡ collected)) }
+    ensures quiet { OnOk result (F.files folder.new ≡ F.files folder.old) }
     ensures err { IfErr result (tabling.IsUntabled (F.files folder.old).told
         (IsUnread F.Source.remaining F.Source.failed
         (F.files folder.old) (F.files folder.new)) asked.now) }
@@ -93,8 +100,45 @@ fn table_of<R: Threads + Wait + Sync, F: Folder>(
     Ok(collect(rt, alloc, &test, &config, asked)?)
 }
 
-/// Writes the table of the runs that are asked for, and answers whether an outcome is forbidden, or why
-/// there is no table: 29 where standard output failed, and then it took a beginning of it.
+/// The text of the totals, where a file is given for it; else none.
+fn text_of(
+    alloc: Global,
+    statistics: Option<&str>,
+    totals: &RunTotals,
+) -> Result<Vec<u8>, AllocError>
+    ensures { IfOk result (λ text.
+        IfSome statistics.entry (λ _. text.items ≡ totals_text totals.now)) }
+{
+    match statistics {
+        Some(_) => print_totals(alloc, totals),
+        None => Ok(Vec::new(alloc)),
+    }
+}
+
+/// Puts a text under the name that is given for it, if one is: 29 where that fails.
+fn put_text<F: Folder>(
+    folder: &mut F,
+    statistics: Option<&str>,
+    text: &[u8],
+) -> Result<(), RunningFault>
+    ensures ok { OnOk result (numbers.PutsStatistics (F.files folder.old) (F.files folder.new) statistics.entry text.now) }
+    ensures err { IfErr result (λ fault. (fault ≡ RunningFault.StatisticsUnwritten)
+        × numbers.FailsStatistics (F.files folder.old) (F.files folder.new) statistics.entry) }
+    ensures others { KeepsFiles (F.files folder.old).told (F.files folder.new).told
+        (numbers.IsStatisticsName statistics.entry) }
+{
+    let Some(name) = statistics else {
+        return Ok(());
+    };
+    match folder.put(name, text) {
+        Ok(()) => Ok(()),
+        Err(_) => Err(RunningFault::StatisticsUnwritten),
+    }
+}
+
+/// Writes the table of the runs that are asked for, then puts their totals where a file is given for them, and answers whether an outcome
+/// is forbidden, or why there is no table: 29 where standard output failed, and then it took a beginning of it, or where the totals can't
+/// be put.
 pub fn count_outcomes<R: Threads + Wait + Sync, F: Folder, O: ByteSink>(
     rt: &R,
     alloc: Global,
@@ -102,13 +146,18 @@ pub fn count_outcomes<R: Threads + Wait + Sync, F: Folder, O: ByteSink>(
     asked: &Asked<'_>,
     out: &mut O,
 ) -> Result<bool, RunningFault>
-    ensures exact { tabling.IsCounted (F.files folder.old).told
+    ensures exact { tabling.IsCounted (F.files folder.old) (F.files folder.new)
         (IsUnread F.Source.remaining F.Source.failed
         (F.files folder.old) (F.files folder.new)) asked.now
         (sink_of O.contents O.failed out.old) (sink_of O.contents O.failed out.new) result }
-    ensures read { IsOnlyRead (F.files folder.old) (F.files folder.new) }
+    ensures files { KeepsFiles (F.files folder.old).told (F.files folder.new).told
+        (numbers.IsStatisticsName asked.now.statistics) }
 {
-    let table = table_of(rt, alloc, folder, asked)?;
-    write_table(alloc, out, &table)?;
-    Ok(has_forbidden(&table))
+    let collected = collected_of(rt, alloc, folder, asked)?;
+    let Ok(text) = text_of(alloc, asked.statistics, &collected.totals) else {
+        return Err(RunningFault::Call(CallFault::OutOfMemory));
+    };
+    write_table(alloc, out, &collected.table)?;
+    put_text(folder, asked.statistics, text.as_slice())?;
+    Ok(has_forbidden(&collected.table))
 }

@@ -1,5 +1,5 @@
 use Rattle.std.proofs.Common.{◌≡◌, ◌∙◌, inl, inr, ℕ, List, length, map, Option, None, Err, subst, rules}
-use Rattle.std.specs.Prelude.{IfErr, IfOk, OnOk}
+use Rattle.std.specs.Prelude.{IfErr, OnOk}
 use Rattle.lease_rule.specs.Ranges.{first_bad}
 use Rattle.simulation.specs.Simulating.{IsSimulated, IsSimulationFault}
 use Rattle.core_machine.specs.Opening.{opening_parts}

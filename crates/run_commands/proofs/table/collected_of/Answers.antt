@@ -11,7 +11,7 @@ use Rattle.call_devices.specs.Files.{IsUnread}
 use Rattle.run_commands.specs.Faults.{from_collect}
 use Rattle.run_commands.specs.Programmed.{config_of}
 use Rattle.run_commands.specs.Tabling.{IsFaultBy, IsInOrder, IsTestIn, IsUntabled}
-use Rattle.run_commands.proofs.table.table_of.Goals as goal
+use Rattle.run_commands.proofs.table.collected_of.Goals as goal
 
 bad_runs : (threads : Bool) (t : LitmusParts) (g : ConfigParts) (runs seed : ℕ) → IsFaultBy threads t g runs seed BadRuns → IsBadRunCount runs
 bad_runs true t g runs seed is = is
