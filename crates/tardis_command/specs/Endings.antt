@@ -12,7 +12,7 @@ use Rattle.call_devices.specs.Files.{Files}
 use Rattle.tardis_command.specs.Faults.{command_fault_text, fault_status, from_judging, from_running, from_searching}
 use Rattle.mem_op.specs.Consistency.{IsConsistent}
 use Rattle.run_commands.specs.Leaving.{LeavesYes}
-use Rattle.run_commands.specs.Numbers.{IsLeftName}
+use Rattle.run_commands.specs.Numbers.{IsLeftName, IsStatisticsName}
 use Rattle.judge_commands.specs.Ordering.{IsOrdered, TakesOrder}
 use Rattle.judge_commands.specs.declared.fault.JudgingFault.TheVariants as judging
 use Rattle.refusal_commands.specs.Telling.{IsOfFile, TellsOf}
@@ -104,12 +104,14 @@ LeaveYes told told' (Sim asked) = LeavesYes told told' asked.programs.now asked.
 LeaveYes told told' (Run asked) = LeavesYes told told' asked.programs.now asked.out.now
 LeaveYes told told' other = ⊤
 
--- a name under which what was asked for may put a file: that of a log, of a run's numbers, of a picture or of a certificate
+-- a name under which what was asked for may put a file: that of a log, of a run's numbers, of the totals of a litmus test's runs, of a
+-- picture or of a certificate
 abbrev pub IsPutName : Request → List ℕ → Type 0
 IsPutName (Explain asked) name = IsPictureName asked.picture name
 IsPutName (Upgrade asked) name = IsLogName asked.out.now name
 IsPutName (Sim asked) name = IsLeftName asked.out.now asked.statistics name
 IsPutName (Run asked) name = IsLeftName asked.out.now asked.statistics name
+IsPutName (Litmus asked) name = IsStatisticsName asked.statistics name
 IsPutName (Search asked) name = IsOutputName asked name
 IsPutName other name = ⊥
 
@@ -150,7 +152,7 @@ IsDoneBy old new unread (Run asked) out out' ending = IsPrinted (Says Done from_
 IsDoneBy old new unread (Search asked) out out' ending = IsWritten (Says Searched from_searching (IsSearched old new unread asked out out')) ending
 IsDoneBy old new unread (Confirm asked) out out' ending = IsWritten (Says Searched from_searching (IsConfirmed old new unread asked out out')) ending
 IsDoneBy old new unread AskedVersion out out' ending = IsPrinted (Says (λ told. Version) Call (IsUntouched old new)) out out' ending
-IsDoneBy old new unread (Litmus asked) out out' ending = IsWritten (Says Counted from_running (IsCounted old.told unread asked out out')) ending
+IsDoneBy old new unread (Litmus asked) out out' ending = IsWritten (Says Counted from_running (IsCounted old new unread asked out out')) ending
 
 -- what standard output took more of a refusal: of an explanation's what is told of it, and of others nothing
 abbrev pub TellsMore : Request → CommandFault → Sink → Sink → Type 0
@@ -172,7 +174,7 @@ IsAnswered (Refused fault) came = came ≡ Err fault
 IsAnswered other came = ⊥
 
 -- A call with these words may end so, and leave standard output so; what is told more of a refusal comes after that. Words that aren't a
--- command line, that name more files than a trace has, or a picture or a run's numbers in place of another file, end in what the user is
+-- command line, that name more files than a trace has, or a picture or the numbers of runs in place of another file, end in what the user is
 -- told of them, or memory runs out before it is known what they ask for. A refusal that there was no memory to tell left all as it leaves it where
 -- it is told.
 abbrev pub IsEnd : Files → Files → (List ℕ → Type 0) → List (List ℕ) → Sink → Sink → Ending → Type 0

@@ -29,7 +29,7 @@ const USAGE: u8 = 3;
 /// programs, the schedule, the test, the trace or the certificate are refused, 3 where the words are or a number is out of range, else 4. An answer goes to standard
 /// output, all else to standard error; where an order goes to standard output, its verdict goes to
 /// standard error. Of a refused explanation more is told on standard output. In the folder nothing is put but the logs of a run or of an
-/// upgrade, a run's numbers, the picture of an explanation, and what a search finds.
+/// upgrade, a run's numbers, the totals of a litmus test's runs, the picture of an explanation, and what a search finds.
 pub fn command<
     R: Threads + Wait + Sync,
     W: Watch + SearchWatch + Sync,

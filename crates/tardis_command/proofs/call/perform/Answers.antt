@@ -170,10 +170,10 @@ pub returns-in_ok-order-in-Order-clause-files : goal.returns-in_ok-order-in-Orde
 returns-in_ok-order-in-Order-clause-files g c = keeps_told_of _ _ _ c.in_ok-order-in-Order.ensures.read
 
 pub returns-in_err-count_outcomes-in-Litmus-clause-files : goal.returns-in_err-count_outcomes-in-Litmus-clause-files
-returns-in_err-count_outcomes-in-Litmus-clause-files g c = keeps_told_of _ _ _ c.in_err-count_outcomes-in-Litmus.ensures.read
+returns-in_err-count_outcomes-in-Litmus-clause-files g c = rw c.in-Litmus.is c.in_err-count_outcomes-in-Litmus.ensures.files
 
 pub returns-in_ok-count_outcomes-in-Litmus-clause-files : goal.returns-in_ok-count_outcomes-in-Litmus-clause-files
-returns-in_ok-count_outcomes-in-Litmus-clause-files g c = keeps_told_of _ _ _ c.in_ok-count_outcomes-in-Litmus.ensures.read
+returns-in_ok-count_outcomes-in-Litmus-clause-files g c = rw c.in-Litmus.is c.in_ok-count_outcomes-in-Litmus.ensures.files
 
 pub returns-in_err-confirm-in-Confirm-clause-files : goal.returns-in_err-confirm-in-Confirm-clause-files
 returns-in_err-confirm-in-Confirm-clause-files g c = keeps_told_of _ _ _ c.in_err-confirm-in-Confirm.ensures.read
