@@ -247,9 +247,15 @@ pub fn accept_run(
         ⊎ (NoneReports programs.now.programs units.items faults.now × IsAuditCause f.cause
         × (¬ IsRun programs.now.programs config.now units.items slices.items))) }
     ensures left { IfErr result (λ f. f.units.items ≡ units.items) }
+    ensures slices { IfErr result (λ f. f.slices.items ≡ slices.items) }
 {
     if let Some((core, cause)) = first_report(programs, &units, faults) {
-        return Err(MachineFault { core, cause, units });
+        return Err(MachineFault {
+            core,
+            cause,
+            units,
+            slices,
+        });
     }
     match check_run(programs, config, &units, &slices) {
         Ok(()) => Ok(RunEnd { units, slices }),
@@ -257,6 +263,7 @@ pub fn accept_run(
             core: fault.core,
             cause: Cause::Audit(fault),
             units,
+            slices,
         }),
     }
 }

@@ -1,4 +1,4 @@
-//! Why a run of threads isn't ended, and the units that it left.
+//! Why a run of threads isn't ended, and the units and slices that it left.
 
 ghost use Rattle.std.specs.Prelude.{◌≡◌, ◌⊎◌, []};
 ghost use Rattle.audit.specs.Runs.{IsUnitLog, kept_log};
@@ -41,7 +41,7 @@ pub struct RunEnd {
     pub slices: Vec<ManagerSlice>,
 }
 
-/// Why a run of threads isn't ended, with the units that its threads gave back.
+/// Why a run of threads isn't ended, with the units that its threads gave back, and the slices.
 #[derive(Drop, Error)]
 pub struct MachineFault {
     /// The core that the fault is of; of 33 its core.
@@ -50,6 +50,8 @@ pub struct MachineFault {
     pub cause: Cause,
     /// The units that threads gave back.
     pub units: Vec<CoreUnit>,
+    /// The slices, number 0 first; none where no thread was to be started.
+    pub slices: Vec<ManagerSlice>,
 }
 
 impl MachineFault {

@@ -6,6 +6,8 @@ use Rattle.std.proofs.lemmas.Bool.{cases_eq, eq-eqb, ne_eqb}
 use Rattle.std.proofs.lemmas.Option.{get_or_from_slice_get, slice_get_within}
 use Rattle.core_unit.specs.Kept.{Replays}
 use Rattle.core_unit.specs.Parts.{UnitParts}
+use Rattle.manager_slice.specs.Parts.{SliceParts}
+use Rattle.manager_slice.specs.Replay.{Replays as SliceReplays}
 use Rattle.audit.specs.Runs.{IsUnitLog, kept_log}
 use Rattle.audit.specs.declared.machine_fault.MachineFault.{MachineFault}
 use Rattle.audit.specs.declared.machine_fault.RunEnd.{RunEnd}
@@ -32,3 +34,8 @@ pub kept_after : (r : Result RunEnd MachineFault) (us : List UnitParts) → All 
 kept_after (Ok end) us each left = tt
 kept_after (Err f) us each left =
     subst (λ (vs : List UnitParts). (c : ℕ) → IsUnitLog c (kept_log vs c) ⊎ (kept_log vs c ≡ [])) (sym left) (kept_logs us each)
+
+pub slices_after : (r : Result RunEnd MachineFault) (ss : List SliceParts) → All SliceReplays ss → IfErr r (λ f. f.slices.items ≡ ss)
+    → IfErr r (λ f. All SliceReplays f.slices.items)
+slices_after (Ok end) ss each left = tt
+slices_after (Err f) ss each left = subst (All SliceReplays) (sym left) each

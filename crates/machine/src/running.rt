@@ -2,6 +2,7 @@
 
 ghost use Rattle.std.specs.Prelude.{◌≡◌, ◌⊎◌, ℕ, [], All, IfOk, IfErr};
 ghost use Rattle.core_unit.specs.Kept.{Replays};
+ghost use Rattle.manager_slice.specs.Replay.{Replays as SliceReplays};
 ghost use Rattle.audit.specs.Runs.{IsRun, IsUnitLog, StoppedShort, kept_log};
 ghost use Rattle.audit.specs.declared.machine_fault.Cause.TheVariants.{GaveUp, Stopped};
 ghost use Rattle.machine.specs.Runs.{IsMachineRun};
@@ -47,6 +48,8 @@ pub fn run_threads<P: Pace + Sync, R: Threads + Wait + Sync>(
         StoppedShort programs.now.programs f.units.items f.core) }
     // Each log that is left is that of a unit of its core whose transcript replays, or empty.
     ensures logs { IfErr result (λ f. (c : ℕ) → IsUnitLog c (kept_log f.units.items c) ⊎ (kept_log f.units.items c ≡ [])) }
+    // Each slice that is left has a state that is the replay of its history.
+    ensures slices { IfErr result (λ f. All SliceReplays f.slices.items) }
 {
     let Ok(units) = opening_units(alloc, programs, config) else {
         return Err(no_memory(alloc));
@@ -77,11 +80,13 @@ fn accepted(
     ensures short { IfErr result (λ f. (f.cause ≡ GaveUp ⊎ f.cause ≡ Stopped) →
         StoppedShort programs.now.programs f.units.items f.core) }
     ensures logs { IfErr result (λ f. (c : ℕ) → IsUnitLog c (kept_log f.units.items c) ⊎ (kept_log f.units.items c ≡ [])) }
+    ensures slices { IfErr result (λ f. All SliceReplays f.slices.items) }
 {
     let Ends { units, faults } = ends;
     merges_are_runs();
     merged_logs_get_yes();
     each_replays(&units);
+    each_slice_replays(&slices);
     accept_run(programs, config, units, &faults, slices)
 }
 
@@ -105,15 +110,26 @@ fn each_replays(units: &[CoreUnit])
     }
 }
 
-// A growth was refused beside the cores, and no unit is left.
+// Does nothing: each slice has a state that is the replay of its history, by its type.
+fn each_slice_replays(slices: &[ManagerSlice])
+    ensures { All SliceReplays slices.now }
+{
+    for slice in slices {
+        slice.replays();
+    }
+}
+
+// A growth was refused beside the cores, and no unit is left, and no slice.
 fn no_memory(alloc: Global) -> MachineFault
     ensures cause { result.cause ≡ Cause.OutOfMemory }
     ensures units { result.units.items ≡ [] }
+    ensures slices { result.slices.items ≡ [] }
 {
     MachineFault {
         core: 0,
         cause: Cause::OutOfMemory,
         units: Vec::new(alloc),
+        slices: Vec::new(alloc),
     }
 }
 

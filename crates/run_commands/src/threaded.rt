@@ -17,7 +17,7 @@ use std::sync::Wait;
 use std::thread::Threads;
 
 /// Runs the programs in a file of the folder, each core in a thread of its own, and writes the log of each core, and then the run's
-/// numbers where a file is given for them, also where a fault ends the run: then the cores' alone. The number of operations that were performed, or why there is none.
+/// numbers where a file is given for them, also where a fault ends the run. The number of operations that were performed, or why there is none.
 pub fn run<R: Threads + Wait + Sync, W: Watch + Sync, F: Folder>(
     rt: &R,
     alloc: Global,
@@ -54,7 +54,7 @@ pub fn run<R: Threads + Wait + Sync, W: Watch + Sync, F: Folder>(
         Err(fault) => {
             let made = UnitLogs {
                 units: &fault.units,
-                slices: &[],
+                slices: &fault.slices,
             };
             let _left = leave(alloc, folder, &leaving, &made);
             Err(RunningFault::Run(ThreadsFault::of(&fault)))

@@ -56,13 +56,14 @@ returns-clause-exact g c =
     let sound : first_bad (config_of asked.limits) ≡ None = search rules in
     let read : AreProgramsIn old.told asked.programs.now set = search rules in
     let us = c.deref-in-Err.result.now in
-    let are = left_by set.programs c.of.result c.in-Err.fault.core c.in-Err.fault.cause us c.in-Err.fault.units.items
-    c.of.ensures.core c.of.ensures.cause c.deref-in-Err.ensures.value c.in-Err.ensures.logs c.in-Err.ensures.short in
+    let ss = c.deref-in-Err-2.result.now in
+    let are = left_by set.programs c.of.result c.in-Err.fault.core c.in-Err.fault.cause us c.in-Err.fault.units.items ss c.in-Err.fault.slices.items
+    c.of.ensures.core c.of.ensures.cause c.deref-in-Err.ensures.value c.deref-in-Err-2.ensures.value c.in-Err.ensures.logs c.in-Err.ensures.slices c.in-Err.ensures.short in
     let many : c.len.result ≡ length set.programs = search rules in
     let same : c.log_format.result ≡ log_format set.format = search rules in
     let parts : c.slices.result ≡ asked.limits.slices = search rules in
-    let far = subst (λ (f : Files). AreLeftAsFar c.log_format.result f new asked.out.now c.len.result (kept_log us) asked.statistics (numbers_of c.len.result c.slices.result us [])) c.in_ok-programs.ensures.quiet c.leave-left.ensures.far in
-    left old new unread asked set us sound read c.of.result are (rw (← many, ← same, ← parts) far)
+    let far = subst (λ (f : Files). AreLeftAsFar c.log_format.result f new asked.out.now c.len.result (kept_log us) asked.statistics (numbers_of c.len.result c.slices.result us ss)) c.in_ok-programs.ensures.quiet c.leave-left.ensures.far in
+    left old new unread asked set us sound read c.of.result ss are (rw (← many, ← same, ← parts) far)
 
 -- what was put after the reading was put in all
 put_after : (old now : Files) (told : List ℕ → Option (List ℕ)) (IsPut : List ℕ → Type 0) → now ≡ old → KeepsFiles now.told told IsPut → KeepsFiles old.told told IsPut
