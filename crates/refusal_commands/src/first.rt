@@ -32,11 +32,9 @@ pub(crate) fn first_text<F: Folder>(
 fn words(alloc: Global, first: &FirstVerdict) -> Result<String, AllocError>
     ensures { IfOk result (λ text. string_bytes text ≡ first_words first.now.operations first.now.verdict) }
 {
-    format!(
-        in alloc;
+    format!(in alloc;
         "The first {} operations of each core get, judged alone: {}\nThis is no verdict on the logs: what comes later is left out, and a load of a later store gets SOURCE here.\n",
-        first.operations,
-        first.verdict
+        first.operations, first.verdict
     )
 }
 

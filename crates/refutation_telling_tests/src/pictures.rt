@@ -5,7 +5,7 @@ use refutation_picture::draw;
 use std::test::Fail;
 
 /// What the picture of store buffering has.
-const PARTS: [&str; 7] = [
+const PARTS: [&str; 8] = [
     "<title>no: no order of 4 operations</title>",
     "Each arrow leads to what comes later. The red ones go round.",
     ">core 0</text>",
@@ -13,6 +13,7 @@ const PARTS: [&str; 7] = [
     ">0.1  M[1] == 0 (initial)</text>",
     "class=\"arrow fromread red\" marker-end=\"url(#red)\"",
     "class=\"arrow program red\" marker-end=\"url(#red)\"",
+    "</svg>\n",
 ];
 
 // What it doesn't show isn't in the legend either.

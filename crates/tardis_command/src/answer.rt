@@ -47,10 +47,8 @@ impl Answer {
             }
             Answer::Searched(answer) => answer.status(),
             Answer::Counted(true) => 1,
-            Answer::Counted(false)
-            | Answer::Readable(_, _)
-            | Answer::Done(_)
-            | Answer::Version => 0,
+            Answer::Counted(false) | Answer::Readable(_, _) | Answer::Done(_) | Answer::Version =>
+                0,
         }
     }
 }
