@@ -93,6 +93,9 @@ fn a_core_that_is_stopped(rt: HostRuntime) -> Result<(), Fail> {
     );
     let verdict = judged(&rt, rt.alloc(), fault.units.as_slice())?;
     assert_eq!(rt; verdict, Verdict::Yes(3));
+    // The slice that both asked is left with what it did.
+    assert_eq!(rt; fault.slices.len(), 1);
+    assert!(rt; fault.slices.iter().all(|slice| !slice.history().is_empty()));
     Ok(())
 }
 
