@@ -1,1 +1,4 @@
-mod Begun
+mod Front
+mod Judged
+mod LeastCount
+mod Read

@@ -1,11 +1,12 @@
 //! The judge over the beginnings of logs.
 
-ghost use Rattle.std.specs.Prelude.{◌≡◌, IfOk, IfSome, map};
+ghost use Rattle.std.specs.Prelude.{◌≡◌, IfOk, MatchOption, Ok, map};
 ghost use Rattle.log_file.specs.InMemory.{rest_of};
 ghost use Rattle.verdict.specs.Judgement.{IsAnswerTo};
-ghost use Rattle.cut_logs.specs.Beginnings.{IsVerdictOnFirst, texts_of};
+ghost use Rattle.cut_logs.specs.Beginnings.{IsFirstVerdict, SpellNoSet, texts_of};
 
-use super::beginning::{beginnings, least_operations};
+use super::beginning::beginnings;
+use super::counting::least_count;
 use log_file::SliceSource;
 use merge_judge::merged_verdict;
 use std::alloc::{AllocError, Global};
@@ -20,35 +21,40 @@ pub struct FirstVerdict {
     pub verdict: Verdict,
 }
 
-/// Judges the first operations of each of these logs alone: as many of each as the one with the fewest whole operations has. None where
-/// that one has none, where one of the logs has a fault in them, and where memory was refused. It is no verdict on the logs.
-pub fn first_verdict(alloc: Global, texts: &[Vec<u8>]) -> Option<FirstVerdict>
-    ensures { IfSome result (λ first. IsVerdictOnFirst first.operations (texts_of texts.now) first.verdict) }
+/// Judges the first operations of each of these logs alone: as many of each as the one with the fewest whole operations has. None where a log
+/// has none, or has a fault other than that it is cut off. It is no verdict on the logs. Err where memory was refused.
+pub fn first_verdict(alloc: Global, texts: &[Vec<u8>]) -> Result<Option<FirstVerdict>, AllocError>
+    ensures { IfOk result (IsFirstVerdict (texts_of texts.now)) }
 {
-    let operations = least_operations(texts);
-    if operations == 0 {
-        return None;
-    }
-    let Ok(begun) = beginnings(alloc, operations, texts) else {
-        return None;
+    let Some(operations) = least_count(alloc, texts)? else {
+        return Ok(None);
     };
-    match verdict_on(alloc, begun.as_slice()) {
-        Ok(verdict) => Some(FirstVerdict {
+    if operations == 0 {
+        return Ok(None);
+    }
+    let begun = beginnings(alloc, operations, texts)?;
+    match verdict_on(alloc, begun.as_slice())? {
+        Some(verdict) => Ok(Some(FirstVerdict {
             operations,
             verdict,
-        }),
-        Err(_) => None,
+        })),
+        None => Ok(None),
     }
 }
 
-/// The verdict on the logs that these texts spell.
-fn verdict_on(alloc: Global, texts: &[Vec<u8>]) -> Result<Verdict, JudgeFault>
-    ensures { IfOk result (λ verdict. IsAnswerTo (texts_of texts.now) (Ok verdict)) }
+/// The verdict on the logs that these texts spell; None where one of them is no log.
+fn verdict_on(alloc: Global, texts: &[Vec<u8>]) -> Result<Option<Verdict>, AllocError>
+    ensures { IfOk result (λ found. MatchOption found
+        (SpellNoSet (texts_of texts.now))
+        (λ verdict. IsAnswerTo (texts_of texts.now) (Ok verdict))) }
 {
-    let Ok(mut sources) = sources_of(alloc, texts) else {
-        return Err(JudgeFault::OutOfMemory);
-    };
-    merged_verdict(alloc, sources.as_mut_slice())
+    let mut sources = sources_of(alloc, texts)?;
+    match merged_verdict(alloc, sources.as_mut_slice()) {
+        Ok(verdict) => Ok(Some(verdict)),
+        Err(JudgeFault::Log { .. }) => Ok(None),
+        // Lack of memory: the sources never fail, and there are 1 to 64 of them.
+        Err(_) => Err(AllocError),
+    }
 }
 
 /// A source for each text.

@@ -2,6 +2,8 @@
 #![tactic(auto)]
 
 mod beginning;
+mod counting;
 mod judging;
 
+pub use counting::log_in_text;
 pub use judging::{FirstVerdict, first_verdict};

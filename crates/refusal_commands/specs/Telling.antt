@@ -1,13 +1,15 @@
 -- What is told of the refusal of an explanation.
-use Rattle.std.specs.Prelude.{◌≡◌, ◌⊎◌, ⊤, ℕ, List, [], ◌++◌, Option, None, Some, slice_get}
+use Rattle.std.specs.Prelude.{◌≡◌, ⊤, ℕ, List, [], ◌++◌, MatchOption, Option, None, Some, codes, slice_get}
 use Rattle.std.specs.Borrow.{Bor}
 use Rattle.command_line.specs.declared.request.Check.{Check}
 use Rattle.core_program.specs.declared.fault.ProgramFault.{ProgramFault}
 use Rattle.core_program.specs.declared.fault.ProgramFault.TheVariants as program
 use Rattle.fault_telling.specs.Places.{place_text}
-use Rattle.verdict.specs.declared.judge_fault.JudgeFault.TheVariants.{Log}
+use Rattle.verdict.specs.declared.judge_fault.Count.{Count}
+use Rattle.verdict.specs.declared.judge_fault.Count.TheVariants as count
+use Rattle.verdict.specs.declared.judge_fault.JudgeFault.TheVariants.{BadConfig, Log, Read}
 use Rattle.call_devices.specs.Sinks.{Sink, Takes}
-use Rattle.call_devices.specs.declared.call_fault.CallFault.TheVariants.{Programs}
+use Rattle.call_devices.specs.declared.call_fault.CallFault.TheVariants.{Programs, ProgramsUnread}
 use Rattle.judge_commands.specs.declared.fault.JudgingFault.{JudgingFault}
 use Rattle.judge_commands.specs.declared.fault.JudgingFault.TheVariants.{Judge, Call}
 use Rattle.litmus_test.specs.declared.fault.LitmusFault.{LitmusFault}
@@ -26,19 +28,35 @@ program_line (program.TooLong line) = Some line
 program_line (program.SkipPastEnd line) = Some line
 program_line program.OutOfMemory = None
 
--- the text begins with the name of the file of the programs and the line of their fault
-abbrev pub BeginsAtProgram : Option (Bor (List ℕ)) → ProgramFault → List ℕ → Type 0
-BeginsAtProgram name fault text = (file : Bor (List ℕ)) × (name ≡ Some file) × (line : ℕ) × (program_line fault ≡ Some line) × BeginsAt file.now line text
+-- the text begins with the name of a file and the line of its fault; nothing is told without a name, or of a fault that has no line
+abbrev pub BeginsAtLine : Option (Bor (List ℕ)) → Option ℕ → List ℕ → Type 0
+BeginsAtLine (Some file) (Some line) text = BeginsAt file.now line text
+BeginsAtLine (Some file) None text = text ≡ []
+BeginsAtLine None at text = text ≡ []
 
--- of a file that was refused, the text begins with its name and the line of its fault
+-- what is told of a file that can't be opened or read
+abbrev pub unread_words : Option (Bor (List ℕ)) → List ℕ
+unread_words (Some file) = file.now ++ codes ": it can't be opened or read.\n"
+unread_words None = []
+
+-- what is told of a number of files or programs that is wrong
+abbrev pub count_words : Count → List ℕ
+count_words count.Programs = codes "The file of the programs has those of another number of cores than there are logs.\n"
+count_words count.Files = codes "A set has 1 to 64 logs, one of each core.\n"
+count_words count.Workers = []
+
+-- The text tells of such a refusal: of a file's fault it begins with the file's name and the line of the fault.
 abbrev pub IsToldOf : Check → JudgingFault → List ℕ → Type 0
-IsToldOf asked (Judge (Log file line fault)) text = (name : Bor (List ℕ)) × (slice_get asked.files.items file ≡ Some name) × BeginsAt name.now line text
-IsToldOf asked (Call (Programs fault)) text = BeginsAtProgram asked.program fault text
-IsToldOf asked other text = ⊤
+IsToldOf asked (Judge (Log file line fault)) text = BeginsAtLine (slice_get asked.files.items file) (Some line) text
+IsToldOf asked (Judge (Read file)) text = text ≡ unread_words (slice_get asked.files.items file)
+IsToldOf asked (Judge (BadConfig count)) text = text ≡ count_words count
+IsToldOf asked (Call (Programs fault)) text = BeginsAtLine asked.program (program_line fault) text
+IsToldOf asked (Call ProgramsUnread) text = text ≡ unread_words asked.program
+IsToldOf asked other text = text ≡ []
 
--- the sink took such a text, or failed after a beginning of it, or there was no memory for one
+-- the sink took such a text, or failed after a beginning of it
 abbrev pub TellsOf : Check → JudgingFault → Sink → Sink → Type 0
-TellsOf asked fault old new = (text : List ℕ) × ((text ≡ []) ⊎ IsToldOf asked fault text) × Takes old new text
+TellsOf asked fault old new = (text : List ℕ) × IsToldOf asked fault text × Takes old new text
 
 -- a file has this fault, so it is read again
 abbrev pub IsOfFile : JudgingFault → Type 0
@@ -56,19 +74,15 @@ test_line (test.TooLong line) = Some line
 test_line (test.SkipPastEnd line) = Some line
 test_line test.OutOfMemory = None
 
--- the text begins with this name and this line, where there is one
-abbrev pub BeginsAtLine : List ℕ → Option ℕ → List ℕ → Type 0
-BeginsAtLine name at text = (line : ℕ) × (at ≡ Some line) × BeginsAt name line text
+-- The text tells of such a refusal: of a file's fault it begins with the file's name and the line of the fault.
+abbrev pub IsToldOfFile : Bor (List ℕ) → FileFault → List ℕ → Type 0
+IsToldOfFile file (filed.Test fault) text = BeginsAtLine (Some file) (test_line fault) text
+IsToldOfFile file (filed.Programs fault) text = BeginsAtLine (Some file) (program_line fault) text
+IsToldOfFile file filed.Unread text = text ≡ unread_words (Some file)
 
--- of a file that was refused, the text begins with its name and the line of its fault
-abbrev pub IsToldOfFile : List ℕ → FileFault → List ℕ → Type 0
-IsToldOfFile name (filed.Test fault) text = BeginsAtLine name (test_line fault) text
-IsToldOfFile name (filed.Programs fault) text = BeginsAtLine name (program_line fault) text
-IsToldOfFile name filed.Unread text = ⊤
-
--- the sink took such a text, or failed after a beginning of it, or there was no memory for one
-abbrev pub TellsOfFile : List ℕ → FileFault → Sink → Sink → Type 0
-TellsOfFile name fault old new = (text : List ℕ) × ((text ≡ []) ⊎ IsToldOfFile name fault text) × Takes old new text
+-- the sink took such a text, or failed after a beginning of it
+abbrev pub TellsOfFile : Bor (List ℕ) → FileFault → Sink → Sink → Type 0
+TellsOfFile file fault old new = (text : List ℕ) × IsToldOfFile file fault text × Takes old new text
 
 -- the file could be read, so it is read again
 abbrev pub IsReadAgain : FileFault → Type 0

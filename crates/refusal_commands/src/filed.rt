@@ -1,6 +1,6 @@
 //! What is told of the refusal of a file that isn't a log.
 
-ghost use Rattle.std.specs.Prelude.{◌≡◌, ◌⊎◌, [], IfOk, string_bytes};
+ghost use Rattle.std.specs.Prelude.{◌≡◌, ◌⊎◌, Some, IfOk, OnErr, OnOk, string_bytes};
 ghost use Rattle.call_devices.specs.Files.{IsOnlyRead};
 ghost use Rattle.call_devices.specs.Sinks.{sink_of};
 ghost use Rattle.refusal_commands.specs.Telling as telling;
@@ -25,23 +25,23 @@ pub enum FileFault {
 }
 
 /// Tells on standard output of the refusal of a file that isn't a log: where its fault is, how the line there is written, and what is
-/// wrong with it. The file is read again for that. A write that fails is passed over, and where there is no memory nothing is told.
+/// wrong with it. The file is read again for that. A write that fails is passed over. Err where there is no memory, and then nothing is told.
 pub fn tell_file<F: Folder, O: ByteSink>(
     alloc: Global,
     folder: &mut F,
     name: &str,
     fault: FileFault,
     out: &mut O,
-)
-    ensures told { telling.TellsOfFile name.now fault
-        (sink_of O.contents O.failed out.old) (sink_of O.contents O.failed out.new) }
+) -> Result<(), AllocError>
+    ensures told { OnOk result (telling.TellsOfFile name.entry fault
+        (sink_of O.contents O.failed out.old) (sink_of O.contents O.failed out.new)) }
+    ensures untold { OnErr result (out.new ≡ out.old) }
     ensures read { IsOnlyRead (F.files folder.old) (F.files folder.new) }
     ensures quiet { (F.files folder.new ≡ F.files folder.old) ⊎ telling.IsReadAgain fault }
 {
-    match file_text(alloc, folder, name, fault) {
-        Ok(text) => tell(out, text.as_bytes()),
-        Err(_) => tell(out, &[]),
-    }
+    let text = file_text(alloc, folder, name, fault)?;
+    tell(out, text.as_bytes());
+    Ok(())
 }
 
 /// What is told of the refusal of a file that isn't a log.
@@ -51,7 +51,7 @@ fn file_text<F: Folder>(
     name: &str,
     fault: FileFault,
 ) -> Result<String, AllocError>
-    ensures told { IfOk result (λ text. (string_bytes text ≡ []) ⊎ telling.IsToldOfFile name.now fault (string_bytes text)) }
+    ensures told { IfOk result (λ text. telling.IsToldOfFile name.entry fault (string_bytes text)) }
     ensures read { IsOnlyRead (F.files folder.old) (F.files folder.new) }
     ensures quiet { (F.files folder.new ≡ F.files folder.old) ⊎ telling.IsReadAgain fault }
 {
@@ -69,7 +69,7 @@ fn test_text<F: Folder>(
     name: &str,
     fault: LitmusFault,
 ) -> Result<String, AllocError>
-    ensures told { IfOk result (λ text. (string_bytes text ≡ []) ⊎ telling.BeginsAtLine name.now (telling.test_line fault) (string_bytes text)) }
+    ensures told { IfOk result (λ text. telling.BeginsAtLine (Some name.entry) (telling.test_line fault) (string_bytes text)) }
     ensures read { IsOnlyRead (F.files folder.old) (F.files folder.new) }
 {
     let Some(line) = test_line(fault) else {

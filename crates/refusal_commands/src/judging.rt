@@ -1,6 +1,6 @@
 //! What is told of the refusal of an explanation.
 
-ghost use Rattle.std.specs.Prelude.{◌≡◌, ◌⊎◌, ◌++◌, ℕ, List, [], IfOk, IsSome, string_bytes};
+ghost use Rattle.std.specs.Prelude.{◌≡◌, ◌⊎◌, ◌++◌, Some, IfOk, IsSome, OnErr, OnOk, slice_get, string_bytes};
 ghost use Rattle.call_devices.specs.Files.{IsOnlyRead};
 ghost use Rattle.call_devices.specs.Sinks.{Takes, sink_of};
 ghost use Rattle.refusal_commands.specs.Telling as telling;
@@ -9,31 +9,32 @@ use super::first::first_text;
 use call_devices::{CallFault, Folder, read_text};
 use command_line::Check;
 use core_program::{ProgramFault, ProgramSet};
+use cut_logs::log_in_text;
 use fault_telling::{Kind, Place, Refused, Telling};
 use judge_commands::JudgingFault;
-use log_file::{ByteSink, FormatFault, LogFault, LogReader, write_all};
+use log_file::{ByteSink, FormatFault, LogFault, write_all};
 use mem_op::CoreId;
 use std::alloc::{AllocError, Global};
 use verdict::{Count, JudgeFault};
 
 /// Tells on standard output of the refusal of an explanation: where the fault of a file is, how its line is written, and what is wrong
-/// with it. The file is read again for that. A write that fails is passed over, and where there is no memory nothing is told.
+/// with it. The file is read again for that. A write that fails is passed over. Err where there is no memory, and then nothing is told.
 pub fn tell_refusal<F: Folder, O: ByteSink>(
     alloc: Global,
     folder: &mut F,
     asked: &Check<'_>,
     fault: &JudgingFault,
     out: &mut O,
-)
-    ensures told { telling.TellsOf asked.now fault.now
-        (sink_of O.contents O.failed out.old) (sink_of O.contents O.failed out.new) }
+) -> Result<(), AllocError>
+    ensures told { OnOk result (telling.TellsOf asked.now fault.now
+        (sink_of O.contents O.failed out.old) (sink_of O.contents O.failed out.new)) }
+    ensures untold { OnErr result (out.new ≡ out.old) }
     ensures read { IsOnlyRead (F.files folder.old) (F.files folder.new) }
     ensures quiet { (F.files folder.new ≡ F.files folder.old) ⊎ telling.IsOfFile fault.now }
 {
-    match refusal_text(alloc, folder, asked, fault) {
-        Ok(text) => tell(out, text.as_bytes()),
-        Err(_) => tell(out, &[]),
-    }
+    let text = refusal_text(alloc, folder, asked, fault)?;
+    tell(out, text.as_bytes());
+    Ok(())
 }
 
 /// Tells a text on standard output. A write that fails is passed over.
@@ -50,7 +51,7 @@ fn refusal_text<F: Folder>(
     asked: &Check<'_>,
     fault: &JudgingFault,
 ) -> Result<String, AllocError>
-    ensures told { IfOk result (λ text. (string_bytes text ≡ []) ⊎ telling.IsToldOf asked.now fault.now (string_bytes text)) }
+    ensures told { IfOk result (λ text. telling.IsToldOf asked.now fault.now (string_bytes text)) }
     ensures read { IsOnlyRead (F.files folder.old) (F.files folder.new) }
     ensures quiet { (F.files folder.new ≡ F.files folder.old) ⊎ telling.IsOfFile fault.now }
 {
@@ -62,26 +63,43 @@ fn refusal_text<F: Folder>(
             programs_text(alloc, folder, asked.program, *fault)
         }
         JudgingFault::Judge(JudgeFault::Read { file }) => {
-            unread_text(alloc, asked.files.as_slice().get(*file).copied())
+            unread_text(alloc, file_name(asked, *file))
         }
         JudgingFault::Call(CallFault::ProgramsUnread) => unread_text(alloc, asked.program),
-        JudgingFault::Judge(JudgeFault::BadConfig(Count::Programs)) => String::from_str(
-            alloc,
-            "The file of the programs has those of another number of cores than there are logs.\n",
-        ),
-        JudgingFault::Judge(JudgeFault::BadConfig(Count::Files)) => {
-            String::from_str(alloc, "A set has 1 to 64 logs, one of each core.\n")
-        }
+        JudgingFault::Judge(JudgeFault::BadConfig(count)) => count_text(alloc, *count),
         _ => Ok(String::new(alloc)),
     }
 }
 
+/// The name of the file of this number, where there is one.
+fn file_name<'a>(asked: &Check<'a>, file: usize) -> Option<&'a str>
+    ensures { result ≡ slice_get asked.now.files.items file }
+{
+    asked.files.as_slice().get(file).copied()
+}
+
 /// What is told of a file that can't be opened or read.
-pub(crate) fn unread_text(alloc: Global, name: Option<&str>) -> Result<String, AllocError> {
+pub(crate) fn unread_text(alloc: Global, name: Option<&str>) -> Result<String, AllocError>
+    ensures { IfOk result (λ text. string_bytes text ≡ telling.unread_words name.entry) }
+{
     match name {
         Some(name) => format!(in alloc; "{name}: it can't be opened or read.\n"),
         None => Ok(String::new(alloc)),
     }
+}
+
+/// What is told of a number of files or programs that is wrong.
+fn count_text(alloc: Global, count: Count) -> Result<String, AllocError>
+    ensures { IfOk result (λ text. string_bytes text ≡ telling.count_words count) }
+{
+    let words = match count {
+        Count::Programs => {
+            "The file of the programs has those of another number of cores than there are logs.\n"
+        }
+        Count::Files => "A set has 1 to 64 logs, one of each core.\n",
+        Count::Workers => "",
+    };
+    String::from_str(alloc, words)
 }
 
 /// What is told of a log that was refused, the one of this number.
@@ -93,11 +111,10 @@ fn log_text<F: Folder>(
     line: u64,
     fault: FormatFault,
 ) -> Result<String, AllocError>
-    ensures told { IfOk result (λ text. (string_bytes text ≡ [])
-        ⊎ telling.IsToldOf asked.now (JudgingFault.Judge (JudgeFault.Log file line fault)) (string_bytes text)) }
+    ensures told { IfOk result (λ text. telling.BeginsAtLine (slice_get asked.now.files.items file) (Some line) (string_bytes text)) }
     ensures read { IsOnlyRead (F.files folder.old) (F.files folder.new) }
 {
-    let Some(name) = asked.files.as_slice().get(file).copied() else {
+    let Some(name) = file_name(asked, file) else {
         return Ok(String::new(alloc));
     };
     let files = asked.files.len();
@@ -137,19 +154,10 @@ fn log_again<F: Folder>(
 {
     let bytes = read_text(alloc, folder, name).ok()?;
     let core = CoreId::new(file as u64).ok()?;
-    if log_fault(alloc, bytes.as_slice(), core, files) == Some(fault) {
+    if log_in_text(alloc, core, files as u64, bytes.as_slice()).err() == Some(fault) {
         return Some(bytes);
     }
     None
-}
-
-/// The fault of the bytes of the log of a core, of so many cores.
-fn log_fault(alloc: Global, bytes: &[u8], core: CoreId, cores: usize) -> Option<LogFault> {
-    let mut reader = LogReader::new(alloc, core, cores as u64);
-    match reader.feed(bytes) {
-        Ok(()) => reader.finish().err(),
-        Err(fault) => Some(fault),
-    }
 }
 
 /// What is told of a set of programs that was refused.
@@ -159,7 +167,7 @@ pub(crate) fn programs_text<F: Folder>(
     name: Option<&str>,
     fault: ProgramFault,
 ) -> Result<String, AllocError>
-    ensures told { IfOk result (λ text. (string_bytes text ≡ []) ⊎ telling.BeginsAtProgram name.entry fault (string_bytes text)) }
+    ensures told { IfOk result (λ text. telling.BeginsAtLine name.entry (telling.program_line fault) (string_bytes text)) }
     ensures read { IsOnlyRead (F.files folder.old) (F.files folder.new) }
 {
     let Some(file) = name else {

@@ -1,5 +1,6 @@
 -- How a call of the program ends.
 use Rattle.std.specs.Prelude.{◌≡◌, ◌⊎◌, ⊤, ℕ, List, Option, None, Some, Result, Ok, Err}
+use Rattle.std.specs.Borrow.{Bor}
 use Rattle.std.specs.Io.KnownBytes.{Appends, Keeps}
 use Rattle.command_line.specs.Asking.{AreMisused, Asks, IsCommandLine}
 use Rattle.command_line.specs.Names.{IsLogName}
@@ -157,16 +158,18 @@ IsDoneBy old new unread (Confirm asked) out out' ending = IsWritten (Says Search
 IsDoneBy old new unread AskedVersion out out' ending = IsPrinted (Says (λ told. Version) Call (IsUntouched old new)) out out' ending
 IsDoneBy old new unread (Litmus asked) out out' ending = IsWritten (Says Counted from_running (IsCounted old new unread asked out out')) ending
 
--- what standard output took more of the refusal of a file of this name that isn't a log: nothing, where it is for another reason
-abbrev pub TellsFile : List ℕ → Option FileFault → Sink → Sink → Type 0
+-- what standard output took more of the refusal of a file of this name that isn't a log: nothing, where it is for another reason, or where there was
+-- no memory
+abbrev pub TellsFile : Bor (List ℕ) → Option FileFault → Sink → Sink → Type 0
 TellsFile name None out out' = out' ≡ out
-TellsFile name (Some fault) out out' = TellsOfFile name fault out out'
+TellsFile name (Some fault) out out' = TellsOfFile name fault out out' ⊎ (out' ≡ out)
 
--- what standard output took more of a refusal: of an explanation's and of a look at a file what is told of it, and of others nothing
+-- what standard output took more of a refusal: of an explanation's and of a look at a file what is told of it, where there was memory for that, and
+-- of others nothing
 abbrev pub TellsMore : Request → CommandFault → Sink → Sink → Type 0
-TellsMore (Explain asked) (Judging fault) out out' = TellsOf asked.check fault out out'
-TellsMore (Explain asked) (Call fault) out out' = TellsOf asked.check (judging.Call fault) out out'
-TellsMore (Inspect asked) fault out out' = TellsFile asked.file.now (file_fault fault) out out'
+TellsMore (Explain asked) (Judging fault) out out' = TellsOf asked.check fault out out' ⊎ (out' ≡ out)
+TellsMore (Explain asked) (Call fault) out out' = TellsOf asked.check (judging.Call fault) out out' ⊎ (out' ≡ out)
+TellsMore (Inspect asked) fault out out' = TellsFile asked.file (file_fault fault) out out'
 TellsMore asked fault out out' = out' ≡ out
 
 -- it is for the fault of a file that could be read

@@ -94,15 +94,15 @@ fn tell_more<F: Folder, O: ByteSink>(
 {
     match (request, fault) {
         (Request::Explain(asked), CommandFault::Judging(fault)) => {
-            tell_refusal(alloc, folder, &asked.check, fault, out);
+            let _ = tell_refusal(alloc, folder, &asked.check, fault, out);
         }
         (Request::Explain(asked), CommandFault::Call(fault)) => {
             let fault = JudgingFault::Call(*fault);
-            tell_refusal(alloc, folder, &asked.check, &fault, out);
+            let _ = tell_refusal(alloc, folder, &asked.check, &fault, out);
         }
         (Request::Inspect(asked), fault) => {
             if let Some(fault) = file_fault(fault) {
-                tell_file(alloc, folder, asked.file, fault, out);
+                let _ = tell_file(alloc, folder, asked.file, fault, out);
             }
         }
         _ => {}
