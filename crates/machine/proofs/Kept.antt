@@ -1,5 +1,5 @@
--- The logs that are kept of units whose states are replays.
-use Rattle.std.proofs.Common.{◌≡◌, ◌⊎◌, ℕ, List, [], Option, None, Some, Result, Ok, Err, inl, inr, refl, ap, sym, subst, cond}
+-- The logs that are kept of units whose states are replays, and the slices that are left.
+use Rattle.std.proofs.Common.{◌≡◌, ◌⊎◌, ℕ, List, [], length, Option, None, Some, Result, Ok, Err, inl, inr, refl, ap, sym, subst, cond}
 use Rattle.std.specs.Prelude.{◌==◌, if◌then◌else◌, All, IfErr, slice_get}
 use Rattle.std.specs.Option.{option_map_or}
 use Rattle.std.proofs.lemmas.Bool.{cases_eq, eq-eqb, ne_eqb}
@@ -11,6 +11,7 @@ use Rattle.manager_slice.specs.Replay.{Replays as SliceReplays}
 use Rattle.audit.specs.Runs.{IsUnitLog, kept_log}
 use Rattle.audit.specs.declared.machine_fault.MachineFault.{MachineFault}
 use Rattle.audit.specs.declared.machine_fault.RunEnd.{RunEnd}
+use Rattle.machine.specs.Runs.{AreSlices, AreSlicesLeft}
 
 pub kept_logs : (us : List UnitParts) → All Replays us → (c : ℕ) → IsUnitLog c (kept_log us c) ⊎ (kept_log us c ≡ [])
 kept_logs us each c = go (slice_get us c) refl
@@ -36,6 +37,12 @@ kept_after (Err f) us each left =
     subst (λ (vs : List UnitParts). (c : ℕ) → IsUnitLog c (kept_log vs c) ⊎ (kept_log vs c ≡ [])) (sym left) (kept_logs us each)
 
 pub slices_after : (r : Result RunEnd MachineFault) (ss : List SliceParts) → All SliceReplays ss → IfErr r (λ f. f.slices.items ≡ ss)
-    → IfErr r (λ f. All SliceReplays f.slices.items)
+    → IfErr r (λ f. AreSlices (length ss) f.slices.items)
 slices_after (Ok end) ss each left = tt
-slices_after (Err f) ss each left = subst (All SliceReplays) (sym left) each
+slices_after (Err f) ss each left = subst (AreSlices (length ss)) (sym left) (record { count = refl; replays = each })
+
+-- all that there were
+pub all_left : (r : Result RunEnd MachineFault) (m n : ℕ) → m ≡ n → IfErr r (λ f. AreSlices m f.slices.items)
+    → IfErr r (λ f. AreSlicesLeft n f.cause f.units.items f.slices.items)
+all_left (Ok end) m n same are = tt
+all_left (Err f) m n same are = inl (subst (λ k. AreSlices k f.slices.items) same are)

@@ -1,11 +1,11 @@
 //! A run of the machine, a thread a core.
 
-ghost use Rattle.std.specs.Prelude.{◌≡◌, ◌⊎◌, ℕ, [], All, IfOk, IfErr};
+ghost use Rattle.std.specs.Prelude.{◌≡◌, ◌⊎◌, ℕ, [], All, IfOk, IfErr, length};
 ghost use Rattle.core_unit.specs.Kept.{Replays};
 ghost use Rattle.manager_slice.specs.Replay.{Replays as SliceReplays};
 ghost use Rattle.audit.specs.Runs.{IsRun, IsUnitLog, StoppedShort, kept_log};
 ghost use Rattle.audit.specs.declared.machine_fault.Cause.TheVariants.{GaveUp, Stopped};
-ghost use Rattle.machine.specs.Runs.{IsMachineRun};
+ghost use Rattle.machine.specs.Runs.{AreSlices, AreSlicesLeft, IsMachineRun};
 ghost use Rattle.machine_laws.specs.Laws.{GetYesBy, unit_logs};
 
 use super::core_thread::run_behind;
@@ -48,8 +48,8 @@ pub fn run_threads<P: Pace + Sync, R: Threads + Wait + Sync>(
         StoppedShort programs.now.programs f.units.items f.core) }
     // Each log that is left is that of a unit of its core whose transcript replays, or empty.
     ensures logs { IfErr result (λ f. (c : ℕ) → IsUnitLog c (kept_log f.units.items c) ⊎ (kept_log f.units.items c ≡ [])) }
-    // Each slice that is left has a state that is the replay of its history.
-    ensures slices { IfErr result (λ f. All SliceReplays f.slices.items) }
+    // All slices are left, each with a state that is the replay of its history, or nothing where memory was refused beside the cores.
+    ensures slices { IfErr result (λ f. AreSlicesLeft config.now.slices f.cause f.units.items f.slices.items) }
 {
     let Ok(units) = opening_units(alloc, programs, config) else {
         return Err(no_memory(alloc));
@@ -67,7 +67,7 @@ pub fn run_threads<P: Pace + Sync, R: Threads + Wait + Sync>(
 }
 
 // What the threads gave back, accepted: Ok names the events of a run, whose logs get Yes, and of a fault each log that is left is a unit's
-// own.
+// own, and all slices are left.
 fn accepted(
     programs: &ProgramSet,
     config: &Config,
@@ -80,7 +80,7 @@ fn accepted(
     ensures short { IfErr result (λ f. (f.cause ≡ GaveUp ⊎ f.cause ≡ Stopped) →
         StoppedShort programs.now.programs f.units.items f.core) }
     ensures logs { IfErr result (λ f. (c : ℕ) → IsUnitLog c (kept_log f.units.items c) ⊎ (kept_log f.units.items c ≡ [])) }
-    ensures slices { IfErr result (λ f. All SliceReplays f.slices.items) }
+    ensures slices { IfErr result (λ f. AreSlices (length slices.items) f.slices.items) }
 {
     let Ends { units, faults } = ends;
     merges_are_runs();

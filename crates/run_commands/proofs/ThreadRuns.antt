@@ -1,17 +1,16 @@
 -- How a run in threads ends.
 use Rattle.std.proofs.Common.{◌≡◌, ◌⊎◌, ℕ, List, [], length, sym, subst, inr}
-use Rattle.std.specs.Prelude.{All, None, Result, Ok, Err, IfErr, IfOk, OnOk}
+use Rattle.std.specs.Prelude.{None, Result, Ok, Err, IfErr, IfOk, OnOk}
 use Rattle.command_line.specs.declared.request.Run.{Run as Asked}
 use Rattle.lease_rule.specs.Ranges.{first_bad}
 use Rattle.core_program.specs.declared.instruction.Instruction.{Instruction}
 use Rattle.core_program.specs.SetParts.{SetParts}
 use Rattle.manager_slice.specs.Parts.{SliceParts}
-use Rattle.manager_slice.specs.Replay.{Replays as SliceReplays}
 use Rattle.core_unit.specs.Parts.{UnitParts}
 use Rattle.audit.specs.Runs.{IsRun, IsUnitLog, StoppedShort, kept_log}
 use Rattle.audit.specs.declared.machine_fault.Cause.{Cause}
 use Rattle.audit.specs.declared.machine_fault.Cause.TheVariants.{GaveUp, Stopped}
-use Rattle.machine.specs.Runs.{IsMachineRun}
+use Rattle.machine.specs.Runs.{AreSlicesLeft, IsMachineRun}
 use Rattle.audit.specs.declared.threads_fault.ThreadsFault.{ThreadsFault}
 use Rattle.call_devices.specs.Files.{Files}
 use Rattle.call_devices.specs.Logs.{performed_below}
@@ -24,7 +23,7 @@ use Rattle.run_commands.specs.declared.fault.RunningFault.TheVariants.{Call, Run
 
 module _ (old new : Files) (unread : List ℕ → Type 0) (asked : Asked) (set : SetParts) (us : List UnitParts)
     (sound : first_bad (config_of asked.limits) ≡ None) (read : AreProgramsIn old.told asked.programs.now set) where
-  pub left : (fault : ThreadsFault) (ss : List SliceParts) → AreLeftShort set.programs fault us ss → AreLeftAsFar (log_format set.format) old new asked.out.now (length set.programs) (kept_log us) asked.statistics (numbers_in asked (length set.programs) us ss)
+  pub left : (fault : ThreadsFault) (ss : List SliceParts) → AreLeftShort set.programs asked.limits.slices fault us ss → AreLeftAsFar (log_format set.format) old new asked.out.now (length set.programs) (kept_log us) asked.statistics (numbers_in asked (length set.programs) us ss)
       → IsThreadRun old new unread asked (Err (Run fault))
   left fault ss are far = (sound, set, read, (us, ss, are, far))
 
@@ -47,13 +46,13 @@ module _ (old new : Files) (unread : List ℕ → Type 0) (asked : Asked) (set :
     came (Ok count) counted left why = whole count counted left
     came (Err fault) counted left why = unleft fault why
 
--- what the units of a fault are, told of the fault
-pub left_by : (programs : List (List Instruction)) (fault : ThreadsFault) (core : ℕ) (cause : Cause) (us vs : List UnitParts) (ss zs : List SliceParts) → fault.core ≡ core → fault.cause ≡ cause → us ≡ vs → ss ≡ zs
-    → ((c : ℕ) → IsUnitLog c (kept_log vs c) ⊎ (kept_log vs c ≡ [])) → All SliceReplays zs
-    → (((cause ≡ GaveUp) ⊎ (cause ≡ Stopped)) → StoppedShort programs vs core) → AreLeftShort programs fault us ss
-left_by programs fault core cause us vs ss zs of_core of_cause same slices_same logs slices short = record {
+-- what the units and slices of a fault are, told of the fault
+pub left_by : (programs : List (List Instruction)) (n : ℕ) (fault : ThreadsFault) (core : ℕ) (cause : Cause) (us vs : List UnitParts) (ss zs : List SliceParts) → fault.core ≡ core → fault.cause ≡ cause → us ≡ vs → ss ≡ zs
+    → ((c : ℕ) → IsUnitLog c (kept_log vs c) ⊎ (kept_log vs c ≡ [])) → AreSlicesLeft n cause vs zs
+    → (((cause ≡ GaveUp) ⊎ (cause ≡ Stopped)) → StoppedShort programs vs core) → AreLeftShort programs n fault us ss
+left_by programs n fault core cause us vs ss zs of_core of_cause same slices_same logs slices short = record {
   logs = subst (λ (ws : List UnitParts). (c : ℕ) → IsUnitLog c (kept_log ws c) ⊎ (kept_log ws c ≡ [])) (sym same) logs;
-  slices = subst (All SliceReplays) (sym slices_same) slices;
+  slices = rw (of_cause, same, slices_same) slices;
   short = λ told.
       let gave : (cause ≡ GaveUp) ⊎ (cause ≡ Stopped) = subst (λ (x : Cause). (x ≡ GaveUp) ⊎ (x ≡ Stopped)) of_cause told in
       subst (λ (c : ℕ). StoppedShort programs us c) (sym of_core) (subst (λ (ws : List UnitParts). StoppedShort programs ws core) (sym same) (short gave));

@@ -1,14 +1,13 @@
 -- What the running of programs in threads answers.
-use Rattle.std.specs.Prelude.{◌≡◌, ◌⊎◌, ℕ, All, List, [], length, None, Some, Result, Ok, Err}
+use Rattle.std.specs.Prelude.{◌≡◌, ◌⊎◌, ℕ, List, [], length, None, Some, Result, Ok, Err}
 use Rattle.command_line.specs.declared.request.Run.{Run}
 use Rattle.lease_rule.specs.Ranges.{first_bad}
 use Rattle.core_program.specs.declared.instruction.Instruction.{Instruction}
 use Rattle.manager_slice.specs.Parts.{SliceParts}
-use Rattle.manager_slice.specs.Replay.{Replays as SliceReplays}
 use Rattle.core_unit.specs.Parts.{UnitParts}
 use Rattle.audit.specs.Runs.{IsRun, IsUnitLog, StoppedShort, kept_log}
 use Rattle.audit.specs.declared.machine_fault.Cause.TheVariants.{GaveUp, Stopped}
-use Rattle.machine.specs.Runs.{IsMachineRun}
+use Rattle.machine.specs.Runs.{AreSlicesLeft, IsMachineRun}
 use Rattle.audit.specs.declared.threads_fault.ThreadsFault.{ThreadsFault}
 use Rattle.call_devices.specs.Programs.{IsUnprogrammed}
 use Rattle.call_devices.specs.Files.{Files}
@@ -29,11 +28,12 @@ Ended asked programs Holds =
 abbrev pub numbers_in : Run → ℕ → List UnitParts → List SliceParts → List ℕ
 numbers_in asked cores us ss = numbers_of cores asked.limits.slices us ss
 
--- what a run left that isn't ended for this reason: each log is that of a unit of its core whose transcript replays, or empty, the
--- history of each slice replays, and the core of 30 or 31 has stopped before the end of its program
-pub record AreLeftShort (programs : List (List Instruction)) (fault : ThreadsFault) (us : List UnitParts) (ss : List SliceParts) : Type 0 where
+-- what a run of n slices left that isn't ended for this reason: each log is that of a unit of its core whose transcript replays, or empty;
+-- all n slices, whose histories replay, or nothing where memory was refused beside the cores; and the core of 30 or 31 has stopped before
+-- the end of its program
+pub record AreLeftShort (programs : List (List Instruction)) (n : ℕ) (fault : ThreadsFault) (us : List UnitParts) (ss : List SliceParts) : Type 0 where
   pub logs : (c : ℕ) → IsUnitLog c (kept_log us c) ⊎ (kept_log us c ≡ [])
-  pub slices : All SliceReplays ss
+  pub slices : AreSlicesLeft n fault.cause us ss
   pub short : ((fault.cause ≡ GaveUp) ⊎ (fault.cause ≡ Stopped)) → StoppedShort programs us fault.core
 
 -- The number of operations that the programs performed, or why there is none. The configuration is looked at first, then the
@@ -48,7 +48,7 @@ IsThreadRun old new unread asked (Ok count) =
 IsThreadRun old new unread asked (Err (Config fault)) = first_bad (config_of asked.limits) ≡ Some fault
 IsThreadRun old new unread asked (Err (RunRefused fault)) =
     Programmed old.told asked.limits asked.programs.now (λ set. (us : List UnitParts) × (ss : List SliceParts)
-    × AreLeftShort set.programs fault us ss
+    × AreLeftShort set.programs asked.limits.slices fault us ss
     × AreLeftAsFar (log_format set.format) old new asked.out.now (length set.programs) (kept_log us) asked.statistics (numbers_in asked (length set.programs) us ss))
 IsThreadRun old new unread asked (Err (Call fault)) =
     (fault ≡ OutOfMemory)

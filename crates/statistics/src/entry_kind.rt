@@ -48,6 +48,7 @@ fn is_operation(entry: &CoreEntry) -> bool
     matches!(entry, CoreEntry::Performed)
 }
 
+/// Whether a reply is Busy.
 pub(crate) fn is_busy(reply: &Reply) -> bool
     ensures { result ≡ is_busy_reply reply.now }
 {

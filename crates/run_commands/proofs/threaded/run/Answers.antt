@@ -57,7 +57,7 @@ returns-clause-exact g c =
     let read : AreProgramsIn old.told asked.programs.now set = search rules in
     let us = c.deref-in-Err.result.now in
     let ss = c.deref-in-Err-2.result.now in
-    let are = left_by set.programs c.of.result c.in-Err.fault.core c.in-Err.fault.cause us c.in-Err.fault.units.items ss c.in-Err.fault.slices.items
+    let are = left_by set.programs asked.limits.slices c.of.result c.in-Err.fault.core c.in-Err.fault.cause us c.in-Err.fault.units.items ss c.in-Err.fault.slices.items
     c.of.ensures.core c.of.ensures.cause c.deref-in-Err.ensures.value c.deref-in-Err-2.ensures.value c.in-Err.ensures.logs c.in-Err.ensures.slices c.in-Err.ensures.short in
     let many : c.len.result ≡ length set.programs = search rules in
     let same : c.log_format.result ≡ log_format set.format = search rules in
