@@ -7,18 +7,18 @@ pub returns-in_default-clause-slices : goal.returns-in_default-clause-slices
 returns-in_default-clause-slices g c =
     inr (record { refused = c.no_memory.ensures.cause; units = c.no_memory.ensures.units; slices = c.no_memory.ensures.slices })
 
-pub returns-in_default-2-clause-slices : goal.returns-in_default-2-clause-slices
-returns-in_default-2-clause-slices g c =
-    inr (record { refused = c.no_memory-in_default-2.ensures.cause; units = c.no_memory-in_default-2.ensures.units; slices = c.no_memory-in_default-2.ensures.slices })
+pub returns-in_default-inboxes_of-clause-slices : goal.returns-in_default-inboxes_of-clause-slices
+returns-in_default-inboxes_of-clause-slices g c =
+    inr (record { refused = c.no_memory-in_default-inboxes_of.ensures.cause; units = c.no_memory-in_default-inboxes_of.ensures.units; slices = c.no_memory-in_default-inboxes_of.ensures.slices })
 
-pub returns-in_default-3-clause-slices : goal.returns-in_default-3-clause-slices
-returns-in_default-3-clause-slices g c =
-    inr (record { refused = c.no_memory-in_default-3.ensures.cause; units = c.no_memory-in_default-3.ensures.units; slices = c.no_memory-in_default-3.ensures.slices })
+pub returns-in_default-new-clause-slices : goal.returns-in_default-new-clause-slices
+returns-in_default-new-clause-slices g c =
+    inr (record { refused = c.no_memory-in_default-new.ensures.cause; units = c.no_memory-in_default-new.ensures.units; slices = c.no_memory-in_default-new.ensures.slices })
 
-pub returns-in_default-4-clause-slices : goal.returns-in_default-4-clause-slices
-returns-in_default-4-clause-slices g c =
-    inr (record { refused = c.no_memory-in_default-4.ensures.cause; units = c.no_memory-in_default-4.ensures.units; slices = c.no_memory-in_default-4.ensures.slices })
+pub returns-in_default-run_units-clause-slices : goal.returns-in_default-run_units-clause-slices
+returns-in_default-run_units-clause-slices g c =
+    inr (record { refused = c.no_memory-in_default-run_units.ensures.cause; units = c.no_memory-in_default-run_units.ensures.units; slices = c.no_memory-in_default-run_units.ensures.slices })
 
 pub returns-clause-slices : goal.returns-clause-slices
 returns-clause-slices g c =
-    all_left c.accepted.result _ _ (sym c.into_slices.result.ok.0 ∙ c.into_slices.ensures ∙ ap (λ (b : ConfigParts). b.slices) c.in-Ok-3.ensures.config) c.accepted.ensures.slices
+    all_left c.accepted.result _ _ (sym c.into_slices.result.ok.0 ∙ c.into_slices.ensures ∙ ap (λ (b : ConfigParts). b.slices) c.in-Ok-new.ensures.config) c.accepted.ensures.slices
