@@ -26,10 +26,9 @@ returns-in_err-put_picture-clause-exact g c =
     let files = g.F.Folder.files in
     let new = files c.put_picture.new.folder in
     let told = c.in_ok-told.told in
-    let (is_drawn, fails) = c.in_err-put_picture.ensures.err.1 in
-    let fails' = subst (λ (f : Files). FailsPutAt f new c.args.asked.now.picture) c.in_ok-told.ensures.quiet fails in
+    let fails = subst (λ (f : Files). FailsPutAt f new c.args.asked.now.picture) c.in_ok-told.ensures.quiet c.in_err-put_picture.ensures.err.2 in
     let is : c.from_residual-in_err-put_picture.result ≡ Err c.in_err-put_picture.field-0.0 = search rules in
-    rw (is, c.in_err-put_picture.ensures.err.0) ((told.verdict, c.in_ok-told.ensures.exact, (is_drawn, fails')), Keeps-refl (g.O.ByteSink.contents c.args.out.now))
+    rw (is, c.in_err-put_picture.ensures.err.0) ((told.verdict, c.in_ok-told.ensures.exact, (c.in_err-put_picture.ensures.err.1, fails)), Keeps-refl (g.O.ByteSink.contents c.args.out.now))
 
 pub returns-in_err-write_all-clause-exact : goal.returns-in_err-write_all-clause-exact
 returns-in_err-write_all-clause-exact g c =
