@@ -3,8 +3,7 @@ use Rattle.std.proofs.Common.{◌≡◌, ℕ, List, ap, subst, sym, inl, inr, ar
 use Rattle.std.specs.Prelude.{◌+◌, ◌-◌, ◌^◌, min, Option}
 use Rattle.std.proofs.lemmas.Bool.{cases_lt}
 use Rattle.log_file.specs.Devices.{Failed}
-use Rattle.call_devices.specs.Files.{Files, IsOnlyRead, one_more_unopened}
-use Rattle.call_devices.specs.Logs.{KeepsOthers}
+use Rattle.call_devices.specs.Files.{Files, IsOnlyRead, KeepsFiles, one_more_unopened}
 
 -- a count that rose by one, but for the largest, tells a failure
 risen : (n : ℕ) → Failed n (min (n + 1) (2 ^ 64 - 1))
@@ -26,6 +25,6 @@ keeps_told old new (inr is) = ap (λ (files : Files). files.told) is
 pub only_read_after : (old now new : Files) → now ≡ old → IsOnlyRead now new → IsOnlyRead old new
 only_read_after old now new is read = subst (λ (files : Files). IsOnlyRead files new) is read
 
--- the names of the logs aside, what it tells stays
-pub keeps_others : (old new : Files) (out : List ℕ) (n : ℕ) → IsOnlyRead old new → KeepsOthers old.told new.told out n
-keeps_others old new out n read name none = ap (λ (told : List ℕ → Option (List ℕ)). told name) (keeps_told old new read)
+-- whatever may be put
+pub keeps_files : (old new : Files) (IsPut : List ℕ → Type 0) → IsOnlyRead old new → KeepsFiles old.told new.told IsPut
+keeps_files old new IsPut read name none = ap (λ (told : List ℕ → Option (List ℕ)). told name) (keeps_told old new read)

@@ -8,6 +8,8 @@ use Rattle.core_program.specs.declared.fault.ProgramFault.{ProgramFault}
 use Rattle.core_program.specs.declared.fault.ProgramFault.TheVariants.{BadLine, TooLong, SkipPastEnd, OutOfMemory as NoTextMemory}
 use Rattle.log_file.specs.declared.device_fault.WriteFault.{WriteFault}
 use Rattle.log_file.specs.declared.device_fault.WriteFault.TheVariants.{OutOfMemory as NoWriteMemory, Write}
+use Rattle.verdict.specs.declared.judge_fault.JudgeFault.{JudgeFault}
+use Rattle.verdict.specs.declared.judge_fault.JudgeFault.TheVariants.{BadConfig, Log, Read, OutOfMemory as NoLogMemory}
 use Rattle.call_devices.specs.declared.call_fault.CallFault.{CallFault}
 use Rattle.call_devices.specs.declared.call_fault.CallFault.TheVariants.{Programs, ProgramsUnread, LogUnwritten, Output, OutOfMemory}
 
@@ -36,3 +38,10 @@ call_fault_status ProgramsUnread = 4
 call_fault_status (LogUnwritten file) = 4
 call_fault_status Output = 4
 call_fault_status OutOfMemory = 4
+
+-- where there are no logs, or no verdict on them
+abbrev pub judge_fault_status : JudgeFault → ℕ
+judge_fault_status (Log file line fault) = 2
+judge_fault_status (BadConfig count) = 3
+judge_fault_status (Read file) = 4
+judge_fault_status NoLogMemory = 4

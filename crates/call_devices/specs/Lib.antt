@@ -2,6 +2,7 @@ pub mod CallFaults
 pub mod Files
 pub mod LogFiles
 pub mod Logs
+pub mod Outputs
 pub mod Programs
 pub mod Sinks
 pub mod inner

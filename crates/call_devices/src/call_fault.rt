@@ -1,11 +1,10 @@
 //! Why a call was refused, whatever its command.
 
 ghost use Rattle.std.specs.Prelude.{◌≡◌};
-ghost use Rattle.call_devices.specs.CallFaults.{call_fault_status, from_program, from_write};
+ghost use Rattle.call_devices.specs.CallFaults.{call_fault_status, from_program};
 
 use core_program::ProgramFault;
 use fault_names::FaultName;
-use log_file::WriteFault;
 use std::fmt;
 use std::fmt::Display;
 use thiserror::Error;
@@ -62,17 +61,6 @@ impl From<ProgramFault> for CallFault {
         match reason {
             ProgramFault::OutOfMemory => CallFault::OutOfMemory,
             reason => CallFault::Programs(reason),
-        }
-    }
-}
-
-impl From<WriteFault> for CallFault {
-    ghost from_gives = { λ reason fault. fault ≡ from_write reason };
-
-    fn from(reason: WriteFault) -> CallFault {
-        match reason {
-            WriteFault::OutOfMemory => CallFault::OutOfMemory,
-            WriteFault::Write => CallFault::Output,
         }
     }
 }

@@ -1,5 +1,5 @@
 -- What is told of an answer to a search for another order, and the logs that it is made over.
-use Rattle.std.proofs.Common.{◌≡◌, ◌∙◌, ◌<◌, ◌≤◌, ◌++◌, ap, sym, subst, List, ℕ, Result, Ok, Err, inl, inr, arith, get_or, length, vec_len}
+use Rattle.std.proofs.Common.{◌≡◌, ◌∙◌, ◌<◌, ◌≤◌, ap, sym, subst, List, ℕ, Result, Ok, Err, inl, inr, arith, get_or, length, vec_len}
 use Rattle.std.specs.Prelude.{All, IfOk}
 use Rattle.std.specs.Global.{Vec}
 use Rattle.std.proofs.lemmas.List.{get_or-map, length-map}
@@ -11,6 +11,7 @@ use Rattle.mem_op.specs.declared.id.OpId.{OpId}
 use Rattle.refutation.specs.Answers.{IsRight}
 use Rattle.refutation.specs.declared.answer.Answer.{Answer}
 use Rattle.refutation.specs.declared.answer.Answer.TheVariants as found
+use Rattle.refutation_text.specs.FirstLines.{IsGrown}
 use Rattle.verdict.specs.declared.basis.Basis.{Basis}
 use Rattle.judge_commands.specs.OtherOrders.{TellsOrder, another_text, none_text}
 use Rattle.judge_commands.specs.inner.Reading.{AreLogsOf}
@@ -22,9 +23,9 @@ tells_another bytes cores answer order (Ok text) right is same = inl (same, (ord
 tells_another bytes cores answer order (Err fault) right is same = tt
 
 -- and a refutation as none
-pub tells_none : (cores : List (List Operation)) (answer : Answer) (steps : _) (text argument : List ℕ) → IsRight cores answer → answer ≡ found.Refutation steps
-    → text ≡ none_text ++ argument → TellsOrder cores text
-tells_none cores answer steps text argument right is same = inr (inl ((argument, same), subst (IsRight cores) is right))
+pub tells_none : (cores : List (List Operation)) (answer : Answer) (steps : _) (text : List ℕ) → IsRight cores answer → answer ≡ found.Refutation steps
+    → IsGrown none_text text → TellsOrder cores text
+tells_none cores answer steps text right is grown = inr (inl (grown, subst (IsRight cores) is right))
 
 -- ---- the trace of the logs
 

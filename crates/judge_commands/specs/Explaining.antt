@@ -1,13 +1,12 @@
 -- What the explaining of files answers, what standard output took of it and which picture was put. The folder and the sink were `old`
 -- before and are `new` after.
-use Rattle.std.specs.Prelude.{◌≡◌, ◌≢◌, ◌⊎◌, ℕ, List, ◌++◌, Option, None, Some, Result, Ok, Err}
+use Rattle.std.specs.Prelude.{◌≡◌, ◌⊎◌, ℕ, List, ◌++◌, Option, None, Result, Ok, Err}
 use Rattle.std.specs.Borrow.{Bor}
 use Rattle.std.specs.Io.KnownBytes.{Appends, Keeps}
 use Rattle.command_line.specs.declared.request.Check.{Check}
 use Rattle.command_line.specs.declared.request.Explain.{Explain}
 use Rattle.explain.specs.Pictures.{HasPicture}
 use Rattle.explanation_picture.specs.Pictures.{IsPicture}
-use Rattle.log_file.specs.Devices.{Failed, Tells}
 use Rattle.log_record.specs.Entries.{operations_of}
 use Rattle.verdict.specs.Texts.{verdict_text}
 use Rattle.verdict.specs.declared.answer.Verdict.{Verdict}
@@ -17,14 +16,10 @@ use Rattle.judge_commands.specs.OtherOrders.{TellsOther}
 use Rattle.call_devices.specs.declared.call_fault.CallFault.TheVariants.{Output, OutOfMemory}
 use Rattle.call_devices.specs.Files.{Files}
 use Rattle.call_devices.specs.LogFiles.{Spelled}
+use Rattle.call_devices.specs.Outputs.{FailsPutAt, PutsSuchAt}
 use Rattle.call_devices.specs.Sinks.{HasFailed, Sink, TakesBeginning}
 use Rattle.judge_commands.specs.declared.fault.JudgingFault.{JudgingFault}
 use Rattle.judge_commands.specs.declared.fault.JudgingFault.TheVariants.{PictureUnwritten, Call}
-
--- the name that a picture goes to, where one was given
-abbrev pub IsPictureName : Option (Bor (List ℕ)) → List ℕ → Type 0
-IsPictureName None name = ⊥
-IsPictureName (Some given) name = name ≡ given.now
 
 -- what is told of another order, which is true of the operations of the set that the texts of the files spell
 abbrev pub TellsOtherOf : (List ℕ → Option (List ℕ)) → Explain → Verdict → List ℕ → Type 0
@@ -36,24 +31,10 @@ abbrev pub TellsVerdict : (List ℕ → Option (List ℕ)) → Explain → Verdi
 TellsVerdict told asked verdict text =
     (why : List ℕ) × (last : List ℕ) × (text ≡ line (verdict_text verdict) ++ (why ++ last)) × TellsOtherOf told asked verdict last
 
--- a picture was put under this name, and nothing else
-pub record PutsPicture (old new : Files) (name : List ℕ) : Type 0 where
-  pub svg : List ℕ
-  pub is_picture : IsPicture svg
-  pub told : Tells (new.told name) svg
-  pub others : (other : List ℕ) → other ≢ name → new.told other ≡ old.told other
-  pub quiet : new.failed ≡ old.failed
-
--- it was put under the name that was given, where this verdict has a picture; nothing was, where no name was given or it has none
+-- a picture was put under the name that was given, where this verdict has a picture; nothing was, where no name was given or it has none
 abbrev pub PutsPictureAt : Verdict → Files → Files → Option (Bor (List ℕ)) → Type 0
 PutsPictureAt verdict old new None = new ≡ old
-PutsPictureAt verdict old new (Some name) = (HasPicture verdict × PutsPicture old new name.now) ⊎ ((HasPicture verdict → ⊥) × (new ≡ old))
-
--- this verdict has a picture, whose put under the name that was given failed, and nothing else was put
-abbrev pub FailsPictureAt : Verdict → Files → Files → Option (Bor (List ℕ)) → Type 0
-FailsPictureAt verdict old new None = ⊥
-FailsPictureAt verdict old new (Some name) =
-    HasPicture verdict × Failed old.failed new.failed × ((other : List ℕ) → other ≢ name.now → new.told other ≡ old.told other)
+PutsPictureAt verdict old new name = (HasPicture verdict × PutsSuchAt old new name IsPicture) ⊎ ((HasPicture verdict → ⊥) × (new ≡ old))
 
 -- there was a verdict to explain
 abbrev pub Judged : Files → (List ℕ → Type 0) → Check → (Verdict → Type 0) → Type 0
@@ -68,6 +49,6 @@ IsExplained old new unread asked out out' (Err (Call Output)) =
     Judged old unread asked.check (λ verdict. PutsPictureAt verdict old new asked.picture × HasFailed out out'
     × (text : List ℕ) × TellsVerdict old.told asked verdict text × TakesBeginning out out' text)
 IsExplained old new unread asked out out' (Err PictureUnwritten) =
-    Judged old unread asked.check (λ verdict. FailsPictureAt verdict old new asked.picture) × Keeps out.contents out'.contents
+    Judged old unread asked.check (λ verdict. HasPicture verdict × FailsPutAt old new asked.picture) × Keeps out.contents out'.contents
 IsExplained old new unread asked out out' (Err (Call OutOfMemory)) = Keeps out.contents out'.contents
 IsExplained old new unread asked out out' (Err fault) = IsChecked old.told unread asked.check (Err fault) × Keeps out.contents out'.contents

@@ -7,7 +7,7 @@ use Rattle.merge_judge.specs.declared.merge_fault.MergeFault.TheVariants.{Judge 
 use Rattle.verdict.specs.Texts.{judge_fault_text}
 use Rattle.verdict.specs.declared.judge_fault.JudgeFault.{JudgeFault}
 use Rattle.verdict.specs.declared.judge_fault.JudgeFault.TheVariants.{BadConfig, Log, Read, OutOfMemory}
-use Rattle.call_devices.specs.CallFaults.{call_fault_status, call_fault_text}
+use Rattle.call_devices.specs.CallFaults.{call_fault_status, call_fault_text, judge_fault_status}
 use Rattle.call_devices.specs.declared.call_fault.CallFault.TheVariants as call
 use Rattle.judge_commands.specs.declared.fault.JudgingFault.{JudgingFault}
 use Rattle.judge_commands.specs.declared.fault.JudgingFault.TheVariants.{Judge, PictureUnwritten, Call}
@@ -28,12 +28,6 @@ abbrev pub judging_fault_text : JudgingFault → List ℕ
 judging_fault_text (Judge fault) = codes "refused: " ++ judge_fault_text fault
 judging_fault_text PictureUnwritten = codes "refused: picture: " ++ name_text named.Write
 judging_fault_text (Call fault) = codes "refused: " ++ call_fault_text fault
-
-abbrev pub judge_fault_status : JudgeFault → ℕ
-judge_fault_status (Log file line fault) = 2
-judge_fault_status (BadConfig count) = 3
-judge_fault_status (Read file) = 4
-judge_fault_status OutOfMemory = 4
 
 abbrev pub judging_fault_status : JudgingFault → ℕ
 judging_fault_status (Judge fault) = judge_fault_status fault

@@ -1,7 +1,7 @@
 -- What is told of an order that explains all values, whatever the times say.
-use Rattle.std.specs.Prelude.{◌≡◌, ◌≢◌, ◌≤◌, ◌⊎◌, Bool, false, ℕ, List, [], ◌++◌, codes}
+use Rattle.std.specs.Prelude.{◌≡◌, ◌≢◌, ◌≤◌, ◌⊎◌, Bool, false, ℕ, List, [], codes}
 use Rattle.mem_op.specs.Consistency.{Operation, IsConsistent}
-use Rattle.refutation_text.specs.FirstLines.{operation_count}
+use Rattle.refutation_text.specs.FirstLines.{IsGrown, operation_count}
 use Rattle.verdict.specs.declared.answer.Verdict.{Verdict}
 use Rattle.verdict.specs.declared.answer.Verdict.TheVariants.{Yes, No}
 use Rattle.verdict.specs.declared.rule.Rule.TheVariants.{Program}
@@ -19,7 +19,7 @@ undecided_text = codes "\nwhether another order explains all values isn't decide
 abbrev pub TellsOrder : List (List Operation) → List ℕ → Type 0
 TellsOrder cores text =
     ((text ≡ another_text) × IsConsistent cores)
-    ⊎ ((((argument : List ℕ) × (text ≡ none_text ++ argument)) × ¬ (IsConsistent cores)) ⊎ (text ≡ undecided_text))
+    ⊎ ((IsGrown none_text text × ¬ (IsConsistent cores)) ⊎ (text ≡ undecided_text))
 
 -- it is by its order that a set got No, and not by a program: another order may mend that
 abbrev pub IsWrongByOrder : Verdict → Type 0

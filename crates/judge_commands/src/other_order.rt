@@ -9,7 +9,7 @@ ghost use Rattle.judge_commands.specs.inner.Reading.{AreLogsOf};
 use super::basis_logs::logs_of;
 use call_devices::trace_of;
 use refutation::Answer;
-use refutation_text::{argue, count_of};
+use refutation_text::{count_of, push_argument};
 use search::{SearchWatch, search_watched};
 use std::alloc::{AllocError, Global};
 use trace::Trace;
@@ -79,9 +79,8 @@ fn whether_another<W: SearchWatch>(
         Answer::Order(_) => String::from_str(alloc, ANOTHER),
         Answer::Undecided => String::from_str(alloc, UNDECIDED),
         Answer::Refutation(refutation) => {
-            let argument = argue(alloc, trace, &refutation)?;
             let mut text = String::from_str(alloc, NONE)?;
-            text.push_str(argument.as_str())?;
+            push_argument(&mut text, alloc, trace, &refutation)?;
             Ok(text)
         }
     }

@@ -12,6 +12,7 @@ ghost use Rattle.verdict.specs.Texts.{verdict_text};
 ghost use Rattle.judge_commands.specs.Checking as checking;
 ghost use Rattle.judge_commands.specs.Explaining as explaining;
 ghost use Rattle.call_devices.specs.Files.{IsOnlyRead, IsUnread, KeepsFiles};
+ghost use Rattle.call_devices.specs.Outputs.{FailsPutAt, IsNameOf};
 ghost use Rattle.call_devices.specs.Sinks.{line, sink_of};
 ghost use Rattle.judge_commands.specs.OtherOrders.{TellsOther};
 ghost use Rattle.judge_commands.specs.inner.Reading.{AreLogsOf};
@@ -19,7 +20,7 @@ ghost use Rattle.judge_commands.specs.inner.Reading.{AreLogsOf};
 use super::check_files::examine_asked;
 use super::fault::JudgingFault;
 use super::other_order::other_order;
-use call_devices::Folder;
+use call_devices::{Folder, put_under};
 use command_line::Explain;
 use core_program::ProgramSet;
 use explain::{Explanation, explain as explained};
@@ -60,7 +61,7 @@ pub fn explain<R: Threads + Sync, W: SearchWatch, F: Folder, O: ByteSink>(
         (sink_of O.contents O.failed out.old)
         (sink_of O.contents O.failed out.new) result }
     ensures files { KeepsFiles (F.files folder.old).told (F.files folder.new).told
-        (explaining.IsPictureName asked.now.picture) }
+        (IsNameOf asked.now.picture) }
     ensures sound { IfOk result (λ verdict. IsYes verdict
         → checking.FilesAreConsistent (F.files folder.old).told asked.now.check) }
     ensures flat { IfOk result (λ verdict. IsYes verdict
@@ -82,13 +83,13 @@ fn put_picture<F: Folder>(
     requires drawn { IsSome name → IsSome told.now.picture ↔ HasPicture told.now.verdict }
     ensures ok { OnOk result (explaining.PutsPictureAt told.now.verdict
         (F.files folder.old) (F.files folder.new) name.entry) }
-    ensures err { IfErr result (λ fault. (fault ≡ JudgingFault.PictureUnwritten)
-        × explaining.FailsPictureAt told.now.verdict (F.files folder.old) (F.files folder.new) name.entry) }
+    ensures err { IfErr result (λ fault. (fault ≡ JudgingFault.PictureUnwritten) × HasPicture told.now.verdict
+        × FailsPutAt (F.files folder.old) (F.files folder.new) name.entry) }
     ensures files { KeepsFiles (F.files folder.old).told (F.files folder.new).told
-        (explaining.IsPictureName name.entry) }
+        (IsNameOf name.entry) }
 {
     match (name, &told.picture) {
-        (Some(name), Some(svg)) => match folder.put(name, svg.as_slice()) {
+        (Some(name), Some(svg)) => match put_under(folder, Some(name), svg.as_slice()) {
             Ok(()) => Ok(()),
             Err(_) => Err(JudgingFault::PictureUnwritten),
         },

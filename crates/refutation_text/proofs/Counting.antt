@@ -1,5 +1,5 @@
 -- How many operations a trace has, and the line that tells it.
-use Rattle.std.proofs.Common.{◌≡◌, ◌≤◌, ◌<◌, ◌^◌, ◌++◌, ℕ, List, append_assoc, length, ap, sym, ◌∙◌, arith, map, vec_len, sum, sum_by}
+use Rattle.std.proofs.Common.{◌≡◌, ◌≤◌, ◌^◌, ◌++◌, ℕ, List, append_assoc, ap, sym, ◌∙◌, arith, vec_len, sum, sum_by}
 use Rattle.std.proofs.lemmas.List.Sums.{sum_by-le, sum-map}
 use Rattle.std.specs.Global.{Vec}
 use Rattle.mem_op.specs.Consistency.{Operation}
@@ -13,9 +13,9 @@ use Rattle.refutation_text.specs.FirstLines.{operation_count}
 pub count_is : (cores : List (Vec Operation)) → sum_by vec_len cores ≡ operation_count (operation_lists cores)
 count_is cores = sym (sum-map vec_len cores) ∙ ap sum (lengths_are cores)
 
--- it is a number of 64 bits
-pub count_fits : (cores : List (Vec Operation)) → IsOfSize (operation_lists cores) → sum_by vec_len cores < 2 ^ 64
-count_fits cores size =
+-- and to no more than 64 cores can have
+pub count_few : (cores : List (Vec Operation)) → IsOfSize (operation_lists cores) → sum_by vec_len cores ≤ 2 ^ 26
+count_few cores size =
     let both = (size_is cores).0 size in
     let few = both.0 in
     let bound = sum_by-le vec_len operation_limit cores both.1 in

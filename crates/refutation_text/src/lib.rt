@@ -11,4 +11,4 @@ mod telling;
 pub use cases::Cases;
 pub use known::{Known, Rule, closes, known_at};
 pub use path::{Hop, hops, round};
-pub use telling::{argue, count_of, tell};
+pub use telling::{count_of, push_argument, tell};

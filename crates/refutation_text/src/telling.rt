@@ -1,6 +1,6 @@
 //! The text of a refutation.
 
-ghost use Rattle.std.specs.Prelude.{◌≡◌, ◌++◌, ◌<◌, ◌^◌, IfOk, OnOk, string_bytes, sum_by, vec_len};
+ghost use Rattle.std.specs.Prelude.{◌≡◌, ◌++◌, ◌<◌, ◌≤◌, ◌^◌, IfOk, OnOk, string_bytes, sum_by, vec_len};
 ghost use Rattle.decimal_text.specs.Numbers.{numeral};
 ghost use Rattle.refutation_text.specs.FirstLines.{first_line, operation_count, IsGrown, SaysNo};
 
@@ -45,8 +45,8 @@ fn push_number(text: &mut String, number: usize) -> Result<(), AllocError>
     write!(text, "{number}")
 }
 
-/// Adds the steps of a refutation.
-fn push_argument(
+/// Adds the same without the line that says No: the steps alone.
+pub fn push_argument(
     text: &mut String,
     alloc: Global,
     trace: &Trace,
@@ -67,15 +67,16 @@ fn count(cores: &[Vec<Access>]) -> usize
 }
 
 /// How many operations a trace has.
-#[tactic(auto, using(crate::proofs::Counting::count_is, crate::proofs::Counting::count_fits))]
+#[tactic(auto, using(crate::proofs::Counting::count_is, crate::proofs::Counting::count_few))]
 pub fn count_of(trace: &Trace) -> usize
-    ensures { result ≡ operation_count trace.now }
+    ensures count { result ≡ operation_count trace.now }
+    ensures few { result ≤ 2 ^ 26 }
 {
     count(trace.cores())
 }
 
-/// The same without the line that says No: the steps alone.
-pub fn argue(alloc: Global, trace: &Trace, refutation: &Refutation) -> Result<String, AllocError> {
+/// The steps of a refutation.
+fn argue(alloc: Global, trace: &Trace, refutation: &Refutation) -> Result<String, AllocError> {
     let mut telling = Telling {
         alloc,
         trace,

@@ -33,8 +33,8 @@ use Rattle.command_line.specs.declared.request.Run.{Run as AskedRun}
 use Rattle.command_line.specs.declared.request.Sim.{Sim as AskedSim}
 use Rattle.litmus_outcome.proofs.Judged.{spell_push}
 use Rattle.call_devices.specs.Files.{Files}
+use Rattle.call_devices.specs.Outputs.{PutsAt}
 use Rattle.run_commands.specs.Leaving.{AreLogTexts, LeavesYes}
-use Rattle.run_commands.specs.Numbers.{PutsStatistics}
 use Rattle.call_devices.specs.Logs.{TellsFirst, log_name}
 use Rattle.call_devices.specs.Programs.{AreProgramsIn}
 use Rattle.run_commands.specs.Programmed.{config_of, log_format}
@@ -80,14 +80,14 @@ leaves told told' name out set w read first gets_yes =
 
 -- the numbers of a run leave the logs as they are told, as they go to none of its files
 spared : (format : Format) (mid new : Files) (schedule : Option (Bor (List ℕ))) (programs out : List ℕ) (cores : ℕ) (made : ℕ → List Record) (n : ℕ)
-    (statistics : Option (Bor (List ℕ))) (text : List ℕ) → n ≤ 64 → AreApart statistics schedule programs out → PutsStatistics mid new statistics text
+    (statistics : Option (Bor (List ℕ))) (text : List ℕ) → n ≤ 64 → AreApart statistics schedule programs out → PutsAt mid new statistics text
     → TellsFirst format mid.told out cores made n → TellsFirst format new.told out cores made n
 spared format mid new schedule programs out cores made n None text few apart same first =
     subst (λ (files : Files). TellsFirst format files.told out cores made n) (sym same) first
 spared format mid new schedule programs out cores made n (Some name) text few apart put first = λ c below.
     let (log, tells, spells) = first c below in
     let core : c < 64 = omega arith in
-    let keeps = put.1 (log_name out c) (λ same. apart (inr (inr (c, core, sym same)))) in
+    let keeps = put.others (log_name out c) (λ same. apart (inr (inr (c, core, sym same)))) in
     (log, subst (λ (t : Option (List ℕ)). Tells t log) (sym keeps) tells, spells)
 
 -- ---- a simulation

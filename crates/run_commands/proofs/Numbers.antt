@@ -5,14 +5,15 @@ use Rattle.log_record.specs.declared.format.Format.{Format}
 use Rattle.log_record.specs.declared.record.Record.{Record}
 use Rattle.call_devices.specs.Files.{Files, KeepsFiles}
 use Rattle.call_devices.specs.Logs.{ArePut, ArePutUpTo, IsUnwritten, KeepsOthers}
+use Rattle.call_devices.specs.Outputs.{IsNameOf}
 use Rattle.call_devices.specs.declared.call_fault.CallFault.{CallFault}
-use Rattle.run_commands.specs.Numbers.{AreLeftAsFar, IsLeftName, IsStatisticsName, IsUnleft, IsUnput}
+use Rattle.run_commands.specs.Numbers.{AreLeftAsFar, IsLeftName, IsUnleft, IsUnput}
 use Rattle.run_commands.specs.declared.fault.RunningFault.{RunningFault}
 use Rattle.run_commands.specs.declared.fault.RunningFault.TheVariants.{StatisticsUnwritten, Call}
 
 -- what is put first and then is put in all
 pub keeps_both : (told mid new : List ℕ → Option (List ℕ)) (out : List ℕ) (statistics : Option (Bor (List ℕ))) → KeepsOthers told mid out 64
-    → KeepsFiles mid new (IsStatisticsName statistics) → KeepsFiles told new (IsLeftName out statistics)
+    → KeepsFiles mid new (IsNameOf statistics) → KeepsFiles told new (IsLeftName out statistics)
 keeps_both told mid new out statistics first later name none = later name (λ is. none (inr is)) ∙ first name (λ c below same. none (inl (c, below, same)))
 
 pub keeps_first : (told new : List ℕ → Option (List ℕ)) (out : List ℕ) (statistics : Option (Bor (List ℕ))) → KeepsOthers told new out 64 → KeepsFiles told new (IsLeftName out statistics)

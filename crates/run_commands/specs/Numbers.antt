@@ -1,9 +1,8 @@
 -- What a run leaves in the folder: its logs, and then its numbers.
-use Rattle.std.specs.Prelude.{◌≡◌, ◌≢◌, ◌⊎◌, ℕ, List, Option, None, Some, map, take}
+use Rattle.std.specs.Prelude.{◌≡◌, ◌⊎◌, ℕ, List, Option, map, take}
 use Rattle.std.specs.Borrow.{Bor}
 use Rattle.log_record.specs.declared.format.Format.{Format}
 use Rattle.log_record.specs.declared.record.Record.{Record}
-use Rattle.log_file.specs.Devices.{Failed, Tells}
 use Rattle.manager_slice.specs.Parts.{SliceParts}
 use Rattle.core_unit.specs.Parts.{UnitParts}
 use Rattle.statistics.specs.Columns.{core_counts, slice_counts}
@@ -11,6 +10,7 @@ use Rattle.statistics.specs.TableText.{statistics_text}
 use Rattle.call_devices.specs.Files.{Files}
 use Rattle.call_devices.specs.declared.call_fault.CallFault.TheVariants.{OutOfMemory}
 use Rattle.call_devices.specs.Logs.{ArePut, ArePutAsFar, ArePutUpTo, IsUnwritten}
+use Rattle.call_devices.specs.Outputs.{FailsPutAt, IsNameOf, PutsAt}
 use Rattle.command_line.specs.Names.{IsLogName}
 use Rattle.run_commands.specs.declared.fault.RunningFault.{RunningFault}
 use Rattle.run_commands.specs.declared.fault.RunningFault.TheVariants.{StatisticsUnwritten, Call}
@@ -19,32 +19,13 @@ use Rattle.run_commands.specs.declared.fault.RunningFault.TheVariants.{Statistic
 abbrev pub numbers_of : ℕ → ℕ → List UnitParts → List SliceParts → List ℕ
 numbers_of cores slices us ss = statistics_text (map core_counts (take cores us)) (map slice_counts (take slices ss))
 
--- the name that they go to, where one was given
-abbrev pub IsStatisticsName : Option (Bor (List ℕ)) → List ℕ → Type 0
-IsStatisticsName None name = ⊥
-IsStatisticsName (Some given) name = name ≡ given.now
-
 -- a name under which a run may put a file: that of a log, or of its numbers
 abbrev pub IsLeftName : List ℕ → Option (Bor (List ℕ)) → List ℕ → Type 0
-IsLeftName out statistics name = IsLogName out name ⊎ IsStatisticsName statistics name
-
--- what is told of other names is what was told of them before
-abbrev pub KeepsAllBut : Files → Files → List ℕ → Type 0
-KeepsAllBut old new name = (other : List ℕ) → other ≢ name → new.told other ≡ old.told other
-
--- this text was put under the name that was given, and nothing else; nothing was put where none was given
-abbrev pub PutsStatistics : Files → Files → Option (Bor (List ℕ)) → List ℕ → Type 0
-PutsStatistics old new None text = new ≡ old
-PutsStatistics old new (Some name) text = Tells (new.told name.now) text × KeepsAllBut old new name.now × (new.failed ≡ old.failed)
-
--- the put under the name that was given failed
-abbrev pub FailsStatistics : Files → Files → Option (Bor (List ℕ)) → Type 0
-FailsStatistics old new None = ⊥
-FailsStatistics old new (Some name) = KeepsAllBut old new name.now × Failed old.failed new.failed
+IsLeftName out statistics name = IsLogName out name ⊎ IsNameOf statistics name
 
 -- why the numbers weren't put: the put failed, or memory ran out before it
 abbrev pub IsUnput : Files → Files → Option (Bor (List ℕ)) → RunningFault → Type 0
-IsUnput old new statistics StatisticsUnwritten = FailsStatistics old new statistics
+IsUnput old new statistics StatisticsUnwritten = FailsPutAt old new statistics
 IsUnput old new statistics (Call fault) = (fault ≡ OutOfMemory) × (new ≡ old)
 IsUnput old new statistics other = ⊥
 
@@ -55,17 +36,17 @@ AreLeftThen format old new out cores made Then = (mid : Files) × ArePut format 
 -- the logs of all cores were put, and then the numbers whose text this is
 abbrev pub AreLeft : Format → Files → Files → List ℕ → ℕ → (ℕ → List Record) → Option (Bor (List ℕ)) → List ℕ → Type 0
 AreLeft format old new out cores made statistics text =
-    AreLeftThen format old new out cores made (λ mid after. PutsStatistics mid after statistics text)
+    AreLeftThen format old new out cores made (λ mid after. PutsAt mid after statistics text)
 
 -- the same as far as no put failed and memory was there
 abbrev pub AreLeftAsFar : Format → Files → Files → List ℕ → ℕ → (ℕ → List Record) → Option (Bor (List ℕ)) → List ℕ → Type 0
 AreLeftAsFar format old new out cores made statistics text =
     ArePutAsFar format old new out cores made
-    ⊎ AreLeftThen format old new out cores made (λ mid after. PutsStatistics mid after statistics text ⊎ FailsStatistics mid after statistics)
+    ⊎ AreLeftThen format old new out cores made (λ mid after. PutsAt mid after statistics text ⊎ FailsPutAt mid after statistics)
 
 -- why not all was left: a log or the numbers can't be written, or memory ran out
 abbrev pub IsUnleft : Format → Files → Files → List ℕ → ℕ → (ℕ → List Record) → Option (Bor (List ℕ)) → RunningFault → Type 0
 IsUnleft format old new out cores made statistics (Call fault) = IsUnwritten (ArePutUpTo format old new out cores made) fault
 IsUnleft format old new out cores made statistics StatisticsUnwritten =
-    AreLeftThen format old new out cores made (λ mid after. FailsStatistics mid after statistics)
+    AreLeftThen format old new out cores made (λ mid after. FailsPutAt mid after statistics)
 IsUnleft format old new out cores made statistics other = ⊥

@@ -17,10 +17,10 @@ use Rattle.litmus.specs.declared.collecting.Collected.{Collected}
 use Rattle.litmus.specs.declared.run_fault.CollectFault.{CollectFault}
 use Rattle.litmus.specs.declared.run_fault.CollectFault.TheVariants.{BadRuns, Run as RunFailed}
 use Rattle.log_file.specs.Devices.{Tells}
-use Rattle.run_commands.specs.Numbers.{FailsStatistics, PutsStatistics}
 use Rattle.run_commands.specs.Programmed.{config_of}
 use Rattle.statistics.specs.TableText.{totals_text}
 use Rattle.call_devices.specs.Files.{Files, IsOnlyRead}
+use Rattle.call_devices.specs.Outputs.{FailsPutAt, PutsAt}
 use Rattle.call_devices.specs.declared.call_fault.CallFault.TheVariants.{Output, OutOfMemory}
 use Rattle.call_devices.specs.Sinks.{HasFailed, Sink, TakesBeginning}
 use Rattle.run_commands.specs.declared.fault.RunningFault.{RunningFault}
@@ -90,11 +90,11 @@ IsUntabled told unread asked other = ⊥
 abbrev pub IsCounted : Files → Files → (List ℕ → Type 0) → Litmus → Sink → Sink → Result Bool RunningFault → Type 0
 IsCounted before after unread asked old new (Ok forbidden) =
     Tabled before.told asked (λ collected. (forbidden ≡ has_forbidden collected.table) × Appends old.contents new.contents (table_text collected.table)
-    × PutsStatistics before after asked.statistics (totals_text collected.totals))
+    × PutsAt before after asked.statistics (totals_text collected.totals))
 IsCounted before after unread asked old new (Err (Call Output)) =
     Tabled before.told asked (λ collected. HasFailed old new × TakesBeginning old new (table_text collected.table)) × IsOnlyRead before after
 IsCounted before after unread asked old new (Err (Call OutOfMemory)) = Keeps old.contents new.contents × IsOnlyRead before after
 IsCounted before after unread asked old new (Err StatisticsUnwritten) =
-    Tabled before.told asked (λ collected. Appends old.contents new.contents (table_text collected.table)) × FailsStatistics before after asked.statistics
+    Tabled before.told asked (λ collected. Appends old.contents new.contents (table_text collected.table)) × FailsPutAt before after asked.statistics
 IsCounted before after unread asked old new (Err fault) =
     IsUntabled before.told unread asked fault × Keeps old.contents new.contents × IsOnlyRead before after

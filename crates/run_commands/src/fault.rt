@@ -152,7 +152,10 @@ impl From<WriteFault> for RunningFault {
     ghost from_gives = { λ reason fault. fault ≡ Call (from_write reason) };
 
     fn from(reason: WriteFault) -> RunningFault {
-        RunningFault::Call(CallFault::from(reason))
+        match reason {
+            WriteFault::OutOfMemory => RunningFault::Call(CallFault::OutOfMemory),
+            WriteFault::Write => RunningFault::Call(CallFault::Output),
+        }
     }
 }
 

@@ -1,12 +1,13 @@
 //! What a run leaves in the folder: its logs, and then its numbers.
 
-ghost use Rattle.std.specs.Prelude.{◌≡◌, ◌≤◌, IfErr, IfOk, OnErr, OnOk};
+ghost use Rattle.std.specs.Prelude.{◌≡◌, ◌≤◌, IfErr, IfOk, OnOk};
 ghost use Rattle.call_devices.specs.Files.{KeepsFiles};
 ghost use Rattle.call_devices.specs.Logs as logs;
+ghost use Rattle.call_devices.specs.Outputs.{IsNameOf, PutsAt};
 ghost use Rattle.run_commands.specs.Numbers as numbers;
 
 use super::fault::RunningFault;
-use call_devices::{CallFault, Folder, LogsOfCores, write_logs};
+use call_devices::{CallFault, Folder, LogsOfCores, put_under, write_logs};
 use log_record::Format;
 use statistics::{RunParts, counts_of_cores, counts_of_slices, print_statistics};
 use std::alloc::{AllocError, Global};
@@ -50,11 +51,11 @@ fn put_numbers<F: Folder, R: RunParts>(
     of: &R,
 ) -> Result<(), RunningFault>
     requires { leaving.now.cores ≤ 64 }
-    ensures ok { OnOk result (numbers.PutsStatistics (F.files folder.old) (F.files folder.new) leaving.now.statistics
+    ensures ok { OnOk result (PutsAt (F.files folder.old) (F.files folder.new) leaving.now.statistics
         (numbers.numbers_of leaving.now.cores leaving.now.slices (R.units of.now) (R.slices of.now))) }
     ensures err { IfErr result (numbers.IsUnput (F.files folder.old) (F.files folder.new) leaving.now.statistics) }
     ensures others { KeepsFiles (F.files folder.old).told (F.files folder.new).told
-        (numbers.IsStatisticsName leaving.now.statistics) }
+        (IsNameOf leaving.now.statistics) }
 {
     let Some(name) = leaving.statistics else {
         return Ok(());
@@ -62,7 +63,7 @@ fn put_numbers<F: Folder, R: RunParts>(
     let Ok(text) = numbers_of(alloc, of, leaving.cores, leaving.slices) else {
         return Err(RunningFault::Call(CallFault::OutOfMemory));
     };
-    match folder.put(name, text.as_slice()) {
+    match put_under(folder, Some(name), text.as_slice()) {
         Ok(()) => Ok(()),
         Err(_) => Err(RunningFault::StatisticsUnwritten),
     }

@@ -2,14 +2,14 @@
 
 ghost use Rattle.std.specs.Prelude.{◌≡◌, IfErr, IfOk, IfSome, MatchResult, OnOk};
 ghost use Rattle.call_devices.specs.Files.{IsOnlyRead, IsUnread, KeepsFiles};
+ghost use Rattle.call_devices.specs.Outputs.{FailsPutAt, IsNameOf, PutsAt};
 ghost use Rattle.call_devices.specs.Sinks.{sink_of};
-ghost use Rattle.run_commands.specs.Numbers as numbers;
 ghost use Rattle.run_commands.specs.Tabling as tabling;
 ghost use Rattle.statistics.specs.TableText.{totals_text};
 
 use super::config::config_of;
 use super::fault::RunningFault;
-use call_devices::{CallFault, Folder, read_text};
+use call_devices::{CallFault, Folder, put_under, read_text};
 use command_line::Litmus as Asked;
 use lease_rule::Config;
 use litmus::{
@@ -121,16 +121,13 @@ fn put_text<F: Folder>(
     statistics: Option<&str>,
     text: &[u8],
 ) -> Result<(), RunningFault>
-    ensures ok { OnOk result (numbers.PutsStatistics (F.files folder.old) (F.files folder.new) statistics.entry text.now) }
+    ensures ok { OnOk result (PutsAt (F.files folder.old) (F.files folder.new) statistics.entry text.now) }
     ensures err { IfErr result (λ fault. (fault ≡ RunningFault.StatisticsUnwritten)
-        × numbers.FailsStatistics (F.files folder.old) (F.files folder.new) statistics.entry) }
+        × FailsPutAt (F.files folder.old) (F.files folder.new) statistics.entry) }
     ensures others { KeepsFiles (F.files folder.old).told (F.files folder.new).told
-        (numbers.IsStatisticsName statistics.entry) }
+        (IsNameOf statistics.entry) }
 {
-    let Some(name) = statistics else {
-        return Ok(());
-    };
-    match folder.put(name, text) {
+    match put_under(folder, statistics, text) {
         Ok(()) => Ok(()),
         Err(_) => Err(RunningFault::StatisticsUnwritten),
     }
@@ -151,7 +148,7 @@ pub fn count_outcomes<R: Threads + Wait + Sync, F: Folder, O: ByteSink>(
         (F.files folder.old) (F.files folder.new)) asked.now
         (sink_of O.contents O.failed out.old) (sink_of O.contents O.failed out.new) result }
     ensures files { KeepsFiles (F.files folder.old).told (F.files folder.new).told
-        (numbers.IsStatisticsName asked.now.statistics) }
+        (IsNameOf asked.now.statistics) }
 {
     let collected = collected_of(rt, alloc, folder, asked)?;
     let Ok(text) = text_of(alloc, asked.statistics, &collected.totals) else {

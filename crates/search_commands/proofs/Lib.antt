@@ -1,5 +1,4 @@
 mod Confirms
-pub mod Counts
 mod LogReads
 mod OrderLines
 mod OrderReplays

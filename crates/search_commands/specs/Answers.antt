@@ -1,8 +1,8 @@
 -- The texts and the exit statuses of answers, and what they say.
-use Rattle.std.specs.Prelude.{◌≡◌, ℕ, List, ◌++◌, codes, length}
+use Rattle.std.specs.Prelude.{◌≡◌, ℕ, List, ◌++◌, codes}
 use Rattle.std.specs.Fmt.{decimal}
-use Rattle.std.specs.List.{sum_by}
 use Rattle.mem_op.specs.Consistency.{Operation, IsConsistent}
+use Rattle.refutation_text.specs.FirstLines.{operation_count}
 use Rattle.search_commands.specs.declared.answer.SearchAnswer.{SearchAnswer}
 use Rattle.search_commands.specs.declared.answer.SearchAnswer.TheVariants.{Yes, No}
 
@@ -13,10 +13,6 @@ search_text (No operations) = codes "no: no order of " ++ (decimal operations ++
 abbrev pub search_status : SearchAnswer → ℕ
 search_status (Yes operations) = 0
 search_status (No operations) = 1
-
--- how many operations the cores have
-abbrev pub operation_count : List (List Operation) → ℕ
-operation_count cores = sum_by length cores
 
 -- a yes says that the operations are sequentially consistent, and a no that they aren't
 abbrev pub IsRightOf : List (List Operation) → SearchAnswer → Type 0

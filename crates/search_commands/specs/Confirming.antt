@@ -11,7 +11,8 @@ use Rattle.refutation.specs.Grammar.{header_line}
 use Rattle.refutation.specs.Texts.{IsFirstBad, SpellsRefutation}
 use Rattle.refutation.specs.declared.fault.CertificateFault.{CertificateFault}
 use Rattle.refutation.specs.declared.fault.CertificateFault.TheVariants.{BadCertificate, OutOfMemory as NoCertificateMemory}
-use Rattle.search_commands.specs.Answers.{operation_count, search_text}
+use Rattle.refutation_text.specs.FirstLines.{operation_count}
+use Rattle.search_commands.specs.Answers.{search_text}
 use Rattle.search_commands.specs.OrderTexts.{IsFirstBadOfOrder, SpellsOrder}
 use Rattle.search_commands.specs.Traces.{AreTraceless, TellsTrace}
 use Rattle.search_commands.specs.declared.answer.SearchAnswer.{SearchAnswer}

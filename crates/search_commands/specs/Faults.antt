@@ -2,7 +2,7 @@
 use Rattle.std.specs.Prelude.{ℕ, List, ◌++◌, codes}
 use Rattle.fault_names.specs.Names.{name_text}
 use Rattle.fault_names.specs.declared.fault_name.FaultName.TheVariants as named
-use Rattle.call_devices.specs.CallFaults.{call_fault_status, call_fault_text}
+use Rattle.call_devices.specs.CallFaults.{call_fault_status, call_fault_text, judge_fault_status}
 use Rattle.call_devices.specs.declared.call_fault.CallFault.TheVariants.{OutOfMemory}
 use Rattle.refutation.specs.FaultTexts.{fault_text as certificate_text}
 use Rattle.trace.specs.FaultTexts.{fault_text as trace_text}
@@ -39,16 +39,10 @@ searching_fault_text RefutationUnwritten = codes "refused: refutation: " ++ name
 searching_fault_text PictureUnwritten = codes "refused: picture: " ++ name_text named.Write
 searching_fault_text (Call fault) = codes "refused: " ++ call_fault_text fault
 
-abbrev pub logs_status : JudgeFault → ℕ
-logs_status (Log file line fault) = 2
-logs_status (BadConfig count) = 3
-logs_status (Read file) = 4
-logs_status NoLogMemory = 4
-
 abbrev pub searching_fault_status : SearchingFault → ℕ
 searching_fault_status (Trace fault) = 2
 searching_fault_status TraceUnread = 4
-searching_fault_status (Logs fault) = logs_status fault
+searching_fault_status (Logs fault) = judge_fault_status fault
 searching_fault_status (Certificate fault) = 2
 searching_fault_status CertificateUnread = 4
 searching_fault_status Undecided = 4

@@ -2,7 +2,6 @@ pub mod Answers
 pub mod Confirming
 pub mod Faults
 pub mod OrderTexts
-pub mod Outputs
 pub mod Searching
 pub mod Traces
 pub mod inner

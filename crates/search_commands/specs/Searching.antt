@@ -1,8 +1,9 @@
 -- What a search of a trace answers, what standard output took of it, and which files were put. The folder and the sink were `old` before
 -- and are `new` after.
-use Rattle.std.specs.Prelude.{◌≡◌, ◌⊎◌, ⊤, ℕ, ◌*◌, ◌+◌, List, ◌++◌, Option, Result, Ok, Err, unwrap_or}
+use Rattle.std.specs.Prelude.{◌≡◌, ◌⊎◌, ⊤, ℕ, ◌*◌, ◌+◌, List, Option, Result, Ok, Err, unwrap_or}
 use Rattle.std.specs.Io.KnownBytes.{Appends, Keeps}
 use Rattle.call_devices.specs.Files.{Files, IsOnlyRead}
+use Rattle.call_devices.specs.Outputs.{FailsPutAt, IsNameOf, PutsAt, PutsSuchAt}
 use Rattle.call_devices.specs.declared.call_fault.CallFault.TheVariants.{Output, OutOfMemory}
 use Rattle.call_devices.specs.Sinks.{HasFailed, Sink, TakesBeginning, line}
 use Rattle.command_line.specs.declared.request.Search.{Search}
@@ -13,8 +14,9 @@ use Rattle.refutation.specs.Refuting.{IsRefutation}
 use Rattle.refutation.specs.declared.answer.Answer.{Answer}
 use Rattle.refutation.specs.declared.answer.Answer.TheVariants as found
 use Rattle.refutation.specs.declared.step.Step.{Step}
-use Rattle.search_commands.specs.Answers.{operation_count, search_text}
-use Rattle.search_commands.specs.Outputs.{FailsPutAt, IsNameOf, PutsAt, PutsPictureAt}
+use Rattle.refutation_picture.specs.Pictures.{IsPicture}
+use Rattle.refutation_text.specs.FirstLines.{IsGrown, operation_count}
+use Rattle.search_commands.specs.Answers.{search_text}
 use Rattle.search_commands.specs.Traces.{AreTraceless, TellsTrace}
 use Rattle.search_commands.specs.declared.answer.SearchAnswer.{SearchAnswer}
 use Rattle.search_commands.specs.declared.answer.SearchAnswer.TheVariants.{Yes, No}
@@ -43,7 +45,8 @@ AnswersBy cores found.Undecided answer = ⊥
 
 -- the text of a refutation and then a picture of it were put, each where that was asked for
 abbrev pub PutsBoth : Files → Files → Search → List Step → Type 0
-PutsBoth old new asked steps = (between : Files) × PutsAt old between asked.refutation (refutation_text steps) × PutsPictureAt between new asked.picture
+PutsBoth old new asked steps =
+    (between : Files) × PutsAt old between asked.refutation (refutation_text steps) × PutsSuchAt between new asked.picture IsPicture
 
 -- what shows the answer was put where that was asked for
 abbrev pub PutsProof : Files → Files → Search → Answer → Type 0
@@ -67,7 +70,7 @@ pub record Finds (old new : Files) (asked : Search) (cores : List (List Operatio
 -- the text begins with the line of an answer; that of a yes is the line
 abbrev pub TellsAnswer : SearchAnswer → List ℕ → Type 0
 TellsAnswer (Yes operations) text = text ≡ line (search_text (Yes operations))
-TellsAnswer (No operations) text = (more : List ℕ) × (text ≡ line (search_text (No operations)) ++ more)
+TellsAnswer (No operations) text = IsGrown (line (search_text (No operations))) text
 
 -- The answer, whose line standard output took, or why there is none. What is found is put before anything is printed. A search that gives
 -- up promises nothing of the trace. `unread` holds of the name of a file that can't be opened or read.

@@ -13,7 +13,6 @@ ghost use Rattle.search_commands.specs.declared.fault.SearchingFault.TheVariants
 ghost use Rattle.search_commands.specs.inner.Looking.{IsLook, IsNoCertificate};
 
 use super::answer::SearchAnswer;
-use super::counting::count;
 use super::fault::SearchingFault;
 use super::order_certificate::first_bad_line_of_order;
 use super::printing::answer_line;
@@ -23,6 +22,7 @@ use command_line::Confirm;
 use decimal_text::after_text;
 use log_file::{ByteSink, ReadFault, write_all};
 use refutation::{CertificateFault, first_bad_line};
+use refutation_text::count_of;
 use std::alloc::Global;
 use std::thread::Threads;
 use trace::Trace;
@@ -96,7 +96,7 @@ fn look_at_refutation(
     ensures { IsLook trace.now text.now result }
 {
     match first_bad_line(alloc, trace, text)? {
-        None => Ok(SearchAnswer::No(count(trace))),
+        None => Ok(SearchAnswer::No(count_of(trace) as u64)),
         Some(line) => Err(bad_line(line)),
     }
 }
@@ -107,7 +107,7 @@ fn look_at_order(alloc: Global, trace: &Trace, text: &[u8]) -> Result<SearchAnsw
     ensures { IsLook trace.now text.now result }
 {
     match first_bad_line_of_order(alloc, trace, text)? {
-        None => Ok(SearchAnswer::Yes(count(trace))),
+        None => Ok(SearchAnswer::Yes(count_of(trace) as u64)),
         Some(line) => Err(bad_line(line)),
     }
 }

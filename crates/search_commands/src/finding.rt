@@ -5,9 +5,9 @@ ghost use Rattle.search_commands.specs.Searching.{AnswersBy, IsProof, budget_or_
 ghost use Rattle.search_commands.specs.inner.Finding.{IsGivenUp};
 
 use super::answer::SearchAnswer;
-use super::counting::count;
 use super::fault::SearchingFault;
 use refutation::Answer;
+use refutation_text::count_of;
 use search::{SearchWatch, search_watched};
 use std::alloc::Global;
 use trace::Trace;
@@ -31,7 +31,7 @@ pub(crate) fn find<W: SearchWatch>(
     ensures proof { IfOk result (IsProof trace.now) }
     ensures err { IfErr result IsGivenUp }
 {
-    match search_watched(alloc, trace, budget(given, count(trace)), watch)? {
+    match search_watched(alloc, trace, budget(given, count_of(trace) as u64), watch)? {
         Answer::Order(order) => Ok(Answer::Order(order)),
         Answer::Refutation(steps) => Ok(Answer::Refutation(steps)),
         Answer::Undecided => Err(SearchingFault::Undecided),
@@ -44,8 +44,8 @@ pub(crate) fn answer(trace: &Trace, proof: &Answer) -> SearchAnswer
     ensures { AnswersBy trace.now proof.now result }
 {
     match proof {
-        Answer::Order(_) => SearchAnswer::Yes(count(trace)),
-        Answer::Refutation(_) => SearchAnswer::No(count(trace)),
+        Answer::Order(_) => SearchAnswer::Yes(count_of(trace) as u64),
+        Answer::Refutation(_) => SearchAnswer::No(count_of(trace) as u64),
         Answer::Undecided => unreachable!(),
     }
 }

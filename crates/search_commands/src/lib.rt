@@ -3,13 +3,11 @@
 
 mod answer;
 mod confirm_files;
-mod counting;
 mod fault;
 mod finding;
 mod log_files;
 mod order_certificate;
 mod order_replay;
-mod order_text;
 mod printing;
 mod putting;
 mod reading;

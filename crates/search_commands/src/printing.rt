@@ -1,13 +1,14 @@
 //! What is printed of an answer.
 
-ghost use Rattle.std.specs.Prelude.{◌≡◌, ◌++◌, ℕ, List, IfOk, string_bytes};
+ghost use Rattle.std.specs.Prelude.{◌≡◌, IfOk, string_bytes};
 ghost use Rattle.call_devices.specs.Sinks.{line};
+ghost use Rattle.refutation_text.specs.FirstLines.{IsGrown};
 ghost use Rattle.search_commands.specs.Answers.{search_text};
 ghost use Rattle.search_commands.specs.Searching.{AnswersBy, TellsAnswer};
 
 use super::answer::SearchAnswer;
 use refutation::{Answer, Refutation};
-use refutation_text::argue;
+use refutation_text::push_argument;
 use std::alloc::{AllocError, Global};
 use trace::Trace;
 
@@ -37,21 +38,13 @@ pub(crate) fn print_proof(
 
 /// A text, and after it why no order exists.
 fn print_refutation(
-    text: String,
+    mut text: String,
     alloc: Global,
     trace: &Trace,
     refutation: &Refutation,
 ) -> Result<String, AllocError>
-    ensures { IfOk result (λ whole. (more : List ℕ) × (string_bytes whole ≡ string_bytes text ++ more)) }
+    ensures { IfOk result (λ whole. IsGrown (string_bytes text) (string_bytes whole)) }
 {
-    let argument = argue(alloc, trace, refutation)?;
-    joined(text, argument.as_str())
-}
-
-/// A text with more after it.
-fn joined(mut text: String, more: &str) -> Result<String, AllocError>
-    ensures { IfOk result (λ whole. (more : List ℕ) × (string_bytes whole ≡ string_bytes text ++ more)) }
-{
-    text.push_str(more)?;
+    push_argument(&mut text, alloc, trace, refutation)?;
     Ok(text)
 }

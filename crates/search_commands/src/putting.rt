@@ -1,19 +1,20 @@
 //! Puts what was found where it was asked for.
 
-ghost use Rattle.std.specs.Prelude.{◌≡◌, IfErr, OnErr, OnOk};
+ghost use Rattle.std.specs.Prelude.{IfErr, OnOk};
 ghost use Rattle.call_devices.specs.Files.{KeepsFiles};
+ghost use Rattle.call_devices.specs.Outputs.{IsNameOf, PutsAt, PutsSuchAt};
 ghost use Rattle.merge_judge.specs.OrderText.{order_text};
 ghost use Rattle.refutation.specs.Grammar.{refutation_text};
-ghost use Rattle.search_commands.specs.Outputs.{FailsPut, FailsPutAt, IsNameOf, Puts, PutsAt, PutsPictureAt};
+ghost use Rattle.refutation_picture.specs.Pictures.{IsPicture};
 ghost use Rattle.search_commands.specs.Searching.{IsOutputName, PutsBoth, PutsProof};
-ghost use Rattle.search_commands.specs.inner.Finding.{IsBothUnput, IsOrderUnput, IsPictureUnput, IsRefutationUnput, IsUnput};
+ghost use Rattle.search_commands.specs.inner.Finding.{IsBothUnput, IsUnput, IsUnputAt};
+ghost use Rattle.search_commands.specs.declared.fault.SearchingFault.TheVariants.{OrderUnwritten, PictureUnwritten, RefutationUnwritten};
 
 use super::fault::SearchingFault;
-use super::order_text::print_order;
-use call_devices::Folder;
+use call_devices::{Folder, put_under};
 use command_line::Search;
-use log_file::WriteFailed;
 use mem_op::OpId;
+use merge_judge::print_order;
 use refutation::{Answer, Refutation};
 use refutation_picture::draw;
 use std::alloc::Global;
@@ -46,14 +47,14 @@ fn put_order<F: Folder>(
     order: &[OpId],
 ) -> Result<(), SearchingFault>
     ensures ok { OnOk result (PutsAt (F.files folder.old) (F.files folder.new) name.entry (order_text order.now)) }
-    ensures err { IfErr result (IsOrderUnput (F.files folder.old) (F.files folder.new) name.entry) }
+    ensures err { IfErr result (IsUnputAt OrderUnwritten (F.files folder.old) (F.files folder.new) name.entry) }
     ensures files { KeepsFiles (F.files folder.old).told (F.files folder.new).told (IsNameOf name.entry) }
 {
     let Some(name) = name else {
         return Ok(());
     };
     let text = print_order(alloc, order)?;
-    match put_text(folder, name, text.as_bytes()) {
+    match put_under(folder, Some(name), text.as_bytes()) {
         Ok(()) => Ok(()),
         Err(_) => Err(SearchingFault::OrderUnwritten),
     }
@@ -86,15 +87,15 @@ fn put_picture<F: Folder>(
     trace: &Trace,
     refutation: &Refutation,
 ) -> Result<(), SearchingFault>
-    ensures ok { OnOk result (PutsPictureAt (F.files folder.old) (F.files folder.new) name.entry) }
-    ensures err { IfErr result (IsPictureUnput (F.files folder.old) (F.files folder.new) name.entry) }
+    ensures ok { OnOk result (PutsSuchAt (F.files folder.old) (F.files folder.new) name.entry IsPicture) }
+    ensures err { IfErr result (IsUnputAt PictureUnwritten (F.files folder.old) (F.files folder.new) name.entry) }
     ensures files { KeepsFiles (F.files folder.old).told (F.files folder.new).told (IsNameOf name.entry) }
 {
     let Some(name) = name else {
         return Ok(());
     };
     let picture = draw(alloc, trace, refutation)?;
-    match put_text(folder, name, picture.as_bytes()) {
+    match put_under(folder, Some(name), picture.as_bytes()) {
         Ok(()) => Ok(()),
         Err(_) => Err(SearchingFault::PictureUnwritten),
     }
@@ -109,24 +110,15 @@ fn put_refutation<F: Folder>(
 ) -> Result<(), SearchingFault>
     ensures ok { OnOk result (PutsAt (F.files folder.old) (F.files folder.new) name.entry
         (refutation_text refutation.now)) }
-    ensures err { IfErr result (IsRefutationUnput (F.files folder.old) (F.files folder.new) name.entry) }
+    ensures err { IfErr result (IsUnputAt RefutationUnwritten (F.files folder.old) (F.files folder.new) name.entry) }
     ensures files { KeepsFiles (F.files folder.old).told (F.files folder.new).told (IsNameOf name.entry) }
 {
     let Some(name) = name else {
         return Ok(());
     };
     let text = refutation.print(alloc)?;
-    match put_text(folder, name, text.as_bytes()) {
+    match put_under(folder, Some(name), text.as_bytes()) {
         Ok(()) => Ok(()),
         Err(_) => Err(SearchingFault::RefutationUnwritten),
     }
-}
-
-/// Puts a file of these bytes under a name.
-fn put_text<F: Folder>(folder: &mut F, name: &str, bytes: &[u8]) -> Result<(), WriteFailed>
-    ensures ok { OnOk result (Puts (F.files folder.old) (F.files folder.new) name.now bytes.now) }
-    ensures err { OnErr result (FailsPut (F.files folder.old) (F.files folder.new) name.now) }
-    ensures files { KeepsFiles (F.files folder.old).told (F.files folder.new).told (λ other. other ≡ name.now) }
-{
-    folder.put(name, bytes)
 }

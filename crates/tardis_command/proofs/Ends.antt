@@ -20,8 +20,7 @@ use Rattle.tardis_command.specs.inner.Printing.{IsUnprinted}
 use Rattle.tardis_command.specs.Endings.{Answered, Ending, EndsBy, IsAnswered, IsDoneBy, IsOfFileOf, IsOfOne, IsPrinted, Misused, Refused, Says, Sink, Takes, TellsMore, Unprinted, Unread, Untold, line, status_of}
 use Rattle.judge_commands.specs.Checking.{IsChecked, IsUnprogrammedBy}
 use Rattle.judge_commands.specs.Explaining.{IsExplained}
-use Rattle.call_devices.specs.Files.{Files, IsOnlyRead, KeepsFiles}
-use Rattle.call_devices.proofs.Files.{keeps_told}
+use Rattle.call_devices.specs.Files.{Files}
 use Rattle.command_line.specs.declared.request.TraceFiles.{TraceFiles}
 use Rattle.mem_op.specs.Consistency.{IsConsistent}
 use Rattle.search_commands.specs.Answers.{IsRightOf, search_status}
@@ -54,10 +53,6 @@ pub has_apart : (words : List (List ℕ)) (asked : Request) → Asks words asked
 has_apart words (request.Sim asked) (line, (named, is, (same, sim))) = sim.apart
 has_apart words (request.Run asked) (line, (named, is, (same, run))) = run.apart
 has_apart words other asks = tt
-
--- a folder that was only read tells of each file what it told
-pub keeps_told_of : (old new : Files) (IsPut : List ℕ → Type 0) → IsOnlyRead old new → KeepsFiles old.told new.told IsPut
-keeps_told_of old new IsPut read name none = ap (λ (told : List ℕ → Option (List ℕ)). told name) (keeps_told old new read)
 
 -- ---- commands whose answer is printed
 

@@ -8,13 +8,14 @@ use Rattle.command_line.specs.declared.request.Request.{Request}
 use Rattle.command_line.specs.declared.request.Request.TheVariants.{Check, Order, Explain, Inspect, Upgrade, Sim, Run, Litmus, Search, Confirm, Version as AskedVersion}
 use Rattle.tardis_command.specs.Answers.{answer_status, answer_text, told_text}
 use Rattle.judge_commands.specs.Checking.{FilesAreConsistent, FilesRunFlat, IsChecked, TextsAreConsistent}
-use Rattle.judge_commands.specs.Explaining.{IsExplained, IsPictureName}
+use Rattle.judge_commands.specs.Explaining.{IsExplained}
 use Rattle.call_devices.specs.Files.{Files}
+use Rattle.call_devices.specs.Outputs.{IsNameOf}
 use Rattle.tardis_command.specs.Faults.{command_fault_text, fault_status, file_fault, from_judging, from_running, from_searching}
 use Rattle.mem_op.specs.Consistency.{IsConsistent}
 use Rattle.run_commands.specs.Inspecting.{IsInspected}
 use Rattle.run_commands.specs.Leaving.{LeavesYes}
-use Rattle.run_commands.specs.Numbers.{IsLeftName, IsStatisticsName}
+use Rattle.run_commands.specs.Numbers.{IsLeftName}
 use Rattle.judge_commands.specs.Ordering.{IsOrdered, TakesOrder}
 use Rattle.judge_commands.specs.declared.fault.JudgingFault.TheVariants as judging
 use Rattle.refusal_commands.specs.Telling.{IsOfFile, IsReadAgain, TellsOf, TellsOfFile}
@@ -110,11 +111,11 @@ LeaveYes told told' other = ⊤
 -- a name under which what was asked for may put a file: that of a log, of a run's numbers, of the totals of a litmus test's runs, of a
 -- picture or of a certificate
 abbrev pub IsPutName : Request → List ℕ → Type 0
-IsPutName (Explain asked) name = IsPictureName asked.picture name
+IsPutName (Explain asked) name = IsNameOf asked.picture name
 IsPutName (Upgrade asked) name = IsLogName asked.out.now name
 IsPutName (Sim asked) name = IsLeftName asked.out.now asked.statistics name
 IsPutName (Run asked) name = IsLeftName asked.out.now asked.statistics name
-IsPutName (Litmus asked) name = IsStatisticsName asked.statistics name
+IsPutName (Litmus asked) name = IsNameOf asked.statistics name
 IsPutName (Search asked) name = IsOutputName asked name
 IsPutName other name = ⊥
 

@@ -1,5 +1,6 @@
-use Rattle.std.proofs.Common.{rules, ◌≡◌, ◌++◌}
+use Rattle.std.proofs.Common.{rules, ◌≡◌}
 use Rattle.std.specs.Prelude.{IfOk, string_bytes}
+use Rattle.refutation_text.specs.FirstLines.{IsGrown}
 use Rattle.judge_commands.specs.OtherOrders.{another_text, none_text}
 use Rattle.judge_commands.proofs.OtherOrders.{tells_another, tells_none}
 use Rattle.judge_commands.proofs.other_order.whether_another.Goals as goal
@@ -11,6 +12,5 @@ returns-in-Order g c =
 
 pub returns : goal.returns
 returns g c =
-    let argument = string_bytes c.in_ok-argument-in-Refutation.argument in
-    let same : string_bytes c.push_str.new.self ≡ none_text ++ argument = search rules in
-    tells_none c.args.trace.now c.in_ok-search_watched.field-0 _ _ argument c.in_ok-search_watched.ensures.right c.in-Refutation.is same
+    let grown : IsGrown none_text (string_bytes c.push_argument.new.text) = search rules in
+    tells_none c.args.trace.now c.in_ok-search_watched.field-0 _ _ c.in_ok-search_watched.ensures.right c.in-Refutation.is grown

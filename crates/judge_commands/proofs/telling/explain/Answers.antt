@@ -1,18 +1,18 @@
-use Rattle.std.proofs.Common.{◌≡◌, ap, rules, subst, List, ℕ, Err}
-use Rattle.std.specs.Prelude.{Option, string_bytes}
+use Rattle.std.proofs.Common.{◌≡◌, rules, subst, Err}
+use Rattle.std.specs.Prelude.{string_bytes}
 use Rattle.std.proofs.KnownBytes.{Keeps-refl}
 use Rattle.call_devices.specs.Files.{Files, IsUnread}
+use Rattle.call_devices.specs.Outputs.{FailsPutAt}
 use Rattle.call_devices.specs.Sinks.{HasFailed, TakesBeginning, sink_of}
 use Rattle.call_devices.specs.declared.call_fault.CallFault.TheVariants.{Output}
-use Rattle.call_devices.proofs.Files.{keeps_told}
-use Rattle.judge_commands.specs.Explaining.{FailsPictureAt, PutsPictureAt}
+use Rattle.call_devices.proofs.Files.{keeps_files}
+use Rattle.judge_commands.specs.Explaining.{PutsPictureAt}
 use Rattle.judge_commands.specs.declared.fault.JudgingFault.TheVariants.{Call}
 use Rattle.judge_commands.proofs.Explained.{untold}
 use Rattle.judge_commands.proofs.telling.explain.Goals as goal
 
 pub returns-in_err-told-clause-files : goal.returns-in_err-told-clause-files
-returns-in_err-told-clause-files g c name none =
-    ap (λ (told : List ℕ → Option (List ℕ)). told name) (keeps_told _ _ c.in_err-told.ensures.read)
+returns-in_err-told-clause-files g c = keeps_files _ _ _ c.in_err-told.ensures.read
 
 pub returns-in_err-told-clause-exact : goal.returns-in_err-told-clause-exact
 returns-in_err-told-clause-exact g c =
@@ -26,9 +26,9 @@ returns-in_err-put_picture-clause-exact g c =
     let files = g.F.Folder.files in
     let new = files c.put_picture.new.folder in
     let told = c.in_ok-told.told in
-    let fails = subst (λ (f : Files). FailsPictureAt told.verdict f new c.args.asked.now.picture) c.in_ok-told.ensures.quiet c.in_err-put_picture.ensures.err.1 in
+    let fails = subst (λ (f : Files). FailsPutAt f new c.args.asked.now.picture) c.in_ok-told.ensures.quiet c.in_err-put_picture.ensures.err.2 in
     let is : c.from_residual-in_err-put_picture.result ≡ Err c.in_err-put_picture.field-0.0 = search rules in
-    rw (is, c.in_err-put_picture.ensures.err.0) ((told.verdict, c.in_ok-told.ensures.exact, fails), Keeps-refl (g.O.ByteSink.contents c.args.out.now))
+    rw (is, c.in_err-put_picture.ensures.err.0) ((told.verdict, c.in_ok-told.ensures.exact, (c.in_err-put_picture.ensures.err.1, fails)), Keeps-refl (g.O.ByteSink.contents c.args.out.now))
 
 pub returns-in_err-write_all-clause-exact : goal.returns-in_err-write_all-clause-exact
 returns-in_err-write_all-clause-exact g c =

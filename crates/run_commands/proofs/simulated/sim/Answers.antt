@@ -7,8 +7,7 @@ use Rattle.core_machine.specs.Parts.{world}
 use Rattle.core_machine.specs.Works.{log_at}
 use Rattle.call_devices.specs.Files.{Files, IsUnread, KeepsFiles}
 use Rattle.call_devices.specs.Programs.{AreProgramsIn}
-use Rattle.call_devices.proofs.Files.{only_read_after}
-use Rattle.run_commands.proofs.Reading.{keeps_read}
+use Rattle.call_devices.proofs.Files.{keeps_files, only_read_after}
 use Rattle.run_commands.proofs.Runs.{came, faulted, unscheduled}
 use Rattle.run_commands.specs.Numbers.{AreLeft, AreLeftAsFar, IsUnleft, numbers_of}
 use Rattle.run_commands.specs.Programmed.{config_of, log_format}
@@ -23,7 +22,7 @@ returns-in_err-programs-clause-exact g c =
     rw is (inr (inl (sound, c.in_err-programs.ensures.err)))
 
 pub returns-in_err-programs-clause-files : goal.returns-in_err-programs-clause-files
-returns-in_err-programs-clause-files g c = keeps_read _ _ _ c.in_err-programs.ensures.read
+returns-in_err-programs-clause-files g c = keeps_files _ _ _ c.in_err-programs.ensures.read
 
 pub returns-in_err-commands-clause-exact : goal.returns-in_err-commands-clause-exact
 returns-in_err-commands-clause-exact g c =
@@ -39,10 +38,10 @@ returns-in_err-commands-clause-exact g c =
     rw is (unscheduled g.F.Source.ByteSource.remaining g.F.Source.ByteSource.failed old now new asked set c.in_err-commands.field-0.0 sound read c.in_ok-programs.ensures.quiet (search rules))
 
 pub returns-in_err-commands-clause-files : goal.returns-in_err-commands-clause-files
-returns-in_err-commands-clause-files g c = keeps_read _ _ _ (only_read_after _ _ _ c.in_ok-programs.ensures.quiet c.in_err-commands.ensures.read)
+returns-in_err-commands-clause-files g c = keeps_files _ _ _ (only_read_after _ _ _ c.in_ok-programs.ensures.quiet c.in_err-commands.ensures.read)
 
 pub returns-in_default-clause-files : goal.returns-in_default-clause-files
-returns-in_default-clause-files g c = keeps_read _ _ _ (only_read_after _ _ _ c.in_ok-programs.ensures.quiet c.in_ok-commands.ensures.read)
+returns-in_default-clause-files g c = keeps_files _ _ _ (only_read_after _ _ _ c.in_ok-programs.ensures.quiet c.in_ok-commands.ensures.read)
 
 pub returns-in_err-ended-clause-exact : goal.returns-in_err-ended-clause-exact
 returns-in_err-ended-clause-exact g c =

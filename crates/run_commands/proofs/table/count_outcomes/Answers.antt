@@ -4,10 +4,10 @@ use Rattle.std.specs.Prelude.{IfSome}
 use Rattle.std.proofs.KnownBytes.{Keeps-refl}
 use Rattle.command_line.specs.declared.request.Litmus.{Litmus}
 use Rattle.call_devices.specs.Files.{Files, IsOnlyRead, IsUnread}
+use Rattle.call_devices.specs.Outputs.{PutsAt}
 use Rattle.call_devices.specs.Sinks.{Sink, sink_of}
 use Rattle.call_devices.specs.declared.call_fault.CallFault.TheVariants.{Output, OutOfMemory}
 use Rattle.litmus.specs.declared.collecting.Collected.{Collected}
-use Rattle.run_commands.specs.Numbers.{PutsStatistics}
 use Rattle.run_commands.specs.Programmed.{config_of}
 use Rattle.run_commands.specs.Tabling.{IsCounted, IsTableBy, IsUntabled}
 use Rattle.run_commands.specs.declared.fault.RunningFault.{RunningFault}
@@ -24,9 +24,9 @@ untabled before after unread asked sink other why read = (why, Keeps-refl sink.c
 
 -- the same text put
 same_text : (before after : Files) (statistics : Option (Bor (List ℕ))) (made text : List ℕ) → IfSome statistics (λ name. made ≡ text)
-    → PutsStatistics before after statistics made → PutsStatistics before after statistics text
+    → PutsAt before after statistics made → PutsAt before after statistics text
 same_text before after None made text same puts = puts
-same_text before after (Some name) made text same puts = subst (λ (t : List ℕ). PutsStatistics before after (Some name) t) same puts
+same_text before after (Some name) made text same puts = subst (λ (t : List ℕ). PutsAt before after (Some name) t) same puts
 
 pub returns-in_err-collected-clause-exact : goal.returns-in_err-collected-clause-exact
 returns-in_err-collected-clause-exact g c =
@@ -54,7 +54,7 @@ returns-clause-exact g c =
         (
           c.has_forbidden.ensures,
           c.in_ok-write_table.ensures.written,
-          subst (λ (before : Files). PutsStatistics before after asked.statistics (totals_text collected.totals)) c.in_ok-collected.ensures.quiet puts,
+          subst (λ (before : Files). PutsAt before after asked.statistics (totals_text collected.totals)) c.in_ok-collected.ensures.quiet puts,
         ),
       ),
     )

@@ -5,7 +5,7 @@ use Rattle.audit.specs.Runs.{IsRun, kept_log}
 use Rattle.machine.specs.Runs.{IsMachineRun}
 use Rattle.call_devices.specs.Files.{Files, IsUnread, KeepsFiles}
 use Rattle.call_devices.specs.Programs.{AreProgramsIn}
-use Rattle.run_commands.proofs.Reading.{keeps_read}
+use Rattle.call_devices.proofs.Files.{keeps_files}
 use Rattle.run_commands.proofs.ThreadRuns.{came, left, left_by}
 use Rattle.run_commands.specs.Numbers.{AreLeft, AreLeftAsFar, IsUnleft, numbers_of}
 use Rattle.run_commands.specs.Programmed.{config_of, log_format}
@@ -19,7 +19,7 @@ returns-in_err-programs-clause-exact g c =
     rw is (inr (inl (sound, c.in_err-programs.ensures.err)))
 
 pub returns-in_err-programs-clause-files : goal.returns-in_err-programs-clause-files
-returns-in_err-programs-clause-files g c = keeps_read _ _ _ c.in_err-programs.ensures.read
+returns-in_err-programs-clause-files g c = keeps_files _ _ _ c.in_err-programs.ensures.read
 
 pub returns-in-Ok-clause-exact : goal.returns-in-Ok-clause-exact
 returns-in-Ok-clause-exact g c =

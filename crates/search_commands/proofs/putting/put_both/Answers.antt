@@ -1,12 +1,11 @@
-use Rattle.std.proofs.Common.{rules, ◌≡◌, Err}
-use Rattle.search_commands.proofs.Puts.{first_unput, keeps_both, keeps_first, second_unput}
+use Rattle.std.proofs.Common.{rules, ◌≡◌, Err, inl, inr}
+use Rattle.search_commands.proofs.Puts.{keeps_both, keeps_first}
 use Rattle.search_commands.proofs.putting.put_both.Goals as goal
 
 pub returns-in_err-put_refutation-clause-err : goal.returns-in_err-put_refutation-clause-err
 returns-in_err-put_refutation-clause-err g c =
-    let files = g.F.Folder.files in
     let is : c.from_residual.result ≡ Err c.in_err-put_refutation.field-0.0 = search rules in
-    rw is (first_unput (files c.args.folder.now) (files c.put_refutation.new.folder) c.args.asked.now c.args.refutation.now c.in_err-put_refutation.field-0.0 c.in_err-put_refutation.ensures.err)
+    rw is (inl c.in_err-put_refutation.ensures.err)
 
 pub returns-in_err-put_refutation-clause-files : goal.returns-in_err-put_refutation-clause-files
 returns-in_err-put_refutation-clause-files g c =
@@ -22,10 +21,7 @@ returns-in-Ok-clause-files g c =
     keeps_both (files c.args.folder.now) (files c.put_refutation.new.folder) (files c.put_picture.new.folder) c.args.asked.now c.in_ok-put_refutation.ensures.files c.in-Ok.ensures.files
 
 pub returns-in-Err-clause-err : goal.returns-in-Err-clause-err
-returns-in-Err-clause-err g c =
-    let files = g.F.Folder.files in
-    second_unput (files c.args.folder.now) (files c.put_refutation.new.folder) (files c.put_picture.new.folder) c.args.asked.now c.args.refutation.now c.in-Err.fault c.in_ok-put_refutation.ensures.ok
-    c.in-Err.ensures.err
+returns-in-Err-clause-err g c = inr (g.F.Folder.files c.put_refutation.new.folder, c.in_ok-put_refutation.ensures.ok, c.in-Err.ensures.err)
 
 pub returns-in-Err-clause-files : goal.returns-in-Err-clause-files
 returns-in-Err-clause-files g c =

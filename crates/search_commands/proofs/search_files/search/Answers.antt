@@ -2,12 +2,13 @@ use Rattle.std.proofs.Common.{rules, ◌≡◌, subst, Err, Ok}
 use Rattle.std.specs.Prelude.{string_bytes}
 use Rattle.std.proofs.KnownBytes.{Keeps-refl}
 use Rattle.call_devices.specs.Files.{Files, IsUnread, KeepsFiles}
+use Rattle.call_devices.proofs.Files.{keeps_files}
 use Rattle.call_devices.specs.Sinks.{HasFailed, TakesBeginning, sink_of}
 use Rattle.search_commands.specs.Searching.{IsOutputName}
 use Rattle.search_commands.specs.inner.Finding.{IsUnput}
 use Rattle.search_commands.specs.declared.fault.SearchingFault.TheVariants.{Call}
 use Rattle.call_devices.specs.declared.call_fault.CallFault.TheVariants.{OutOfMemory, Output}
-use Rattle.search_commands.proofs.Searches.{finds, given_up, keeps, right, traceless, unput}
+use Rattle.search_commands.proofs.Searches.{finds, given_up, right, traceless, unput}
 use Rattle.search_commands.proofs.search_files.search.Goals as goal
 
 pub returns-in_err-trace-clause-exact : goal.returns-in_err-trace-clause-exact
@@ -21,9 +22,7 @@ returns-in_err-trace-clause-exact g c =
     rw is (traceless old new unread c.args.asked.now (sink c.args.out.now) c.in_err-trace.field-0.0 c.in_err-trace.ensures.err c.in_err-trace.ensures.read (Keeps-refl _))
 
 pub returns-in_err-trace-clause-files : goal.returns-in_err-trace-clause-files
-returns-in_err-trace-clause-files g c =
-    let files = g.F.Folder.files in
-    keeps (files c.args.folder.now) (files c.read_files.new.folder) (IsOutputName c.args.asked.now) c.in_err-trace.ensures.read
+returns-in_err-trace-clause-files g c = keeps_files _ _ _ c.in_err-trace.ensures.read
 
 pub returns-in_err-proof-clause-exact : goal.returns-in_err-proof-clause-exact
 returns-in_err-proof-clause-exact g c =

@@ -1,7 +1,8 @@
 use Rattle.std.proofs.Common.{◌∙◌, refl, subst, sym, ℕ, List}
 use Rattle.call_devices.specs.Files.{IsUnread}
+use Rattle.call_devices.proofs.Files.{keeps_files}
 use Rattle.command_line.specs.Asking.{IsRefusalOf, texts}
-use Rattle.tardis_command.proofs.Ends.{done_after, ends_answered, ends_misused, ends_refused, ends_unread, has_apart, keeps_told_of, told_no}
+use Rattle.tardis_command.proofs.Ends.{done_after, ends_answered, ends_misused, ends_refused, ends_unread, has_apart, told_no}
 use Rattle.tardis_command.specs.Endings.{Misused}
 use Rattle.tardis_command.proofs.call.command.Goals as goal
 
@@ -69,5 +70,5 @@ returns-in-Ok-perform-clause-files g c name none =
 
 pub returns-clause-files : goal.returns-clause-files
 returns-clause-files g c name none =
-    keeps_told_of _ _ (λ (other : List ℕ). ⊥) c.tell_more.ensures.read name (λ never. never)
+    keeps_files _ _ (λ (other : List ℕ). ⊥) c.tell_more.ensures.read name (λ never. never)
     ∙ c.in-Err.ensures.files name (λ is. none (c.in-Ok.request, c.in-Ok.ensures.request, is))

@@ -1,5 +1,6 @@
 use Rattle.std.proofs.Common.{rules, ◌≡◌, inl, refl, ℕ, List, Option, Err}
 use Rattle.call_devices.specs.Files.{IsUnread}
+use Rattle.call_devices.proofs.Files.{keeps_files}
 use Rattle.call_devices.specs.declared.call_fault.CallFault.TheVariants.{OutOfMemory}
 use Rattle.judge_commands.specs.Checking.{IsChecked}
 use Rattle.judge_commands.specs.Upgrading.{IsUpgraded}
@@ -16,7 +17,7 @@ use Rattle.tardis_command.specs.Endings.{Answered, IsUntouched, Refused, sink_of
 use Rattle.tardis_command.specs.Faults.{from_judging, from_running, from_searching}
 use Rattle.tardis_command.specs.declared.answer.Answer.TheVariants.{Judged, Ordered, Explained, Readable, Searched, Counted, Done, Version}
 use Rattle.tardis_command.specs.declared.fault.CommandFault.TheVariants.{Call}
-use Rattle.tardis_command.proofs.Ends.{keeps_told_of, printed, printed_yes, refused_at_once, right_no, right_yes, whatever}
+use Rattle.tardis_command.proofs.Ends.{printed, printed_yes, refused_at_once, right_no, right_yes, whatever}
 use Rattle.tardis_command.proofs.call.perform.Goals as goal
 
 pub returns-in_err-verdict-in-Check-clause-exact : goal.returns-in_err-verdict-in-Check-clause-exact
@@ -184,16 +185,16 @@ returns-in_ok-operations-in-Run-clause-yes g c =
     (run_leaves (files c.args.folder.now) (files c.run.new.folder) (unread (files c.args.folder.now) (files c.run.new.folder)) c.in-Run.asked c.in_ok-operations-in-Run.operations c.in_ok-operations-in-Run.ensures.exact))
 
 pub returns-in_err-verdict-in-Check-clause-files : goal.returns-in_err-verdict-in-Check-clause-files
-returns-in_err-verdict-in-Check-clause-files g c = keeps_told_of _ _ _ c.in_err-verdict-in-Check.ensures.read
+returns-in_err-verdict-in-Check-clause-files g c = keeps_files _ _ _ c.in_err-verdict-in-Check.ensures.read
 
 pub returns-in_ok-verdict-in-Check-clause-files : goal.returns-in_ok-verdict-in-Check-clause-files
-returns-in_ok-verdict-in-Check-clause-files g c = keeps_told_of _ _ _ c.in_ok-verdict-in-Check.ensures.read
+returns-in_ok-verdict-in-Check-clause-files g c = keeps_files _ _ _ c.in_ok-verdict-in-Check.ensures.read
 
 pub returns-in_err-order-in-Order-clause-files : goal.returns-in_err-order-in-Order-clause-files
-returns-in_err-order-in-Order-clause-files g c = keeps_told_of _ _ _ c.in_err-order-in-Order.ensures.read
+returns-in_err-order-in-Order-clause-files g c = keeps_files _ _ _ c.in_err-order-in-Order.ensures.read
 
 pub returns-in_ok-order-in-Order-clause-files : goal.returns-in_ok-order-in-Order-clause-files
-returns-in_ok-order-in-Order-clause-files g c = keeps_told_of _ _ _ c.in_ok-order-in-Order.ensures.read
+returns-in_ok-order-in-Order-clause-files g c = keeps_files _ _ _ c.in_ok-order-in-Order.ensures.read
 
 pub returns-in_err-count_outcomes-in-Litmus-clause-files : goal.returns-in_err-count_outcomes-in-Litmus-clause-files
 returns-in_err-count_outcomes-in-Litmus-clause-files g c = rw c.in-Litmus.is c.in_err-count_outcomes-in-Litmus.ensures.files
@@ -202,16 +203,16 @@ pub returns-in_ok-count_outcomes-in-Litmus-clause-files : goal.returns-in_ok-cou
 returns-in_ok-count_outcomes-in-Litmus-clause-files g c = rw c.in-Litmus.is c.in_ok-count_outcomes-in-Litmus.ensures.files
 
 pub returns-in_err-confirm-in-Confirm-clause-files : goal.returns-in_err-confirm-in-Confirm-clause-files
-returns-in_err-confirm-in-Confirm-clause-files g c = keeps_told_of _ _ _ c.in_err-confirm-in-Confirm.ensures.read
+returns-in_err-confirm-in-Confirm-clause-files g c = keeps_files _ _ _ c.in_err-confirm-in-Confirm.ensures.read
 
 pub returns-in_ok-confirm-in-Confirm-clause-files : goal.returns-in_ok-confirm-in-Confirm-clause-files
-returns-in_ok-confirm-in-Confirm-clause-files g c = keeps_told_of _ _ _ c.in_ok-confirm-in-Confirm.ensures.read
+returns-in_ok-confirm-in-Confirm-clause-files g c = keeps_files _ _ _ c.in_ok-confirm-in-Confirm.ensures.read
 
 pub returns-in_err-cores-in-Inspect-clause-files : goal.returns-in_err-cores-in-Inspect-clause-files
-returns-in_err-cores-in-Inspect-clause-files g c = keeps_told_of _ _ _ c.in_err-cores-in-Inspect.ensures.read
+returns-in_err-cores-in-Inspect-clause-files g c = keeps_files _ _ _ c.in_err-cores-in-Inspect.ensures.read
 
 pub returns-in_ok-cores-in-Inspect-clause-files : goal.returns-in_ok-cores-in-Inspect-clause-files
-returns-in_ok-cores-in-Inspect-clause-files g c = keeps_told_of _ _ _ c.in_ok-cores-in-Inspect.ensures.read
+returns-in_ok-cores-in-Inspect-clause-files g c = keeps_files _ _ _ c.in_ok-cores-in-Inspect.ensures.read
 
 pub returns-in_err-search-in-Search-clause-files : goal.returns-in_err-search-in-Search-clause-files
 returns-in_err-search-in-Search-clause-files g c = rw c.in-Search.is c.in_err-search-in-Search.ensures.files

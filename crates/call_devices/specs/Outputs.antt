@@ -1,0 +1,31 @@
+-- A file that is put where a name was given for it. The folder was `old` before and is `new` after.
+use Rattle.std.specs.Prelude.{◌≡◌, ℕ, List, Option, None, Some}
+use Rattle.std.specs.Borrow.{Bor}
+use Rattle.log_file.specs.Devices.{Failed, Tells}
+use Rattle.call_devices.specs.Files.{Files, KeepsFiles}
+
+-- the name that the file goes to, where one was given
+abbrev pub IsNameOf : Option (Bor (List ℕ)) → List ℕ → Type 0
+IsNameOf None name = ⊥
+IsNameOf (Some given) name = name ≡ given.now
+
+-- a file of these bytes was put under this name, and nothing else
+pub record Puts (old new : Files) (name bytes : List ℕ) : Type 0 where
+  pub told : Tells (new.told name) bytes
+  pub others : KeepsFiles old.told new.told (λ other. other ≡ name)
+  pub quiet : new.failed ≡ old.failed
+
+-- the bytes were put where a name was given, and else nothing was
+abbrev pub PutsAt : Files → Files → Option (Bor (List ℕ)) → List ℕ → Type 0
+PutsAt old new None bytes = new ≡ old
+PutsAt old new (Some name) bytes = Puts old new name.now bytes
+
+-- bytes of which this holds were
+abbrev pub PutsSuchAt : Files → Files → Option (Bor (List ℕ)) → (List ℕ → Type 0) → Type 0
+PutsSuchAt old new None Holds = new ≡ old
+PutsSuchAt old new (Some name) Holds = (bytes : List ℕ) × Holds bytes × Puts old new name.now bytes
+
+-- the put under the name that was given failed, and nothing else changed
+abbrev pub FailsPutAt : Files → Files → Option (Bor (List ℕ)) → Type 0
+FailsPutAt old new None = ⊥
+FailsPutAt old new (Some name) = Failed old.failed new.failed × KeepsFiles old.told new.told (λ other. other ≡ name.now)
