@@ -1,5 +1,9 @@
 use Rattle.std.proofs.Common.{rules, ◌≡◌, ◌++◌, ◌∷◌, ◌∙◌, [], subst, ℕ, List, Bor, get_or}
-use Rattle.call_devices.specs.Files.{Files}
+use Rattle.std.proofs.lemmas.List.{get_or_default}
+use Rattle.call_devices.specs.Files.{Files, IsUnread}
+use Rattle.call_devices.specs.inner.Texts.{IsNoText}
+use Rattle.log_file.specs.declared.device_fault.ReadFault.{ReadFault}
+use Rattle.log_file.specs.declared.device_fault.ReadFault.TheVariants.{Read}
 use Rattle.log_file.specs.Devices.{Tells}
 use Rattle.refusal_commands.proofs.Reading.{one_text_more}
 use Rattle.refusal_commands.proofs.first.all_again.Goals as goal
@@ -15,3 +19,18 @@ loop-name-preserved g c =
           c.loop-name.invariant.texts (subst (λ (f : Files). Tells (f.told name) c.in-Ok.text.items) c.loop-name.invariant.quiet c.in-Ok.ensures.ok) pushed;
       quiet = c.in-Ok.ensures.quiet ∙ c.loop-name.invariant.quiet;
     }
+
+pub returns-in-Err-Read-clause-texts : goal.returns-in-Err-Read-clause-texts
+returns-in-Err-Read-clause-texts g c =
+    let files = g.F.Folder.files in
+    let none : Bor (List ℕ) = record { ref_ptr = (0, 0); now = [] } in
+    let Unread : Files → Files → Bor (List ℕ) → Type 0 = λ old new name. IsUnread g.F.Source.ByteSource.remaining g.F.Source.ByteSource.failed old new name.now in
+    let name : Bor (List ℕ) = get_or c.args.names.now c.loop-name.name-index none in
+    let refused : IsNoText (IsUnread g.F.Source.ByteSource.remaining g.F.Source.ByteSource.failed (files c.loop-name.folder) (files c.read_text.new.folder)) name.now Read =
+    subst (λ (fault : ReadFault). IsNoText (IsUnread g.F.Source.ByteSource.remaining g.F.Source.ByteSource.failed (files c.loop-name.folder) (files c.read_text.new.folder)) name.now fault)
+    c.in-Err-Read.field-0-is c.in-Err-Read.ensures.err in
+    let unread : Unread (files c.args.folder.now) (files c.read_text.new.folder) name =
+    subst (λ (f : Files). Unread f (files c.read_text.new.folder) name) c.loop-name.invariant.quiet refused in
+    let held = λ (d : Bor (List ℕ)).
+        subst (Unread (files c.args.folder.now) (files c.read_text.new.folder)) (get_or_default c.args.names.now c.loop-name.name-index none d c.loop-name-test.true) unread in
+    (c.loop-name.name-index, (c.loop-name-test.true, held))
