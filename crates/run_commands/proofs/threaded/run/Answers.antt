@@ -2,7 +2,7 @@ use Rattle.std.proofs.Common.{◌≡◌, inl, inr, ℕ, List, [], length, Option
 use Rattle.std.specs.Prelude.{IfErr, OnOk}
 use Rattle.lease_rule.specs.Ranges.{first_bad}
 use Rattle.audit.specs.Runs.{IsRun, kept_log}
-use Rattle.machine.specs.Runs.{IsMachineRun}
+use Rattle.machine.specs.Runs.{AreSlicesLeft, IsMachineRun}
 use Rattle.call_devices.specs.Files.{Files, IsUnread, KeepsFiles}
 use Rattle.call_devices.specs.Programs.{AreProgramsIn}
 use Rattle.call_devices.proofs.Files.{keeps_files}
@@ -57,8 +57,10 @@ returns-clause-exact g c =
     let read : AreProgramsIn old.told asked.programs.now set = search rules in
     let us = c.deref-in-Err.result.now in
     let ss = c.deref-in-Err-2.result.now in
+    let as_many : c.in_ok-config.config.slices ≡ asked.limits.slices = search rules in
+    let slices = subst (λ (k : ℕ). AreSlicesLeft k c.in-Err.fault.cause c.in-Err.fault.units.items c.in-Err.fault.slices.items) as_many c.in-Err.ensures.slices in
     let are = left_by set.programs asked.limits.slices c.of.result c.in-Err.fault.core c.in-Err.fault.cause us c.in-Err.fault.units.items ss c.in-Err.fault.slices.items
-    c.of.ensures.core c.of.ensures.cause c.deref-in-Err.ensures.value c.deref-in-Err-2.ensures.value c.in-Err.ensures.logs c.in-Err.ensures.slices c.in-Err.ensures.short in
+    c.of.ensures.core c.of.ensures.cause c.deref-in-Err.ensures.value c.deref-in-Err-2.ensures.value c.in-Err.ensures.logs slices c.in-Err.ensures.short in
     let many : c.len.result ≡ length set.programs = search rules in
     let same : c.log_format.result ≡ log_format set.format = search rules in
     let parts : c.slices.result ≡ asked.limits.slices = search rules in
