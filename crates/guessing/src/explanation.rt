@@ -5,13 +5,18 @@ use super::knowledge::Knowledge;
 use super::proof::{Derived, Line, Proof, Rule};
 use super::stop::{Conflict, NONE, Place, Stop, Tried, short};
 use std::iter::successors;
+use std::ops::RangeInclusive;
 
 /// The number of the from-read in the case of a candidate that another store hides from a read.
 const CASE_FROM_READ: u32 = u32::MAX - 1;
 
-/// A from-read by which a read would be before a store that hides a candidate from it, with a path from that store to the
-/// read.
-type Hiding = (Derived, Vec<u32>);
+/// How a store hides a candidate from a read: by a from-read the read would be before the store, and a path leads from the
+/// store to the read.
+#[derive(Drop)]
+struct Hiding {
+    from_read: Derived,
+    to_read: Vec<u32>,
+}
 
 /// The cases of a read with the steps that close them.
 #[derive(Drop)]
@@ -19,7 +24,7 @@ struct Closing {
     read: Place,
     /// The number of the fact that each case begins with. Facts of this number and above aren't used.
     fact: u32,
-    ranges: Vec<(Place, Place)>,
+    ranges: Vec<RangeInclusive<Place>>,
     /// The steps, first one first, and the facts that they need.
     steps: Proof,
 }
@@ -94,7 +99,7 @@ impl Knowledge {
         for core in self.operations.cores() {
             self.close_core(&mut closing, kept, core)?;
         }
-        let kept = kept.iter().map(|store| (*store, *store));
+        let kept = kept.iter().map(|store| *store..=*store);
         closing.ranges.extend(kept)?;
         closing.steps.reversed.reverse();
         proof.prepend_proof(&mut closing.steps)?;
@@ -110,13 +115,13 @@ impl Knowledge {
         for store in others.filter(|store| *store != read && !kept.contains(store)) {
             if let Some(path) = self.chain(read, store, closing.fact)? {
                 let last = stores.last().copied().unwrap_or(store);
-                closing.ranges.push((store, last))?;
+                closing.ranges.push(store..=last)?;
                 return closing.steps.close(closing.fact, path);
             }
-            if let Some((from_read, path)) = self.least_hiding(closing, store)? {
-                closing.ranges.push((store, store))?;
-                closing.steps.derive(from_read)?;
-                closing.steps.close(CASE_FROM_READ, path)?;
+            if let Some(hiding) = self.least_hiding(closing, store)? {
+                closing.ranges.push(store..=store)?;
+                closing.steps.derive(hiding.from_read)?;
+                closing.steps.close(CASE_FROM_READ, hiding.to_read)?;
             }
         }
         Ok(())
@@ -128,7 +133,7 @@ impl Knowledge {
         let hidings = last.iter().map(|last| self.hiding(closing, hidden, *last));
         let hidings: Vec<Option<Hiding>> = hidings.try_collect(self.alloc)?;
         let hidings = hidings.into_iter().flatten();
-        Ok(hidings.min_by_key(|(step, path)| step.path.len().saturating_add(path.len())))
+        Ok(hidings.min_by_key(|it| it.from_read.path.len().saturating_add(it.to_read.len())))
     }
 
     /// The last store of a core, up to this one, that hides another from the read by facts that were known then: the clocks
@@ -148,7 +153,7 @@ impl Knowledge {
                     path,
                     fact: CASE_FROM_READ,
                 };
-                return Ok(Some((from_read, to_read)));
+                return Ok(Some(Hiding { from_read, to_read }));
             }
         }
         Ok(None)

@@ -3,7 +3,6 @@
 use super::clocks::CoreSet;
 use super::knowledge::Knowledge;
 use super::stop::{NONE, Place, START, Tried, at, put};
-use super::stores::count_first;
 
 impl Knowledge {
     /// Gives a read its source, after which the first store of each core comes after the read. All is to be concluded from
@@ -21,13 +20,13 @@ impl Knowledge {
 
     /// The first store of a core to a read's address that is known to be after the read's source, other than the read.
     fn first_store_after(&self, source: Place, core: u32, read: Place) -> Option<Place> {
-        let word = self.operations.get(read).word;
+        let address = self.operations.get(read).address;
         let stores = if source == START {
-            self.stores.all(word, core)
+            self.stores.all(address, core)
         } else {
-            self.stores.active(word, core)
+            self.stores.active(address, core)
         };
-        let count = count_first(stores, |store| !self.is_before(source, store));
+        let count = stores.partition_point(|store| !self.is_before(source, *store));
         let mut later = stores.get(count..)?.iter().copied();
         later.find(|store| *store != source && *store != read)
     }
@@ -47,8 +46,8 @@ impl Knowledge {
         Ok(())
     }
 
-    /// The reads of the stores before a store whose clock rose for some cores are before it. Each core's last store before it stands for the others, and
-    /// the own core's for those before that one, to which the rule was applied already.
+    /// The reads of the stores before a store whose clock rose for some cores are before it. Each core's last store before it
+    /// stands for the others, and the own core's for those before that one, to which the rule was applied already.
     pub(crate) fn order_reads_before(&mut self, store: Place, cores: CoreSet) -> Tried<()> {
         let operation = self.operations.get(store);
         if !operation.stores {
@@ -67,15 +66,10 @@ impl Knowledge {
 
     /// The reads of one store are before another, which is after it.
     fn order_readers(&mut self, source: Place, store: Place) -> Tried<()> {
-        let mut next = self.facts.latest(source);
-        for _ in 0..self.facts.all.len() {
-            let Some((number, fact)) = next else {
-                break;
-            };
+        for (number, fact) in self.facts.of(self.alloc, source)? {
             if self.facts.is_source(number, &fact) {
                 self.learn(fact.later, store, number)?;
             }
-            next = self.facts.get(fact.next);
         }
         Ok(())
     }
