@@ -17,13 +17,12 @@ pub(crate) struct Candidates {
     pub(crate) addresses: u32,
 }
 
-/// A word that an operation read or stored at an address. These are in the order of addresses, then of words, then of places.
+/// A word that an operation read at an address, or stored there. The order is that of addresses, words and places.
 #[derive(Clone, Copy, PartialEq, Eq, PartialOrd, Ord)]
 struct Touch {
     addr: Address,
     word: Word,
     place: Place,
-    /// Whether it stored the word.
     stores: bool,
 }
 

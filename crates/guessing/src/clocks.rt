@@ -87,23 +87,19 @@ impl Clocks {
     /// What is before one operation is before another: gives the cores whose entries rose.
     pub(crate) fn join(&mut self, earlier: Place, later: Place) -> Tried<CoreSet> {
         let (from, to) = (self.row(earlier), self.row(later));
-        let halves = self.entries.split_at_mut_checked(from.max(to));
-        let (low, high) = halves.ok_or(Stop::GivenUp)?;
-        let (least, entries) = if from < to {
-            (&low[from..], high)
-        } else {
-            (&*high, &mut low[to..])
-        };
         let mut risen = CoreSet::NONE;
-        for (core, (entry, least)) in (0..self.cores).zip(entries.iter_mut().zip(least)) {
-            if *entry < *least {
+        for core in 0..self.cores {
+            let least = self.entries.get(from.saturating_add(core as usize));
+            let least = *least.ok_or(Stop::GivenUp)?;
+            let entry = to.saturating_add(core as usize);
+            let before = self.entries.get_mut(entry).ok_or(Stop::GivenUp)?;
+            if *before < least {
                 risen.insert(core);
                 if self.is_trailed {
-                    let before = *entry;
-                    let entry = to.saturating_add(core as usize);
+                    let before = *before;
                     self.trail.push(Rise { entry, before })?;
                 }
-                *entry = *least;
+                *before = least;
             }
         }
         Ok(risen)

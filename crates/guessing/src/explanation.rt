@@ -10,13 +10,9 @@ use std::ops::RangeInclusive;
 /// The number of the from-read in the case of a candidate that another store hides from a read.
 const CASE_FROM_READ: u32 = u32::MAX - 1;
 
-/// How a store hides a candidate from a read: by a from-read the read would be before the store, and a path leads from the
-/// store to the read.
-#[derive(Drop)]
-struct Hiding {
-    from_read: Derived,
-    to_read: Vec<u32>,
-}
+/// A from-read by which a read would be before a store that hides a candidate from it, with a path from that store to the
+/// read.
+type Hiding = (Derived, Vec<u32>);
 
 /// The cases of a read with the steps that close them.
 #[derive(Drop)]
@@ -118,10 +114,10 @@ impl Knowledge {
                 closing.ranges.push(store..=last)?;
                 return closing.steps.close(closing.fact, path);
             }
-            if let Some(hiding) = self.least_hiding(closing, store)? {
+            if let Some((from_read, path)) = self.least_hiding(closing, store)? {
                 closing.ranges.push(store..=store)?;
-                closing.steps.derive(hiding.from_read)?;
-                closing.steps.close(CASE_FROM_READ, hiding.to_read)?;
+                closing.steps.derive(from_read)?;
+                closing.steps.close(CASE_FROM_READ, path)?;
             }
         }
         Ok(())
@@ -133,7 +129,7 @@ impl Knowledge {
         let hidings = last.iter().map(|last| self.hiding(closing, hidden, *last));
         let hidings: Vec<Option<Hiding>> = hidings.try_collect(self.alloc)?;
         let hidings = hidings.into_iter().flatten();
-        Ok(hidings.min_by_key(|it| it.from_read.path.len().saturating_add(it.to_read.len())))
+        Ok(hidings.min_by_key(|(step, path)| step.path.len().saturating_add(path.len())))
     }
 
     /// The last store of a core, up to this one, that hides another from the read by facts that were known then: the clocks
@@ -153,7 +149,7 @@ impl Knowledge {
                     path,
                     fact: CASE_FROM_READ,
                 };
-                return Ok(Some(Hiding { from_read, to_read }));
+                return Ok(Some((from_read, to_read)));
             }
         }
         Ok(None)

@@ -5,17 +5,10 @@ use super::clocks::{Clocks, CoreSet};
 use super::facts::Facts;
 use super::operations::Operations;
 use super::stop::{Conflict, Place, Stop, Tried, at};
-use super::stores::Stores;
+use super::stores::{Stores, count_first};
 use std::alloc::Global;
 use std::collections::VecDeque;
 use trace::Access;
-
-/// The clock of an operation rose for some cores.
-#[derive(Clone, Copy)]
-pub(crate) struct Risen {
-    pub(crate) place: Place,
-    pub(crate) cores: CoreSet,
-}
 
 /// What is known of each order that keeps program order and in which each read has its word.
 #[derive(Drop)]
@@ -30,8 +23,9 @@ pub(crate) struct Knowledge {
     pub(crate) entered: Vec<Place>,
     /// The reads that came in with more than one candidate.
     pub(crate) open: Vec<Place>,
-    /// The clocks that rose, and from which nothing was concluded yet.
-    pub(crate) risen: VecDeque<Risen>,
+    /// The operations whose clocks rose, each with the cores for which it did, and for which nothing was concluded from that
+    /// yet.
+    pub(crate) risen: VecDeque<(Place, CoreSet)>,
     /// How many steps the search may make, and how many of them are left.
     pub(crate) budget: u64,
     pub(crate) left: u64,
@@ -79,7 +73,7 @@ impl Knowledge {
     pub(crate) fn last_store(&self, place: Place, core: u32) -> Option<Place> {
         let entry = self.clocks.entry(place, core);
         let stores = self.stores.active(self.operations.get(place).address, core);
-        let count = stores.partition_point(|store| *store < entry && *store != place);
+        let count = count_first(stores, |store| store < entry && store != place);
         stores.get(..count)?.last().copied()
     }
 
@@ -138,8 +132,8 @@ impl Knowledge {
     pub(crate) fn note(&mut self, place: Place, cores: CoreSet) -> Tried<()> {
         match self.risen.back_mut() {
             _ if cores == CoreSet::NONE => {}
-            Some(last) if last.place == place => last.cores.extend(cores),
-            _ => self.risen.push_back(Risen { place, cores })?,
+            Some((last, risen)) if *last == place => risen.extend(cores),
+            _ => self.risen.push_back((place, cores))?,
         }
         Ok(())
     }

@@ -3,6 +3,7 @@
 use super::clocks::CoreSet;
 use super::knowledge::Knowledge;
 use super::stop::{NONE, Place, START, Tried, at, put};
+use super::stores::count_first;
 
 impl Knowledge {
     /// Gives a read its source, after which the first store of each core comes after the read. All is to be concluded from
@@ -26,7 +27,7 @@ impl Knowledge {
         } else {
             self.stores.active(address, core)
         };
-        let count = stores.partition_point(|store| !self.is_before(source, *store));
+        let count = count_first(stores, |store| !self.is_before(source, store));
         let mut later = stores.get(count..)?.iter().copied();
         later.find(|store| *store != source && *store != read)
     }

@@ -1,7 +1,7 @@
 //! How the operations come in, and what is concluded from each.
 
 use super::clocks::CoreSet;
-use super::knowledge::{Knowledge, Risen};
+use super::knowledge::Knowledge;
 use super::stop::{Conflict, NONE, Place, START, Stop, Tried, at, put};
 use super::watch::SearchWatch;
 
@@ -82,7 +82,7 @@ impl Knowledge {
     /// Concludes what follows from the clocks that rose, until nothing more does.
     pub(crate) fn conclude(&mut self) -> Tried<()> {
         for _ in 0..self.left {
-            let Some(Risen { place, cores }) = self.risen.pop_front() else {
+            let Some((place, cores)) = self.risen.pop_front() else {
                 return Ok(());
             };
             self.spend(1)?;

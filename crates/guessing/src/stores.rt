@@ -64,3 +64,19 @@ impl Stores {
 fn slot(cores: u32, address: u32, core: u32) -> u32 {
     address.saturating_mul(cores).saturating_add(core)
 }
+
+/// How many of the first of these places are such, where those that are stand first. It looks from the end on.
+pub(crate) fn count_first<F: Fn(Place) -> bool>(places: &[Place], is_such: F) -> usize
+    requires { F.IsAlwaysCallable is_such }
+{
+    let mut high = places.len();
+    for doubling in 0..usize::BITS {
+        let low = high.saturating_sub(1usize.wrapping_shl(doubling));
+        let part = places.get(low..high).unwrap_or(&[]);
+        match part.first() {
+            Some(first) if !is_such(*first) => high = low,
+            _ => return low.saturating_add(part.partition_point(|place| is_such(*place))),
+        }
+    }
+    high
+}
