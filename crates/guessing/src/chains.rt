@@ -55,12 +55,15 @@ impl Knowledge {
 
     /// Goes on by the facts that lead from the places of a hop. Says whether the end was reached.
     fn walk_from(&self, walk: &mut Walk, from: u32, hop: Hop) -> Tried<bool> {
-        for place in hop.place..hop.until {
-            for (number, fact) in self.facts.of(self.alloc, place)? {
-                let core = self.operations.core(fact.later);
-                if number < walk.limit && walk.hop(fact.later, core, number, from)? {
-                    return Ok(true);
-                }
+        let facts = &self.facts;
+        let led = (hop.place..hop.until).flat_map(|place| {
+            let led = successors(facts.latest(place), move |(_, fact)| facts.get(fact.next));
+            led.take(facts.all.len())
+        });
+        for (number, fact) in led {
+            let core = self.operations.core(fact.later);
+            if number < walk.limit && walk.hop(fact.later, core, number, from)? {
+                return Ok(true);
             }
         }
         Ok(false)

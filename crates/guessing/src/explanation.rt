@@ -5,7 +5,6 @@ use super::knowledge::Knowledge;
 use super::proof::{Derived, Line, Proof, Rule};
 use super::stop::{Conflict, NONE, Place, Stop, Tried, short};
 use std::iter::successors;
-use std::ops::RangeInclusive;
 
 /// The number of the from-read in the case of a candidate that another store hides from a read.
 const CASE_FROM_READ: u32 = u32::MAX - 1;
@@ -20,7 +19,7 @@ struct Closing {
     read: Place,
     /// The number of the fact that each case begins with. Facts of this number and above aren't used.
     fact: u32,
-    ranges: Vec<RangeInclusive<Place>>,
+    ranges: Vec<(Place, Place)>,
     /// The steps, first one first, and the facts that they need.
     steps: Proof,
 }
@@ -95,7 +94,7 @@ impl Knowledge {
         for core in self.operations.cores() {
             self.close_core(&mut closing, kept, core)?;
         }
-        let kept = kept.iter().map(|store| *store..=*store);
+        let kept = kept.iter().map(|store| (*store, *store));
         closing.ranges.extend(kept)?;
         closing.steps.reversed.reverse();
         proof.prepend_proof(&mut closing.steps)?;
@@ -111,11 +110,11 @@ impl Knowledge {
         for store in others.filter(|store| *store != read && !kept.contains(store)) {
             if let Some(path) = self.chain(read, store, closing.fact)? {
                 let last = stores.last().copied().unwrap_or(store);
-                closing.ranges.push(store..=last)?;
+                closing.ranges.push((store, last))?;
                 return closing.steps.close(closing.fact, path);
             }
             if let Some((from_read, path)) = self.least_hiding(closing, store)? {
-                closing.ranges.push(store..=store)?;
+                closing.ranges.push((store, store))?;
                 closing.steps.derive(from_read)?;
                 closing.steps.close(CASE_FROM_READ, path)?;
             }

@@ -2,7 +2,6 @@
 
 use super::stop::{NONE, Place, Stop, Tried, at, put, short};
 use std::alloc::Global;
-use std::iter::successors;
 
 /// That one operation is before another. It takes 16 bytes.
 #[derive(Clone, Copy)]
@@ -43,12 +42,6 @@ impl Facts {
     /// The last fact in which an operation is the earlier one, behind its number. The others follow by `next`.
     pub(crate) fn latest(&self, earlier: Place) -> Option<(u32, Fact)> {
         self.get(at(&self.latest, earlier))
-    }
-
-    /// The facts in which an operation is the earlier one, last one first, each behind its number.
-    pub(crate) fn of(&self, alloc: Global, earlier: Place) -> Tried<Vec<(u32, Fact)>> {
-        let facts = successors(self.latest(earlier), |(_, fact)| self.get(fact.next));
-        Ok(facts.take(self.all.len()).collect(alloc)?)
     }
 
     /// Whether a fact says where a read's source is.

@@ -10,6 +10,13 @@ use std::alloc::Global;
 use std::collections::VecDeque;
 use trace::Access;
 
+/// The clock of an operation rose for some cores.
+#[derive(Clone, Copy)]
+pub(crate) struct Risen {
+    pub(crate) place: Place,
+    pub(crate) cores: CoreSet,
+}
+
 /// What is known of each order that keeps program order and in which each read has its word.
 #[derive(Drop)]
 pub(crate) struct Knowledge {
@@ -23,9 +30,8 @@ pub(crate) struct Knowledge {
     pub(crate) entered: Vec<Place>,
     /// The reads that came in with more than one candidate.
     pub(crate) open: Vec<Place>,
-    /// The operations whose clocks rose, each with the cores for which it did, and for which nothing was concluded from that
-    /// yet.
-    pub(crate) risen: VecDeque<(Place, CoreSet)>,
+    /// The clocks that rose, and from which nothing was concluded yet.
+    pub(crate) risen: VecDeque<Risen>,
     /// How many steps the search may make, and how many of them are left.
     pub(crate) budget: u64,
     pub(crate) left: u64,
@@ -132,8 +138,8 @@ impl Knowledge {
     pub(crate) fn note(&mut self, place: Place, cores: CoreSet) -> Tried<()> {
         match self.risen.back_mut() {
             _ if cores == CoreSet::NONE => {}
-            Some((last, risen)) if *last == place => risen.extend(cores),
-            _ => self.risen.push_back((place, cores))?,
+            Some(last) if last.place == place => last.cores.extend(cores),
+            _ => self.risen.push_back(Risen { place, cores })?,
         }
         Ok(())
     }

@@ -6,7 +6,6 @@ use super::stop::{Place, START, Stop, Tried, at};
 use mem_op::{CoreId, OpId, OpIndex};
 use refutation::{Path, Point, Range, Ranges, Refutation, Step};
 use std::alloc::Global;
-use std::ops::RangeInclusive;
 
 /// What the steps of a refutation are made with.
 #[derive(Drop)]
@@ -55,7 +54,7 @@ impl Numbering<'_> {
             Line::Derived(derived) => return self.derived(derived),
             Line::Read(read, ranges, fact) => {
                 self.wait(ranges.len(), *fact)?;
-                let ranges = ranges.iter().map(|range| self.range(range));
+                let ranges = ranges.iter().map(|range| self.range(*range));
                 Step::Read {
                     read: self.id(*read)?,
                     ranges: Ranges::new(ranges.try_collect(self.alloc)?),
@@ -119,8 +118,8 @@ impl Numbering<'_> {
     }
 
     /// The range of a case of a read.
-    fn range(&self, range: &RangeInclusive<Place>) -> Tried<Range> {
-        let (first, last) = (self.point(*range.start())?, self.point(*range.end())?);
+    fn range(&self, (first, last): (Place, Place)) -> Tried<Range> {
+        let (first, last) = (self.point(first)?, self.point(last)?);
         Ok(Range { first, last })
     }
 

@@ -3,7 +3,6 @@
 use super::stop::{Place, Tried};
 use std::alloc::Global;
 use std::collections::BTreeSet;
-use std::ops::RangeInclusive;
 
 /// By which rule a fact follows.
 #[derive(Clone, Copy, PartialEq, Eq)]
@@ -31,7 +30,7 @@ pub(crate) struct Derived {
 #[derive(Drop)]
 pub(crate) enum Line {
     /// The source of a read lies in one of these ranges: a case for each, which begins with a fact of this number.
-    Read(Place, Vec<RangeInclusive<Place>>, u32),
+    Read(Place, Vec<(Place, Place)>, u32),
     /// One of two operations is before the other: two cases, each of which begins with a fact of this number.
     Order(Place, Place, u32),
     /// A fact follows.

@@ -67,10 +67,15 @@ impl Knowledge {
 
     /// The reads of one store are before another, which is after it.
     fn order_readers(&mut self, source: Place, store: Place) -> Tried<()> {
-        for (number, fact) in self.facts.of(self.alloc, source)? {
+        let mut next = self.facts.latest(source);
+        for _ in 0..self.facts.all.len() {
+            let Some((number, fact)) = next else {
+                break;
+            };
             if self.facts.is_source(number, &fact) {
                 self.learn(fact.later, store, number)?;
             }
+            next = self.facts.get(fact.next);
         }
         Ok(())
     }

@@ -1,8 +1,8 @@
 //! How the operations come in, and what is concluded from each.
 
 use super::clocks::CoreSet;
-use super::knowledge::Knowledge;
-use super::stop::{Conflict, NONE, Place, START, Stop, Tried, at, put};
+use super::knowledge::{Knowledge, Risen};
+use super::stop::{Conflict, NONE, Place, Stop, Tried, at, put};
 use super::watch::SearchWatch;
 
 /// How many operations of a core come in before the next core's.
@@ -26,14 +26,12 @@ impl Knowledge {
     /// Lets some operations of each core come in that don't wait for their source. Says whether any came.
     fn enter_turn(&mut self) -> Tried<bool> {
         let mut came = false;
-        for core in self.operations.cores() {
-            for _ in 0..TURN {
-                if let Some((place, operation)) = self.operations.next(&self.entered, core)
-                    && !self.waits_for_source(place, operation.class)
-                {
-                    self.enter(place)?;
-                    came = true;
-                }
+        for turn in 0..self.operations.cores().end.saturating_mul(TURN) {
+            if let Some((place, operation)) = self.operations.next(&self.entered, turn / TURN)
+                && !self.waits_for_source(place, operation.class)
+            {
+                self.enter(place)?;
+                came = true;
             }
         }
         Ok(came)
@@ -82,7 +80,7 @@ impl Knowledge {
     /// Concludes what follows from the clocks that rose, until nothing more does.
     pub(crate) fn conclude(&mut self) -> Tried<()> {
         for _ in 0..self.left {
-            let Some((place, cores)) = self.risen.pop_front() else {
+            let Some(Risen { place, cores }) = self.risen.pop_front() else {
                 return Ok(());
             };
             self.spend(1)?;
@@ -99,41 +97,48 @@ impl Knowledge {
         if next < at(&self.entered, self.operations.core(place)) {
             self.raise(place, next)?;
         }
-        for (number, fact) in self.facts.of(self.alloc, place)? {
+        let mut next = self.facts.latest(place);
+        for _ in 0..self.facts.all.len() {
+            let Some((number, fact)) = next else {
+                break;
+            };
             self.flow(place, fact.later, number)?;
+            next = self.facts.get(fact.next);
         }
         self.order_stores_before(place, cores)?;
         self.order_reads_before(place, cores)
     }
 
-    /// Gives each open read its source of which all candidates but one are excluded, until nothing more is found.
+    /// Gives each open read its source of which all candidates but one are excluded, until there is none.
     pub(crate) fn settle_sources(&mut self) -> Tried<()> {
-        let open = self.open.to_vec(self.alloc)?;
-        for _ in 0..=open.len() {
-            let found = self.facts.all.len();
-            for read in &open {
-                self.settle(*read)?;
-            }
-            if self.facts.all.len() == found {
+        let count = self.open.len().max(1);
+        let mut idle = 0usize;
+        for turn in 0..count.saturating_mul(count) {
+            let Some(read) = self.open.get(turn % count).copied() else {
+                break;
+            };
+            idle = idle.saturating_add(1);
+            if self.settle(read)? {
+                idle = 0;
+            } else if idle >= count {
                 break;
             }
         }
         Ok(())
     }
 
-    /// Gives an open read its source, where all candidates but one are excluded, and concludes what follows.
-    fn settle(&mut self, read: Place) -> Tried<()> {
+    /// Gives an open read its source, where all candidates but one are excluded. Says whether it did.
+    fn settle(&mut self, read: Place) -> Tried<bool> {
         if at(&self.facts.sources, read) != NONE {
-            return Ok(());
+            return Ok(false);
         }
         match *self.candidates_left(read, 2)? {
-            [] => Err(Stop::Closed(Conflict::NoSource(read))),
-            [source] => {
-                self.set_source(read, source)?;
-                self.conclude()
-            }
-            _ => Ok(()),
+            [] => return Err(Stop::Closed(Conflict::NoSource(read))),
+            [source] => self.set_source(read, source)?,
+            _ => return Ok(false),
         }
+        self.conclude()?;
+        Ok(true)
     }
 
     /// The candidates of a read that aren't excluded, at most so many.
@@ -143,7 +148,7 @@ impl Knowledge {
         let mut left = Vec::new(self.alloc);
         for core in self.operations.cores() {
             let stores = self.candidates.of_core(class, &self.operations, core);
-            let hidden = self.last_store(read, core).unwrap_or(START);
+            let hidden = self.last_store(read, core).unwrap_or(0);
             let first = stores.partition_point(|store| *store < hidden);
             let stores = stores.get(first..).unwrap_or(&[]).iter().copied();
             let before = stores.take_while(|store| !self.is_before(read, *store));
