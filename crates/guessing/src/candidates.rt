@@ -14,11 +14,17 @@ pub(crate) struct Candidates {
     /// The stores, class by class, those of a class in the order of their places.
     stores: Vec<Place>,
     /// How many addresses there are.
-    pub(crate) words: u32,
+    pub(crate) addresses: u32,
 }
 
-/// What an operation did: the address, a word that it read or stored there, its place, and whether it stored the word.
-type Touch = (Address, Word, Place, bool);
+/// A word that an operation read at an address, or stored there. The order is that of addresses, words and places.
+#[derive(Clone, Copy, PartialEq, Eq, PartialOrd, Ord)]
+struct Touch {
+    addr: Address,
+    word: Word,
+    place: Place,
+    stores: bool,
+}
 
 /// Numbers the addresses and classes of these cores' operations. Gives the operations and the stores of each class.
 pub(crate) fn number(alloc: Global, cores: &[Vec<Access>]) -> Tried<(Operations, Candidates)> {
@@ -26,29 +32,34 @@ pub(crate) fn number(alloc: Global, cores: &[Vec<Access>]) -> Tried<(Operations,
     let mut candidates = Candidates {
         starts: Vec::new(alloc),
         stores: Vec::new(alloc),
-        words: 0,
+        addresses: 0,
     };
     let touches = touches(alloc, cores)?;
-    let mut last = None;
-    for class in touches.chunk_by(|one, other| one.0 == other.0 && one.1 == other.1) {
-        let addr = class.first().map(|(addr, ..)| *addr);
-        candidates.words = candidates.words.saturating_add(u32::from(addr != last));
-        candidates.enter(class, &mut operations.all)?;
-        last = addr;
+    for of_address in touches.chunk_by(|one, other| one.addr == other.addr) {
+        for class in of_address.chunk_by(|one, other| one.word == other.word) {
+            candidates.enter(class, &mut operations.all)?;
+        }
+        candidates.addresses = candidates.addresses.saturating_add(1);
     }
     candidates.starts.push(short(candidates.stores.len())?)?;
     Ok((operations, candidates))
 }
 
-/// What these cores' operations did, in the order of addresses, words and places.
+/// What these cores' operations read and stored, in order.
 fn touches(alloc: Global, cores: &[Vec<Access>]) -> Tried<Vec<Touch>> {
     let mut touches = Vec::new(alloc);
     for (access, place) in cores.iter().flatten().zip(1..=u32::MAX) {
         let addr = access.addr();
-        let read = access.read().map(|word| (addr, word, place, false));
-        let is_stored = access.is_store_to(addr);
-        let stored = is_stored.then(|| (addr, access.word_left(), place, true));
-        touches.extend(read.into_iter().chain(stored))?;
+        let touch = |word, stores| Touch {
+            addr,
+            word,
+            place,
+            stores,
+        };
+        touches.extend(access.read().map(|word| touch(word, false)))?;
+        if access.is_store_to(addr) {
+            touches.push(touch(access.word_left(), true))?;
+        }
     }
     touches.sort_unstable();
     Ok(touches)
@@ -69,19 +80,19 @@ impl Candidates {
         all.get(from..to).unwrap_or(&[])
     }
 
-    /// Enters what read or stored the next word at an address.
+    /// Enters what read or stored the next word at the next address.
     fn enter(&mut self, touches: &[Touch], all: &mut [Operation]) -> Tried<()> {
         let class = short(self.starts.len())?;
         self.starts.push(short(self.stores.len())?)?;
-        if touches.first().is_some_and(|(_, word, ..)| *word == 0) {
+        if touches.first().is_some_and(|touch| touch.word == 0) {
             self.stores.push(START)?;
         }
-        for (_, _, place, stores) in touches {
-            let operation = all.get_mut(*place as usize).ok_or(Stop::GivenUp)?;
-            operation.word = self.words.saturating_sub(1);
-            if *stores {
+        for touch in touches {
+            let operation = all.get_mut(touch.place as usize).ok_or(Stop::GivenUp)?;
+            operation.address = self.addresses;
+            if touch.stores {
                 operation.stores = true;
-                self.stores.push(*place)?;
+                self.stores.push(touch.place)?;
             } else {
                 operation.class = class;
             }

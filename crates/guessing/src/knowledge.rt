@@ -10,6 +10,13 @@ use std::alloc::Global;
 use std::collections::VecDeque;
 use trace::Access;
 
+/// The clock of an operation rose for some cores.
+#[derive(Clone, Copy)]
+pub(crate) struct Risen {
+    pub(crate) place: Place,
+    pub(crate) cores: CoreSet,
+}
+
 /// What is known of each order that keeps program order and in which each read has its word.
 #[derive(Drop)]
 pub(crate) struct Knowledge {
@@ -23,9 +30,8 @@ pub(crate) struct Knowledge {
     pub(crate) entered: Vec<Place>,
     /// The reads that came in with more than one candidate.
     pub(crate) open: Vec<Place>,
-    /// The operations whose clocks rose, each with the cores for which it did, and for which nothing was concluded from that
-    /// yet.
-    pub(crate) risen: VecDeque<(Place, CoreSet)>,
+    /// The clocks that rose, and from which nothing was concluded yet.
+    pub(crate) risen: VecDeque<Risen>,
     /// How many steps the search may make, and how many of them are left.
     pub(crate) budget: u64,
     pub(crate) left: u64,
@@ -39,7 +45,7 @@ impl Knowledge {
         let (operations, candidates) = number(alloc, cores)?;
         Ok(Knowledge {
             alloc,
-            stores: Stores::new(alloc, &operations, candidates.words)?,
+            stores: Stores::new(alloc, &operations, candidates.addresses)?,
             clocks: Clocks::new(alloc, &operations)?,
             facts: Facts::new(alloc, operations.all.len())?,
             entered: operations.starts.to_vec(alloc)?,
@@ -72,7 +78,7 @@ impl Knowledge {
     /// The last store of a core to the address of an operation at a place that is known to be before it.
     pub(crate) fn last_store(&self, place: Place, core: u32) -> Option<Place> {
         let entry = self.clocks.entry(place, core);
-        let stores = self.stores.active(self.operations.get(place).word, core);
+        let stores = self.stores.active(self.operations.get(place).address, core);
         let count = count_first(stores, |store| store < entry && store != place);
         stores.get(..count)?.last().copied()
     }
@@ -132,8 +138,8 @@ impl Knowledge {
     pub(crate) fn note(&mut self, place: Place, cores: CoreSet) -> Tried<()> {
         match self.risen.back_mut() {
             _ if cores == CoreSet::NONE => {}
-            Some(last) if last.0 == place => last.1.extend(cores),
-            _ => self.risen.push_back((place, cores))?,
+            Some(last) if last.place == place => last.cores.extend(cores),
+            _ => self.risen.push_back(Risen { place, cores })?,
         }
         Ok(())
     }

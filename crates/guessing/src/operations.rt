@@ -9,7 +9,7 @@ use trace::Access;
 #[derive(Clone, Copy)]
 pub(crate) struct Operation {
     /// The number of its address among those of the trace.
-    pub(crate) word: u32,
+    pub(crate) address: u32,
     /// The class of the words that a load or a swap may have read; NONE of a store.
     pub(crate) class: u32,
     core: u8,
@@ -19,7 +19,7 @@ pub(crate) struct Operation {
 
 /// What comes before every operation.
 const BEGINNING: Operation = Operation {
-    word: NONE,
+    address: NONE,
     class: NONE,
     core: 0,
     stores: false,

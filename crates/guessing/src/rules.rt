@@ -21,11 +21,11 @@ impl Knowledge {
 
     /// The first store of a core to a read's address that is known to be after the read's source, other than the read.
     fn first_store_after(&self, source: Place, core: u32, read: Place) -> Option<Place> {
-        let word = self.operations.get(read).word;
+        let address = self.operations.get(read).address;
         let stores = if source == START {
-            self.stores.all(word, core)
+            self.stores.all(address, core)
         } else {
-            self.stores.active(word, core)
+            self.stores.active(address, core)
         };
         let count = count_first(stores, |store| !self.is_before(source, store));
         let mut later = stores.get(count..)?.iter().copied();
@@ -47,8 +47,8 @@ impl Knowledge {
         Ok(())
     }
 
-    /// The reads of the stores before a store whose clock rose for some cores are before it. Each core's last store before it stands for the others, and
-    /// the own core's for those before that one, to which the rule was applied already.
+    /// The reads of the stores before a store whose clock rose for some cores are before it. Each core's last store before it
+    /// stands for the others, and the own core's for those before that one, to which the rule was applied already.
     pub(crate) fn order_reads_before(&mut self, store: Place, cores: CoreSet) -> Tried<()> {
         let operation = self.operations.get(store);
         if !operation.stores {

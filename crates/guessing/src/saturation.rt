@@ -1,7 +1,7 @@
 //! How the operations come in, and what is concluded from each.
 
 use super::clocks::CoreSet;
-use super::knowledge::Knowledge;
+use super::knowledge::{Knowledge, Risen};
 use super::stop::{Conflict, NONE, Place, Stop, Tried, at, put};
 use super::watch::SearchWatch;
 
@@ -49,10 +49,7 @@ impl Knowledge {
 
     /// Whether the only source that a read of this class can have hasn't come in.
     fn waits_for_source(&self, read: Place, class: u32) -> bool {
-        match self.candidates.of(class) {
-            [source] => *source != read && !self.has_entered(*source),
-            _ => false,
-        }
+        matches!(self.candidates.of(class), [source] if *source != read && !self.has_entered(*source))
     }
 
     /// Lets an operation come in, and concludes what follows.
@@ -65,34 +62,25 @@ impl Knowledge {
         }
         put(&mut self.entered, core, place.saturating_add(1))?;
         if operation.stores {
-            self.stores.activate(operation.word, core)?;
+            self.stores.activate(operation.address, core)?;
         }
         if operation.reads() {
             let candidates = self.candidates.of(operation.class).iter().copied();
             let mut others = candidates.filter(|store| *store != place);
-            let left = (others.next(), others.next());
-            if !self.take_source(place, left)? {
-                self.open.push(place)?;
+            match (others.next(), others.next()) {
+                (None, _) => return Err(Stop::Closed(Conflict::NoSource(place))),
+                (Some(source), None) => self.set_source(place, source)?,
+                _ => self.open.push(place)?,
             }
         }
         self.note(place, CoreSet::ALL)?;
         self.conclude()
     }
 
-    /// Gives a read the first of the sources that are left to it, where there is no other. Says whether it did.
-    fn take_source(&mut self, read: Place, left: (Option<Place>, Option<Place>)) -> Tried<bool> {
-        let (first, other) = left;
-        let source = first.ok_or(Stop::Closed(Conflict::NoSource(read)))?;
-        if other.is_none() {
-            self.set_source(read, source)?;
-        }
-        Ok(other.is_none())
-    }
-
     /// Concludes what follows from the clocks that rose, until nothing more does.
     pub(crate) fn conclude(&mut self) -> Tried<()> {
         for _ in 0..self.left {
-            let Some((place, cores)) = self.risen.pop_front() else {
+            let Some(Risen { place, cores }) = self.risen.pop_front() else {
                 return Ok(());
             };
             self.spend(1)?;
@@ -144,11 +132,13 @@ impl Knowledge {
         if at(&self.facts.sources, read) != NONE {
             return Ok(false);
         }
-        let left = self.candidates_left(read, 2)?;
-        let left = (left.first().copied(), left.get(1).copied());
-        let is_settled = self.take_source(read, left)?;
+        match *self.candidates_left(read, 2)? {
+            [] => return Err(Stop::Closed(Conflict::NoSource(read))),
+            [source] => self.set_source(read, source)?,
+            _ => return Ok(false),
+        }
         self.conclude()?;
-        Ok(is_settled)
+        Ok(true)
     }
 
     /// The candidates of a read that aren't excluded, at most so many.

@@ -46,7 +46,7 @@ impl Schedule {
         Ok(Schedule {
             order: vec![in alloc; START; 1]?,
             positions: known.operations.starts.to_vec(alloc)?,
-            memory: vec![in alloc; START; known.candidates.words as usize]?,
+            memory: vec![in alloc; START; known.candidates.addresses as usize]?,
             when,
             overwritten: Vec::new(alloc),
             storing: 0,
@@ -102,7 +102,7 @@ impl Schedule {
     /// What comes of a core's next operation. None where others have to come before, or there is none.
     fn try_move(&self, known: &Knowledge, core: u32) -> Option<Move> {
         let (place, operation) = known.operations.next(&self.positions, core)?;
-        let last = at(&self.memory, operation.word);
+        let last = at(&self.memory, operation.address);
         if self.waits(known, place) {
             None
         } else if operation.reads() && !known.can_read(place, last) {
@@ -139,8 +139,8 @@ impl Schedule {
         put(&mut self.when, place, short(self.order.len())?)?;
         self.order.push(place)?;
         if operation.stores {
-            self.overwritten.push(at(&self.memory, operation.word))?;
-            put(&mut self.memory, operation.word, place)?;
+            self.overwritten.push(at(&self.memory, operation.address))?;
+            put(&mut self.memory, operation.address, place)?;
             (self.storing, self.loading) = (core, 0);
         } else {
             self.loading = core;
@@ -179,9 +179,9 @@ impl Schedule {
     fn allowed(&self, known: &Knowledge, number: u32) -> Option<u32> {
         let (_, fact) = known.facts.get(number)?;
         let (earlier, later) = (at(&self.when, fact.earlier), at(&self.when, fact.later));
-        let word = known.operations.get(fact.later).word;
+        let address = known.operations.get(fact.later).address;
         match (later, known.facts.is_source(number, &fact)) {
-            (NONE, true) if at(&self.memory, word) != fact.earlier => earlier.checked_add(1),
+            (NONE, true) if at(&self.memory, address) != fact.earlier => earlier.checked_add(1),
             (NONE, _) => None,
             (later, false) if earlier < later => None,
             (later, _) => Some(later),
@@ -195,7 +195,7 @@ impl Schedule {
             let operation = known.operations.get(place);
             if operation.stores {
                 let last = self.overwritten.pop().ok_or(Stop::GivenUp)?;
-                put(&mut self.memory, operation.word, last)?;
+                put(&mut self.memory, operation.address, last)?;
             }
             put(&mut self.when, place, NONE)?;
             put(&mut self.positions, operation.core(), place)?;

@@ -86,7 +86,7 @@ impl Search {
         let held = self.schedule.stuck(known, Move::Held);
         let cases = match held {
             Some(store) => {
-                let last = at(&self.schedule.memory, known.operations.get(store).word);
+                let last = at(&self.schedule.memory, known.operations.get(store).address);
                 vec![in known.alloc; (store, last), (last, store)]?
             }
             None => self.likely_sources()?,

@@ -52,7 +52,7 @@ pub(crate) fn at(list: &[u32], place: u32) -> u32 {
 }
 
 /// Writes the entry of a list at a place. The search gives up where there is none.
-pub(crate) fn put(list: &mut [u32], place: u32, entry: u32) -> Result<(), Stop> {
+pub(crate) fn put(list: &mut [u32], place: u32, entry: u32) -> Tried<()> {
     *list.get_mut(place as usize).ok_or(Stop::GivenUp)? = entry;
     Ok(())
 }
@@ -63,6 +63,6 @@ pub(crate) fn part(list: &[u32], from: u32, to: u32) -> &[u32] {
 }
 
 /// A length as a place. The search gives up where it has no 32 bits.
-pub(crate) fn short(length: usize) -> Result<u32, Stop> {
+pub(crate) fn short(length: usize) -> Tried<u32> {
     u32::try_from(length).ok().ok_or(Stop::GivenUp)
 }

@@ -16,20 +16,20 @@ pub(crate) struct Stores {
 }
 
 impl Stores {
-    /// The stores of these operations, to addresses below `words`. None is active.
-    pub(crate) fn new(alloc: Global, operations: &Operations, words: u32) -> Tried<Stores> {
+    /// The stores of these operations, to so many addresses. None is active.
+    pub(crate) fn new(alloc: Global, operations: &Operations, addresses: u32) -> Tried<Stores> {
         let all = 0..short(operations.all.len())?;
         let stored = all.filter(|place| operations.get(*place).stores);
         let mut places: Vec<Place> = stored.collect(alloc)?;
-        places.sort_unstable_by_key(|place| (operations.get(*place).word, *place));
+        places.sort_unstable_by_key(|place| (operations.get(*place).address, *place));
         let cores = operations.cores().end;
         let mut starts = Vec::new(alloc);
         for (start, place) in (0..=u32::MAX).zip(&places) {
             let operation = operations.get(*place);
-            let slot = slot(cores, operation.word, operation.core());
+            let slot = slot(cores, operation.address, operation.core());
             starts.resize((slot as usize).saturating_add(1), start)?;
         }
-        let slots = (slot(cores, words, 0) as usize).saturating_add(1);
+        let slots = (slot(cores, addresses, 0) as usize).saturating_add(1);
         starts.resize(slots, short(places.len())?)?;
         Ok(Stores {
             cores,
@@ -40,29 +40,29 @@ impl Stores {
     }
 
     /// All stores of a core to an address.
-    pub(crate) fn all(&self, word: u32, core: u32) -> &[Place] {
-        let (starts, slot) = (&self.starts, slot(self.cores, word, core));
+    pub(crate) fn all(&self, address: u32, core: u32) -> &[Place] {
+        let (starts, slot) = (&self.starts, slot(self.cores, address, core));
         let next = slot.saturating_add(1);
         part(&self.places, at(starts, slot), at(starts, next))
     }
 
     /// The active stores of a core to an address.
-    pub(crate) fn active(&self, word: u32, core: u32) -> &[Place] {
-        let slot = slot(self.cores, word, core);
+    pub(crate) fn active(&self, address: u32, core: u32) -> &[Place] {
+        let slot = slot(self.cores, address, core);
         part(&self.places, at(&self.starts, slot), at(&self.ends, slot))
     }
 
     /// Makes one more store of a core to an address active.
-    pub(crate) fn activate(&mut self, word: u32, core: u32) -> Tried<()> {
-        let slot = slot(self.cores, word, core);
+    pub(crate) fn activate(&mut self, address: u32, core: u32) -> Tried<()> {
+        let slot = slot(self.cores, address, core);
         let end = at(&self.ends, slot);
         put(&mut self.ends, slot, end.saturating_add(1))
     }
 }
 
 /// The slot of an address and a core, where there are so many cores.
-fn slot(cores: u32, word: u32, core: u32) -> u32 {
-    word.saturating_mul(cores).saturating_add(core)
+fn slot(cores: u32, address: u32, core: u32) -> u32 {
+    address.saturating_mul(cores).saturating_add(core)
 }
 
 /// How many of the first of these places are such, where those that are stand first. It looks from the end on.
@@ -72,9 +72,7 @@ pub(crate) fn count_first<F: Fn(Place) -> bool>(places: &[Place], is_such: F) ->
     let mut high = places.len();
     for doubling in 0..usize::BITS {
         let low = high.saturating_sub(1usize.wrapping_shl(doubling));
-        let Some(part) = places.get(low..high) else {
-            break;
-        };
+        let part = places.get(low..high).unwrap_or(&[]);
         match part.first() {
             Some(first) if !is_such(*first) => high = low,
             _ => return low.saturating_add(part.partition_point(|place| is_such(*place))),
