@@ -32,5 +32,5 @@ returns-in-Err-Read-clause-texts g c =
     let unread : Unread (files c.args.folder.now) (files c.read_text.new.folder) name =
     subst (λ (f : Files). Unread f (files c.read_text.new.folder) name) c.loop-name.invariant.quiet refused in
     let held = λ (d : Bor (List ℕ)).
-        subst (Unread (files c.args.folder.now) (files c.read_text.new.folder)) (get_or_default c.args.names.now c.loop-name.name-index none d c.loop-name-test.true) unread in
+    subst (Unread (files c.args.folder.now) (files c.read_text.new.folder)) (get_or_default c.args.names.now c.loop-name.name-index none d c.loop-name-test.true) unread in
     (c.loop-name.name-index, (c.loop-name-test.true, held))
