@@ -10,7 +10,7 @@ use Rattle.clap.specs.Matches.{ReadsOne}
 use Rattle.clap.specs.Words.{Row, Text, first_of, kind_of, subcommand_of}
 use Rattle.clap.specs.declared.error.Error.{Error}
 use Rattle.clap.specs.declared.error.kind.ErrorKind.TheVariants as error_kind
-use Rattle.command_line.specs.Asking.{AreMarked, AreOverIn, AskVersion, Asks, IsCommandLine, IsExplaining, IsMisusedIn, IsNumber, IsNumberOf, IsOverIn, IsOverTestIn, IsRefusalOf, IsStrayIn, IsStrayOf, StandNotAlone, files_given, is_litmus, is_programs, texts}
+use Rattle.command_line.specs.Asking.{AreMarked, AreOverIn, AskVersion, Asks, IsCommandLine, IsExplaining, IsMisusedIn, IsNumber, IsNumberOf, IsOverTestIn, IsRefusalOf, IsStrayIn, IsStrayOf, StandNotAlone, files_given, is_litmus, is_programs, texts}
 use Rattle.command_line.specs.Grammar.{tardis}
 use Rattle.command_line.specs.declared.refusal.Refusal.{Refusal}
 use Rattle.command_line.specs.declared.refusal.Refusal.TheVariants.{Usage, OutOfMemory}
@@ -55,16 +55,6 @@ explaining words named (request.Litmus litmus) line is explains asked = absurd a
 explaining words named (request.Search search) line is explains asked = absurd asked
 explaining words named (request.Confirm confirm) line is explains asked = absurd asked
 explaining words named request.Version line is explains asked = absurd asked
-
--- an explanation of logs is misused only by its picture
-pub over_only : (rows : List Row) (r : Refusal) → IsOverIn rows r → IsMisusedIn rows r
-over_only rows (Usage text) over = inl over
-over_only rows OutOfMemory over = tt
-
--- both flags are there, or one, and its file isn't alone
-pub mixed_both : (rows : List Row) (r : Refusal) → AreMarked true true rows → IsMisusedIn rows r
-mixed_both rows (Usage text) marks = inr (true, true, marks, tt)
-mixed_both rows OutOfMemory marks = tt
 
 pub mixed_one : (rows : List Row) (of : FileKind) (r : Refusal) → AreMarked (is_litmus of) (is_programs of) rows → StandNotAlone rows → IsMisusedIn rows r
 mixed_one rows of_file.Litmus (Usage text) marks others = inr (true, false, marks, others)

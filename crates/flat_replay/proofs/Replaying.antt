@@ -35,15 +35,6 @@ answered (Loaded a v) m n same h = h ∙ same a
 answered (Stored a v) m n same h = tt
 answered (Swapped a r v) m n same h = h ∙ same a
 
--- before any id
-pub replayed-none : (cores : List (List Operation)) (next : List ℕ) (memory : ℕ → ℕ) → ((k : ℕ) → slice_index next k ≡ 0) → ((addr : ℕ) → memory addr ≡ 0)
-    → Replayed cores [] next memory
-replayed-none cores next memory none zeros = record {
-  turn = λ core. rw (none core) refl;
-  flat = record { loads = λ k addr value e. absurd (none-some _ e); swaps = λ k addr read stored e. absurd (none-some _ e) };
-  words = zeros;
-}
-
 -- an id that is its core's next, and whose operation finds what it may
 pub replayed-more : (cores : List (List Operation)) (ids : List OpId) (next : List ℕ) (m n : ℕ → ℕ) (id : OpId) (y : Operation) → Replayed cores ids next m
     → Some y ≡ operation_at cores id → id.core < length next → id.index ≡ slice_index next id.core → IsAnsweredBy m y

@@ -22,10 +22,6 @@ abbrev pub untold : List ℕ → Option (List ℕ) → Option (List ℕ)
 untold last None = None
 untold last (Some told) = Some (last ++ told)
 
--- the front of what was read
-pub consumes_front : (old new : Option (List ℕ)) (a b : List ℕ) → Consumes old new (a ++ b) → Consumes old (untold b new) a
-consumes_front old new a b p = grind (arith, append_assoc)
-
 pub consumes_told : (old new : Option (List ℕ)) (a : List ℕ) → Consumes old new a → Tells old (a ++ told new)
 consumes_told old new a p = grind arith
 

@@ -119,11 +119,3 @@ entries_few base most (log ∷ logs) h =
     let here = core_long base 0 log in
     let times : suc (length logs) * most ≡ most + length logs * most = omega arith in
     omega (arith, rest, first, long, here, times)
-
-insert_long : (x : Entry) (ys : List Entry) → length (insert_sorted entry_cmp x ys) ≡ suc (length ys)
-insert_long x [] = refl
-insert_long x (y ∷ ys) = go (is_lt (entry_cmp x y)) (insert_long x ys)
-  where
-    go : (b : Bool) → length (insert_sorted entry_cmp x ys) ≡ suc (length ys) → length (cond b (x ∷ y ∷ ys) (y ∷ insert_sorted entry_cmp x ys)) ≡ suc (suc (length ys))
-    go true h = refl
-    go false h = ap suc h

@@ -1,8 +1,5 @@
 -- The texts of files that are read again, and what is told after the place of a fault.
-use Rattle.std.proofs.Common.{◌≡◌, ◌∙◌, ◌+◌, ◌<◌, ℕ, List, [], ◌∷◌, ◌++◌, ◌≤◌, Option, None, Some, Bor, add-one, ap, append_assoc, get_or, length, refl, slice_index_or, sym, take}
-use Rattle.std.specs.Prelude.{IfSome, MatchOption, slice_get}
-use Rattle.std.specs.Option.{option_copied}
-use Rattle.std.proofs.lemmas.Option.{slice_get_read}
+use Rattle.std.proofs.Common.{◌≡◌, ◌∙◌, ◌+◌, ◌<◌, ℕ, List, [], ◌∷◌, ◌++◌, Option, Bor, add-one, ap, length, slice_index_or, take}
 use Rattle.std.specs.Global.{Vec}
 use Rattle.std.specs.List.{AllZip}
 use Rattle.std.proofs.Math.Seq.{take-suc}
@@ -10,8 +7,6 @@ use Rattle.std.proofs.lemmas.List.{map_push}
 use Rattle.log_file.specs.Devices.{Tells}
 use Rattle.call_devices.specs.LogFiles.{AreTextsOf}
 use Rattle.cut_logs.specs.Beginnings.{texts_of}
-use Rattle.fault_telling.specs.Places.{place_text}
-use Rattle.refusal_commands.specs.Telling.{BeginsAt}
 
 -- one more pair
 one_more : {A B : Type 0} (R : A → B → Type 0) (xs : List A) (ys : List B) (x : A) (y : B) → AllZip R xs ys → R x y → AllZip R (xs ++ x ∷ []) (ys ++ y ∷ [])
@@ -28,18 +23,3 @@ one_text_more told names old new i text d there far tells pushed =
     let next : take (i + 1) names ≡ take i names ++ slice_index_or names i d ∷ [] = ap (λ (n : ℕ). take n names) (add-one i) ∙ take-suc names i d there in
     let news : texts_of new ≡ texts_of old ++ text.items ∷ [] = ap texts_of pushed ∙ map_push (λ (v : Vec ℕ). v.items) old text in
     rw (next, news) (one_more (λ (name : Bor (List ℕ)) (t : List ℕ). Tells (told name.now) t) (take i names) (texts_of old) (slice_index_or names i d) text.items far tells)
-
--- what begins at a place does so with more after it
-pub begins_more : (name text more whole : List ℕ) (line : ℕ) → BeginsAt name line text → whole ≡ text ++ more → BeginsAt name line whole
-begins_more name text more whole line (words, is) with_more =
-    (words ++ more, with_more ∙ ap (λ (t : List ℕ). t ++ more) is ∙ append_assoc (place_text name line) words more)
-
--- the name of this number, which was copied
-pub file_found : (xs files : List (Bor (List ℕ))) (file : ℕ) (o : Option (Bor (Bor (List ℕ)))) (name : Bor (List ℕ)) (Held : Bor (Bor (List ℕ)) → Type 0) → xs ≡ files
-    → MatchOption o (length xs ≤ file) (λ x. (file < length xs) × Held x) → IfSome o (λ x. x.now ≡ get_or xs file x.now) → Some name ≡ option_copied o
-    → slice_get files file ≡ Some name
-file_found xs files file None name Held same at is found = absurd cc
-file_found xs files file (Some x) name Held same at is found =
-    let read : slice_get xs file ≡ Some x.now = slice_get_read xs (length xs) file x.now refl at.0 is in
-    let copied : name ≡ x.now = cc in
-    ap (λ (ys : List (Bor (List ℕ))). slice_get ys file) (sym same) ∙ read ∙ ap (λ (y : Bor (List ℕ)). Some y) (sym copied)

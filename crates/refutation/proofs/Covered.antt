@@ -6,7 +6,7 @@ use Rattle.std.specs.Option.{option_map}
 use Rattle.std.proofs.lemmas.Option.{slice_get-map, slice_get-get_or, slice_get_within}
 use Rattle.std.proofs.lemmas.Bool.{cases_lt}
 use Rattle.mem_op.specs.declared.id.OpId.{OpId}
-use Rattle.mem_op.specs.Consistency.{Operation, operation_at}
+use Rattle.mem_op.specs.Consistency.{Operation}
 use Rattle.mem_op.specs.Limits.{operation_limit}
 use Rattle.flat_replay.specs.Accesses.{operation_lists, address_of, word_read}
 use Rattle.trace.specs.Growing.{IsOfSize}
@@ -54,17 +54,6 @@ covers-all read addr value ranges trace n init l all = record {
 pub covers-core : (read : OpId) (addr value : ℕ) (ranges : List Range) (trace : List (List Operation)) (n : ℕ) (operations : List Operation) → slice_get trace n ≡ Some operations → Covers trace read addr value ranges → CoversFirst read addr value ranges n (length operations) operations
 covers-core read addr value ranges trace n operations found covers index y below at =
     covers.writes (record { core = n; index = index }) y (ap (option_and_then (λ operations. slice_get operations index)) found ∙ at)
-
--- a read has its source in the ranges where they have what may give it its value
-pub source-from : (trace : List (List Operation)) (read : OpId) (addr value : ℕ) (ranges : List Range) → IsReadOf trace read addr value → Covers trace read addr value ranges → HasItsSourceIn trace read ranges
-source-from trace read addr value ranges is covers = record {
-  operation = is.operation;
-  there = is.there;
-  value = value;
-  reads = is.word;
-  init = covers.init;
-  writes = subst (λ a. (id : OpId) (y : Operation) → operation_at trace id ≡ Some y → CoversOne read a value ranges id y) (sym is.address) covers.writes;
-}
 
 pub source-to : (trace : List (List Operation)) (read : OpId) (addr value : ℕ) (ranges : List Range) → IsReadOf trace read addr value → HasItsSourceIn trace read ranges → Covers trace read addr value ranges
 source-to trace read addr value ranges is has =

@@ -1,13 +1,12 @@
 -- What is read of a text, as answers.
-use Rattle.std.proofs.Common.{◌≡◌, ◌≢◌, ℕ, ◌+◌, List, ◌++◌, length, Option, Some, None, refl, sym, ap, subst, ◌∙◌, arith, inl, inr}
+use Rattle.std.proofs.Common.{◌≡◌, ◌≢◌, ℕ, ◌+◌, List, ◌++◌, length, Option, Some, None, refl, sym, ap, subst, ◌∙◌, inl, inr}
 use Rattle.std.specs.Prelude.{MatchOption}
-use Rattle.decimal_text.proofs.Reading.{some_is}
 use Rattle.mem_op.specs.Consistency.{Operation}
 use Rattle.refutation.specs.declared.step.Step.{Step}
 use Rattle.refutation.specs.declared.text.Front.{Front}
 use Rattle.refutation.specs.Grammar.{header_line, steps_text, end_line}
-use Rattle.refutation.specs.Refuting.{IsRefutation, IsFirstWrong}
-use Rattle.refutation.specs.Texts.{Begins, NoStepInFront, Spells, SpellsRefutation, IsFirstMisshapen, IsFirstBad}
+use Rattle.refutation.specs.Refuting.{IsRefutation}
+use Rattle.refutation.specs.Texts.{Begins, NoStepInFront, Spells, SpellsRefutation, IsFirstBad}
 use Rattle.refutation.specs.inner.Lines.{TellsEnd, TellsText}
 use Rattle.refutation.proofs.Lines.{SoFar}
 
@@ -27,24 +26,7 @@ shaped text front (inr told) none =
     let end : told.0 ≡ end_line (length front.steps.items) = subst (TellsEnd told.0 (length front.steps.items)) none told.2 in
     (told.1.each_fits, told.1.text ∙ ap (λ (xs : List ℕ). header_line ++ (steps_text front.steps.items ++ xs)) end)
 
--- it hasn't
-pub misshapen : (text : List ℕ) (front : Front) (line : ℕ) → TellsText text front → front.bad_line ≡ Some line → IsFirstMisshapen text line
-misshapen text front line (inl lacks) some = inl (subst (λ (k : ℕ). (k ≡ 1) × ((rest : List ℕ) → text ≢ header_line ++ rest)) (some_is 1 line (sym lacks.0 ∙ some)) lacks.1)
-misshapen text front line (inr told) some = inr (front.steps.items, told.0, told.1, subst (TellsEnd told.0 (length front.steps.items)) some told.2)
-
 -- ---- the steps judged
-
-pub first-line : (cores : List (List Operation)) (text : List ℕ) (front : Front) → TellsText text front → front.bad_line ≡ Some 1 → IsFirstBad cores text 1
-first-line cores text front (inl lacks) some = inl lacks.1
-first-line cores text front (inr told) some = absurd (elim (subst (TellsEnd told.0 (length front.steps.items)) some told.2) [
-  | inl a ↦ (let e = a.0 in omega arith)
-  | inr b ↦ (let e = b.0 in omega arith)
-])
-
-pub judged-wrong : (cores : List (List Operation)) (text : List ℕ) (front : Front) (steps : List Step) (place : ℕ) → TellsText text front → front.bad_line ≢ Some 1 → steps ≡ front.steps.items → IsFirstWrong cores steps place → IsFirstBad cores text (place + 2)
-judged-wrong cores text front steps place (inl lacks) other same wrong = absurd (other lacks.0)
-judged-wrong cores text front steps place (inr told) other same wrong =
-    inr (front.steps.items, told.0, told.1, inl (place, subst (λ (s : List Step). IsFirstWrong cores s place) same wrong, refl))
 
 pub judged-right : (cores : List (List Operation)) (text : List ℕ) (front : Front) (steps : List Step) → TellsText text front → front.bad_line ≢ Some 1 → steps ≡ front.steps.items → IsRefutation cores steps
     → MatchOption front.bad_line (SpellsRefutation cores text) (λ line. IsFirstBad cores text line)

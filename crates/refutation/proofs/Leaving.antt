@@ -1,7 +1,7 @@
 -- The cases that steps leave, step by step.
 use Rattle.std.specs.Prelude.{◌≡◌, ℕ, ◌+◌, ◌<◌, ◌≤◌, List, [], ◌∷◌, ◌++◌, refl, Bool, true, false, not, IsTrue, Option, None, Some, is_some, MatchOption, length, take, drop}
 use Rattle.std.proofs.Common.{sym, ◌∙◌, ap, subst, arith, get_or}
-use Rattle.std.proofs.lemmas.List.{take_more, drop_more, take_all, take-append-drop, length-drop, nil_from_length}
+use Rattle.std.proofs.lemmas.List.{take_more, drop_more, take_all, take-append-drop, length-drop}
 use Rattle.mem_op.specs.declared.id.OpId.{OpId}
 use Rattle.mem_op.specs.Consistency.{Operation}
 use Rattle.refutation.specs.declared.step.Step.{Step}
@@ -98,15 +98,6 @@ too-many cores steps place l right = record { within = omega arith; left = []; r
     some : (rest : List Step) → (rest ≡ [] → ⊥) → IsStuck cores [] rest
     some [] not = not refl
     some (s ∷ rest) not = tt
-
--- no step is left, and a case is
-pub not-enough : (cores : List (List Operation)) (steps : List Step) (place : ℕ) (facts : List Fact) (others : List (List Fact)) → place ≡ length steps → Leave cores ([] ∷ []) (take place steps) (facts ∷ others) → IsFirstWrong cores steps (length steps)
-not-enough cores steps place facts others same right = record {
-  within = omega arith;
-  left = facts ∷ others;
-  right = subst (λ n. Leave cores ([] ∷ []) (take n steps) (facts ∷ others)) same right;
-  stuck = subst (λ (rest : List Step). IsStuck cores (facts ∷ others) rest) (sym (nil_from_length (drop (length steps) steps) (let n = length-drop (length steps) steps in omega arith))) tt;
-}
 
 -- no case is left: the answer is the next step, if there is one
 pub answer-after : (cores : List (List Operation)) (steps : List Step) (next : ℕ) (answer : Option ℕ) → Leave cores ([] ∷ []) (take next steps) [] → MatchOption answer (length steps ≤ next) (λ place. (place ≡ next) × (next < length steps))

@@ -1,8 +1,8 @@
 -- Paths, step by step.
-use Rattle.std.specs.Prelude.{◌≡◌, ℕ, suc, ◌+◌, ◌<◌, ◌≤◌, ◌==◌, nat_le, true, List, [], ◌∷◌, refl, Option, Some, None, slice_get, take, drop, length, ◌-◌}
+use Rattle.std.specs.Prelude.{◌≡◌, ℕ, suc, ◌≤◌, ◌==◌, nat_le, true, List, [], ◌∷◌, refl, Option, Some, None, slice_get, take, drop, length, ◌-◌}
 use Rattle.std.proofs.Common.{sym, ◌∙◌, subst, arith, get_or}
 use Rattle.std.proofs.lemmas.Bool.{and_parts, and_from, eqb-true, eq-eqb, leb-true, le-leb}
-use Rattle.std.proofs.lemmas.List.{drop_more, take_all}
+use Rattle.std.proofs.lemmas.List.{take_all}
 use Rattle.refutation.specs.declared.step.Point.{Point}
 use Rattle.refutation.specs.declared.step.Point.TheVariants.{Init, At}
 use Rattle.refutation.specs.declared.fact.Fact.{Fact}
@@ -17,13 +17,6 @@ leads-uncons facts from to number path fact at leads = rw at at leads
 
 pub leads-none : (facts : List Fact) (from to : Point) (number : ℕ) (path : List ℕ) → slice_get facts number ≡ None → Leads facts from (number ∷ path) to → ⊥
 leads-none facts from to number path at leads = rw at at leads
-
--- the rest of a path
-pub leads-at : (facts : List Fact) (from to : Point) (path : List ℕ) (i : ℕ) → i < length path → Leads facts from (drop i path) to → Leads facts from (get_or path i 0 ∷ drop (i + 1) path) to
-leads-at facts from to path i l leads = subst (λ p. Leads facts from p to) (drop_more path i 0 l) leads
-
-pub leads-from : (facts : List Fact) (from to : Point) (path : List ℕ) (i : ℕ) → i < length path → Leads facts from (get_or path i 0 ∷ drop (i + 1) path) to → Leads facts from (drop i path) to
-leads-from facts from to path i l leads = subst (λ p. Leads facts from p to) (sym (drop_more path i 0 l)) leads
 
 -- ---- program order
 

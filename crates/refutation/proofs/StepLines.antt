@@ -1,7 +1,6 @@
 -- The lines of steps: whether a line is one, and of which.
 use Rattle.std.proofs.Common.{◌≡◌, ◌≢◌, ℕ, ◌<◌, ◌^◌, ◌==◌, List, [], ◌∷◌, ◌++◌, Option, Some, None, refl, sym, ap, ◌∙◌, arith, append-nil}
 use Rattle.std.specs.Prelude.{codes, option_map, if◌then◌else◌}
-use Rattle.std.proofs.lemmas.List.{append_cancel_left}
 use Rattle.decimal_text.specs.Numbers.{numeral}
 use Rattle.decimal_text.proofs.Reading.{some_is}
 use Rattle.mem_op.specs.declared.id.OpId.{OpId}
@@ -40,14 +39,6 @@ name_first (Order one other) rest = refl
 name_first (FromRead source write path) rest = refl
 name_first (WriteOrder source write path) rest = refl
 name_first (Cycle path) rest = refl
-
--- a line that begins with a name is that of a step of this name, if of any
-pub line-told : (name line fields : List ℕ) (found : Option Step) → name_of (first_of (name ++ fields)) ≡ name → line ≡ name ++ fields → TellsStep name fields found → TellsLine line found
-line-told name line fields (Some step) known is told = (told.0, is ∙ ap (λ (x : List ℕ). x ++ fields) (sym told.1) ∙ ap (λ (x : List ℕ). name_text step ++ x) told.2)
-line-told name line fields None known is told = λ step fits same.
-    let both : name ++ fields ≡ name_text step ++ fields_text step = sym is ∙ same in
-    let named : name_text step ≡ name = sym (name_first step (fields_text step)) ∙ ap (λ (x : List ℕ). name_of (first_of x)) (sym both) ∙ known in
-    told step fits named (append_cancel_left name fields (fields_text step) (both ∙ ap (λ (x : List ℕ). x ++ fields_text step) named))
 
 -- a line that begins with none of the names is no step's
 pub line-none : (line : List ℕ) → ((rest : List ℕ) → line ≢ codes "read " ++ rest) → ((rest : List ℕ) → line ≢ codes "order " ++ rest) → ((rest : List ℕ) → line ≢ codes "from-read " ++ rest)

@@ -97,9 +97,6 @@ all_words word Fits read has text rest xs ys far none each is =
 
 -- ---- what a loop over words tells
 
-pub words-told : {A : Type 0} (word : A → List ℕ) (Fits : A → Type 0) (text rest : List ℕ) (xs : List A) → WordsSoFar word Fits text xs rest → rest ≡ [] → AllByRecursion Fits xs × (text ≡ spaced word xs)
-words-told word Fits text rest xs far none = (far.each, far.text_is ∙ ap (λ (ys : List ℕ). spaced word xs ++ ys) none ∙ append-nil (spaced word xs))
-
 pub words-none : {A : Type 0} (word : A → List ℕ) (Fits : A → Type 0) (read : List ℕ → Option (A × List ℕ)) → HasWords word Fits read
     → (text rest : List ℕ) (xs : List A) → WordsSoFar word Fits text xs rest → read rest ≡ None → rest ≢ [] → (ys : List A) → AllByRecursion Fits ys → text ≡ spaced word ys → ⊥
 words-none word Fits read has text rest xs far none some ys each is = some (all_words word Fits read has text rest xs ys far none each is).0

@@ -2,15 +2,6 @@
 use Rattle.std.proofs.Common.{◌≡◌, ℕ, zero, suc, ◌+◌, ◌<◌, Bool, true, false, ◌||◌, List, [], ◌∷◌, length, take, get_or, refl, sym, subst, arith}
 use Rattle.std.specs.List.{list_any}
 
-pub any_at : {A : Type 0} (p : A → Bool) (rows : List A) (n : ℕ) (row : A) → n < length rows → row ≡ get_or rows n row → p row ≡ true → list_any p rows ≡ true
-any_at p [] n row below is passes = absurd (omega (arith, below))
-any_at p (r ∷ rows) zero row below is passes = let same : row ≡ r = is in rw (sym same, passes) refl
-any_at p (r ∷ rows) (suc n) row below is passes = go (p r) (any_at p rows n row (omega (arith, below)) is passes)
-  where
-    go : (b : Bool) → list_any p rows ≡ true → (b || list_any p rows) ≡ true
-    go true e = refl
-    go false e = e
-
 none_further : {A : Type 0} (p : A → Bool) (rows : List A) (n : ℕ) (row : A) → n < length rows → row ≡ get_or rows n row → list_any p (take n rows) ≡ false → p row ≡ false
     → list_any p (take (suc n) rows) ≡ false
 none_further p [] n row below is none fails = absurd (omega (arith, below))

@@ -17,7 +17,7 @@ use Rattle.mem_op.specs.Limits.{operation_limit}
 use Rattle.mem_op.specs.declared.id.OpId.{OpId}
 use Rattle.merge_judge.specs.OrderText.{end_line, id_line, id_lines}
 use Rattle.refutation.specs.Grammar.{IdFits}
-use Rattle.search_commands.specs.OrderTexts.{BeginsWithIds, ComeInOrder, IsFirstBadOfOrder, IsFirstWrongId, NoIdInFront, SpellsOrder}
+use Rattle.search_commands.specs.OrderTexts.{BeginsWithIds, ComeInOrder, IsFirstBadOfOrder, NoIdInFront, SpellsOrder}
 use Rattle.search_commands.specs.inner.Certificates.{IsOneMore, TellsEnd, below, id_line_at}
 
 -- ---- the line of an id
@@ -145,10 +145,6 @@ end_found rest behind more count number is (n, read, text) some low =
     is ∙ ap (λ (xs : List ℕ). codes "end " ++ xs) (text ∙ ap (λ (m : ℕ). numeral m ++ 10 ∷ more) (sym same)) ∙ sym (end_text count more low)
 
 -- ---- the whole text
-
-pub wrong_id : (cores : List (List Operation)) (text rest : List ℕ) (ids : List OpId) (place : ℕ) → BeginsWithIds text ids rest → IsFirstWrongId cores ids place
-    → IsFirstBadOfOrder cores text (place + 1)
-wrong_id cores text rest ids place begins wrong = (ids, rest, begins, inl (place, wrong, refl))
 
 pub missing : (cores : List (List Operation)) (text rest : List ℕ) (ids : List OpId) (count : ℕ) → count ≡ length ids → BeginsWithIds text ids rest
     → ComeInOrder cores ids (length ids) → (IsSequentialOrder cores ids → ⊥) → IsFirstBadOfOrder cores text (count + 1)

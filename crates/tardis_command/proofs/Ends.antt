@@ -27,10 +27,9 @@ use Rattle.search_commands.specs.Answers.{IsRightOf, search_status}
 use Rattle.search_commands.specs.Traces.{TellsTrace}
 use Rattle.search_commands.specs.declared.answer.SearchAnswer.{SearchAnswer}
 use Rattle.search_commands.specs.declared.answer.SearchAnswer.TheVariants as searched
-use Rattle.search_commands.specs.declared.fault.SearchingFault.{SearchingFault}
 use Rattle.search_commands.specs.declared.fault.SearchingFault.TheVariants as searching
 use Rattle.verdict.specs.declared.judge_fault.JudgeFault.TheVariants as judge
-use Rattle.tardis_command.specs.Faults.{command_fault_text, fault_status, file_fault, from_judging, from_running, from_searching}
+use Rattle.tardis_command.specs.Faults.{command_fault_text, fault_status, file_fault, from_judging, from_running}
 use Rattle.command_line.specs.declared.request.FileKind.{FileKind}
 use Rattle.command_line.specs.declared.request.FileKind.TheVariants as of_file
 use Rattle.run_commands.specs.Inspecting.{IsUnreadable}
@@ -102,19 +101,6 @@ pub right_no : (told : List ℕ → Option (List ℕ)) (files : TraceFiles) (ans
     → search_status answer ≡ 1 → TellsTrace told files (λ cores. ¬ (IsConsistent cores))
 right_no told files (searched.Yes operations) tells one = cc
 right_no told files (searched.No operations) tells one = let (cores, is, right) = tells in (cores, is, right.0)
-
--- no refusal of a search has the status of a no
-pub refusal_is_no_no : (X : Type 0) (fault : SearchingFault) → fault_status (from_searching fault) ≡ 1 → X
-refusal_is_no_no X (searching.Logs (judge.Log file line fault)) one = cc
-refusal_is_no_no X (searching.Logs (judge.BadConfig count)) one = cc
-refusal_is_no_no X (searching.Logs (judge.Read file)) one = cc
-refusal_is_no_no X (searching.Logs judge.OutOfMemory) one = cc
-refusal_is_no_no X (searching.Call (call.Programs fault)) one = cc
-refusal_is_no_no X (searching.Call call.ProgramsUnread) one = cc
-refusal_is_no_no X (searching.Call (call.LogUnwritten file)) one = cc
-refusal_is_no_no X (searching.Call call.Output) one = cc
-refusal_is_no_no X (searching.Call call.OutOfMemory) one = cc
-refusal_is_no_no X other one = cc
 
 -- nor is it that of lack of memory to tell another refusal
 pub told_no : (X : Type 0) (fault told : CommandFault) (status : ℕ) → (fault_status fault ≡ 1 → X) → (told ≡ fault) ⊎ (told ≡ Call OutOfMemory) → status ≡ fault_status told
