@@ -1,5 +1,5 @@
 -- The first operations of each log of a set, judged alone.
-use Rattle.std.specs.Prelude.{◌≡◌, ◌≢◌, ◌⊎◌, ◌+◌, ◌<◌, ◌≤◌, ℕ, List, ◌++◌, Option, None, Some, Ok, length, map, slice_get, take}
+use Rattle.std.specs.Prelude.{◌≡◌, ◌⊎◌, ◌+◌, ◌<◌, ◌≤◌, ℕ, List, ◌++◌, Option, None, Some, Ok, length, map, slice_get, take}
 use Rattle.std.specs.Global.{Vec}
 use Rattle.std.specs.Option.{option_map_or}
 use Rattle.memchr.specs.Find.{is_byte, places}
@@ -8,7 +8,7 @@ use Rattle.log_record.specs.declared.record.Record.{Record}
 use Rattle.log_file.specs.Log.{IsFirstFault, Spells, with_lf}
 use Rattle.log_file.specs.Sets.{IsFirstOfSet, text_at}
 use Rattle.log_file.specs.declared.fault.FormatFault.{FormatFault}
-use Rattle.log_file.specs.declared.fault.FormatFault.TheVariants.{Truncated}
+use Rattle.log_file.specs.declared.fault.FormatFault.TheVariants.{TrailingBytes}
 use Rattle.verdict.specs.Counts.{IsOutOfRange}
 use Rattle.verdict.specs.Judgement.{IsAnswerTo}
 use Rattle.verdict.specs.declared.answer.Verdict.{Verdict}
@@ -19,15 +19,20 @@ texts_of = map (λ (v : Vec ℕ). v.items)
 
 -- ---- how many operations there are
 
--- so many operations of a core stand whole in the text of its log: it spells the log, or is cut off after their lines
+-- the least line below the header at which such a fault can stand: bytes trail the end line, each other fault may come at once
+abbrev pub least_line : FormatFault → ℕ
+least_line TrailingBytes = 3
+least_line fault = 2
+
+-- so many operations of a core stand whole in the text of its log: it spells the log, or its first fault comes after their lines
 abbrev pub HasOperations : ℕ → ℕ → List ℕ → ℕ → Type 0
 HasOperations core cores text count =
-    ((records : List Record) × Spells core cores text records × (count ≡ length records)) ⊎ IsFirstFault core cores text (count + 2) Truncated
+    ((records : List Record) × Spells core cores text records × (count ≡ length records))
+    ⊎ ((fault : FormatFault) × IsFirstFault core cores text (least_line fault + count) fault)
 
--- the text has another fault, or it is cut off in its header
+-- its first fault stands in the header
 abbrev pub HasNoOperations : ℕ → ℕ → List ℕ → Type 0
-HasNoOperations core cores text =
-    (line : ℕ) × (fault : FormatFault) × IsFirstFault core cores text line fault × ((fault ≢ Truncated) ⊎ (line < 2))
+HasNoOperations core cores text = (line : ℕ) × (fault : FormatFault) × IsFirstFault core cores text line fault × (line < least_line fault)
 
 -- the least number of operations that stand whole in one of the first texts, the logs of so many cores
 pub record IsLeastBelow (texts : List (List ℕ)) (cores count : ℕ) : Type 0 where
@@ -38,7 +43,7 @@ pub record IsLeastBelow (texts : List (List ℕ)) (cores count : ℕ) : Type 0 w
 abbrev pub IsLeastCount : List (List ℕ) → ℕ → Type 0
 IsLeastCount texts = IsLeastBelow texts (length texts)
 
--- there is no such number: there are too few texts or too many for a set, or one of them has no operations
+-- there is no such number: there are too few texts or too many for a set, or one of them has a fault in its header
 abbrev pub HaveNoCount : List (List ℕ) → Type 0
 HaveNoCount texts =
     IsOutOfRange (length texts) ⊎ ((core : ℕ) × (core < length texts) × HasNoOperations core (length texts) (text_at texts core))
@@ -65,7 +70,7 @@ abbrev pub IsVerdictOnFirst : List (List ℕ) → ℕ → Verdict → Type 0
 IsVerdictOnFirst texts operations verdict =
     IsLeastCount texts operations × (0 < operations) × IsAnswerTo (beginnings operations texts) (Ok verdict)
 
--- there is none: a log has no operations, or no beginnings that are logs
+-- there is none: a log has no whole operation, or the beginnings are no logs
 abbrev pub HaveNoFirst : List (List ℕ) → Type 0
 HaveNoFirst texts =
     HaveNoCount texts ⊎ IsLeastCount texts 0 ⊎ ((count : ℕ) × IsLeastCount texts count × SpellNoSet (beginnings count texts))

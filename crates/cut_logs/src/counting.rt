@@ -1,9 +1,9 @@
 //! How many operations stand whole in logs.
 
-ghost use Rattle.std.specs.Prelude.{◌≡◌, IfOk, MatchOption, min};
+ghost use Rattle.std.specs.Prelude.{◌≡◌, ◌+◌, ◌<◌, IfOk, MatchOption, min};
 ghost use Rattle.std.specs.Option.{option_map_or};
 ghost use Rattle.log_file.specs.Answers.{IsAnswer};
-ghost use Rattle.cut_logs.specs.Beginnings.{HasNoOperations, HasOperations, HaveNoCount, IsLeastCount, texts_of};
+ghost use Rattle.cut_logs.specs.Beginnings.{HasNoOperations, HasOperations, HaveNoCount, IsLeastCount, least_line, texts_of};
 
 use log_file::{FormatFault, LogFault, LogReader};
 use log_record::Record;
@@ -24,8 +24,7 @@ pub fn log_in_text(
     reader.finish()
 }
 
-/// How many operations of a core stand whole in the text of its log; None where the text has another fault than that it is cut off, or has no
-/// whole header.
+/// How many operations of a core stand whole in the text of its log, before its first fault where it has one; None where that is the header's.
 fn operations_in(
     alloc: Global,
     core: CoreId,
@@ -36,13 +35,30 @@ fn operations_in(
 {
     match log_in_text(alloc, core, cores, text) {
         Ok(log) => Ok(Some(log.len())),
-        Err(LogFault::At(line, FormatFault::Truncated)) if line > 1 => Ok(Some(line as usize - 2)),
-        Err(LogFault::At(..)) => Ok(None),
+        Err(LogFault::At(line, fault)) => Ok(operations_before(line, fault)),
         Err(_) => Err(AllocError),
     }
 }
 
-/// The least number of operations that stand whole in one of these logs; None where one has none, or there are no logs, or more than 64.
+/// How many operations stand before a first fault at this line; None where it is the header's.
+fn operations_before(line: u64, fault: FormatFault) -> Option<usize>
+    ensures { MatchOption result (line < least_line fault) (λ count. line ≡ least_line fault + count) }
+{
+    let count = line.checked_sub(least_line(fault))?;
+    Some(count as usize)
+}
+
+/// The least line below the header at which such a fault can stand: 3 of bytes that trail the end line, else 2.
+fn least_line(fault: FormatFault) -> u64
+    ensures { result ≡ least_line fault }
+{
+    match fault {
+        FormatFault::TrailingBytes => 3,
+        _ => 2,
+    }
+}
+
+/// The least number of operations that stand whole in one of these logs; None where one has a fault in its header, or there are no logs, or more than 64.
 pub(crate) fn least_count(alloc: Global, texts: &[Vec<u8>]) -> Result<Option<usize>, AllocError>
     ensures { IfOk result (λ least. MatchOption least (HaveNoCount (texts_of texts.now)) (IsLeastCount (texts_of texts.now))) }
 {

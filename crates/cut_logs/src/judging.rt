@@ -21,8 +21,8 @@ pub struct FirstVerdict {
     pub verdict: Verdict,
 }
 
-/// Judges the first operations of each of these logs alone: as many of each as the one with the fewest whole operations has. None where a log
-/// has none, or has a fault other than that it is cut off. It is no verdict on the logs. Err where memory was refused.
+/// Judges the first operations of each of these logs alone: as many of each as stand whole in the one with the fewest, up to its first fault
+/// where it has one. None where that is no operation, or a fault stands in a header. It is no verdict on the logs. Err where memory was refused.
 pub fn first_verdict(alloc: Global, texts: &[Vec<u8>]) -> Result<Option<FirstVerdict>, AllocError>
     ensures { IfOk result (IsFirstVerdict (texts_of texts.now)) }
 {

@@ -31,7 +31,7 @@ pub enum Answer {
 }
 
 /// The version of the program, and the line of the toolchain with which it was proved.
-const VERSION: &str = "tardis 1.0, proved with rattle-kit-13b logic dac8208d650f15bf";
+const VERSION: &str = "tardis 1.0, proved with rattle-kit-13f logic dac8208d650f15bf";
 
 impl Answer {
     /// The exit status: 1 for No and for a forbidden outcome, else 0.
