@@ -1,8 +1,10 @@
 //! What is told of the lines of a litmus test after its sections.
 
-use super::field::{Field, Troubled};
-use super::lines::{line_of, words_of};
-use std::alloc::{AllocError, Global};
+use super::field::{Field, Trouble, Troubled, number_in};
+use super::lines::{RefusedLine, count_of};
+use super::shape::push_trouble;
+use std::alloc::AllocError;
+use std::str;
 
 /// As many registers are shown at most.
 const SHOWN: usize = 8;
@@ -10,79 +12,79 @@ const SHOWN: usize = 8;
 /// As many outcomes are forbidden at most.
 const FORBIDDEN: usize = 16;
 
-/// Adds what is told of a line that shows registers, the one of this number.
+/// The fields of a forbidden outcome, at most.
+const VALUES: [Field; SHOWN] = [Field::Value; SHOWN];
+
+/// Adds what is told of a line that shows registers, after whose first word stand these words.
 pub(crate) fn push_show(
-    alloc: Global,
     text: &mut String,
-    bytes: &[u8],
-    number: u64,
+    at: &RefusedLine<'_>,
+    registers: &[&str],
 ) -> Result<(), AllocError> {
     text.push_str(
         "After the last section stands one line show C.rN .. of 1 to 8 registers, as show 0.r0 1.r0.\n",
     )?;
-    if begun_before(bytes, b"show ", number) > 0 {
+    if at.begun_before(b"show ") > 0 {
         return text.push_str("Another line before it says show.\n");
     }
-    let header = words_of(alloc, line_of(bytes, 1))?;
-    let cores = header.as_slice().last().copied().unwrap_or("");
-    let mut sections = itoa::Buffer::new();
-    let sections = sections.format(begun_before(bytes, b"core ", number) as u64);
-    if sections != cores {
+    let cores = cores_of(at.first_line());
+    let sections = at.begun_before(b"core ");
+    if sections as u64 != cores {
         return write!(
             text,
             "The first line says {cores} cores, and {sections} sections stand before it.\n"
         );
     }
-    let words = words_of(alloc, line_of(bytes, number))?;
-    push_registers(text, cores, words.as_slice().get(1..).unwrap_or(&[]))
+    push_registers(text, cores, registers)
+}
+
+/// The number of cores that a first line says, its last word.
+fn cores_of(line: &[u8]) -> u64 {
+    let text = str::from_utf8(line).unwrap_or("");
+    let word = text.rsplit(' ').next().unwrap_or("");
+    number_in(word).unwrap_or(0)
 }
 
 /// Adds what is wrong with the registers that are shown, of a test of so many cores.
-fn push_registers(text: &mut String, cores: &str, words: &[&str]) -> Result<(), AllocError> {
+fn push_registers(text: &mut String, cores: u64, words: &[&str]) -> Result<(), AllocError> {
     if words.len() > SHOWN {
         return write!(text, "It has {} registers.\n", words.len());
     }
     for word in words {
-        if let Some(trouble) = Field::Shown.trouble(word) {
-            let troubled = Troubled {
-                field: Field::Shown,
-                word,
-                trouble,
-            };
+        if let Some(troubled) = register_troubled(word, cores) {
             return write!(text, "{troubled}\n");
-        }
-        let core = word.split('.').next().unwrap_or("");
-        if !is_below(core, cores) {
-            return write!(
-                text,
-                "Its register, {word}, is of a core that isn't there: cores are counted from 0, and the first line says {cores}.\n"
-            );
         }
     }
     Ok(())
 }
 
-/// Whether a number in digits is below another; neither has a zero before it.
-fn is_below(digits: &str, others: &str) -> bool {
-    digits.len() < others.len() || (digits.len() == others.len() && digits < others)
+/// A register that is shown, and what is wrong with it in a test of so many cores, where something is.
+fn register_troubled(word: &str, cores: u64) -> Option<Troubled<'_>> {
+    let troubled = Field::Shown.troubled(word);
+    let core = word.split('.').next().unwrap_or("");
+    if troubled.is_some() || number_in(core).is_some_and(|core| core < cores) {
+        return troubled;
+    }
+    Some(Troubled {
+        field: Field::Shown,
+        word,
+        trouble: Trouble::NoSuchCore(cores),
+    })
 }
 
-/// Adds what is told of a line of a forbidden outcome, the one of this number.
+/// Adds what is told of a line of a forbidden outcome, after whose first word stand these words.
 pub(crate) fn push_forbid(
-    alloc: Global,
     text: &mut String,
-    bytes: &[u8],
-    number: u64,
+    at: &RefusedLine<'_>,
+    values: &[&str],
 ) -> Result<(), AllocError> {
     text.push_str(
         "A forbidden outcome is written forbid K .., a value for each register of show, in their order.\n",
     )?;
-    if begun_before(bytes, b"show ", number) == 0 {
+    if at.begun_before(b"show ") == 0 {
         return text.push_str("It comes after the line show, and there is none before it.\n");
     }
-    let registers = shown_count(bytes).unwrap_or(0);
-    let words = words_of(alloc, line_of(bytes, number))?;
-    let values = words.as_slice().get(1..).unwrap_or(&[]);
+    let registers = shown_count(at.text).unwrap_or(0);
     if registers != values.len() {
         return write!(
             text,
@@ -90,42 +92,16 @@ pub(crate) fn push_forbid(
             values.len()
         );
     }
-    if begun_before(bytes, b"forbid ", number) >= FORBIDDEN {
+    if at.begun_before(b"forbid ") >= FORBIDDEN {
         return text.push_str("At most 16 lines say forbid, and as many stand before it.\n");
     }
-    push_values(text, values)
-}
-
-/// Adds what is wrong with the values of a forbidden outcome.
-fn push_values(text: &mut String, values: &[&str]) -> Result<(), AllocError> {
-    for word in values {
-        if let Some(trouble) = Field::Value.trouble(word) {
-            let troubled = Troubled {
-                field: Field::Value,
-                word,
-                trouble,
-            };
-            return write!(text, "{troubled}\n");
-        }
-    }
-    Ok(())
-}
-
-/// How many lines before the one of this number begin so.
-fn begun_before(bytes: &[u8], beginning: &[u8], number: u64) -> usize {
-    bytes
-        .split(|byte| *byte == b'\n')
-        .take(number.saturating_sub(1) as usize)
-        .filter(|line| line.starts_with(beginning))
-        .count()
+    push_trouble(text, &VALUES, values)
 }
 
 /// How many registers the line `show` has, where there is one.
-pub(crate) fn shown_count(bytes: &[u8]) -> Option<usize> {
-    for line in bytes.split(|byte| *byte == b'\n') {
-        if line.starts_with(b"show ") {
-            return Some(line.iter().filter(|byte| **byte == b' ').count());
-        }
-    }
-    None
+pub(crate) fn shown_count(text: &[u8]) -> Option<usize> {
+    let shown = text
+        .split(|byte| *byte == b'\n')
+        .find(|line| line.starts_with(b"show "))?;
+    Some(count_of(shown, b' '))
 }

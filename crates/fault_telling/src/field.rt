@@ -1,10 +1,32 @@
 //! The fields of lines.
 
+use decimal_text::read_last;
 use std::fmt;
 use std::fmt::Display;
 
+/// The greatest address of a word.
+const GREATEST_ADDRESS: u64 = 65_535;
+
+/// The greatest time stamp, 2 to the power of 48.
+const GREATEST_STAMP: u64 = 281_474_976_710_656;
+
+/// The greatest rank.
+const GREATEST_RANK: u64 = 4_294_967_295;
+
+/// As many instructions are skipped at most.
+const GREATEST_SKIP: u64 = 4_095;
+
+/// A machine has so many cores at most.
+const MOST_CORES: u64 = 64;
+
+/// The greatest index of an operation of a core.
+const GREATEST_INDEX: u64 = 1_048_575;
+
+/// The greatest number of a register.
+const GREATEST_REGISTER: u64 = 15;
+
 /// A field of a line.
-#[derive(Clone, Copy, Debug, PartialEq, Eq)]
+#[derive(Clone, Copy)]
 pub(crate) enum Field {
     Address,
     Value,
@@ -22,30 +44,31 @@ pub(crate) enum Field {
 }
 
 impl Field {
-    /// The greatest number that the field may have, in digits; none of a field that isn't a number.
-    fn greatest(self) -> Option<&'static str> {
-        match self {
-            Field::Address => Some("65535"),
-            Field::Value | Field::Old => Some("18446744073709551615"),
-            Field::Stamp => Some("281474976710656"),
-            Field::Rank => Some("4294967295"),
-            Field::Skip => Some("4095"),
-            Field::Cores => Some("64"),
-            _ => None,
-        }
+    /// A word in this field, and what is wrong with it, where something is.
+    pub(crate) fn troubled(self, word: &str) -> Option<Troubled<'_>> {
+        let trouble = self.trouble(word)?;
+        Some(Troubled {
+            field: self,
+            word,
+            trouble,
+        })
     }
 
     /// What is wrong with a word in this field.
-    pub(crate) fn trouble(self, word: &str) -> Option<Trouble> {
-        match (self, self.greatest()) {
-            (Field::Skip | Field::Cores, _) if word == "0" => Some(Trouble::Zero),
-            (_, Some(greatest)) => number_trouble(word, greatest),
-            (Field::Register, None) => register_trouble(word),
-            (Field::Format, None) => (word != "1" && word != "2").then_some(Trouble::NoFormat),
-            (Field::Name, None) => (!is_name(word)).then_some(Trouble::NoName),
-            (Field::CoresWord, None) => (word != "cores").then_some(Trouble::NoCores),
-            (Field::Shown, None) => shown_trouble(word),
-            _ => source_trouble(word),
+    fn trouble(self, word: &str) -> Option<Trouble> {
+        match self {
+            Field::Address => number_trouble(word, GREATEST_ADDRESS),
+            Field::Value | Field::Old => number_trouble(word, u64::MAX),
+            Field::Stamp => number_trouble(word, GREATEST_STAMP),
+            Field::Rank => number_trouble(word, GREATEST_RANK),
+            Field::Source => source_trouble(word),
+            Field::Register => register_trouble(word),
+            Field::Skip => positive_trouble(word, GREATEST_SKIP),
+            Field::Format => (word != "1" && word != "2").then_some(Trouble::NoFormat),
+            Field::Name => (!is_name(word)).then_some(Trouble::NoName),
+            Field::CoresWord => (word != "cores").then_some(Trouble::NoCores),
+            Field::Cores => positive_trouble(word, MOST_CORES),
+            Field::Shown => shown_trouble(word),
         }
     }
 }
@@ -71,7 +94,7 @@ impl Display for Field {
 }
 
 /// What is wrong with a word in the place of a field.
-#[derive(Clone, Copy, Debug, PartialEq, Eq)]
+#[derive(Clone, Copy)]
 pub(crate) enum Trouble {
     /// It is a hexadecimal number.
     Hexadecimal,
@@ -82,7 +105,7 @@ pub(crate) enum Trouble {
     /// It isn't a number.
     NoNumber,
     /// It is a number above this one.
-    Above(&'static str),
+    Above(u64),
     /// It is 0.
     Zero,
     /// It isn't a source.
@@ -97,6 +120,8 @@ pub(crate) enum Trouble {
     NoCores,
     /// It isn't a register of a core.
     NoShown,
+    /// It is a register of a core that isn't there, where there are so many.
+    NoSuchCore(u64),
 }
 
 impl Display for Trouble {
@@ -118,37 +143,51 @@ impl Display for Trouble {
             Trouble::NoShown => f.write_str(
                 "isn't written C.rN, for register rN, r0 to r15, of core C",
             ),
+            Trouble::NoSuchCore(cores) => write!(
+                f,
+                "is of a core that isn't there: cores are counted from 0, and the first line says {cores}"
+            ),
         }
     }
 }
 
 /// What is wrong with a word where a number up to the greatest stands.
-fn number_trouble(word: &str, greatest: &'static str) -> Option<Trouble> {
-    if word.is_empty() {
-        return Some(Trouble::NoNumber);
+fn number_trouble(word: &str, greatest: u64) -> Option<Trouble> {
+    match read_last(word.as_bytes()) {
+        Some(Some(number)) if number <= greatest => None,
+        Some(_) => Some(Trouble::Above(greatest)),
+        None => Some(no_number(word)),
     }
-    if word.starts_with("0x") || word.starts_with("0X") {
-        return Some(Trouble::Hexadecimal);
-    }
-    if word.starts_with("-") || word.starts_with("+") {
-        return Some(Trouble::Signed);
-    }
-    if !word.bytes().all(|byte| byte.is_ascii_digit()) {
-        return Some(if word.bytes().all(|byte| byte.is_ascii_hexdigit()) {
-            Trouble::Hexadecimal
-        } else {
-            Trouble::NoNumber
-        });
-    }
-    if word.starts_with("0") && word.len() > 1 {
-        return Some(Trouble::LeadingZero);
-    }
-    is_above(word, greatest).then_some(Trouble::Above(greatest))
 }
 
-/// Whether a number in digits is above another; neither has a zero before it.
-fn is_above(digits: &str, others: &str) -> bool {
-    digits.len() > others.len() || (digits.len() == others.len() && digits > others)
+/// What is wrong with a word where a number from 1 to the greatest stands.
+fn positive_trouble(word: &str, greatest: u64) -> Option<Trouble> {
+    if word == "0" {
+        return Some(Trouble::Zero);
+    }
+    number_trouble(word, greatest)
+}
+
+/// What is wrong with a word that isn't a number.
+fn no_number(word: &str) -> Trouble {
+    if word.starts_with("0x") || word.starts_with("0X") {
+        return Trouble::Hexadecimal;
+    }
+    if word.starts_with("-") || word.starts_with("+") {
+        return Trouble::Signed;
+    }
+    if word.is_empty() || !word.bytes().all(|byte| byte.is_ascii_hexdigit()) {
+        return Trouble::NoNumber;
+    }
+    if word.bytes().all(|byte| byte.is_ascii_digit()) {
+        return Trouble::LeadingZero;
+    }
+    Trouble::Hexadecimal
+}
+
+/// The number that a word is; none where it isn't one, or one of more than 64 bits.
+pub(crate) fn number_in(word: &str) -> Option<u64> {
+    read_last(word.as_bytes())?
 }
 
 /// What is wrong with a word where a source stands.
@@ -159,7 +198,7 @@ fn source_trouble(word: &str) -> Option<Trouble> {
     let mut parts = word.split('.');
     match (parts.next(), parts.next(), parts.next()) {
         (Some(core), Some(index), None) => {
-            number_trouble(core, "63").or(number_trouble(index, "1048575"))
+            number_trouble(core, MOST_CORES - 1).or(number_trouble(index, GREATEST_INDEX))
         }
         _ => Some(Trouble::NoSource),
     }
@@ -168,7 +207,7 @@ fn source_trouble(word: &str) -> Option<Trouble> {
 /// What is wrong with a word where a register stands.
 fn register_trouble(word: &str) -> Option<Trouble> {
     match word.strip_prefix('r') {
-        Some(number) if number_trouble(number, "15").is_none() => None,
+        Some(number) if number_trouble(number, GREATEST_REGISTER).is_none() => None,
         _ => Some(Trouble::NoRegister),
     }
 }
@@ -185,9 +224,8 @@ fn shown_trouble(word: &str) -> Option<Trouble> {
     let mut parts = word.split('.');
     match (parts.next(), parts.next(), parts.next()) {
         (Some(core), Some(register), None)
-            if number_trouble(core, "63").is_none() && register_trouble(register).is_none() => {
-            None
-        }
+            if number_trouble(core, MOST_CORES - 1).is_none()
+                && register_trouble(register).is_none() => { None }
         _ => Some(Trouble::NoShown),
     }
 }

@@ -18,10 +18,43 @@ pub fn line_of(text: &[u8], number: u64) -> &[u8]
         .unwrap_or(&[])
 }
 
-/// Whether line `number` of a text ends with a line feed.
-pub(crate) fn is_whole(text: &[u8], number: u64) -> bool {
-    let whole = text.iter().filter(|byte| **byte == b'\n').count();
-    number <= whole as u64
+/// A line that was refused, and the text in which it stands.
+#[derive(Clone, Copy)]
+pub(crate) struct RefusedLine<'a> {
+    /// The whole text.
+    pub(crate) text: &'a [u8],
+    /// The number of the line, counted from 1.
+    pub(crate) number: u64,
+    /// The line, without its line feed.
+    pub(crate) line: &'a [u8],
+    /// The words of the line, between its spaces; none where it isn't text.
+    pub(crate) words: &'a [&'a str],
+}
+
+impl<'a> RefusedLine<'a> {
+    /// The first line of the text.
+    pub(crate) fn first_line(&self) -> &'a [u8] {
+        line_of(self.text, 1)
+    }
+
+    /// Whether the line ends with a line feed.
+    pub(crate) fn is_whole(&self) -> bool {
+        self.number <= count_of(self.text, b'\n') as u64
+    }
+
+    /// How many lines before it begin so.
+    pub(crate) fn begun_before(&self, beginning: &[u8]) -> usize {
+        self.text
+            .split(|byte| *byte == b'\n')
+            .take(self.number.saturating_sub(1) as usize)
+            .filter(|line| line.starts_with(beginning))
+            .count()
+    }
+}
+
+/// How often a byte stands in others.
+pub(crate) fn count_of(bytes: &[u8], wanted: u8) -> usize {
+    bytes.iter().filter(|byte| **byte == wanted).count()
 }
 
 /// The words of a line, between its spaces; none where it isn't text.

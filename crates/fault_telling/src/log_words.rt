@@ -1,10 +1,11 @@
 //! What is told of a line of a log.
 
-use super::lines::{is_whole, line_of, words_of};
+use super::field::number_in;
+use super::lines::RefusedLine;
 use super::shape::{RECORDS, push_departure, shape_of};
 use super::slip::first_slip;
 use log_file::FormatFault;
-use std::alloc::{AllocError, Global};
+use std::alloc::AllocError;
 
 /// How the first line of a log is written.
 const HEADER: &str =
@@ -18,34 +19,31 @@ const ORDER: &str =
     "The files are given in the order of their cores, that of core 0 first. log.* has log.10 before log.2; write $(ls -v log.*).\n";
 
 /// A refused log: its place among the files, how many there are, and its fault.
-#[derive(Clone, Copy, Debug)]
+#[derive(Clone, Copy)]
 pub(crate) struct RefusedLog {
     pub(crate) file: usize,
     pub(crate) files: usize,
-    pub(crate) line: u64,
     pub(crate) fault: FormatFault,
 }
 
-/// Adds what is told of the fault of a log, whose bytes are these.
+/// Adds what is told of the fault of a log, at this line.
 pub(crate) fn push_log(
-    alloc: Global,
     text: &mut String,
     refused: &RefusedLog,
-    bytes: &[u8],
+    at: &RefusedLine<'_>,
 ) -> Result<(), AllocError> {
-    let line = line_of(bytes, refused.line);
     match refused.fault {
-        FormatFault::BadHeader => push_bad_header(text, line),
-        FormatFault::BadLine => push_bad_line(alloc, text, bytes, line),
-        FormatFault::OutOfRange if refused.line == 1 => text.push_str(
+        FormatFault::BadHeader => push_bad_header(text, at.line),
+        FormatFault::BadLine => push_bad_line(text, at),
+        FormatFault::OutOfRange if at.number == 1 => text.push_str(
             "It says core C of N: N is 1 to 64, and C is less than N, since cores are counted from 0.\n",
         ),
-        FormatFault::OutOfRange => push_record(alloc, text, line),
+        FormatFault::OutOfRange => push_record(text, at.words),
         FormatFault::TooMany => text.push_str("A log has at most 1048576 operations.\n"),
-        FormatFault::CountDiffers => push_count(text, refused.line),
-        FormatFault::TrailingBytes => push_trailing(text, bytes, refused.line),
-        FormatFault::Truncated => push_truncated(text, bytes, refused.line),
-        FormatFault::WrongCore => push_wrong_core(alloc, text, refused, line),
+        FormatFault::CountDiffers => push_count(text, at.number),
+        FormatFault::TrailingBytes => push_trailing(text, at),
+        FormatFault::Truncated => push_truncated(text, at),
+        FormatFault::WrongCore => push_wrong_core(text, refused, at.words),
     }
 }
 
@@ -71,44 +69,37 @@ fn push_bad_header(text: &mut String, line: &[u8]) -> Result<(), AllocError> {
 }
 
 /// Adds what is told of a later line that is neither a record nor the end line.
-fn push_bad_line(
-    alloc: Global,
-    text: &mut String,
-    bytes: &[u8],
-    line: &[u8],
-) -> Result<(), AllocError> {
-    if line.is_empty() {
+fn push_bad_line(text: &mut String, at: &RefusedLine<'_>) -> Result<(), AllocError> {
+    if at.line.is_empty() {
         return text.push_str("It is empty; there are no empty lines.\n");
     }
-    if let Some(slip) = first_slip(line) {
+    if let Some(slip) = first_slip(at.line) {
         return write!(text, "{slip}\n");
     }
-    if line.len() > LONGEST {
+    if at.line.len() > LONGEST {
         return text.push_str("It is longer than any record is.\n");
     }
-    if line.starts_with(b"X ") && line_of(bytes, 1).starts_with(b"tardis-log 1 ") {
+    if at.line.starts_with(b"X ") && at.first_line().starts_with(b"tardis-log 1 ") {
         return text.push_str(
             "A swap is in format 2 alone, and the first line says format 1: write tardis-log 2 there.\n",
         );
     }
-    push_record(alloc, text, line)
+    push_record(text, at.words)
 }
 
-/// Adds how a line of a record is written, and where this one departs from that.
-fn push_record(alloc: Global, text: &mut String, line: &[u8]) -> Result<(), AllocError> {
-    let words = words_of(alloc, line)?;
-    let Some((first, fields)) = words.as_slice().split_first() else {
+/// Adds how a line of a record is written, and where this one, of these words, departs from that.
+fn push_record(text: &mut String, words: &[&str]) -> Result<(), AllocError> {
+    let Some((first, fields)) = words.split_first() else {
         return Ok(());
     };
     if let Some(shape) = shape_of(&RECORDS, first) {
-        return push_departure(text, &shape, fields);
+        return push_departure(text, shape, fields);
     }
-    if *first == "end" {
-        return text.push_str("The last line is written end N, with the number of operations.\n");
-    }
-    text.push_str(
-        "A line begins with S for a store, L for a load, X for a swap, or end, as they are written here.\n",
-    )
+    text.push_str(if *first == "end" {
+        "The last line is written end N, with the number of operations.\n"
+    } else {
+        "A line begins with S for a store, L for a load, X for a swap, or end, as they are written here.\n"
+    })
 }
 
 /// Adds what is told of an end line that says another number.
@@ -121,8 +112,8 @@ fn push_count(text: &mut String, line: u64) -> Result<(), AllocError> {
 }
 
 /// Adds what is told of bytes after the end line.
-fn push_trailing(text: &mut String, bytes: &[u8], line: u64) -> Result<(), AllocError> {
-    text.push_str(if line_of(bytes, line).is_empty() && is_whole(bytes, line) {
+fn push_trailing(text: &mut String, at: &RefusedLine<'_>) -> Result<(), AllocError> {
+    text.push_str(if at.line.is_empty() && at.is_whole() {
         "It is an empty line after the end line, which is the last.\n"
     } else {
         "It comes after the end line, which is the last.\n"
@@ -130,56 +121,44 @@ fn push_trailing(text: &mut String, bytes: &[u8], line: u64) -> Result<(), Alloc
 }
 
 /// Adds what is told of a log that ends before its end line does.
-fn push_truncated(text: &mut String, bytes: &[u8], line: u64) -> Result<(), AllocError> {
-    if bytes.is_empty() {
+fn push_truncated(text: &mut String, at: &RefusedLine<'_>) -> Result<(), AllocError> {
+    if at.text.is_empty() {
         return text.push_str("The file is empty.\n");
     }
-    let last = line_of(bytes, line);
-    if last.starts_with(b"end ") {
+    if at.line.starts_with(b"end ") {
         return text.push_str(
             "The file ends before the line feed of its last line: write one there too.\n",
         );
     }
-    text.push_str(if last.is_empty() {
-        "The file ends before its end line: it is cut off, or end N was left out, with the number N of operations.\n"
+    let cut = if at.line.is_empty() {
+        "before its end line: it is cut off, or end N was left out, with the number N of operations"
     } else {
-        "The file ends in the middle of a line: it is cut off.\n"
-    })?;
+        "in the middle of a line: it is cut off"
+    };
     write!(
         text,
-        "Whole operations before it: {}.\n",
-        line.saturating_sub(2)
+        "The file ends {cut}.\nWhole operations before it: {}.\n",
+        at.number.saturating_sub(2)
     )
 }
 
-/// Adds what is told of a header of another core, or of another number of cores.
+/// Adds what is told of a header, of these words, of another core or of another number of cores.
 fn push_wrong_core(
-    alloc: Global,
     text: &mut String,
     refused: &RefusedLog,
-    line: &[u8],
+    words: &[&str],
 ) -> Result<(), AllocError> {
     write!(
         text,
         "It was given as file {} of {}, counted from 0, so it has to say core {} of {}.\n",
         refused.file, refused.files, refused.file, refused.files
     )?;
-    let words = words_of(alloc, line)?;
-    let Some(cores) = words.as_slice().get(5) else {
-        return Ok(());
-    };
-    if is_number(cores, refused.files) {
-        return text.push_str(ORDER);
+    match words.get(5) {
+        Some(cores) if number_in(cores) == Some(refused.files as u64) => text.push_str(ORDER),
+        Some(cores) => write!(
+            text,
+            "It is a log of a set of {cores}: give the logs of all cores, and those of one run.\n"
+        ),
+        None => Ok(()),
     }
-    write!(
-        text,
-        "It is a log of a set of {}: give the logs of all cores, and those of one run.\n",
-        cores
-    )
-}
-
-/// Whether these are the digits of this number.
-fn is_number(digits: &str, number: usize) -> bool {
-    let mut buffer = itoa::Buffer::new();
-    buffer.format(number as u64) == digits
 }

@@ -1,6 +1,6 @@
 //! The shapes of records and of instructions, and where a line departs from its shape.
 
-use super::field::{Field, Troubled};
+use super::field::Field;
 use std::alloc::AllocError;
 
 /// The shape of a line: its first word, how it is written, and its fields after that word.
@@ -108,13 +108,8 @@ pub(crate) const SET_HEADER: Shape = Shape {
 };
 
 /// The shape with this first word.
-pub(crate) fn shape_of(shapes: &[Shape], first: &str) -> Option<Shape> {
-    for shape in shapes {
-        if shape.first == first {
-            return Some(*shape);
-        }
-    }
-    None
+pub(crate) fn shape_of(shapes: &'static [Shape], first: &str) -> Option<&'static Shape> {
+    shapes.iter().find(|shape| shape.first == first)
 }
 
 /// Adds how a line of this shape is written, and where the words after its first one depart from that.
@@ -137,7 +132,7 @@ pub(crate) fn push_departure(
 fn push_missing(text: &mut String, fields: &[Field], words: &[&str]) -> Result<(), AllocError> {
     let has_source = words
         .last()
-        .is_some_and(|word| *word == "init" || word.contains('.'));
+        .is_some_and(|word| *word == "init" || word.as_bytes().contains(&b'.'));
     if has_source && words.len() == 4 {
         return text.push_str("Its rank is missing, 0 where all times differ.\n");
     }
@@ -148,14 +143,13 @@ fn push_missing(text: &mut String, fields: &[Field], words: &[&str]) -> Result<(
 }
 
 /// Adds what is wrong with the first word that isn't as its field.
-fn push_trouble(text: &mut String, fields: &[Field], words: &[&str]) -> Result<(), AllocError> {
+pub(crate) fn push_trouble(
+    text: &mut String,
+    fields: &[Field],
+    words: &[&str],
+) -> Result<(), AllocError> {
     for (field, word) in fields.iter().zip(words) {
-        if let Some(trouble) = field.trouble(word) {
-            let troubled = Troubled {
-                field: *field,
-                word,
-                trouble,
-            };
+        if let Some(troubled) = field.troubled(word) {
             return write!(text, "{troubled}\n");
         }
     }

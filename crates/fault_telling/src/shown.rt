@@ -6,23 +6,30 @@ use std::fmt::Display;
 /// As many bytes of a line are shown at most.
 const SHOWN: usize = 80;
 
-/// Bytes of a file: those of printable ASCII as they are, others as escapes, and two dots in place of what is too long.
+/// Bytes of a file, and two dots in place of what is too long.
 #[derive(Clone, Copy)]
 pub(crate) struct Shown<'a>(pub(crate) &'a [u8]);
 
 impl<'a> Display for Shown<'a> {
     fn fmt<W: fmt::Write>(&self, f: &mut fmt::Formatter<W>) -> fmt::Result {
         for byte in self.0.iter().take(SHOWN) {
-            match *byte {
-                b'\t' => f.write_str("\\t")?,
-                b'\r' => f.write_str("\\r")?,
-                b' '..=b'~' => f.write_char(char::from(*byte))?,
-                other => write!(f, "\\x{other:02x}")?,
-            }
+            ShownByte(*byte).fmt(f)?;
         }
-        if self.0.len() > SHOWN {
-            f.write_str("..")?;
+        f.write_str(if self.0.len() > SHOWN { ".." } else { "" })
+    }
+}
+
+/// A byte of a file: one of printable ASCII as it is, another as an escape.
+#[derive(Clone, Copy)]
+struct ShownByte(u8);
+
+impl Display for ShownByte {
+    fn fmt<W: fmt::Write>(&self, f: &mut fmt::Formatter<W>) -> fmt::Result {
+        match self.0 {
+            b'\t' => f.write_str("\\t"),
+            b'\r' => f.write_str("\\r"),
+            b' '..=b'~' => f.write_char(char::from(self.0)),
+            other => write!(f, "\\x{other:02x}"),
         }
-        Ok(())
     }
 }

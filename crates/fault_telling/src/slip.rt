@@ -4,7 +4,7 @@ use std::fmt;
 use std::fmt::Display;
 
 /// A slip that a line of any format may have.
-#[derive(Clone, Copy, Debug, PartialEq, Eq)]
+#[derive(Clone, Copy)]
 pub(crate) enum Slip {
     /// It begins with a byte order mark.
     ByteOrderMark,
@@ -59,7 +59,12 @@ fn begins_comment(word: &[u8]) -> bool {
 
 /// Whether a line has a space at its beginning, at its end or after another.
 fn has_stray_space(line: &[u8]) -> bool {
-    !line.is_empty() && line.split(|byte| *byte == b' ').any(|word| word.is_empty())
+    !line.is_empty() && line.split(|byte| *byte == b' ').any(is_empty)
+}
+
+/// Whether there is nothing between two spaces.
+fn is_empty(word: &[u8]) -> bool {
+    word.is_empty()
 }
 
 impl Display for Slip {

@@ -3,7 +3,7 @@
 ghost use Rattle.std.specs.Prelude.{◌≡◌, ◌++◌, ℕ, List, IfOk, string_bytes};
 ghost use Rattle.fault_telling.specs.Places.{place_text};
 
-use super::lines::line_of;
+use super::lines::{RefusedLine, line_of, words_of};
 use super::log_words::{RefusedLog, push_log};
 use super::place::Place;
 use super::program_words::{Kind, push_bad_line};
@@ -53,29 +53,41 @@ impl<'a> Telling<'a> {
 
     /// What is told after the place.
     fn words(&self, alloc: Global) -> Result<String, AllocError> {
-        let Some(bytes) = self.bytes else {
-            return String::from_str(alloc, "the file can't be read a second time.\n");
-        };
-        let mut text = format!(in alloc; "{}\n", Shown(line_of(bytes, self.place.line)))?;
-        match self.refused {
-            Refused::Log { file, files, fault } => {
-                let refused = RefusedLog {
-                    file,
-                    files,
-                    line: self.place.line,
-                    fault,
-                };
-                push_log(alloc, &mut text, &refused, bytes)?;
-            }
-            Refused::BadLine(kind) => {
-                push_bad_line(alloc, &mut text, kind, bytes, self.place.line)?;
-            }
-            Refused::TooLong => text.push_str("A program has at most 4096 instructions.\n")?,
-            Refused::SkipPastEnd => text.push_str(
-                "It skips further than to just past the last instruction.\n",
-            )?,
+        match self.bytes {
+            Some(bytes) => self.told_of(alloc, bytes),
+            None => String::from_str(alloc, "the file can't be read a second time.\n"),
         }
+    }
+
+    /// What is told of the line of the fault in these bytes: its text, and what is wrong with it.
+    fn told_of(&self, alloc: Global, bytes: &[u8]) -> Result<String, AllocError> {
+        let line = line_of(bytes, self.place.line);
+        let words = words_of(alloc, line)?;
+        let at = RefusedLine {
+            text: bytes,
+            number: self.place.line,
+            line,
+            words: words.as_slice(),
+        };
+        let mut text = format!(in alloc; "{}\n", Shown(line))?;
+        self.refused.push(&mut text, &at)?;
         Ok(text)
+    }
+}
+
+impl Refused {
+    /// Adds what is told of a line that was refused.
+    fn push(self, text: &mut String, at: &RefusedLine<'_>) -> Result<(), AllocError> {
+        match self {
+            Refused::Log { file, files, fault } => {
+                push_log(text, &RefusedLog { file, files, fault }, at)
+            }
+            Refused::BadLine(kind) => push_bad_line(text, kind, at),
+            Refused::TooLong => text.push_str("A program has at most 4096 instructions.\n"),
+            Refused::SkipPastEnd => {
+                text.push_str("It skips further than to just past the last instruction.\n")
+            }
+        }
     }
 }
 
