@@ -54,6 +54,25 @@ impl Field {
         })
     }
 
+    /// What the field is called.
+    pub(crate) fn name(self) -> &'static str {
+        match self {
+            Field::Address => "address",
+            Field::Value => "value",
+            Field::Stamp => "ts",
+            Field::Rank => "rank",
+            Field::Source => "source",
+            Field::Old => "old",
+            Field::Register => "register",
+            Field::Skip => "skip",
+            Field::Format => "format",
+            Field::Name => "name",
+            Field::CoresWord => "word before N",
+            Field::Cores => "number of cores",
+            Field::Shown => "register",
+        }
+    }
+
     /// What is wrong with a word in this field.
     fn trouble(self, word: &str) -> Option<Trouble> {
         match self {
@@ -70,26 +89,6 @@ impl Field {
             Field::Cores => positive_trouble(word, MOST_CORES),
             Field::Shown => shown_trouble(word),
         }
-    }
-}
-
-impl Display for Field {
-    fn fmt<W: fmt::Write>(&self, f: &mut fmt::Formatter<W>) -> fmt::Result {
-        f.write_str(match self {
-            Field::Address => "address",
-            Field::Value => "value",
-            Field::Stamp => "ts",
-            Field::Rank => "rank",
-            Field::Source => "source",
-            Field::Old => "old",
-            Field::Register => "register",
-            Field::Skip => "skip",
-            Field::Format => "format",
-            Field::Name => "name",
-            Field::CoresWord => "word before N",
-            Field::Cores => "number of cores",
-            Field::Shown => "register",
-        })
     }
 }
 
@@ -240,6 +239,12 @@ pub(crate) struct Troubled<'a> {
 
 impl<'a> Display for Troubled<'a> {
     fn fmt<W: fmt::Write>(&self, f: &mut fmt::Formatter<W>) -> fmt::Result {
-        write!(f, "Its {}, {}, {}.", self.field, self.word, self.trouble)
+        write!(
+            f,
+            "Its {}, {}, {}.",
+            self.field.name(),
+            self.word,
+            self.trouble
+        )
     }
 }

@@ -51,7 +51,7 @@ pub(crate) fn push_log(
 fn push_bad_header(text: &mut String, line: &[u8]) -> Result<(), AllocError> {
     text.push_str(HEADER)?;
     if let Some(slip) = first_slip(line) {
-        return write!(text, "{slip}\n");
+        return text.push_str(slip);
     }
     text.push_str(if line.starts_with(b"tardis-trace ") {
         "It begins a trace, which tardis search reads.\n"
@@ -74,7 +74,7 @@ fn push_bad_line(text: &mut String, at: &RefusedLine<'_>) -> Result<(), AllocErr
         return text.push_str("It is empty; there are no empty lines.\n");
     }
     if let Some(slip) = first_slip(at.line) {
-        return write!(text, "{slip}\n");
+        return text.push_str(slip);
     }
     if at.line.len() > LONGEST {
         return text.push_str("It is longer than any record is.\n");

@@ -35,7 +35,7 @@ pub(crate) fn push_bad_line(
         return text.push_str("It is empty; there are no empty lines.\n");
     }
     if let Some(slip) = first_slip(at.line) {
-        return write!(text, "{slip}\n");
+        return text.push_str(slip);
     }
     let Some((first, fields)) = at.words.split_first() else {
         return Ok(());

@@ -137,7 +137,7 @@ fn push_missing(text: &mut String, fields: &[Field], words: &[&str]) -> Result<(
         return text.push_str("Its rank is missing, 0 where all times differ.\n");
     }
     for field in fields.iter().skip(words.len()) {
-        write!(text, "Its {field} is missing.\n")?;
+        write!(text, "Its {} is missing.\n", field.name())?;
     }
     Ok(())
 }
