@@ -5,14 +5,11 @@ mod ending_words;
 mod field;
 mod lines;
 mod log_words;
-mod place;
 mod program_words;
 mod shape;
 mod shown;
 mod slip;
 mod telling;
 
-pub use lines::line_of;
-pub use place::Place;
 pub use program_words::Kind;
 pub use telling::{Refused, Telling};

@@ -1,22 +1,8 @@
-//! The lines of a text.
+//! A line that was refused, and its text.
 
-ghost use Rattle.std.specs.Prelude.{◌≡◌};
-ghost use Rattle.log_file.specs.Log.{line, lines_of};
-
+use fault_place::line_of;
 use std::alloc::{AllocError, Global};
 use std::str;
-
-/// Line `number` of a text, counted from 1, without its line feed; empty where there is none.
-pub fn line_of(text: &[u8], number: u64) -> &[u8]
-    ensures { result.now ≡ line (lines_of text.now) number }
-{
-    let Some(before) = number.checked_sub(1) else {
-        return &[];
-    };
-    text.split(|byte| *byte == b'\n')
-        .nth(before as usize)
-        .unwrap_or(&[])
-}
 
 /// A line that was refused, and the text in which it stands.
 #[derive(Clone, Copy)]

@@ -4,7 +4,7 @@ use Rattle.std.specs.Borrow.{Bor}
 use Rattle.command_line.specs.declared.request.Check.{Check}
 use Rattle.core_program.specs.declared.fault.ProgramFault.{ProgramFault}
 use Rattle.core_program.specs.declared.fault.ProgramFault.TheVariants as program
-use Rattle.fault_telling.specs.Places.{place_text}
+use Rattle.fault_place.specs.Places.{place_text}
 use Rattle.verdict.specs.declared.judge_fault.Count.{Count}
 use Rattle.verdict.specs.declared.judge_fault.Count.TheVariants as count
 use Rattle.verdict.specs.declared.judge_fault.JudgeFault.TheVariants.{BadConfig, Log, Read}
