@@ -4,25 +4,10 @@ ghost use Rattle.std.specs.Prelude.{◌≡◌, ◌↔◌, IfOk, IsTrue, false};
 ghost use Rattle.std.specs.Option.{option_map_or};
 ghost use Rattle.std.specs.Str.{bytes_eq};
 ghost use Rattle.command_line.specs.Asking.{text_of};
-ghost use Rattle.command_line.specs.Names as names;
+ghost use Rattle.run_files.specs.Names.{IsRunFile};
 
+use run_files::is_log_name;
 use std::alloc::{AllocError, Global};
-
-/// The most cores.
-const CORE_LIMIT: u64 = 64;
-
-/// Whether a run may give this name to a log: that of the logs, a dot and a core's number.
-fn is_log_name(alloc: Global, out: &str, name: &str) -> Result<bool, AllocError>
-    ensures { IfOk result (λ is. IsTrue is ↔ names.IsLogName out.now name.now) }
-{
-    for core in 0..CORE_LIMIT {
-        let log = format!(in alloc; "{out}.{core}")?;
-        if name == log.as_str() {
-            return Ok(true);
-        }
-    }
-    Ok(false)
-}
 
 /// Whether a file of a run has this name: that of its programs, that of its schedule, or what may be a log.
 pub(crate) fn is_run_file(
@@ -33,7 +18,7 @@ pub(crate) fn is_run_file(
     name: &str,
 ) -> Result<bool, AllocError>
     ensures { IfOk result (λ is.
-        IsTrue is ↔ names.IsRunFile (text_of schedule.entry) programs.now out.now name.now) }
+        IsTrue is ↔ IsRunFile (text_of schedule.entry) programs.now out.now name.now) }
 {
     if name == programs || is_schedule(schedule, name) {
         return Ok(true);
