@@ -1,42 +1,14 @@
 //! The host's files, and its standard input under the name `/dev/stdin`.
 
 ghost use Rattle.std.specs.Prelude.{◌≡◌};
-ghost use Rattle.tardis.specs.Host.{failed_reads, host_files};
+ghost use Rattle.tardis.specs.Host.{host_files};
 
 use super::progress::Progress;
 use super::shown::Shown;
 use call_devices::Folder;
-use log_file::{ByteSource, FromRead, ReadFailed, WriteFailed};
+use host_source::HostSource;
+use log_file::{FromRead, ReadFailed, WriteFailed};
 use std::fs;
-use std::fs::File;
-use std::io::Stdin;
-
-/// A file, or the standard input.
-#[derive(Drop)]
-pub(crate) enum HostSource {
-    /// A file.
-    File(FromRead<File>),
-    /// The standard input.
-    Input(FromRead<Stdin>),
-}
-
-impl ByteSource for HostSource {
-    ghost failed = { failed_reads };
-
-    fn read(&mut self, buf: &mut [u8]) -> Result<usize, ReadFailed> {
-        match self {
-            HostSource::File(source) => source.read(buf),
-            HostSource::Input(source) => source.read(buf),
-        }
-    }
-
-    fn failures(&self) -> u64 {
-        match self {
-            HostSource::File(source) => source.failures(),
-            HostSource::Input(source) => source.failures(),
-        }
-    }
-}
 
 /// The host's files by their paths.
 #[derive(Clone, Copy)]
