@@ -62,7 +62,7 @@ fn push_registers(text: &mut String, cores: u64, words: &[&str]) -> Result<(), A
 fn register_troubled(word: &str, cores: u64) -> Option<Troubled<'_>> {
     let troubled = Field::Shown.troubled(word);
     let core = word.split('.').next().unwrap_or("");
-    if troubled.is_some() || number_in(core).is_some_and(|core| core < cores) {
+    if troubled.is_some() || number_in(core).unwrap_or(cores) < cores {
         return troubled;
     }
     Some(Troubled {

@@ -33,7 +33,7 @@ pub(crate) fn push_log(
     at: &RefusedLine<'_>,
 ) -> Result<(), AllocError> {
     match refused.fault {
-        FormatFault::BadHeader => push_bad_header(text, at.line),
+        FormatFault::BadHeader => push_bad_header(text, at),
         FormatFault::BadLine => push_bad_line(text, at),
         FormatFault::OutOfRange if at.number == 1 => text.push_str(
             "It says core C of N: N is 1 to 64, and C is less than N, since cores are counted from 0.\n",
@@ -48,11 +48,12 @@ pub(crate) fn push_log(
 }
 
 /// Adds what is told of a first line that isn't a header.
-fn push_bad_header(text: &mut String, line: &[u8]) -> Result<(), AllocError> {
+fn push_bad_header(text: &mut String, at: &RefusedLine<'_>) -> Result<(), AllocError> {
     text.push_str(HEADER)?;
-    if let Some(slip) = first_slip(line) {
+    if let Some(slip) = first_slip(at) {
         return text.push_str(slip);
     }
+    let line = at.line;
     text.push_str(if line.starts_with(b"tardis-trace ") {
         "It begins a trace, which tardis search reads.\n"
     } else if line.starts_with(b"tardis-programs ") {
@@ -73,7 +74,7 @@ fn push_bad_line(text: &mut String, at: &RefusedLine<'_>) -> Result<(), AllocErr
     if at.line.is_empty() {
         return text.push_str("It is empty; there are no empty lines.\n");
     }
-    if let Some(slip) = first_slip(at.line) {
+    if let Some(slip) = first_slip(at) {
         return text.push_str(slip);
     }
     if at.line.len() > LONGEST {

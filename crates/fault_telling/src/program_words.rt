@@ -8,7 +8,7 @@ use fault_place::line_of;
 use std::alloc::AllocError;
 
 /// What a text of programs has to be.
-#[derive(Clone, Copy, Debug, PartialEq, Eq)]
+#[derive(Clone, Copy, PartialEq, Eq)]
 pub enum Kind {
     /// A set of programs.
     Programs,
@@ -35,7 +35,7 @@ pub(crate) fn push_bad_line(
     if at.line.is_empty() {
         return text.push_str("It is empty; there are no empty lines.\n");
     }
-    if let Some(slip) = first_slip(at.line) {
+    if let Some(slip) = first_slip(at) {
         return text.push_str(slip);
     }
     let Some((first, fields)) = at.words.split_first() else {

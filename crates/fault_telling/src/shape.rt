@@ -130,9 +130,8 @@ pub(crate) fn push_departure(
 
 /// Adds which fields are missing, the last ones. Where the last word is a source, it is the rank that was left out.
 fn push_missing(text: &mut String, fields: &[Field], words: &[&str]) -> Result<(), AllocError> {
-    let has_source = words
-        .last()
-        .is_some_and(|word| *word == "init" || word.as_bytes().contains(&b'.'));
+    let last = words.last().copied().unwrap_or("");
+    let has_source = last == "init" || last.as_bytes().contains(&b'.');
     if has_source && words.len() == 4 {
         return text.push_str("Its rank is missing, 0 where all times differ.\n");
     }

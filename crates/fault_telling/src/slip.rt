@@ -1,7 +1,10 @@
 //! Slips that a line of any format may have.
 
+use super::lines::RefusedLine;
+
 /// What is told of the first slip that a line has.
-pub(crate) fn first_slip(line: &[u8]) -> Option<&'static str> {
+pub(crate) fn first_slip(at: &RefusedLine<'_>) -> Option<&'static str> {
+    let line = at.line;
     if line.starts_with(b"\xef\xbb\xbf") {
         return Some("The file begins with a byte order mark, the bytes EF BB BF; write none.\n");
     }
@@ -17,12 +20,12 @@ pub(crate) fn first_slip(line: &[u8]) -> Option<&'static str> {
     if line.contains(&b'\t') {
         return Some("It has a tab, \\t; write one space between two fields.\n");
     }
-    slip_of_words(line)
+    slip_of_words(line, at.words)
 }
 
-/// What is told of the first slip that the words of a line have.
-fn slip_of_words(line: &[u8]) -> Option<&'static str> {
-    if line.split(|byte| *byte == b' ').any(begins_comment) {
+/// What is told of the first slip that a line of these words has.
+fn slip_of_words(line: &[u8], words: &[&str]) -> Option<&'static str> {
+    if words.iter().any(|word| begins_comment(word)) {
         return Some("It has a comment; write none.\n");
     }
     if line.contains(&b',') {
@@ -30,18 +33,13 @@ fn slip_of_words(line: &[u8]) -> Option<&'static str> {
             "It has a comma; write one space between two fields, and numbers in digits alone.\n",
         );
     }
-    if !line.is_empty() && line.split(|byte| *byte == b' ').any(is_empty) {
+    if !line.is_empty() && words.iter().any(|word| word.is_empty()) {
         return Some("It has a space too many; write one between two fields, and none elsewhere.\n");
     }
     None
 }
 
 /// Whether a word begins a comment, as other formats have it.
-fn begins_comment(word: &[u8]) -> bool {
-    word.starts_with(b"#") || word.starts_with(b"//") || word.starts_with(b";")
-}
-
-/// Whether there is nothing between two spaces.
-fn is_empty(word: &[u8]) -> bool {
-    word.is_empty()
+fn begins_comment(word: &str) -> bool {
+    word.starts_with("#") || word.starts_with("//") || word.starts_with(";")
 }

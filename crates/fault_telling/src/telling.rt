@@ -12,7 +12,7 @@ use log_file::FormatFault;
 use std::alloc::{AllocError, Global};
 
 /// What was refused, and why.
-#[derive(Clone, Copy, Debug)]
+#[derive(Clone, Copy)]
 pub enum Refused {
     /// A log, the one of this number of so many, counted from 0.
     Log {
@@ -29,7 +29,7 @@ pub enum Refused {
 }
 
 /// What is told of the fault of a file.
-#[derive(Clone, Copy, Debug)]
+#[derive(Clone, Copy)]
 pub struct Telling<'a> {
     /// Where the fault is.
     pub place: Place<'a>,

@@ -1,6 +1,6 @@
 //! What the first operations of logs that are cut off get alone.
 
-ghost use Rattle.std.specs.Prelude.{◌≡◌, ℕ, IfOk, MatchOption, OnOk, string_bytes};
+ghost use Rattle.std.specs.Prelude.{◌≡◌, ℕ, IfOk, MatchOption, string_bytes};
 ghost use Rattle.call_devices.specs.Files.{IsOnlyRead, IsUnread};
 ghost use Rattle.call_devices.specs.LogFiles.{AreTextsOf, IsUnreadAt};
 ghost use Rattle.cut_logs.specs.Beginnings.{texts_of};

@@ -1,9 +1,10 @@
 //! What a command tells of its refusal, below the refusal's line.
 #![tactic(auto)]
 
-mod filed;
+mod again;
 mod first;
-mod judging;
+mod refused;
+mod telling;
 
-pub use filed::{FileFault, tell_file};
-pub use judging::tell_refusal;
+pub use refused::{RefusedFile, RefusedLog};
+pub use telling::tell_refusal;

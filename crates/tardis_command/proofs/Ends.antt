@@ -1,5 +1,5 @@
 -- How a call ends, from what its parts answer.
-use Rattle.std.proofs.Common.{◌≡◌, ◌⊎◌, ◌∙◌, ap, subst, sym, refl, ℕ, Bor, None, Some, List, Option, Result, Ok, Err, inl, inr}
+use Rattle.std.proofs.Common.{rules, ◌≡◌, ◌⊎◌, ◌∙◌, ap, subst, sym, refl, ℕ, Bor, None, Some, List, Option, Result, Ok, Err, inl, inr}
 use Rattle.std.specs.Prelude.{IfOk, OnOk, IfErr}
 use Rattle.std.specs.Io.KnownBytes.{Appends, Keeps}
 use Rattle.std.proofs.KnownBytes.{Keeps-refl}
@@ -17,7 +17,8 @@ use Rattle.tardis_command.specs.declared.answer.Answer.{Answer}
 use Rattle.tardis_command.specs.declared.answer.Answer.TheVariants as answer
 use Rattle.tardis_command.specs.inner.Apart.{HasApart}
 use Rattle.tardis_command.specs.inner.Printing.{IsUnprinted}
-use Rattle.tardis_command.specs.Endings.{Answered, Ending, EndsBy, IsAnswered, IsDoneBy, IsOfFileOf, IsOfOne, IsPrinted, Misused, Refused, Says, Sink, Takes, TellsMore, Unprinted, Unread, Untold, line, status_of}
+use Rattle.tardis_command.specs.Endings.{Answered, Ending, EndsBy, IsAnswered, IsDoneBy, IsPrinted, Misused, Refused, Says, Sink, Takes, Unprinted, Unread, Untold, line, status_of}
+use Rattle.tardis_command.specs.More.{IsOfFile, IsOfFileOf, IsToldMore, TellsMore}
 use Rattle.judge_commands.specs.Checking.{IsChecked, IsUnprogrammedBy}
 use Rattle.judge_commands.specs.Explaining.{IsExplained}
 use Rattle.call_devices.specs.Files.{Files}
@@ -27,9 +28,8 @@ use Rattle.search_commands.specs.Answers.{IsRightOf, search_status}
 use Rattle.search_commands.specs.Traces.{TellsTrace}
 use Rattle.search_commands.specs.declared.answer.SearchAnswer.{SearchAnswer}
 use Rattle.search_commands.specs.declared.answer.SearchAnswer.TheVariants as searched
-use Rattle.search_commands.specs.declared.fault.SearchingFault.TheVariants as searching
 use Rattle.verdict.specs.declared.judge_fault.JudgeFault.TheVariants as judge
-use Rattle.tardis_command.specs.Faults.{command_fault_text, fault_status, file_fault, from_judging, from_running}
+use Rattle.tardis_command.specs.Faults.{command_fault_text, fault_status, from_judging, from_running}
 use Rattle.command_line.specs.declared.request.FileKind.{FileKind}
 use Rattle.command_line.specs.declared.request.FileKind.TheVariants as of_file
 use Rattle.run_commands.specs.Inspecting.{IsUnreadable}
@@ -40,7 +40,6 @@ use Rattle.tardis_command.specs.declared.fault.CommandFault.TheVariants.{Call}
 use Rattle.call_devices.specs.declared.call_fault.CallFault.TheVariants.{Output, OutOfMemory, Programs}
 use Rattle.judge_commands.specs.declared.fault.JudgingFault.{JudgingFault}
 use Rattle.judge_commands.specs.declared.fault.JudgingFault.TheVariants as judging
-use Rattle.call_devices.specs.declared.call_fault.CallFault.TheVariants as call
 
 -- what holds whatever is answered
 pub whatever : (Said : Answer → Type 0) (X : Type 0) (r : Result Answer CommandFault) → X → IfOk r (λ answer. Said answer → X)
@@ -108,6 +107,13 @@ pub told_no : (X : Type 0) (fault told : CommandFault) (status : ℕ) → (fault
 told_no X fault told status holds (inl is) same one = holds (sym (ap fault_status is) ∙ sym same ∙ one)
 told_no X fault told status holds (inr is) same one = cc
 
+-- a refusal ends with no status of a yes
+not_zero : (fault : CommandFault) → ¬ (fault_status fault ≡ 0)
+not_zero fault zero = search rules
+
+pub told_not_zero : (X : Type 0) (told : CommandFault) (status : ℕ) → status ≡ fault_status told → status ≡ 0 → X
+told_not_zero X told status same zero = absurd (not_zero told (sym same ∙ zero))
+
 -- ---- what is told more of a refusal
 
 -- why there are no programs in a text is the same however the folder was read after it
@@ -123,7 +129,7 @@ checked_again told unread unread' asked fault (inr is) = inr (is.0, unprogrammed
 
 -- why a file isn't a test or programs is the same however the folder was read after it
 inspected_again : (told : List ℕ → Option (List ℕ)) (unread unread' : List ℕ → Type 0) (kind : FileKind) (name : List ℕ) (fault : RunningFault)
-    → IsOfOne (file_fault (from_running fault)) → IsUnreadable told unread kind name fault → IsUnreadable told unread' kind name fault
+    → IsOfFile (from_running fault) → IsUnreadable told unread kind name fault → IsUnreadable told unread' kind name fault
 inspected_again told unread unread' of_file.Litmus name (running.Test reason) again is = is
 inspected_again told unread unread' of_file.Litmus name (running.Call (Programs reason)) again is = is
 inspected_again told unread unread' of_file.Programs name (running.Call (Programs reason)) again is = is
@@ -132,7 +138,7 @@ inspected_again told unread unread' kind name other again is = absurd again
 
 -- nor does the refusal of an explanation, for the fault of a file, depend on that
 explained_again : (before middle after : Files) (unread unread' : List ℕ → Type 0) (asked : Explain) (out out' : Sink) (fault : JudgingFault)
-    → IsOfFileOf (request.Explain asked) (from_judging fault) → IsExplained before middle unread asked out out' (Err fault)
+    → IsOfFile (from_judging fault) → IsExplained before middle unread asked out out' (Err fault)
     → IsExplained before after unread' asked out out' (Err fault)
 explained_again before middle after unread unread' asked out out' (judging.Judge (judge.Log file line reason)) again done = done
 explained_again before middle after unread unread' asked out out' (judging.Call (Programs reason)) again done =
@@ -144,7 +150,7 @@ pub done_again : (before middle after : Files) (unread unread' : List ℕ → Ty
 done_again before middle after unread unread' (request.Explain explain) out out' (Refused reason) fault answered again done =
     let (own, is, explained) = done in
     let same : fault ≡ reason = cc in
-    (own, is, explained_again before middle after unread unread' explain out out' own (subst (IsOfFileOf (request.Explain explain)) (same ∙ is) again) explained)
+    (own, is, explained_again before middle after unread unread' explain out out' own (subst IsOfFile (same ∙ is) again) explained)
 done_again before middle after unread unread' (request.Explain explain) out out' (Answered own) fault answered again done = cc
 done_again before middle after unread unread' (request.Explain explain) out out' (Unprinted own) fault answered again done = absurd done
 done_again before middle after unread unread' (request.Explain explain) out out' (Untold told) fault answered again done = absurd done
@@ -153,11 +159,11 @@ done_again before middle after unread unread' (request.Explain explain) out out'
 done_again before middle after unread unread' (request.Inspect asked) out out' (Refused reason) fault answered again done =
     let ((own, is, came), keeps) = done in
     let same : fault ≡ reason = cc in
-    ((own, is, inspected_again before.told unread unread' asked.kind asked.file.now own (subst (λ (f : CommandFault). IsOfOne (file_fault f)) (same ∙ is) again) came), keeps)
+    ((own, is, inspected_again before.told unread unread' asked.kind asked.file.now own (subst IsOfFile (same ∙ is) again) came), keeps)
 done_again before middle after unread unread' (request.Inspect asked) out out' (Answered own) fault answered again done = cc
 done_again before middle after unread unread' (request.Inspect asked) out out' (Unprinted own) fault answered again done =
     let same : fault ≡ Call Output = cc in
-    absurd (subst (λ (f : CommandFault). IsOfOne (file_fault f)) same again)
+    absurd (subst IsOfFile same again)
 done_again before middle after unread unread' (request.Inspect asked) out out' (Untold told) fault answered again done = absurd done
 done_again before middle after unread unread' (request.Inspect asked) out out' Unread fault answered again done = absurd done
 done_again before middle after unread unread' (request.Inspect asked) out out' (Misused text) fault answered again done = absurd done
@@ -172,13 +178,16 @@ done_after before middle after unread asked out out' ending fault answered (inl 
 done_after before middle after unread asked out out' ending fault answered (inr again) done =
     done_again before middle after (unread middle) (unread after) asked out out' ending fault answered again done
 
+-- no more is told of a refusal for standard output
+not_told : (asked : Request) (text : List ℕ) → ¬ (IsToldMore asked (Call Output) text)
+not_told (request.Explain explain) text told = told
+not_told (request.Inspect asked) text told = told
+not_told other text told = told
+
 -- where an answer wasn't printed, nothing more is told
-unprinted_more : (before after : Files) (unread : List ℕ → Type 0) (asked : Request) (out middle out' : Sink) (own : Answer) (fault : CommandFault)
-    → fault ≡ Call Output → IsDoneBy before after unread asked out middle (Unprinted own) → TellsMore asked fault middle out' → out' ≡ middle
-unprinted_more before after unread (request.Explain explain) out middle out' own fault is done more = absurd done
-unprinted_more before after unread (request.Inspect asked) out middle out' own fault is done more =
-    subst (λ (f : CommandFault). TellsMore (request.Inspect asked) f middle out') is more
-unprinted_more before after unread other out middle out' own fault is done more = more
+unprinted_more : (asked : Request) (middle out' : Sink) (fault : CommandFault) → fault ≡ Call Output → TellsMore asked fault middle out' → out' ≡ middle
+unprinted_more asked middle out' fault is (inl (text, told, takes)) = absurd (not_told asked text (subst (λ (f : CommandFault). IsToldMore asked f text) is told))
+unprinted_more asked middle out' fault is (inr same) = same
 
 module _ (before after : Files) (unread : List ℕ → Type 0) (words : List (List ℕ)) (out err : Sink) where
   pub ends_misused : (err' : Sink) (text : List ℕ) → ¬ (IsCommandLine words) ⊎ AreMisused words → Takes err err' text
@@ -210,7 +219,7 @@ module _ (before after : Files) (unread : List ℕ → Type 0) (words : List (Li
   ends_told asked (Answered answer) fault middle out' err' status asks answered done more takes same = cc
   ends_told asked (Unprinted answer) fault middle out' err' status asks answered done more takes same =
       let is : fault ≡ Call Output = cc in
-      let quiet = unprinted_more before after unread asked out middle out' answer fault is done more in (
+      let quiet = unprinted_more asked middle out' fault is more in (
         Unprinted answer,
         same ∙ ap fault_status is,
         record {

@@ -1,6 +1,5 @@
 -- How a call of the program ends.
-use Rattle.std.specs.Prelude.{◌≡◌, ◌⊎◌, ⊤, ℕ, List, Option, None, Some, Result, Ok, Err}
-use Rattle.std.specs.Borrow.{Bor}
+use Rattle.std.specs.Prelude.{◌≡◌, ◌⊎◌, ⊤, ℕ, List, Option, Result, Ok, Err}
 use Rattle.std.specs.Io.KnownBytes.{Appends, Keeps}
 use Rattle.command_line.specs.Asking.{AreMisused, Asks, IsCommandLine}
 use Rattle.run_files.specs.Names.{IsLogName}
@@ -11,15 +10,13 @@ use Rattle.judge_commands.specs.Checking.{FilesAreConsistent, FilesRunFlat, IsCh
 use Rattle.judge_commands.specs.Explaining.{IsExplained}
 use Rattle.call_devices.specs.Files.{Files}
 use Rattle.call_devices.specs.Outputs.{IsNameOf}
-use Rattle.tardis_command.specs.Faults.{command_fault_text, fault_status, file_fault, from_judging, from_running, from_searching}
+use Rattle.tardis_command.specs.Faults.{command_fault_text, fault_status, from_judging, from_running, from_searching}
 use Rattle.mem_op.specs.Consistency.{IsConsistent}
 use Rattle.run_commands.specs.Inspecting.{IsInspected}
 use Rattle.run_commands.specs.Leaving.{LeavesYes}
 use Rattle.run_commands.specs.Numbers.{IsLeftName}
 use Rattle.judge_commands.specs.Ordering.{IsOrdered, TakesOrder}
-use Rattle.judge_commands.specs.declared.fault.JudgingFault.TheVariants as judging
-use Rattle.refusal_commands.specs.Telling.{IsOfFile, IsReadAgain, TellsOf, TellsOfFile}
-use Rattle.refusal_commands.specs.declared.filed.FileFault.{FileFault}
+use Rattle.tardis_command.specs.More.{TellsMore}
 use Rattle.search_commands.specs.Confirming.{IsConfirmed}
 use Rattle.search_commands.specs.Searching.{IsOutputName, IsSearched}
 use Rattle.search_commands.specs.Traces.{TellsTrace}
@@ -30,7 +27,7 @@ use Rattle.judge_commands.specs.Upgrading.{IsUpgraded}
 use Rattle.tardis_command.specs.declared.answer.Answer.{Answer}
 use Rattle.tardis_command.specs.declared.answer.Answer.TheVariants.{Judged, Ordered, Explained, Readable, Searched, Counted, Done, Version}
 use Rattle.tardis_command.specs.declared.fault.CommandFault.{CommandFault}
-use Rattle.tardis_command.specs.declared.fault.CommandFault.TheVariants.{Judging, Call}
+use Rattle.tardis_command.specs.declared.fault.CommandFault.TheVariants.{Call}
 use Rattle.call_devices.specs.declared.call_fault.CallFault.{CallFault}
 use Rattle.call_devices.specs.declared.call_fault.CallFault.TheVariants.{Output, OutOfMemory}
 pub use Rattle.call_devices.specs.Files.{KeepsFiles}
@@ -158,32 +155,6 @@ IsDoneBy old new unread (Search asked) out out' ending = IsWritten (Says Searche
 IsDoneBy old new unread (Confirm asked) out out' ending = IsWritten (Says Searched from_searching (IsConfirmed old new unread asked out out')) ending
 IsDoneBy old new unread AskedVersion out out' ending = IsPrinted (Says (λ told. Version) Call (IsUntouched old new)) out out' ending
 IsDoneBy old new unread (Litmus asked) out out' ending = IsWritten (Says Counted from_running (IsCounted old new unread asked out out')) ending
-
--- what standard output took more of the refusal of a file of this name that isn't a log: nothing, where it is for another reason, or where there was
--- no memory
-abbrev pub TellsFile : Bor (List ℕ) → Option FileFault → Sink → Sink → Type 0
-TellsFile name None out out' = out' ≡ out
-TellsFile name (Some fault) out out' = TellsOfFile name fault out out' ⊎ (out' ≡ out)
-
--- what standard output took more of a refusal: of an explanation's and of a look at a file what is told of it, where there was memory for that, and
--- of others nothing
-abbrev pub TellsMore : Request → CommandFault → Sink → Sink → Type 0
-TellsMore (Explain asked) (Judging fault) out out' = TellsOf asked.check fault out out' ⊎ (out' ≡ out)
-TellsMore (Explain asked) (Call fault) out out' = TellsOf asked.check (judging.Call fault) out out' ⊎ (out' ≡ out)
-TellsMore (Inspect asked) fault out out' = TellsFile asked.file (file_fault fault) out out'
-TellsMore asked fault out out' = out' ≡ out
-
--- it is for the fault of a file that could be read
-abbrev pub IsOfOne : Option FileFault → Type 0
-IsOfOne None = ⊥
-IsOfOne (Some fault) = IsReadAgain fault
-
--- it is the refusal of an explanation or of a look at a file, for the fault of a file
-abbrev pub IsOfFileOf : Request → CommandFault → Type 0
-IsOfFileOf (Explain asked) (Judging fault) = IsOfFile fault
-IsOfFileOf (Explain asked) (Call fault) = IsOfFile (judging.Call fault)
-IsOfFileOf (Inspect asked) fault = IsOfOne (file_fault fault)
-IsOfFileOf asked fault = ⊥
 
 -- how an ending is answered: by the answer, or by a fault
 abbrev pub IsAnswered : Ending → Result Answer CommandFault → Type 0

@@ -1,12 +1,9 @@
 -- What is told of refusals, and their exit statuses.
-use Rattle.std.specs.Prelude.{ℕ, List, ◌++◌, Option, None, Some, codes}
+use Rattle.std.specs.Prelude.{ℕ, List, ◌++◌, codes}
 use Rattle.call_devices.specs.CallFaults.{call_fault_status, call_fault_text}
-use Rattle.call_devices.specs.declared.call_fault.CallFault.TheVariants as call
 use Rattle.judge_commands.specs.Faults.{judging_fault_status, judging_fault_text}
 use Rattle.judge_commands.specs.declared.fault.JudgingFault.{JudgingFault}
 use Rattle.judge_commands.specs.declared.fault.JudgingFault.TheVariants as judging
-use Rattle.refusal_commands.specs.declared.filed.FileFault.{FileFault}
-use Rattle.refusal_commands.specs.declared.filed.FileFault.TheVariants as filed
 use Rattle.run_commands.specs.Faults.{running_fault_status, running_fault_text}
 use Rattle.run_commands.specs.declared.fault.RunningFault.{RunningFault}
 use Rattle.run_commands.specs.declared.fault.RunningFault.TheVariants as running
@@ -28,14 +25,6 @@ from_searching fault = Searching fault
 abbrev pub from_running : RunningFault → CommandFault
 from_running (running.Call fault) = Call fault
 from_running fault = Running fault
-
--- why a file that isn't a log was refused, where it is of such a file
-abbrev pub file_fault : CommandFault → Option FileFault
-file_fault (Running (running.Test fault)) = Some (filed.Test fault)
-file_fault (Running running.TestUnread) = Some filed.Unread
-file_fault (Call (call.Programs fault)) = Some (filed.Programs fault)
-file_fault (Call call.ProgramsUnread) = Some filed.Unread
-file_fault other = None
 
 abbrev pub command_fault_text : CommandFault → List ℕ
 command_fault_text (Judging fault) = judging_fault_text fault

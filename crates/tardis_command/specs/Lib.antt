@@ -1,4 +1,5 @@
 pub mod Answers
 pub mod Endings
 pub mod Faults
+pub mod More
 pub mod inner

@@ -1,20 +1,20 @@
 //! One call of the program.
 
-ghost use Rattle.std.specs.Prelude.{◌≡◌, ◌⊎◌, IfOk};
-ghost use Rattle.call_devices.specs.Files.{IsOnlyRead, IsUnread};
+ghost use Rattle.std.specs.Prelude.{◌≡◌, IfOk};
+ghost use Rattle.call_devices.specs.Files.{IsUnread};
 ghost use Rattle.command_line.specs.Asking.{texts};
 ghost use Rattle.tardis_command.specs.Answers.{answer_status};
 ghost use Rattle.tardis_command.specs.Endings as endings;
 ghost use Rattle.tardis_command.specs.inner.Apart.{HasApart};
 
 use super::answer::Answer;
-use super::fault::{CommandFault, file_fault};
+use super::fault::CommandFault;
+use super::more::tell_more;
 use super::output::{print_answer, refuse, tell, tell_answer};
 use call_devices::{CallFault, Folder};
 use command_line::{Refusal, Request, read};
-use judge_commands::{JudgingFault, check, explain, order, upgrade};
+use judge_commands::{check, explain, order, upgrade};
 use log_file::ByteSink;
-use refusal_commands::{tell_file, tell_refusal};
 use run_commands::{Watch, count_outcomes, inspect, run, sim};
 use search_commands::{SearchWatch, confirm, search};
 use std::alloc::Global;
@@ -76,36 +76,6 @@ pub fn command<
             tell_more(alloc, folder, &request, &fault, out);
             status
         }
-    }
-}
-
-/// Tells on standard output more of a refusal, where an explanation or a look at a file was asked for.
-fn tell_more<F: Folder, O: ByteSink>(
-    alloc: Global,
-    folder: &mut F,
-    request: &Request<'_>,
-    fault: &CommandFault,
-    out: &mut O,
-)
-    ensures told { endings.TellsMore request.now fault.now
-        (endings.sink_of O.contents O.failed out.old) (endings.sink_of O.contents O.failed out.new) }
-    ensures read { IsOnlyRead (F.files folder.old) (F.files folder.new) }
-    ensures quiet { (F.files folder.new ≡ F.files folder.old) ⊎ endings.IsOfFileOf request.now fault.now }
-{
-    match (request, fault) {
-        (Request::Explain(asked), CommandFault::Judging(fault)) => {
-            let _ = tell_refusal(alloc, folder, &asked.check, fault, out);
-        }
-        (Request::Explain(asked), CommandFault::Call(fault)) => {
-            let fault = JudgingFault::Call(*fault);
-            let _ = tell_refusal(alloc, folder, &asked.check, &fault, out);
-        }
-        (Request::Inspect(asked), fault) => {
-            if let Some(fault) = file_fault(fault) {
-                let _ = tell_file(alloc, folder, asked.file, fault, out);
-            }
-        }
-        _ => {}
     }
 }
 

@@ -1,14 +1,13 @@
 //! Why a command was refused.
 
 ghost use Rattle.std.specs.Prelude.{◌≡◌};
-ghost use Rattle.tardis_command.specs.Faults.{fault_status, file_fault, from_judging, from_running, from_searching};
+ghost use Rattle.tardis_command.specs.Faults.{fault_status, from_judging, from_running, from_searching};
 ghost use Rattle.tardis_command.specs.declared.fault.CommandFault.TheVariants.{Call};
 ghost use Rattle.call_devices.specs.declared.call_fault.CallFault.TheVariants.{OutOfMemory, Output};
 
 use call_devices::CallFault;
 use judge_commands::JudgingFault;
 use log_file::WriteFailed;
-use refusal_commands::FileFault;
 use run_commands::RunningFault;
 use search_commands::SearchingFault;
 use std::alloc::AllocError;
@@ -40,19 +39,6 @@ impl CommandFault {
             CommandFault::Running(fault) => fault.status(),
             CommandFault::Call(fault) => fault.status(),
         }
-    }
-}
-
-/// Why a file that isn't a log was refused, where that is why.
-pub(crate) fn file_fault(fault: &CommandFault) -> Option<FileFault>
-    ensures { result ≡ file_fault fault.now }
-{
-    match fault {
-        CommandFault::Running(RunningFault::Test(fault)) => Some(FileFault::Test(*fault)),
-        CommandFault::Running(RunningFault::TestUnread) => Some(FileFault::Unread),
-        CommandFault::Call(CallFault::Programs(fault)) => Some(FileFault::Programs(*fault)),
-        CommandFault::Call(CallFault::ProgramsUnread) => Some(FileFault::Unread),
-        _ => None,
     }
 }
 

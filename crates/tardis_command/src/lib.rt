@@ -5,6 +5,7 @@ mod answer;
 mod brief;
 mod call;
 mod fault;
+mod more;
 mod output;
 mod verdict_line;
 

@@ -2,7 +2,7 @@ use Rattle.std.proofs.Common.{◌∙◌, refl, subst, sym, ℕ, List}
 use Rattle.call_devices.specs.Files.{IsUnread}
 use Rattle.call_devices.proofs.Files.{keeps_files}
 use Rattle.command_line.specs.Asking.{IsRefusalOf, texts}
-use Rattle.tardis_command.proofs.Ends.{done_after, ends_answered, ends_misused, ends_refused, ends_unread, has_apart, told_no}
+use Rattle.tardis_command.proofs.Ends.{done_after, ends_answered, ends_misused, ends_refused, ends_unread, has_apart, told_no, told_not_zero}
 use Rattle.tardis_command.specs.Endings.{Misused}
 use Rattle.tardis_command.proofs.call.command.Goals as goal
 
@@ -32,6 +32,26 @@ returns-in-Ok-perform-clause-sound g c zero =
 pub returns-in-Ok-perform-clause-refuted : goal.returns-in-Ok-perform-clause-refuted
 returns-in-Ok-perform-clause-refuted g c one =
     (c.in-Ok.request, c.in-Ok.ensures.request, c.in-Ok-perform.ensures.refuted (sym c.tell_answer.ensures.status ∙ one))
+
+pub returns-clause-sound : goal.returns-clause-sound
+returns-clause-sound g c zero =
+    let (told, which, takes, status) = c.refuse-status.ensures in
+    told_not_zero _ told _ status zero
+
+pub returns-clause-order : goal.returns-clause-order
+returns-clause-order g c zero =
+    let (told, which, takes, status) = c.refuse-status.ensures in
+    told_not_zero _ told _ status zero
+
+pub returns-clause-flat : goal.returns-clause-flat
+returns-clause-flat g c zero =
+    let (told, which, takes, status) = c.refuse-status.ensures in
+    told_not_zero _ told _ status zero
+
+pub returns-clause-yes : goal.returns-clause-yes
+returns-clause-yes g c zero =
+    let (told, which, takes, status) = c.refuse-status.ensures in
+    told_not_zero _ told _ status zero
 
 pub returns-clause-refuted : goal.returns-clause-refuted
 returns-clause-refuted g c one =
