@@ -1,9 +1,10 @@
 //! An explanation of a verdict as a picture, in SVG.
 #![tactic(auto)]
 
+mod legend;
 mod picture;
 mod placing;
-mod scene;
+mod shown;
 mod svg;
 
 pub use picture::draw;

@@ -4,10 +4,12 @@ ghost use Rattle.std.specs.Prelude.{◌↔◌, IfOk, IfSome, IsSome};
 ghost use Rattle.explain.specs.Pictures.{IsDrawn};
 ghost use Rattle.explanation_picture.specs.Pictures.{IsPicture};
 
+use super::legend::{Sign, legend_of};
 use super::placing::{Placing, Way};
-use super::scene::{Scene, Sign, scene_of};
+use super::shown::{cores_of, has_swap, source_row};
 use super::svg::{Point, Svg, TextStyle};
 use explain::{Explanation, kind_name, place_of};
+use explanation_scene::{Scene, scene_of};
 use log_record::Entry;
 use mem_op::{CoreId, OpId};
 use std::alloc::{AllocError, Global};
@@ -39,8 +41,8 @@ fn paint(alloc: Global, title: &str, sentence: &str, scene: &Scene) -> Result<Ve
     let canvas = Canvas {
         alloc,
         scene,
-        cores: scene.cores(alloc)?,
-        legend: scene.legend(alloc)?,
+        cores: cores_of(alloc, scene)?,
+        legend: legend_of(alloc, scene)?,
         placing: Placing::new(longest(notes.as_slice()), longest(texts.as_slice())),
     };
     let mut svg = canvas.begin(title, sentence, texts.len())?;
@@ -135,7 +137,7 @@ impl<'a> Canvas<'a> {
 
     /// The parts of the picture.
     fn parts(&self, svg: &mut Svg, notes: &[String], texts: &[String]) -> Result<(), AllocError> {
-        if self.scene.has_swap() {
+        if has_swap(self.scene) {
             svg.swap_style()?;
         }
         self.heads(svg)?;
@@ -180,7 +182,7 @@ impl<'a> Canvas<'a> {
     /// An arrow to each load and each swap from the operation that it names.
     fn arrows(&self, svg: &mut Svg) -> Result<(), AllocError> {
         for (row, entry) in self.scene.rows.iter().enumerate() {
-            if let Some(source) = self.scene.source_row(entry) {
+            if let Some(source) = source_row(self.scene, entry) {
                 self.source_arrow(svg, source, (self.column(entry.id().core), row))?;
             }
         }
@@ -211,7 +213,7 @@ impl<'a> Canvas<'a> {
         let (Some(faulty), Some(wanted)) = (self.scene.faulty, self.scene.wanted) else {
             return Ok(());
         };
-        let (Some(from), Some(to)) = (self.place(faulty), self.place(wanted)) else {
+        let (Some(from), Some(to)) = (self.place(faulty), self.place(wanted.id())) else {
             return Ok(());
         };
         let way = Way {
