@@ -18,7 +18,7 @@ use Rattle.tardis_command.specs.declared.answer.Answer.TheVariants as answer
 use Rattle.tardis_command.specs.inner.Apart.{HasApart}
 use Rattle.tardis_command.specs.inner.Printing.{IsUnprinted}
 use Rattle.tardis_command.specs.Endings.{Answered, Ending, EndsBy, IsAnswered, IsDoneBy, IsPrinted, Misused, Refused, Says, Sink, Takes, Unprinted, Unread, Untold, line, status_of}
-use Rattle.tardis_command.specs.More.{IsOfFile, IsOfFileOf, IsToldMore, TellsMore}
+use Rattle.tardis_command.specs.More.{IsOfFileOf, IsOfLogs, IsOfLook, IsToldMore, TellsMore}
 use Rattle.judge_commands.specs.Checking.{IsChecked, IsUnprogrammedBy}
 use Rattle.judge_commands.specs.Explaining.{IsExplained}
 use Rattle.call_devices.specs.Files.{Files}
@@ -129,7 +129,7 @@ checked_again told unread unread' asked fault (inr is) = inr (is.0, unprogrammed
 
 -- why a file isn't a test or programs is the same however the folder was read after it
 inspected_again : (told : List ℕ → Option (List ℕ)) (unread unread' : List ℕ → Type 0) (kind : FileKind) (name : List ℕ) (fault : RunningFault)
-    → IsOfFile (from_running fault) → IsUnreadable told unread kind name fault → IsUnreadable told unread' kind name fault
+    → IsOfLook (from_running fault) → IsUnreadable told unread kind name fault → IsUnreadable told unread' kind name fault
 inspected_again told unread unread' of_file.Litmus name (running.Test reason) again is = is
 inspected_again told unread unread' of_file.Litmus name (running.Call (Programs reason)) again is = is
 inspected_again told unread unread' of_file.Programs name (running.Call (Programs reason)) again is = is
@@ -138,7 +138,7 @@ inspected_again told unread unread' kind name other again is = absurd again
 
 -- nor does the refusal of an explanation, for the fault of a file, depend on that
 explained_again : (before middle after : Files) (unread unread' : List ℕ → Type 0) (asked : Explain) (out out' : Sink) (fault : JudgingFault)
-    → IsOfFile (from_judging fault) → IsExplained before middle unread asked out out' (Err fault)
+    → IsOfLogs (from_judging fault) → IsExplained before middle unread asked out out' (Err fault)
     → IsExplained before after unread' asked out out' (Err fault)
 explained_again before middle after unread unread' asked out out' (judging.Judge (judge.Log file line reason)) again done = done
 explained_again before middle after unread unread' asked out out' (judging.Call (Programs reason)) again done =
@@ -150,7 +150,7 @@ pub done_again : (before middle after : Files) (unread unread' : List ℕ → Ty
 done_again before middle after unread unread' (request.Explain explain) out out' (Refused reason) fault answered again done =
     let (own, is, explained) = done in
     let same : fault ≡ reason = cc in
-    (own, is, explained_again before middle after unread unread' explain out out' own (subst IsOfFile (same ∙ is) again) explained)
+    (own, is, explained_again before middle after unread unread' explain out out' own (subst IsOfLogs (same ∙ is) again) explained)
 done_again before middle after unread unread' (request.Explain explain) out out' (Answered own) fault answered again done = cc
 done_again before middle after unread unread' (request.Explain explain) out out' (Unprinted own) fault answered again done = absurd done
 done_again before middle after unread unread' (request.Explain explain) out out' (Untold told) fault answered again done = absurd done
@@ -159,11 +159,11 @@ done_again before middle after unread unread' (request.Explain explain) out out'
 done_again before middle after unread unread' (request.Inspect asked) out out' (Refused reason) fault answered again done =
     let ((own, is, came), keeps) = done in
     let same : fault ≡ reason = cc in
-    ((own, is, inspected_again before.told unread unread' asked.kind asked.file.now own (subst IsOfFile (same ∙ is) again) came), keeps)
+    ((own, is, inspected_again before.told unread unread' asked.kind asked.file.now own (subst IsOfLook (same ∙ is) again) came), keeps)
 done_again before middle after unread unread' (request.Inspect asked) out out' (Answered own) fault answered again done = cc
 done_again before middle after unread unread' (request.Inspect asked) out out' (Unprinted own) fault answered again done =
     let same : fault ≡ Call Output = cc in
-    absurd (subst IsOfFile same again)
+    absurd (subst IsOfLook same again)
 done_again before middle after unread unread' (request.Inspect asked) out out' (Untold told) fault answered again done = absurd done
 done_again before middle after unread unread' (request.Inspect asked) out out' Unread fault answered again done = absurd done
 done_again before middle after unread unread' (request.Inspect asked) out out' (Misused text) fault answered again done = absurd done

@@ -41,17 +41,22 @@ IsToldMore asked fault text = ⊥
 abbrev pub TellsMore : Request → CommandFault → Sink → Sink → Type 0
 TellsMore asked fault out out' = ((text : List ℕ) × IsToldMore asked fault text × Takes out out' text) ⊎ (out' ≡ out)
 
--- a file that could be read has a fault, so it is read again
-abbrev pub IsOfFile : CommandFault → Type 0
-IsOfFile (Judging (Judge (Log file line fault))) = ⊤
-IsOfFile (Running (Test fault)) = ⊤
-IsOfFile (Call (Programs fault)) = ⊤
-IsOfFile other = ⊥
+-- a log, or the file of the programs beside it, has a fault, so it is read again
+abbrev pub IsOfLogs : CommandFault → Type 0
+IsOfLogs (Judging (Judge (Log file line fault))) = ⊤
+IsOfLogs (Call (Programs fault)) = ⊤
+IsOfLogs other = ⊥
+
+-- the same of a test or of programs that are looked at
+abbrev pub IsOfLook : CommandFault → Type 0
+IsOfLook (Running (Test fault)) = ⊤
+IsOfLook (Call (Programs fault)) = ⊤
+IsOfLook other = ⊥
 
 -- it is the refusal of an explanation or of a look at a file, for such a fault
 abbrev pub IsOfFileOf : Request → CommandFault → Type 0
-IsOfFileOf (Explain asked) fault = IsOfFile fault
-IsOfFileOf (Inspect asked) fault = IsOfFile fault
+IsOfFileOf (Explain asked) fault = IsOfLogs fault
+IsOfFileOf (Inspect asked) fault = IsOfLook fault
 IsOfFileOf asked fault = ⊥
 
 -- what is told of this refused file is such a text, and the file is read again only for such a refusal

@@ -48,7 +48,7 @@ fn refused_file<'a>(request: &'a Request<'a>, fault: &CommandFault) -> Option<Re
 /// The file for which these logs aren't explained.
 fn refused_of_logs<'a>(asked: &'a Check<'a>, fault: &CommandFault) -> Option<RefusedFile<'a>>
     ensures { IfSome result (more.IsRefusedFor (more.IsToldOfLogs asked.now fault.now)
-        (more.IsOfFile fault.now)) }
+        (more.IsOfLogs fault.now)) }
 {
     let files = asked.files.as_slice();
     match fault {
@@ -78,7 +78,7 @@ fn refused_of_logs<'a>(asked: &'a Check<'a>, fault: &CommandFault) -> Option<Ref
 /// The file of this name, where a look at it was refused for it.
 fn refused_of_look<'a>(name: &'a str, fault: &CommandFault) -> Option<RefusedFile<'a>>
     ensures { IfSome result (more.IsRefusedFor (more.IsToldOfLook name.now fault.now)
-        (more.IsOfFile fault.now)) }
+        (more.IsOfLook fault.now)) }
 {
     match fault {
         CommandFault::Running(RunningFault::Test(fault)) => Some(RefusedFile::Test(name, *fault)),
