@@ -10,7 +10,7 @@ use Rattle.clap.specs.Matches.{ReadsOne}
 use Rattle.clap.specs.Words.{Row, Text, first_of, kind_of, subcommand_of}
 use Rattle.clap.specs.declared.error.Error.{Error}
 use Rattle.clap.specs.declared.error.kind.ErrorKind.TheVariants as error_kind
-use Rattle.command_line.specs.Asking.{AreMarked, AreOverIn, AskVersion, Asks, IsCommandLine, IsExplaining, IsMisusedIn, IsNumber, IsNumberOf, IsOverTestIn, IsRefusalOf, IsStrayIn, IsStrayOf, StandNotAlone, files_given, is_litmus, is_programs, texts}
+use Rattle.command_line.specs.Asking.{AreMarked, AreOverIn, AskVersion, Asks, IsAskedBy, IsCommandLine, IsMisusedIn, IsNumber, IsNumberOf, IsOverTestIn, IsRefusalOf, IsRefusedBy, IsStrayIn, IsStrayOf, StandNotAlone, files_given, is_litmus, is_programs, texts}
 use Rattle.command_line.specs.Grammar.{tardis}
 use Rattle.command_line.specs.declared.refusal.Refusal.{Refusal}
 use Rattle.command_line.specs.declared.refusal.Refusal.TheVariants.{Usage, OutOfMemory}
@@ -28,33 +28,39 @@ refused words kinds error (Usage text) is (inl out) memory =
     cc
 refused words kinds error (Usage text) is (inr among) memory = inl (λ none. subst (IsAmong (kind_of error)) (is ∙ none) among)
 
+-- the subcommand that the words name is refused for what its arguments ask for
+pub refused_by : (words : List Text) (named : Text × List Row) (r : Refusal) → subcommand_of tardis words ≡ Some named → IsRefusedBy named r → IsRefusalOf words r
+refused_by words named (Usage text) is misused = inr (named, is, misused)
+refused_by words named OutOfMemory is misused = tt
+
+-- or that is what the words ask for
+pub asked_by : (words : List Text) (named : Text × List Row) (asked : Request) → IsCommandLine words → subcommand_of tardis words ≡ Some named
+    → IsAskedBy named asked → Asks words asked
+asked_by words named (request.Check check) line is asks = (line, (named, is, asks))
+asked_by words named (request.Order order) line is asks = (line, (named, is, asks))
+asked_by words named (request.Explain explain) line is asks = (line, (named, is, asks))
+asked_by words named (request.Inspect inspect) line is asks = (line, (named, is, asks))
+asked_by words named (request.Upgrade upgrade) line is asks = (line, (named, is, asks))
+asked_by words named (request.Sim sim) line is asks = (line, (named, is, asks))
+asked_by words named (request.Run run) line is asks = (line, (named, is, asks))
+asked_by words named (request.Litmus litmus) line is asks = (line, (named, is, asks))
+asked_by words named (request.Search search) line is asks = (line, (named, is, asks))
+asked_by words named (request.Confirm confirm) line is asks = (line, (named, is, asks))
+asked_by words named request.Version line is asks = absurd asks
+
+-- lack of memory is no usage
+pub unread : (named : Text × List Row) (r : Refusal) → r ≡ OutOfMemory → IsRefusedBy named r
+unread named r is = rw is tt
+
 -- files that are too many were given
-pub stray : (words : List Text) (named : Text × List Row) (r : Refusal) → subcommand_of tardis words ≡ Some named
-    → (named.0 ≡ codes "search") ⊎ (named.0 ≡ codes "confirm") → IsStrayIn named.1 r → IsRefusalOf words r
-stray words named (Usage text) is which files = inr (inl (named, is, which, files))
-stray words named OutOfMemory is which files = tt
+pub stray : (named : Text × List Row) (r : Refusal) → (named.0 ≡ codes "search") ⊎ (named.0 ≡ codes "confirm") → IsStrayIn named.1 r → IsRefusedBy named r
+stray named (Usage text) which files = inl (which, files)
+stray named OutOfMemory which files = tt
 
 -- a picture would be drawn over a file that is read, or a file that isn't a log isn't alone
-pub unexplained : (words : List Text) (named : Text × List Row) (r : Refusal) → subcommand_of tardis words ≡ Some named → named.0 ≡ codes "explain"
-    → IsMisusedIn named.1 r → IsRefusalOf words r
-unexplained words named (Usage text) is explains (inl over) = inr (inr (inl (named, is, explains, over)))
-unexplained words named (Usage text) is explains (inr mixed) = inr (inr (inr (inr (named, is, explains, mixed))))
-unexplained words named OutOfMemory is explains misused = tt
-
--- and what is asked for where all is right
-pub explaining : (words : List Text) (named : Text × List Row) (asked : Request) → IsCommandLine words → subcommand_of tardis words ≡ Some named
-    → named.0 ≡ codes "explain" → IsExplaining named.1 asked → Asks words asked
-explaining words named (request.Explain explain) line is explains asked = (line, (named, is, (explains, asked)))
-explaining words named (request.Inspect inspect) line is explains asked = (line, (named, is, (explains, asked)))
-explaining words named (request.Check check) line is explains asked = absurd asked
-explaining words named (request.Order order) line is explains asked = absurd asked
-explaining words named (request.Upgrade upgrade) line is explains asked = absurd asked
-explaining words named (request.Sim sim) line is explains asked = absurd asked
-explaining words named (request.Run run) line is explains asked = absurd asked
-explaining words named (request.Litmus litmus) line is explains asked = absurd asked
-explaining words named (request.Search search) line is explains asked = absurd asked
-explaining words named (request.Confirm confirm) line is explains asked = absurd asked
-explaining words named request.Version line is explains asked = absurd asked
+pub unexplained : (named : Text × List Row) (r : Refusal) → named.0 ≡ codes "explain" → IsMisusedIn named.1 r → IsRefusedBy named r
+unexplained named (Usage text) explains misused = inr (inl (explains, misused))
+unexplained named OutOfMemory explains misused = tt
 
 pub mixed_one : (rows : List Row) (of : FileKind) (r : Refusal) → AreMarked (is_litmus of) (is_programs of) rows → StandNotAlone rows → IsMisusedIn rows r
 mixed_one rows of_file.Litmus (Usage text) marks others = inr (true, false, marks, others)
@@ -63,25 +69,22 @@ mixed_one rows of OutOfMemory marks others = tt
 
 pub mixed_files : (rows : List Row) (of : FileKind) (r : Refusal) → AreMarked (is_litmus of) (is_programs of) rows → IsStrayOf false (files_given rows) r
     → IsMisusedIn rows r
-mixed_files rows of (Usage text) marks stray = mixed_one rows of (Usage text) marks (inl stray.1)
-mixed_files rows of OutOfMemory marks stray = tt
+mixed_files rows of (Usage text) marks files = mixed_one rows of (Usage text) marks (inl files.1)
+mixed_files rows of OutOfMemory marks files = tt
 
 -- the numbers of a run would be put over one of its files
-pub sim_over : (words : List Text) (named : Text × List Row) (r : Refusal) → subcommand_of tardis words ≡ Some named → named.0 ≡ codes "sim"
-    → AreOverIn (first_of (codes "schedule") named.1) named.1 r → IsRefusalOf words r
-sim_over words named (Usage text) is sims over = inr (inr (inr (inl (named, is, inl (sims, over)))))
-sim_over words named OutOfMemory is sims over = tt
+pub sim_over : (named : Text × List Row) (r : Refusal) → named.0 ≡ codes "sim" → AreOverIn (first_of (codes "schedule") named.1) named.1 r → IsRefusedBy named r
+sim_over named (Usage text) sims over = inr (inr (inl (sims, over)))
+sim_over named OutOfMemory sims over = tt
 
-pub run_over : (words : List Text) (named : Text × List Row) (r : Refusal) → subcommand_of tardis words ≡ Some named → named.0 ≡ codes "run"
-    → AreOverIn None named.1 r → IsRefusalOf words r
-run_over words named (Usage text) is runs over = inr (inr (inr (inl (named, is, inr (inl (runs, over))))))
-run_over words named OutOfMemory is runs over = tt
+pub run_over : (named : Text × List Row) (r : Refusal) → named.0 ≡ codes "run" → AreOverIn None named.1 r → IsRefusedBy named r
+run_over named (Usage text) runs over = inr (inr (inr (inl (runs, over))))
+run_over named OutOfMemory runs over = tt
 
 -- the numbers of a test's runs would be put over the file of the test
-pub litmus_over : (words : List Text) (named : Text × List Row) (r : Refusal) → subcommand_of tardis words ≡ Some named → named.0 ≡ codes "litmus"
-    → IsOverTestIn named.1 r → IsRefusalOf words r
-litmus_over words named (Usage text) is tests over = inr (inr (inr (inl (named, is, inr (inr (tests, over))))))
-litmus_over words named OutOfMemory is tests over = tt
+pub litmus_over : (named : Text × List Row) (r : Refusal) → named.0 ≡ codes "litmus" → IsOverTestIn named.1 r → IsRefusedBy named r
+litmus_over named (Usage text) tests over = inr (inr (inr (inr (tests, over))))
+litmus_over named OutOfMemory tests over = tt
 
 -- the text of a number, read
 pub numbered : {E : Type 0} (gives : List ℕ → Result ℕ E → Type 0) → ((t : List ℕ) (x : Result ℕ E) → gives t x → ParsesUnsigned 64 10 t x)

@@ -1,6 +1,7 @@
 -- The subcommand that words without a fault name: one of the program's own, and not `help`.
-use Rattle.std.proofs.Common.{◌≡◌, ◌∙◌, ◌⊎◌, ◌&&◌, ℕ, Bool, true, false, not, cond, ap, sym, subst, refl, inl, inr, List, [], ◌∷◌, ◌++◌, Option, None, Some, is_some, get_or}
-use Rattle.std.specs.Prelude.{codes, find, fold, option_map}
+use Rattle.std.proofs.Common.{◌≡◌, ◌∙◌, ◌⊎◌, ◌&&◌, ◌||◌, ℕ, Bool, IsTrue, true, false, not, cond, ap, sym, subst, refl, inl, inr, List, [], ◌∷◌, ◌++◌, Option, None, Some, is_some, get_or}
+use Rattle.std.specs.Prelude.{codes, find, fold, map, option_map}
+use Rattle.std.specs.List.{list_any}
 use Rattle.std.specs.Str.{bytes_eq}
 use Rattle.std.proofs.lemmas.Bool.{cases_Bool}
 use Rattle.std.proofs.lemmas.Slice.Eq.{bytes_eq-Decides}
@@ -14,6 +15,7 @@ use Rattle.clap.specs.declared.error.kind.ErrorKind.TheVariants as kind
 use Rattle.clap.specs.declared.parser.matches.ArgMatches.{ArgMatches}
 use Rattle.command_line.specs.Asking.{IsCommandLine}
 use Rattle.command_line.specs.Grammar.{tardis}
+use Rattle.command_line.specs.inner.Names.{is_subcommand}
 
 -- ---- a word that isn't a subcommand's name
 
@@ -179,7 +181,7 @@ sub i = get_or (built tardis).subs i (built tardis).top
 abbrev pub own : List Shape
 own = sub 0 ∷ sub 1 ∷ sub 2 ∷ sub 3 ∷ sub 4 ∷ sub 5 ∷ sub 6 ∷ sub 7 ∷ sub 8 ∷ []
 
-pub names_own : (words : List Text) (named : Text × List Row) → fault_of tardis words ≡ [] → subcommand_of tardis words ≡ Some named
+names_own : (words : List Text) (named : Text × List Row) → fault_of tardis words ≡ [] → subcommand_of tardis words ≡ Some named
     → IsOneOf named.0 own
 names_own words named quiet is = go (stop_after (built tardis).top.rules (names_of (built tardis)) (argument_words tardis words)) refl is
   where
@@ -190,6 +192,20 @@ names_own words named quiet is = go (stop_after (built tardis).top.rules (names_
         let well = built_walk (built tardis) nothing_held (argument_words tardis words) quiet in
         let off = not_help (built tardis).top (names_of (built tardis)) (walk_from nothing_held) (argument_words tardis words) p refl refl well was in
         one_before own (sub 9) p named (help_unmet p.0 off) e
+
+-- so it is one of their names
+is_among : (name : Text) (subs : List Shape) → IsOneOf name subs → IsTrue (list_any (bytes_eq name) (map (λ s. s.name) subs))
+is_among name [] is = absurd is
+is_among name (s ∷ subs) (inl is) = rw ((bytes_eq-Decides name s.name).1 is) refl
+is_among name (s ∷ subs) (inr is) = go (bytes_eq name s.name) (is_among name subs is)
+  where
+    go : (b : Bool) → IsTrue (list_any (bytes_eq name) (map (λ s. s.name) subs)) → IsTrue (b || list_any (bytes_eq name) (map (λ s. s.name) subs))
+    go true among = refl
+    go false among = among
+
+pub subcommand_named : (words : List Text) (named : Text × List Row) → fault_of tardis words ≡ [] → subcommand_of tardis words ≡ Some named
+    → IsTrue (is_subcommand named.0)
+subcommand_named words named quiet is = is_among named.0 own (names_own words named quiet is)
 
 -- ---- the subcommand that was found
 

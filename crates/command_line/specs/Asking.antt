@@ -115,12 +115,6 @@ pub record IsInspect (rows : List Row) (inspect : Inspect) : Type 0 where
   pub file : files_given rows ≡ inspect.file.now ∷ []
   pub alone : LackLogOptions rows
 
--- an explanation of logs, or a look at one other file
-abbrev pub IsExplaining : List Row → Request → Type 0
-IsExplaining rows (request.Explain explain) = IsExplain rows explain
-IsExplaining rows (request.Inspect inspect) = IsInspect rows inspect
-IsExplaining rows other = ⊥
-
 -- the files that were given, anew in format 2, under the name that was given
 pub record IsUpgrade (rows : List Row) (upgrade : Upgrade) : Type 0 where
   pub out : upgrade.out.now ≡ unwrap_or (first_of (codes "OUT") rows) []
@@ -257,12 +251,6 @@ abbrev pub IsStrayIn : List Row → Refusal → Type 0
 IsStrayIn rows (Usage text) = HasStrayFiles rows
 IsStrayIn rows OutOfMemory = ⊤
 
--- the words give more files than one to a search or to a look at a certificate, without `--logs`
-abbrev pub LackLogs : List Text → Type 0
-LackLogs words =
-    (named : Text × List Row) × (subcommand_of tardis words ≡ Some named) × ((named.0 ≡ codes "search") ⊎ (named.0 ≡ codes "confirm"))
-    × HasStrayFiles named.1
-
 -- an option is there that is of logs
 abbrev pub HaveLogOption : List Row → Type 0
 HaveLogOption rows =
@@ -288,18 +276,10 @@ abbrev pub IsMisusedIn : List Row → Refusal → Type 0
 IsMisusedIn rows (Usage text) = (is_drawn_over rows ≡ true) ⊎ AreMixed rows
 IsMisusedIn rows OutOfMemory = ⊤
 
--- the words ask for a look at a file that isn't a log, and it isn't alone
-abbrev pub MixFiles : List Text → Type 0
-MixFiles words = (named : Text × List Row) × (subcommand_of tardis words ≡ Some named) × (named.0 ≡ codes "explain") × AreMixed named.1
-
 -- only an explanation whose picture would be drawn over a file that it reads is refused for its usage
 abbrev pub IsOverIn : List Row → Refusal → Type 0
 IsOverIn rows (Usage text) = is_drawn_over rows ≡ true
 IsOverIn rows OutOfMemory = ⊤
-
--- the words ask for an explanation whose picture would be drawn over a file that it reads
-abbrev pub DrawOver : List Text → Type 0
-DrawOver words = (named : Text × List Row) × (subcommand_of tardis words ≡ Some named) × (named.0 ≡ codes "explain") × (is_drawn_over named.1 ≡ true)
 
 -- only a file for the numbers of a run that is one of the run's files is refused for its usage
 abbrev pub IsOverRunFile : Option Text → Option Text → Text → Text → Refusal → Type 0
@@ -319,17 +299,23 @@ abbrev pub IsOverTestIn : List Row → Refusal → Type 0
 IsOverTestIn rows (Usage text) = is_over_test rows ≡ true
 IsOverTestIn rows OutOfMemory = ⊤
 
--- the words ask for the numbers of a run, one event after the other or in threads, over one of the run's files, or for those of a
--- test's runs over the file of the test
-abbrev pub CountOver : List Text → Type 0
-CountOver words =
-    (named : Text × List Row) × (subcommand_of tardis words ≡ Some named)
-    × (((named.0 ≡ codes "sim") × AreOver (first_of (codes "schedule") named.1) named.1)
-    ⊎ (((named.0 ≡ codes "run") × AreOver None named.1) ⊎ ((named.0 ≡ codes "litmus") × (is_over_test named.1 ≡ true))))
+-- these arguments of the subcommand of this name ask for what isn't done: for more files than one without `--logs`, for a picture over a
+-- file that is read, for a look at a file that isn't alone, or for the numbers of runs over a file of theirs
+abbrev pub IsMisused : Text × List Row → Type 0
+IsMisused named =
+    (((named.0 ≡ codes "search") ⊎ (named.0 ≡ codes "confirm")) × HasStrayFiles named.1)
+    ⊎ (((named.0 ≡ codes "explain") × ((is_drawn_over named.1 ≡ true) ⊎ AreMixed named.1))
+    ⊎ (((named.0 ≡ codes "sim") × AreOver (first_of (codes "schedule") named.1) named.1)
+    ⊎ (((named.0 ≡ codes "run") × AreOver None named.1) ⊎ ((named.0 ≡ codes "litmus") × (is_over_test named.1 ≡ true)))))
 
--- the words are a command line, and ask for what isn't done
+-- only a subcommand that asks for what isn't done is refused for its usage
+abbrev pub IsRefusedBy : Text × List Row → Refusal → Type 0
+IsRefusedBy named (Usage text) = IsMisused named
+IsRefusedBy named OutOfMemory = ⊤
+
+-- the words name a subcommand that asks for what isn't done
 abbrev pub AreMisused : List Text → Type 0
-AreMisused words = LackLogs words ⊎ (DrawOver words ⊎ (CountOver words ⊎ MixFiles words))
+AreMisused words = (named : Text × List Row) × (subcommand_of tardis words ≡ Some named) × IsMisused named
 
 -- only words that aren't a command line of the program, or ask for what isn't done, are refused for their usage
 abbrev pub IsRefusalOf : List Text → Refusal → Type 0

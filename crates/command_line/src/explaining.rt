@@ -1,6 +1,6 @@
 //! What the words after `explain` ask for.
 
-ghost use Rattle.std.specs.Prelude.{◌≡◌, IfErr, IfOk, IsTrue, false};
+ghost use Rattle.std.specs.Prelude.{◌≡◌, IfErr, IfOk, IsTrue, codes, false};
 ghost use Rattle.std.specs.List.{list_any};
 ghost use Rattle.std.specs.Option.{option_map_or};
 ghost use Rattle.std.specs.Str.{bytes_eq};
@@ -19,14 +19,11 @@ pub(crate) fn explaining_of<'a>(
     alloc: Global,
     matches: &ArgMatches<'a>,
 ) -> Result<Request<'a>, Refusal>
-    ensures asked { IfOk result (asking.IsExplaining (rows_of (found_of matches.now))) }
+    ensures asked { IfOk result (asking.IsAskedBy (codes "explain", rows_of (found_of matches.now))) }
     ensures usage { IfErr result (asking.IsMisusedIn (rows_of (found_of matches.now))) }
 {
     match (flag_of(matches, "litmus"), flag_of(matches, "programs")) {
-        (false, false) => match explain_of(alloc, matches) {
-            Ok(asked) => Ok(Request::Explain(asked)),
-            Err(refusal) => Err(refusal),
-        },
+        (false, false) => explain_of(alloc, matches),
         (true, false) => inspect_of(alloc, matches, FileKind::Litmus),
         (false, true) => inspect_of(alloc, matches, FileKind::Programs),
         (true, true) => Err(misuse(alloc, NOT_ALONE)),
@@ -40,7 +37,7 @@ fn inspect_of<'a>(
     kind: FileKind,
 ) -> Result<Request<'a>, Refusal>
     requires { asking.AreMarked (asking.is_litmus kind) (asking.is_programs kind) (rows_of (found_of matches.now)) }
-    ensures asked { IfOk result (asking.IsExplaining (rows_of (found_of matches.now))) }
+    ensures asked { IfOk result (asking.IsAskedBy (codes "explain", rows_of (found_of matches.now))) }
     ensures usage { IfErr result (asking.IsMisusedIn (rows_of (found_of matches.now))) }
 {
     let files = files_of(alloc, matches)?;
@@ -67,9 +64,9 @@ const NOT_ALONE: &str =
     "error: with '--litmus' or with '--programs' one file is read, and no other option goes with it\n\nFor more information, try '--help'.\n";
 
 /// What the words after `explain` ask for of logs, or why they ask for nothing.
-fn explain_of<'a>(alloc: Global, matches: &ArgMatches<'a>) -> Result<Explain<'a>, Refusal>
+fn explain_of<'a>(alloc: Global, matches: &ArgMatches<'a>) -> Result<Request<'a>, Refusal>
     requires { asking.AreMarked false false (rows_of (found_of matches.now)) }
-    ensures explain { IfOk result (asking.IsExplain (rows_of (found_of matches.now))) }
+    ensures asked { IfOk result (asking.IsAskedBy (codes "explain", rows_of (found_of matches.now))) }
     ensures usage { IfErr result (asking.IsOverIn (rows_of (found_of matches.now))) }
 {
     let files = files_of(alloc, matches)?;
@@ -78,15 +75,16 @@ fn explain_of<'a>(alloc: Global, matches: &ArgMatches<'a>) -> Result<Explain<'a>
     if is_drawn_over(picture, program, files.as_slice()) {
         return Err(misuse(alloc, DRAWN_OVER));
     }
-    Ok(Explain {
-        check: Check {
-            workers: 1,
-            program,
-            files,
-        },
+    let check = Check {
+        workers: 1,
+        program,
+        files,
+    };
+    Ok(Request::Explain(Explain {
+        check,
         picture,
         no_search: flag_of(matches, "no-search"),
-    })
+    }))
 }
 
 /// Whether the file for a picture, if there is one, is that of the programs or one of these.

@@ -57,7 +57,7 @@ fn check<'a>(alloc: Global) -> Result<Command<'a>, AllocError>
     let arguments = [
         Argument::number(
             "workers",
-            "How many workers judge at once, 1 to 64 [default: 1]",
+            "How many workers judge in parallel, 1 to 64 [default: 1]",
         ),
         Argument::file("program", "The programs whose logs these have to be"),
         Argument::files(LOGS_HELP),
@@ -135,7 +135,7 @@ fn run<'a>(alloc: Global) -> Result<Command<'a>, AllocError>
     let command = named(
         alloc,
         "run",
-        "Runs programs at once, each core in a thread, and writes a log of each core",
+        "Runs programs in parallel, each core in a thread, and writes a log of each core",
         "Example: tardis run examples/read_across.programs log",
     );
     let arguments = [

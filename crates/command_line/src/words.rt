@@ -7,6 +7,7 @@ ghost use Rattle.std.specs.Str.{bytes_eq};
 ghost use Rattle.clap.specs.Words.{all_of, first_of, found_of, kind_of, one_of, rows_of};
 ghost use Rattle.clap.specs.declared.error.kind.ErrorKind.TheVariants as kind;
 ghost use Rattle.command_line.specs.Asking as asking;
+ghost use Rattle.command_line.specs.inner.Names.{is_subcommand};
 ghost use Rattle.command_line.specs.inner.Numbers.{HasNumbers, takes_number};
 
 use super::explaining::explaining_of;
@@ -36,31 +37,28 @@ pub fn read<'a>(alloc: Global, words: &'a [&'a str]) -> Result<Request<'a>, Refu
     let Some((name, asked)) = matches.subcommand() else {
         unreachable!()
     };
-    if name == "sim" {
-        return Ok(Request::Sim(sim_of(alloc, asked)?));
+    asked_of(alloc, name, asked)
+}
+
+/// What the words after the subcommand of this name ask for, or why they ask for nothing.
+fn asked_of<'a>(alloc: Global, name: &str, matches: &ArgMatches<'a>) -> Result<Request<'a>, Refusal>
+    requires named { IsTrue (is_subcommand name.now) }
+    requires numbers { HasNumbers (rows_of (found_of matches.now)) }
+    ensures request { IfOk result (asking.IsAskedBy (name.now, rows_of (found_of matches.now))) }
+    ensures usage { IfErr result (asking.IsRefusedBy (name.now, rows_of (found_of matches.now))) }
+{
+    match name {
+        "check" => check_of(alloc, matches),
+        "order" => order_of(alloc, matches),
+        "explain" => explaining_of(alloc, matches),
+        "upgrade" => upgrade_of(alloc, matches),
+        "sim" => sim_of(alloc, matches),
+        "run" => run_of(alloc, matches),
+        "litmus" => litmus_of(alloc, matches),
+        "search" => search_of(alloc, matches),
+        "confirm" => confirm_of(alloc, matches),
+        _ => unreachable!(),
     }
-    if name == "run" {
-        return Ok(Request::Run(run_of(alloc, asked)?));
-    }
-    if name == "order" {
-        return Ok(Request::Order(order_of(alloc, asked)?));
-    }
-    if name == "litmus" {
-        return Ok(Request::Litmus(litmus_of(alloc, asked)?));
-    }
-    if name == "explain" {
-        return explaining_of(alloc, asked);
-    }
-    if name == "upgrade" {
-        return Ok(Request::Upgrade(upgrade_of(alloc, asked)?));
-    }
-    if name == "search" {
-        return Ok(Request::Search(search_of(alloc, asked)?));
-    }
-    if name == "confirm" {
-        return Ok(Request::Confirm(confirm_of(alloc, asked)?));
-    }
-    Ok(Request::Check(check_of(alloc, asked)?))
 }
 
 /// Whether `--version` is the only word after the program's own name.
@@ -74,24 +72,26 @@ fn asks_version(words: &[&str]) -> bool
 }
 
 /// What the words after `check` ask for.
-fn check_of<'a>(alloc: Global, matches: &ArgMatches<'a>) -> Result<Check<'a>, AllocError>
+fn check_of<'a>(alloc: Global, matches: &ArgMatches<'a>) -> Result<Request<'a>, Refusal>
     requires { HasNumbers (rows_of (found_of matches.now)) }
-    ensures { IfOk result (asking.IsCheck (rows_of (found_of matches.now))) }
+    ensures check { IfOk result (asking.IsAskedBy (codes "check", rows_of (found_of matches.now))) }
+    ensures memory { IfErr result (λ refusal. refusal ≡ Refusal.OutOfMemory) }
 {
-    Ok(Check {
+    let files = files_of(alloc, matches)?;
+    Ok(Request::Check(Check {
         workers: count_of(matches, "workers", 1),
         program: name_of(matches, "program"),
-        files: files_of(alloc, matches)?,
-    })
+        files,
+    }))
 }
 
 /// What the words after `order` ask for.
-fn order_of<'a>(alloc: Global, matches: &ArgMatches<'a>) -> Result<Order<'a>, AllocError>
-    ensures { IfOk result (asking.IsOrder (rows_of (found_of matches.now))) }
+fn order_of<'a>(alloc: Global, matches: &ArgMatches<'a>) -> Result<Request<'a>, Refusal>
+    ensures order { IfOk result (asking.IsAskedBy (codes "order", rows_of (found_of matches.now))) }
+    ensures memory { IfErr result (λ refusal. refusal ≡ Refusal.OutOfMemory) }
 {
-    Ok(Order {
-        files: files_of(alloc, matches)?,
-    })
+    let files = files_of(alloc, matches)?;
+    Ok(Request::Order(Order { files }))
 }
 
 /// The refusal of what isn't done, with what the user is told of it.
@@ -103,49 +103,52 @@ pub(crate) fn misuse(alloc: Global, text: &str) -> Refusal {
 }
 
 /// What the words after `upgrade` ask for.
-fn upgrade_of<'a>(alloc: Global, matches: &ArgMatches<'a>) -> Result<Upgrade<'a>, AllocError>
-    ensures { IfOk result (asking.IsUpgrade (rows_of (found_of matches.now))) }
+fn upgrade_of<'a>(alloc: Global, matches: &ArgMatches<'a>) -> Result<Request<'a>, Refusal>
+    ensures upgrade { IfOk result (asking.IsAskedBy (codes "upgrade", rows_of (found_of matches.now))) }
+    ensures memory { IfErr result (λ refusal. refusal ≡ Refusal.OutOfMemory) }
 {
-    Ok(Upgrade {
+    let files = files_of(alloc, matches)?;
+    Ok(Request::Upgrade(Upgrade {
         out: word_of(matches, "OUT"),
-        files: files_of(alloc, matches)?,
-    })
+        files,
+    }))
 }
 
 /// What the words after `search` ask for, or why they ask for nothing.
-fn search_of<'a>(alloc: Global, matches: &ArgMatches<'a>) -> Result<Search<'a>, Refusal>
+fn search_of<'a>(alloc: Global, matches: &ArgMatches<'a>) -> Result<Request<'a>, Refusal>
     requires { HasNumbers (rows_of (found_of matches.now)) }
-    ensures search { IfOk result (asking.IsSearch (rows_of (found_of matches.now))) }
+    ensures search { IfOk result (asking.IsAskedBy (codes "search", rows_of (found_of matches.now))) }
     ensures usage { IfErr result (asking.IsStrayIn (rows_of (found_of matches.now))) }
 {
     let files = files_of(alloc, matches)?;
     let trace = trace_of(alloc, flag_of(matches, "logs"), files)?;
-    Ok(Search {
+    Ok(Request::Search(Search {
         budget: number_of(matches, "budget"),
         order: name_of(matches, "order"),
         refutation: name_of(matches, "refutation"),
         picture: name_of(matches, "svg"),
         trace,
-    })
+    }))
 }
 
 /// What the words after `confirm` ask for, or why they ask for nothing.
-fn confirm_of<'a>(alloc: Global, matches: &ArgMatches<'a>) -> Result<Confirm<'a>, Refusal>
-    ensures confirm { IfOk result (asking.IsConfirm (rows_of (found_of matches.now))) }
+fn confirm_of<'a>(alloc: Global, matches: &ArgMatches<'a>) -> Result<Request<'a>, Refusal>
+    ensures confirm { IfOk result (asking.IsAskedBy (codes "confirm", rows_of (found_of matches.now))) }
     ensures usage { IfErr result (asking.IsStrayIn (rows_of (found_of matches.now))) }
 {
     let first = word_of(matches, "TRACE");
     let files = files_of(alloc, matches)?;
     if flag_of(matches, "logs") {
-        return Ok(Confirm {
+        return Ok(Request::Confirm(Confirm {
             certificate: first,
             trace: TraceFiles::Logs(files),
-        });
+        }));
     }
-    Ok(Confirm {
-        certificate: only(alloc, files.as_slice(), STRAY_FILE)?,
+    let certificate = only(alloc, files.as_slice(), STRAY_FILE)?;
+    Ok(Request::Confirm(Confirm {
+        certificate,
         trace: TraceFiles::One(first),
-    })
+    }))
 }
 
 /// The files as those of logs, or the only one as that of a trace.
@@ -179,9 +182,9 @@ const STRAY_FILE: &str =
     "error: more files than one are read as logs only, with '--logs'\n\nFor more information, try '--help'.\n";
 
 /// What the words after `sim` ask for, or why they ask for nothing.
-fn sim_of<'a>(alloc: Global, matches: &ArgMatches<'a>) -> Result<Sim<'a>, Refusal>
+fn sim_of<'a>(alloc: Global, matches: &ArgMatches<'a>) -> Result<Request<'a>, Refusal>
     requires { HasNumbers (rows_of (found_of matches.now)) }
-    ensures sim { IfOk result (asking.IsSim (rows_of (found_of matches.now))) }
+    ensures sim { IfOk result (asking.IsAskedBy (codes "sim", rows_of (found_of matches.now))) }
     ensures usage { IfErr result (asking.AreOverIn
         (first_of (codes "schedule") (rows_of (found_of matches.now))) (rows_of (found_of matches.now))) }
 {
@@ -194,13 +197,13 @@ fn sim_of<'a>(alloc: Global, matches: &ArgMatches<'a>) -> Result<Sim<'a>, Refusa
         out: word_of(matches, "OUT"),
     };
     check_apart(alloc, sim.statistics, sim.schedule, sim.programs, sim.out)?;
-    Ok(sim)
+    Ok(Request::Sim(sim))
 }
 
 /// What the words after `run` ask for, or why they ask for nothing.
-fn run_of<'a>(alloc: Global, matches: &ArgMatches<'a>) -> Result<Run<'a>, Refusal>
+fn run_of<'a>(alloc: Global, matches: &ArgMatches<'a>) -> Result<Request<'a>, Refusal>
     requires { HasNumbers (rows_of (found_of matches.now)) }
-    ensures run { IfOk result (asking.IsThreaded (rows_of (found_of matches.now))) }
+    ensures run { IfOk result (asking.IsAskedBy (codes "run", rows_of (found_of matches.now))) }
     ensures usage { IfErr result (asking.AreOverIn None (rows_of (found_of matches.now))) }
 {
     let run = Run {
@@ -210,7 +213,7 @@ fn run_of<'a>(alloc: Global, matches: &ArgMatches<'a>) -> Result<Run<'a>, Refusa
         out: word_of(matches, "OUT"),
     };
     check_apart(alloc, run.statistics, None, run.programs, run.out)?;
-    Ok(run)
+    Ok(Request::Run(run))
 }
 
 /// Checks that the file for the numbers of a run, if there is one, is none of the run's files.
@@ -239,9 +242,9 @@ const COUNTED_OVER: &str =
     "error: the numbers would take the place of a file that is read, or of a log\n\nFor more information, try '--help'.\n";
 
 /// What the words after `litmus` ask for, or why they ask for nothing.
-fn litmus_of<'a>(alloc: Global, matches: &ArgMatches<'a>) -> Result<Litmus<'a>, Refusal>
+fn litmus_of<'a>(alloc: Global, matches: &ArgMatches<'a>) -> Result<Request<'a>, Refusal>
     requires { HasNumbers (rows_of (found_of matches.now)) }
-    ensures litmus { IfOk result (asking.IsLitmus (rows_of (found_of matches.now))) }
+    ensures litmus { IfOk result (asking.IsAskedBy (codes "litmus", rows_of (found_of matches.now))) }
     ensures usage { IfErr result (asking.IsOverTestIn (rows_of (found_of matches.now))) }
 {
     let litmus = Litmus {
@@ -255,7 +258,7 @@ fn litmus_of<'a>(alloc: Global, matches: &ArgMatches<'a>) -> Result<Litmus<'a>, 
     if is_name(litmus.statistics, litmus.test) {
         return Err(misuse(alloc, COUNTED_OVER));
     }
-    Ok(litmus)
+    Ok(Request::Litmus(litmus))
 }
 
 /// The numbers of the machine.

@@ -13,29 +13,19 @@ pub(crate) struct Plain<'a>(pub(crate) &'a str);
 
 impl<'a> fmt::Display for Plain<'a> {
     fn fmt<W: fmt::Write>(&self, f: &mut fmt::Formatter<W>) -> fmt::Result {
-        for (place, letter) in self.0.chars().enumerate() {
-            if place == MAX_SHOWN_CHARS {
-                return f.write_str("..");
-            }
-            match letter {
-                '\n' => f.write_str("\\n"),
-                '\r' => f.write_str("\\r"),
-                '\t' => f.write_str("\\t"),
-                '\0'..='\x1f' | '\x7f'..='\u{9f}' => write_code(f, letter as u32),
-                other => f.write_char(other),
-            }?;
+        match self.cut() {
+            Some(beginning) => write!(f, "{}..", beginning.escape_debug()),
+            None => write!(f, "{}", self.0.escape_debug()),
         }
-        Ok(())
     }
 }
 
-/// Writes the code of a control character, as `\x1b`.
-fn write_code<W: fmt::Write>(f: &mut fmt::Formatter<W>, code: u32) -> fmt::Result {
-    f.write_str("\\x")?;
-    for digit in [code / 16 % 16, code % 16] {
-        f.write_char(char::from_digit(digit, 16).unwrap_or('?'))?;
+impl<'a> Plain<'a> {
+    /// The first 80 characters of a longer text.
+    fn cut(&self) -> Option<&'a str> {
+        let (end, _) = self.0.char_indices().nth(MAX_SHOWN_CHARS)?;
+        self.0.get(..end)
     }
-    Ok(())
 }
 
 /// A file of a set: its number, and its name where there is one.

@@ -131,14 +131,6 @@ fn widths_of(rows: &[Vec<String>]) -> [usize; 7] {
     widths
 }
 
-/// Adds spaces to a text.
-fn push_spaces(text: &mut String, count: usize) -> Result<(), AllocError> {
-    for _ in 0..count {
-        text.push(' ')?;
-    }
-    Ok(())
-}
-
 /// Adds a cell of a column: numbers stand at its right, texts at its left.
 fn push_cell(
     text: &mut String,
@@ -146,13 +138,10 @@ fn push_cell(
     width: usize,
     is_number: bool,
 ) -> Result<(), AllocError> {
-    let missing = width.saturating_sub(cell.len());
     if is_number {
-        push_spaces(text, missing)?;
-        text.push_str(cell)
+        write!(text, "{cell:>width$}")
     } else {
-        text.push_str(cell)?;
-        push_spaces(text, missing)
+        write!(text, "{cell:<width$}")
     }
 }
 

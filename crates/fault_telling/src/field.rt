@@ -175,10 +175,10 @@ fn no_number(word: &str) -> Trouble {
     if word.starts_with("-") || word.starts_with("+") {
         return Trouble::Signed;
     }
-    if word.is_empty() || !word.bytes().all(|byte| byte.is_ascii_hexdigit()) {
+    if word.is_empty() || !word.as_bytes().iter().all(u8::is_ascii_hexdigit) {
         return Trouble::NoNumber;
     }
-    if word.bytes().all(|byte| byte.is_ascii_digit()) {
+    if word.as_bytes().iter().all(u8::is_ascii_digit) {
         return Trouble::LeadingZero;
     }
     Trouble::Hexadecimal

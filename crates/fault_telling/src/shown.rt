@@ -6,30 +6,23 @@ use std::fmt::Display;
 /// As many bytes of a line are shown at most.
 const SHOWN: usize = 80;
 
-/// Bytes of a file, and two dots in place of what is too long.
+/// Bytes of a file, with escapes for what isn't printable ASCII, and two dots in place of what is too long.
 #[derive(Clone, Copy)]
 pub(crate) struct Shown<'a>(pub(crate) &'a [u8]);
 
-impl<'a> Display for Shown<'a> {
-    fn fmt<W: fmt::Write>(&self, f: &mut fmt::Formatter<W>) -> fmt::Result {
-        for byte in self.0.iter().take(SHOWN) {
-            ShownByte(*byte).fmt(f)?;
+impl<'a> Shown<'a> {
+    /// The bytes that are shown, and what stands in place of the others.
+    fn cut(&self) -> (&'a [u8], &'static str) {
+        match self.0.get(..SHOWN) {
+            Some(beginning) if self.0.len() > SHOWN => (beginning, ".."),
+            _ => (self.0, ""),
         }
-        f.write_str(if self.0.len() > SHOWN { ".." } else { "" })
     }
 }
 
-/// A byte of a file: one of printable ASCII as it is, another as an escape.
-#[derive(Clone, Copy)]
-struct ShownByte(u8);
-
-impl Display for ShownByte {
+impl<'a> Display for Shown<'a> {
     fn fmt<W: fmt::Write>(&self, f: &mut fmt::Formatter<W>) -> fmt::Result {
-        match self.0 {
-            b'\t' => f.write_str("\\t"),
-            b'\r' => f.write_str("\\r"),
-            b' '..=b'~' => f.write_char(char::from(self.0)),
-            other => write!(f, "\\x{other:02x}"),
-        }
+        let (shown, rest) = self.cut();
+        write!(f, "{}{rest}", shown.escape_ascii())
     }
 }

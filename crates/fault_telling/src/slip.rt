@@ -33,7 +33,7 @@ fn slip_of_words(line: &[u8], words: &[&str]) -> Option<&'static str> {
             "It has a comma; write one space between two fields, and numbers in digits alone.\n",
         );
     }
-    if !line.is_empty() && words.iter().any(|word| word.is_empty()) {
+    if !line.is_empty() && words.contains(&"") {
         return Some("It has a space too many; write one between two fields, and none elsewhere.\n");
     }
     None
