@@ -175,28 +175,45 @@ fn words(
 {
     let verdict = examined.verdict;
     let line = format!(in alloc; "{verdict}\n")?;
-    let Some(why) = explained(alloc, examined, programs, names.len())? else {
-        unreachable!()
-    };
-    let picture = if is_drawn {
-        picture_of(alloc, line.as_str(), &why)?
-    } else {
-        None
-    };
-    let mut more = more_text(alloc, names, &why, is_drawn && picture.is_none())?;
-    more.push_str(last)?;
+    let why = reason(alloc, examined, programs, names.len())?;
+    let picture = picture_of(alloc, line.as_str(), &why, is_drawn)?;
+    let more = more_text(alloc, names, &why, is_drawn && picture.is_none())?;
     Ok(Told {
         verdict,
-        text: joined(line, more.as_str())?,
+        text: text_of(line, more, last)?,
         picture,
     })
 }
 
-/// The picture of why a verdict of this line is so, where it can be drawn.
-fn picture_of(alloc: Global, line: &str, why: &Explanation) -> Result<Option<Vec<u8>>, AllocError>
-    ensures picture { IfOk result (λ drawn. IfSome drawn (λ svg. IsPicture svg.items)) }
-    ensures drawn { IfOk result (λ drawn. IsSome drawn ↔ IsDrawn why.now) }
+/// Why the verdict is so. There is always a reason.
+fn reason(
+    alloc: Global,
+    examined: &Examined,
+    programs: Option<&ProgramSet>,
+    cores: usize,
+) -> Result<Explanation, AllocError>
+    requires { (logs : List (List Record)) × IsExaminationOf (given programs) logs examined.now }
+    ensures { IfOk result (λ why. IsDrawn why ↔ HasPicture examined.now.verdict) }
 {
+    match explained(alloc, examined, programs, cores)? {
+        Some(why) => Ok(why),
+        None => unreachable!(),
+    }
+}
+
+/// The picture of why a verdict of this line is so, where it is to be drawn and can be.
+fn picture_of(
+    alloc: Global,
+    line: &str,
+    why: &Explanation,
+    is_drawn: bool,
+) -> Result<Option<Vec<u8>>, AllocError>
+    ensures picture { IfOk result (λ drawn. IfSome drawn (λ svg. IsPicture svg.items)) }
+    ensures drawn { IsTrue is_drawn → IfOk result (λ drawn. IsSome drawn ↔ IsDrawn why.now) }
+{
+    if !is_drawn {
+        return Ok(None);
+    }
     let sentence = first_sentence(alloc, why)?;
     draw(alloc, line.trim_end(), sentence.as_str(), why)
 }
@@ -215,10 +232,11 @@ fn more_text(
     Ok(text)
 }
 
-/// A text with more after it.
-fn joined(mut text: String, more: &str) -> Result<String, AllocError>
-    ensures { IfOk result (λ whole. string_bytes whole ≡ string_bytes text ++ more.now) }
+/// The line of a verdict, what there is to tell after it, and the last lines.
+fn text_of(mut line: String, why: String, last: &str) -> Result<String, AllocError>
+    ensures { IfOk result (λ text. string_bytes text ≡ string_bytes line ++ (string_bytes why ++ last.now)) }
 {
-    text.push_str(more)?;
-    Ok(text)
+    line.push_str(why.as_str())?;
+    line.push_str(last)?;
+    Ok(line)
 }
