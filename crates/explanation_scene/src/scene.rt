@@ -1,7 +1,11 @@
 //! What a picture shows.
 
-ghost use Rattle.std.specs.Prelude.{◌↔◌, IfOk, IsSome};
+ghost use Rattle.std.specs.Prelude.{◌≡◌, ◌⊎◌, ◌↔◌, IfOk, IfSome, IsNone, IsSome, OnOk};
+ghost use Rattle.std.specs.Option.{option_map};
 ghost use Rattle.explain.specs.Pictures.{IsDrawn};
+ghost use Rattle.explain.specs.declared.explanation.Explanation.TheVariants.{CoreOrder, Load, Program};
+ghost use Rattle.explanation_scene.specs.Scenes.{IsSceneOf, with_one};
+ghost use Rattle.explanation_scene.specs.declared.scene.Wanted.TheVariants.{Right, Before};
 
 use core_program::print_instruction;
 use explain::{Departure, Due, Explanation, Fall, WrongRead, by_key, place_of};
@@ -20,7 +24,9 @@ pub enum Wanted {
 
 impl Wanted {
     /// The id of that operation.
-    pub fn id(self) -> OpId {
+    pub fn id(self) -> OpId
+        ensures { (self ≡ Right result) ⊎ (self ≡ Before result) }
+    {
         match self {
             Wanted::Right(id) => id,
             Wanted::Before(id) => id,
@@ -43,7 +49,8 @@ pub struct Scene {
 
 /// What the picture of an explanation shows; None where there is too much to be drawn. Err where there is no memory.
 pub fn scene_of(alloc: Global, explanation: &Explanation) -> Result<Option<Scene>, AllocError>
-    ensures { IfOk result (λ scene. IsSome scene ↔ IsDrawn explanation.now) }
+    ensures drawn { IfOk result (λ scene. IsSome scene ↔ IsDrawn explanation.now) }
+    ensures shows { IfOk result (λ scene. IfSome scene (λ scene. IsSceneOf explanation.now scene)) }
 {
     let scene = match explanation {
         Explanation::Load(found) => of_wrong_read(alloc, found),
@@ -58,7 +65,10 @@ pub fn scene_of(alloc: Global, explanation: &Explanation) -> Result<Option<Scene
 }
 
 /// All operations of a set.
-fn of_all(alloc: Global, rows: &[Entry]) -> Result<Scene, AllocError> {
+fn of_all(alloc: Global, rows: &[Entry]) -> Result<Scene, AllocError>
+    ensures rows { IfOk result (λ scene. scene.rows.items ≡ rows.now) }
+    ensures alone { IfOk result (λ scene. IsNone scene.faulty × IsNone scene.wanted × IsNone scene.due) }
+{
     Ok(Scene {
         rows: Vec::from_slice(alloc, rows)?,
         faulty: None,
@@ -68,21 +78,24 @@ fn of_all(alloc: Global, rows: &[Entry]) -> Result<Scene, AllocError> {
 }
 
 /// A load or a swap with the operations of its address around it, the one that it should read and the one that it names.
-fn of_wrong_read(alloc: Global, found: &WrongRead) -> Result<Scene, AllocError> {
+fn of_wrong_read(alloc: Global, found: &WrongRead) -> Result<Scene, AllocError>
+    ensures { IfOk result (IsSceneOf (Load found.now)) }
+{
     let mut rows = Vec::from_slice(alloc, found.rows.as_slice())?;
     add(&mut rows, &found.right)?;
     add(&mut rows, &found.named)?;
-    rows.sort_unstable_by_key(|entry| entry.key());
     Ok(Scene {
-        rows,
+        rows: by_key(alloc, rows.as_slice())?,
         faulty: Some(found.load.id()),
         wanted: id_of(&found.right).map(Wanted::Right),
         due: None,
     })
 }
 
-/// Adds an operation, where it is one that isn't there.
-fn add(rows: &mut Vec<Entry>, entry: &Option<Entry>) -> Result<(), AllocError> {
+/// Adds an operation, where there is one and none has its id.
+fn add(rows: &mut Vec<Entry>, entry: &Option<Entry>) -> Result<(), AllocError>
+    ensures { OnOk result (rows.new.items ≡ with_one entry.now rows.old.items) }
+{
     let Some(entry) = entry else {
         return Ok(());
     };
@@ -93,7 +106,9 @@ fn add(rows: &mut Vec<Entry>, entry: &Option<Entry>) -> Result<(), AllocError> {
 }
 
 /// The operations of a core around the one at which its log falls, which should come after the one before it.
-fn of_fall(alloc: Global, fall: &Fall) -> Result<Scene, AllocError> {
+fn of_fall(alloc: Global, fall: &Fall) -> Result<Scene, AllocError>
+    ensures { IfOk result (IsSceneOf (CoreOrder fall.now)) }
+{
     Ok(Scene {
         rows: by_key(alloc, fall.rows.as_slice())?,
         faulty: Some(fall.fault.id()),
@@ -103,7 +118,9 @@ fn of_fall(alloc: Global, fall: &Fall) -> Result<Scene, AllocError> {
 }
 
 /// The operations of a core around the one that isn't its program's, with the instruction that was due.
-fn of_departure(alloc: Global, departure: &Departure) -> Result<Scene, AllocError> {
+fn of_departure(alloc: Global, departure: &Departure) -> Result<Scene, AllocError>
+    ensures { IfOk result (IsSceneOf (Program departure.now)) }
+{
     Ok(Scene {
         rows: by_key(alloc, departure.rows.as_slice())?,
         faulty: id_of(&departure.found),
@@ -124,7 +141,9 @@ fn due_text(alloc: Global, due: &Option<Due>) -> Result<String, AllocError> {
 }
 
 /// The id of an operation, where there is one.
-fn id_of(entry: &Option<Entry>) -> Option<OpId> {
+fn id_of(entry: &Option<Entry>) -> Option<OpId>
+    ensures { result ≡ option_map (λ e. e.id) entry.now }
+{
     match entry {
         Some(entry) => Some(entry.id()),
         None => None,
