@@ -1,5 +1,6 @@
 //! The fields of lines.
 
+use super::shown::Shown;
 use decimal_text::read_last;
 use std::fmt;
 use std::fmt::Display;
@@ -197,7 +198,10 @@ fn source_trouble(word: &str) -> Option<Trouble> {
     let mut parts = word.split('.');
     match (parts.next(), parts.next(), parts.next()) {
         (Some(core), Some(index), None) => {
-            number_trouble(core, MOST_CORES - 1).or(number_trouble(index, GREATEST_INDEX))
+            match number_trouble(core, MOST_CORES - 1).or(number_trouble(index, GREATEST_INDEX)) {
+                Some(Trouble::NoNumber) => Some(Trouble::NoSource),
+                trouble => trouble,
+            }
         }
         _ => Some(Trouble::NoSource),
     }
@@ -243,7 +247,7 @@ impl<'a> Display for Troubled<'a> {
             f,
             "Its {}, {}, {}.",
             self.field.name(),
-            self.word,
+            Shown(self.word.as_bytes()),
             self.trouble
         )
     }

@@ -60,7 +60,7 @@ fn push_bad_header(text: &mut String, at: &RefusedLine<'_>) -> Result<(), AllocE
         "It begins a set of programs, which goes after --program.\n"
     } else if line.starts_with(b"tardis-litmus ") {
         "It begins a litmus test, which tardis litmus runs.\n"
-    } else if line.starts_with(b"tardis-log ") {
+    } else if line.starts_with(b"tardis-log ") && !matches!(at.words.get(1), Some(&("1" | "2"))) {
         "There are formats 1 and 2.\n"
     } else if line.starts_with(b"S ") || line.starts_with(b"L ") || line.starts_with(b"X ") {
         "It is a record: the header before it is missing.\n"

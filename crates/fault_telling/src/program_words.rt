@@ -51,8 +51,10 @@ pub(crate) fn push_bad_line(
 fn push_cut_off(text: &mut String, line: &[u8]) -> Result<(), AllocError> {
     text.push_str(if line.is_empty() {
         "The file ends here, before its last line, end.\n"
-    } else {
+    } else if line == b"end".as_slice() {
         "The file ends before the line feed of its last line: write one there too.\n"
+    } else {
+        "The file ends in the middle of a line: it is cut off.\n"
     })
 }
 
@@ -107,7 +109,7 @@ fn push_later(
         ),
         ("show", Kind::Litmus) => push_show(text, at, fields),
         ("forbid", Kind::Litmus) => push_forbid(text, at, fields),
-        _ => push_instruction(text, at.first_line(), first, fields),
+        _ => push_instruction(text, at, first, fields),
     }
 }
 
@@ -120,19 +122,27 @@ fn push_end(text: &mut String, kind: Kind, bytes: &[u8]) -> Result<(), AllocErro
     text.push_str("Before it one line show C.rN .. is due, and there is none.\n")
 }
 
-/// Adds how an instruction with this first word is written, and where these words after it depart from that.
+/// Adds how an instruction with this first word is written, and where these words after it depart from that; or what is due in its place.
 fn push_instruction(
     text: &mut String,
-    first_line: &[u8],
+    at: &RefusedLine<'_>,
     first: &str,
     fields: &[&str],
 ) -> Result<(), AllocError> {
+    if at.begun_before(b"core ") == 0 {
+        return text.push_str("Here the line core 0 is due, which begins the first section.\n");
+    }
+    if at.begun_before(b"show ") > 0 {
+        return text.push_str(
+            "After the line show come lines forbid K .. and the line end, and nothing else.\n",
+        );
+    }
     let Some(shape) = shape_of(&INSTRUCTIONS, first) else {
         return text.push_str(
             "An instruction begins with ld, st, sr, ai, jz or, in format 2, sw.\n",
         );
     };
-    if first == "sw" && says_format_one(first_line) {
+    if first == "sw" && says_format_one(at.first_line()) {
         return text.push_str(
             "A swap is in format 2 alone, and the first line says format 1: write 2 there.\n",
         );

@@ -3,7 +3,7 @@
 use std::fmt;
 use std::fmt::Display;
 
-/// As many bytes of a line are shown at most.
+/// As many bytes of a line, or of a word, are shown at most.
 const SHOWN: usize = 80;
 
 /// Bytes of a file, with escapes for what isn't printable ASCII, and two dots in place of what is too long.
