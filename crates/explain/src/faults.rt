@@ -47,14 +47,12 @@ fn faulty(alloc: Global, entries: &[Entry]) -> Result<Found, AllocError>
     let (mut source, mut value) = (0, 0);
     let mut last = None;
     for entry in entries {
-        let rule = rule_after(entry, last);
-        match rule {
-            Some(AddressRule::Source) => source += 1,
-            Some(AddressRule::Value) => value += 1,
-            None => (),
-        }
-        if rule.is_some() {
+        if let Some(rule) = rule_after(entry, last) {
             found.push(*entry)?;
+            match rule {
+                AddressRule::Source => source += 1,
+                AddressRule::Value => value += 1,
+            }
         }
         if is_store(entry) {
             last = Some(entry);

@@ -119,23 +119,22 @@ pub(crate) fn push_departure(
     words: &[&str],
 ) -> Result<(), AllocError> {
     write!(text, "{} is written {}.\n", shape.noun, shape.written)?;
-    if words.len() < shape.fields.len() {
-        return push_missing(text, shape.fields, words);
+    match shape.fields.get(words.len()..) {
+        None => text.push_str("It has a word too many.\n"),
+        Some([]) => push_trouble(text, shape.fields, words),
+        Some(missing) => push_missing(text, missing, words),
     }
-    if words.len() > shape.fields.len() {
-        return write!(text, "It has a word too many.\n");
-    }
-    push_trouble(text, shape.fields, words)
 }
 
-/// Adds which fields are missing, the last ones. Where the last word is a source, it is the rank that was left out.
-fn push_missing(text: &mut String, fields: &[Field], words: &[&str]) -> Result<(), AllocError> {
-    let last = words.last().copied().unwrap_or("");
-    let has_source = last == "init" || last.as_bytes().contains(&b'.');
-    if has_source && words.len() == 4 {
-        return text.push_str("Its rank is missing, 0 where all times differ.\n");
+/// Adds which fields are missing after these words. Where the last of four is a source, it is the rank that was left out.
+fn push_missing(text: &mut String, missing: &[Field], words: &[&str]) -> Result<(), AllocError> {
+    match words {
+        [_, _, _, last] if *last == "init" || last.contains('.') => {
+            return text.push_str("Its rank is missing, 0 where all times differ.\n");
+        }
+        _ => {}
     }
-    for field in fields.iter().skip(words.len()) {
+    for field in missing {
         write!(text, "Its {} is missing.\n", field.name())?;
     }
     Ok(())

@@ -14,7 +14,6 @@ use Rattle.verdict.specs.declared.answer.Verdict.{Verdict}
 use Rattle.verdict.specs.declared.answer.Verdict.TheVariants.{Yes, No}
 use Rattle.tardis_command.specs.Answers.{answer_status, answer_text, told_text, verdict_status}
 use Rattle.tardis_command.specs.declared.answer.Answer.{Answer}
-use Rattle.tardis_command.specs.declared.answer.Answer.TheVariants as answer
 use Rattle.tardis_command.specs.inner.Apart.{HasApart}
 use Rattle.tardis_command.specs.inner.Printing.{IsUnprinted}
 use Rattle.tardis_command.specs.Endings.{Answered, Ending, EndsBy, IsAnswered, IsDoneBy, IsPrinted, Misused, Refused, Says, Sink, Takes, Unprinted, Unread, Untold, line, status_of}
@@ -29,7 +28,8 @@ use Rattle.search_commands.specs.Traces.{TellsTrace}
 use Rattle.search_commands.specs.declared.answer.SearchAnswer.{SearchAnswer}
 use Rattle.search_commands.specs.declared.answer.SearchAnswer.TheVariants as searched
 use Rattle.verdict.specs.declared.judge_fault.JudgeFault.TheVariants as judge
-use Rattle.tardis_command.specs.Faults.{command_fault_text, fault_status, from_judging, from_running}
+use Rattle.search_commands.specs.declared.fault.SearchingFault.{SearchingFault}
+use Rattle.tardis_command.specs.Faults.{command_fault_text, fault_status, from_judging, from_running, from_searching}
 use Rattle.command_line.specs.declared.request.FileKind.{FileKind}
 use Rattle.command_line.specs.declared.request.FileKind.TheVariants as of_file
 use Rattle.run_commands.specs.Inspecting.{IsUnreadable}
@@ -40,11 +40,6 @@ use Rattle.tardis_command.specs.declared.fault.CommandFault.TheVariants.{Call}
 use Rattle.call_devices.specs.declared.call_fault.CallFault.TheVariants.{Output, OutOfMemory, Programs}
 use Rattle.judge_commands.specs.declared.fault.JudgingFault.{JudgingFault}
 use Rattle.judge_commands.specs.declared.fault.JudgingFault.TheVariants as judging
-
--- what holds whatever is answered
-pub whatever : (Said : Answer → Type 0) (X : Type 0) (r : Result Answer CommandFault) → X → IfOk r (λ answer. Said answer → X)
-whatever Said X (Ok answer) x = λ said. x
-whatever Said X (Err fault) x = tt
 
 -- the numbers of a run that the words ask for go to none of its files
 pub has_apart : (words : List (List ℕ)) (asked : Request) → Asks words asked → HasApart asked
@@ -79,15 +74,9 @@ module _ {X F : Type 0} (answer_of : X → Answer) (refusal : F → CommandFault
     printed (Ok same) is appends failed = (Answered (answer_of x), ap (λ (a : Answer). Ok a) is, ((x, refl, came), appends))
     printed (Err fault) is appends failed = unprinted fault failed
 
-yes_of : (verdict : Verdict) → verdict_status verdict ≡ 0 → IsYes verdict
+pub yes_of : (verdict : Verdict) → verdict_status verdict ≡ 0 → IsYes verdict
 yes_of (Yes count) zero = tt
 yes_of (No fault) zero = cc
-
--- a verdict that was printed, with the status of a Yes
-pub printed_yes : (verdict : Verdict) (result : Result Answer CommandFault) (Holds : Type 0) → IfOk result (λ same. same ≡ answer.Judged verdict) → (IsYes verdict → Holds)
-    → IfOk result (λ answer. answer_status answer ≡ 0 → Holds)
-printed_yes verdict (Ok answer) Holds is holds = λ zero. holds (yes_of verdict (sym (ap answer_status is) ∙ zero))
-printed_yes verdict (Err fault) Holds is holds = tt
 
 -- what an answer to a search says where its status is that of a yes
 pub right_yes : (told : List ℕ → Option (List ℕ)) (files : TraceFiles) (answer : SearchAnswer) → TellsTrace told files (λ cores. IsRightOf cores answer)
@@ -110,6 +99,10 @@ told_no X fault told status holds (inr is) same one = cc
 -- a refusal ends with no status of a yes
 not_zero : (fault : CommandFault) → ¬ (fault_status fault ≡ 0)
 not_zero fault zero = search rules
+
+-- nor a refused look at a trace with that of a no
+pub not_one : (fault : SearchingFault) → ¬ (fault_status (from_searching fault) ≡ 1)
+not_one fault one = search rules
 
 pub told_not_zero : (X : Type 0) (told : CommandFault) (status : ℕ) → status ≡ fault_status told → status ≡ 0 → X
 told_not_zero X told status same zero = absurd (not_zero told (sym same ∙ zero))

@@ -1,11 +1,10 @@
 //! One call of the program.
 
-ghost use Rattle.std.specs.Prelude.{◌≡◌, IfOk};
+ghost use Rattle.std.specs.Prelude.{◌≡◌};
 ghost use Rattle.call_devices.specs.Files.{IsUnread};
 ghost use Rattle.command_line.specs.Asking.{texts};
-ghost use Rattle.tardis_command.specs.Answers.{answer_status};
 ghost use Rattle.tardis_command.specs.Endings as endings;
-ghost use Rattle.tardis_command.specs.inner.Apart.{HasApart};
+ghost use Rattle.tardis_command.specs.inner.Performing.{IsPerformed};
 
 use super::answer::Answer;
 use super::fault::CommandFault;
@@ -88,25 +87,11 @@ fn perform<R: Threads + Wait + Sync, W: Watch + SearchWatch + Sync, F: Folder, O
     folder: &mut F,
     out: &mut O,
 ) -> Result<Answer, CommandFault>
-    ensures exact { (ending : endings.Ending) × endings.IsAnswered ending result
-        × endings.IsDoneBy (F.files folder.old) (F.files folder.new)
+    ensures { IsPerformed (F.files folder.old) (F.files folder.new)
         (IsUnread F.Source.remaining F.Source.failed
         (F.files folder.old) (F.files folder.new)) request.now
         (endings.sink_of O.contents O.failed out.old)
-        (endings.sink_of O.contents O.failed out.new) ending }
-    ensures files { endings.KeepsFiles (F.files folder.old).told (F.files folder.new).told
-        (endings.IsPutName request.now) }
-    ensures sound { IfOk result (λ answer. answer_status answer ≡ 0
-        → endings.AreConsistent (F.files folder.old).told request.now) }
-    ensures refuted { endings.status_in result ≡ 1
-        → endings.AreRefuted (F.files folder.old).told request.now }
-    ensures order { IfOk result (λ answer. answer_status answer ≡ 0
-        → endings.AreOrdered (F.files folder.old).told (endings.sink_of O.contents O.failed out.old)
-        (endings.sink_of O.contents O.failed out.new) request.now) }
-    ensures flat { IfOk result (λ answer. answer_status answer ≡ 0
-        → endings.RunFlat (F.files folder.old).told request.now) }
-    ensures yes { IfOk result (λ answer. answer_status answer ≡ 0 → HasApart request.now
-        → endings.LeaveYes (F.files folder.old).told (F.files folder.new).told request.now) }
+        (endings.sink_of O.contents O.failed out.new) result }
 {
     match request {
         Request::Check(asked) => {

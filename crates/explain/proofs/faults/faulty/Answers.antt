@@ -10,7 +10,7 @@ use Rattle.explain.specs.Times.{rule_with}
 use Rattle.explain.proofs.Kept.{none_counted, none_kept, one_counted, one_kept}
 use Rattle.explain.proofs.Rules.{rule_at}
 use Rattle.explain.proofs.faults.faulty.Goals as goal
-use Rattle.explain.proofs.faults.faulty.Goals.{in-Some-Source, in-Some-Value, in-None, then-is_some+in_ok-push, else-is_some, then-is_store, else-is_store}
+use Rattle.explain.proofs.faults.faulty.Goals.{in-Some+in_ok-push+in-Source, in-Some+in_ok-push+in-Value, in_default, then-is_store, else-is_store}
 
 pub loop-entry-preserved : goal.loop-entry-preserved
 loop-entry-preserved c =
@@ -18,41 +18,44 @@ loop-entry-preserved c =
     let k = c.loop-entry.entry-index in
     let e = c.entry-item.result in
     let so_far = c.loop-entry.invariant in
-    let broken : c.rule_after-rule.result ≡ rule_broken es e = c.rule_after-rule.ensures
+    let broken : c.rule_after.result ≡ rule_broken es e = c.rule_after.ensures
     ∙ ap (λ (o : Option Entry). rule_with e (at_its_address e o)) so_far.last ∙ rule_at es k e c.requires (omega arith) c.entry-item.is in
     let last = last_more es k e (omega arith) c.entry-item.is in
     record {
       last = elim c.if-is_store.branch [ then-is_store w ↦ grind arith | else-is_store w ↦ grind arith ];
-      found = elim c.if-is_some.branch [
-        | then-is_some+in_ok-push w ↦
-            let is : is_some (rule_broken es e) ≡ is_some c.rule_after-rule.result = ap is_some (sym broken) in
+      found = elim c.match-rule_after.branch [
+        | in-Some+in_ok-push+in-Source w ↦ (
+            let is : c.rule_after.result ≡ Some Source = search rules in
             rw (w.found-is, w.in_ok-push.ensures.items)
-            (one_kept (λ r. is_some (rule_broken es r)) es k e (omega arith) c.entry-item.is c.loop-entry.found.items so_far.found (is ∙ sym c.is_some.ensures ∙ w.if-is_some.true))
-        | else-is_some w ↦
-            let is : is_some (rule_broken es e) ≡ is_some c.rule_after-rule.result = ap is_some (sym broken) in
-            rw w.found-is
-            (none_kept (λ r. is_some (rule_broken es r)) es k e (omega arith) c.entry-item.is c.loop-entry.found.items so_far.found (is ∙ sym c.is_some.ensures ∙ w.if-is_some.false))
+            (one_kept (λ r. is_some (rule_broken es r)) es k e (omega arith) c.entry-item.is c.loop-entry.found.items so_far.found (ap is_some (sym broken ∙ is))))
+        | in-Some+in_ok-push+in-Value w ↦ (
+            let is : c.rule_after.result ≡ Some Value = search rules in
+            rw (w.found-is, w.in_ok-push.ensures.items)
+            (one_kept (λ r. is_some (rule_broken es r)) es k e (omega arith) c.entry-item.is c.loop-entry.found.items so_far.found (ap is_some (sym broken ∙ is))))
+        | in_default w ↦ (
+            let is : c.rule_after.result ≡ None = search rules in
+            rw w.found-is (none_kept (λ r. is_some (rule_broken es r)) es k e (omega arith) c.entry-item.is c.loop-entry.found.items so_far.found (ap is_some (sym broken ∙ is))))
       ];
-      source = elim c.match-rule.branch [
-        | in-Some-Source w ↦ (
-            let is : c.rule_after-rule.result ≡ Some Source = search rules in
+      source = elim c.match-rule_after.branch [
+        | in-Some+in_ok-push+in-Source w ↦ (
+            let is : c.rule_after.result ≡ Some Source = search rules in
             w.source-is ∙ one_counted (λ r. is_source_rule (rule_broken es r)) es k e (omega arith) c.entry-item.is c.loop-entry.source so_far.source (ap is_source_rule (sym broken ∙ is)))
-        | in-Some-Value w ↦ (
-            let is : c.rule_after-rule.result ≡ Some Value = search rules in
+        | in-Some+in_ok-push+in-Value w ↦ (
+            let is : c.rule_after.result ≡ Some Value = search rules in
             w.source-is ∙ none_counted (λ r. is_source_rule (rule_broken es r)) es k e (omega arith) c.entry-item.is c.loop-entry.source so_far.source (ap is_source_rule (sym broken ∙ is)))
-        | in-None w ↦ (
-            let is : c.rule_after-rule.result ≡ None = search rules in
+        | in_default w ↦ (
+            let is : c.rule_after.result ≡ None = search rules in
             w.source-is ∙ none_counted (λ r. is_source_rule (rule_broken es r)) es k e (omega arith) c.entry-item.is c.loop-entry.source so_far.source (ap is_source_rule (sym broken ∙ is)))
       ];
-      value = elim c.match-rule.branch [
-        | in-Some-Source w ↦ (
-            let is : c.rule_after-rule.result ≡ Some Source = search rules in
+      value = elim c.match-rule_after.branch [
+        | in-Some+in_ok-push+in-Source w ↦ (
+            let is : c.rule_after.result ≡ Some Source = search rules in
             w.value-is ∙ none_counted (λ r. is_value_rule (rule_broken es r)) es k e (omega arith) c.entry-item.is c.loop-entry.value so_far.value (ap is_value_rule (sym broken ∙ is)))
-        | in-Some-Value w ↦ (
-            let is : c.rule_after-rule.result ≡ Some Value = search rules in
+        | in-Some+in_ok-push+in-Value w ↦ (
+            let is : c.rule_after.result ≡ Some Value = search rules in
             w.value-is ∙ one_counted (λ r. is_value_rule (rule_broken es r)) es k e (omega arith) c.entry-item.is c.loop-entry.value so_far.value (ap is_value_rule (sym broken ∙ is)))
-        | in-None w ↦ (
-            let is : c.rule_after-rule.result ≡ None = search rules in
+        | in_default w ↦ (
+            let is : c.rule_after.result ≡ None = search rules in
             w.value-is ∙ none_counted (λ r. is_value_rule (rule_broken es r)) es k e (omega arith) c.entry-item.is c.loop-entry.value so_far.value (ap is_value_rule (sym broken ∙ is)))
       ];
     }
