@@ -1,5 +1,6 @@
 mod Local
 mod Numbers
+mod Plain
 mod Reading
 mod Rules
 mod Subcommands

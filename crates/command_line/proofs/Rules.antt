@@ -9,9 +9,9 @@ use Rattle.clap.specs.declared.builder.range.ValueRange.{ValueRange}
 use Rattle.clap.specs.declared.builder.value_parser.ValueParser.{ValueParser}
 use Rattle.clap.specs.declared.builder.value_parser.ValueParser.TheVariants.{Unsigned}
 use Rattle.command_line.specs.Grammar as grammar
-use Rattle.command_line.specs.declared.argument.Takes.{Takes}
-use Rattle.command_line.specs.declared.argument.Takes.TheVariants as takes
-use Rattle.command_line.specs.inner.Arguments.{rule}
+use Rattle.command_line.specs.declared.argument.Argument.{Argument}
+use Rattle.command_line.specs.declared.argument.Argument.TheVariants as argument
+use Rattle.command_line.specs.inner.Arguments as made
 
 pub long_set : (a b : Arg) (name : Bor Text) (rule : Rule) → b ≡ record a { long = Some name } → rule_of a ≡ rule
     → rule_of b ≡ record rule { long = Some name.now }
@@ -74,9 +74,9 @@ files_rule a b c d e text fresh required ranged many acts helped =
     help_set d e text _ helped (action_set c d Append _ acts (range_set b c _ _ ranged many (required_set a b _ required fresh)))
 
 -- each argument is a simple one
-pub simple_rule : (t : Takes) (name : Text) → (rule t name).is_simple ≡ true
-simple_rule takes.Number name = refl
-simple_rule takes.File name = refl
-simple_rule takes.Nothing name = refl
-simple_rule takes.Name name = refl
-simple_rule takes.Files name = refl
+pub simple_rule : (it : Argument) → (made.rule_of it).is_simple ≡ true
+simple_rule (argument.Number name help) = refl
+simple_rule (argument.File name help) = refl
+simple_rule (argument.Flag name help) = refl
+simple_rule (argument.Name name help) = refl
+simple_rule (argument.Files help) = refl

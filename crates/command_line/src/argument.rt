@@ -8,127 +8,62 @@ ghost use Rattle.command_line.specs.inner.Arguments.{rule_of, with_rules};
 use clap::{Arg, ArgAction, Command, value_parser};
 use std::alloc::{AllocError, Global};
 
-/// What an argument takes.
+/// An argument of a subcommand: its name, and what the help says of it.
 #[derive(Clone, Copy)]
-pub(crate) enum Takes {
-    /// Of an option: a number.
-    Number,
-    /// Of an option: the name of a file.
-    File,
-    /// Of an option: nothing.
-    Nothing,
-    /// At its place: a name, which has to be there.
-    Name,
-    /// From its place on: names of files, one or more.
-    Files,
-}
-
-/// An argument of a subcommand: what it takes, its name, and what the help says of it.
-#[derive(Clone, Copy)]
-pub(crate) struct Argument<'a> {
-    takes: Takes,
-    name: &'a str,
-    help: &'a str,
-}
-
-impl<'a> Argument<'a> {
+pub(crate) enum Argument<'a> {
     /// An option that takes a number.
-    pub(crate) fn number(name: &'a str, help: &'a str) -> Argument<'a>
-        ensures { rule_of result ≡ grammar.number_option name.entry.now }
-    {
-        Argument {
-            takes: Takes::Number,
-            name,
-            help,
-        }
-    }
-
+    Number(&'a str, &'a str),
     /// An option that takes the name of a file.
-    pub(crate) fn file(name: &'a str, help: &'a str) -> Argument<'a>
-        ensures { rule_of result ≡ grammar.file_option name.entry.now }
-    {
-        Argument {
-            takes: Takes::File,
-            name,
-            help,
-        }
-    }
-
+    File(&'a str, &'a str),
     /// An option that takes nothing.
-    pub(crate) fn flag(name: &'a str, help: &'a str) -> Argument<'a>
-        ensures { rule_of result ≡ grammar.flag name.entry.now }
-    {
-        Argument {
-            takes: Takes::Nothing,
-            name,
-            help,
-        }
-    }
-
-    /// A name that has to be there.
-    pub(crate) fn name(name: &'a str, help: &'a str) -> Argument<'a>
-        ensures { rule_of result ≡ grammar.name name.entry.now }
-    {
-        Argument {
-            takes: Takes::Name,
-            name,
-            help,
-        }
-    }
-
-    /// The files, one or more.
-    pub(crate) fn files(help: &'a str) -> Argument<'a>
-        ensures { rule_of result ≡ grammar.files }
-    {
-        Argument {
-            takes: Takes::Files,
-            name: "FILE",
-            help,
-        }
-    }
+    Flag(&'a str, &'a str),
+    /// A name that has to be there, at its place.
+    Name(&'a str, &'a str),
+    /// Names of files, one or more, from their place on; of these the help alone.
+    Files(&'a str),
 }
 
 /// An option that takes a number, as `clap` has it.
-fn number_made<'a>(alloc: Global, argument: &Argument<'a>) -> Arg<'a>
-    ensures { rule_made result ≡ grammar.number_option argument.now.name.now }
+fn number_made<'a>(alloc: Global, name: &'a str, help: &'a str) -> Arg<'a>
+    ensures { rule_made result ≡ grammar.number_option name.entry.now }
 {
-    Arg::new(alloc, argument.name)
-        .long(argument.name)
+    Arg::new(alloc, name)
+        .long(name)
         .value_name("N")
         .value_parser(value_parser!(u64))
         .action(ArgAction::Set)
-        .help(argument.help)
+        .help(help)
 }
 
 /// An option that takes the name of a file, as `clap` has it.
-fn file_made<'a>(alloc: Global, argument: &Argument<'a>) -> Arg<'a>
-    ensures { rule_made result ≡ grammar.file_option argument.now.name.now }
+fn file_made<'a>(alloc: Global, name: &'a str, help: &'a str) -> Arg<'a>
+    ensures { rule_made result ≡ grammar.file_option name.entry.now }
 {
-    Arg::new(alloc, argument.name)
-        .long(argument.name)
+    Arg::new(alloc, name)
+        .long(name)
         .value_name("F")
         .action(ArgAction::Set)
-        .help(argument.help)
+        .help(help)
 }
 
 /// An option that takes nothing, as `clap` has it.
-fn flag_made<'a>(alloc: Global, argument: &Argument<'a>) -> Arg<'a>
-    ensures { rule_made result ≡ grammar.flag argument.now.name.now }
+fn flag_made<'a>(alloc: Global, name: &'a str, help: &'a str) -> Arg<'a>
+    ensures { rule_made result ≡ grammar.flag name.entry.now }
 {
-    Arg::new(alloc, argument.name)
-        .long(argument.name)
+    Arg::new(alloc, name)
+        .long(name)
         .action(ArgAction::SetTrue)
-        .help(argument.help)
+        .help(help)
 }
 
 /// A name that has to be there, as `clap` has it.
-fn name_made<'a>(alloc: Global, argument: &Argument<'a>) -> Arg<'a>
-    ensures { rule_made result ≡ grammar.name argument.now.name.now }
+fn name_made<'a>(alloc: Global, name: &'a str, help: &'a str) -> Arg<'a>
+    ensures { rule_made result ≡ grammar.name name.entry.now }
 {
-    Arg::new(alloc, argument.name)
+    Arg::new(alloc, name)
         .required(true)
         .action(ArgAction::Set)
-        .help(argument.help)
+        .help(help)
 }
 
 /// The files, as `clap` has them.
@@ -146,12 +81,12 @@ fn files_made<'a>(alloc: Global, help: &'a str) -> Arg<'a>
 fn clap_argument<'a>(alloc: Global, argument: &Argument<'a>) -> Arg<'a>
     ensures { rule_made result ≡ rule_of argument.now }
 {
-    match argument.takes {
-        Takes::Number => number_made(alloc, argument),
-        Takes::File => file_made(alloc, argument),
-        Takes::Nothing => flag_made(alloc, argument),
-        Takes::Name => name_made(alloc, argument),
-        Takes::Files => files_made(alloc, argument.help),
+    match argument {
+        Argument::Number(name, help) => number_made(alloc, name, help),
+        Argument::File(name, help) => file_made(alloc, name, help),
+        Argument::Flag(name, help) => flag_made(alloc, name, help),
+        Argument::Name(name, help) => name_made(alloc, name, help),
+        Argument::Files(help) => files_made(alloc, help),
     }
 }
 

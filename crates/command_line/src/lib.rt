@@ -7,6 +7,7 @@ mod grammar;
 mod names;
 mod refusal;
 mod request;
+mod subcommand;
 mod words;
 
 pub use refusal::Refusal;

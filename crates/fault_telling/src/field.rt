@@ -126,28 +126,28 @@ pub(crate) enum Trouble {
 
 impl Display for Trouble {
     fn fmt<W: fmt::Write>(&self, f: &mut fmt::Formatter<W>) -> fmt::Result {
-        match self {
-            Trouble::Hexadecimal => f.write_str("is hexadecimal; write numbers in decimal"),
-            Trouble::Signed => f.write_str("has a sign; write digits alone"),
-            Trouble::LeadingZero => f.write_str("has a zero before it; write none"),
-            Trouble::NoNumber => f.write_str("isn't a number in digits alone"),
-            Trouble::Above(greatest) => write!(f, "is above {greatest}"),
-            Trouble::Zero => f.write_str("is below 1"),
+        f.write_str(match self {
+            Trouble::Hexadecimal => "is hexadecimal; write numbers in decimal",
+            Trouble::Signed => "has a sign; write digits alone",
+            Trouble::LeadingZero => "has a zero before it; write none",
+            Trouble::NoNumber => "isn't a number in digits alone",
+            Trouble::Above(greatest) => return write!(f, "is above {greatest}"),
+            Trouble::Zero => "is below 1",
             Trouble::NoSource => {
-                f.write_str("is neither init nor C.I, for operation I of core C, counted from 0")
+                "is neither init nor C.I, for operation I of core C, counted from 0"
             }
-            Trouble::NoRegister => f.write_str("is none of r0 to r15"),
-            Trouble::NoFormat => f.write_str("is neither 1 nor 2"),
-            Trouble::NoName => f.write_str("isn't 1 to 32 letters, digits, + and -"),
-            Trouble::NoCores => f.write_str("isn't cores"),
-            Trouble::NoShown => f.write_str(
-                "isn't written C.rN, for register rN, r0 to r15, of core C",
-            ),
-            Trouble::NoSuchCore(cores) => write!(
-                f,
-                "is of a core that isn't there: cores are counted from 0, and the first line says {cores}"
-            ),
-        }
+            Trouble::NoRegister => "is none of r0 to r15",
+            Trouble::NoFormat => "is neither 1 nor 2",
+            Trouble::NoName => "isn't 1 to 32 letters, digits, + and -",
+            Trouble::NoCores => "isn't cores",
+            Trouble::NoShown => "isn't written C.rN, for register rN, r0 to r15, of core C",
+            Trouble::NoSuchCore(cores) => {
+                return write!(
+                    f,
+                    "is of a core that isn't there: cores are counted from 0, and the first line says {cores}"
+                );
+            }
+        })
     }
 }
 

@@ -5,11 +5,13 @@ mod ending_words;
 mod field;
 mod lines;
 mod log_words;
+mod place;
 mod program_words;
 mod shape;
 mod shown;
 mod slip;
 mod telling;
 
+pub use place::Place;
 pub use program_words::Kind;
 pub use telling::{Refused, Telling};

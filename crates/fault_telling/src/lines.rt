@@ -1,6 +1,6 @@
 //! A line that was refused, and its text.
 
-use fault_place::line_of;
+use log_file::line_of;
 use std::alloc::{AllocError, Global};
 use std::str;
 

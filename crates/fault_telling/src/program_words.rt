@@ -4,7 +4,7 @@ use super::ending_words::{push_forbid, push_show, shown_count};
 use super::lines::RefusedLine;
 use super::shape::{INSTRUCTIONS, SET_HEADER, TEST_HEADER, push_departure, shape_of};
 use super::slip::first_slip;
-use fault_place::line_of;
+use log_file::line_of;
 use std::alloc::AllocError;
 
 /// What a text of programs has to be.

@@ -1,14 +1,14 @@
 //! What is told of a fault.
 
 ghost use Rattle.std.specs.Prelude.{◌≡◌, ◌++◌, ℕ, List, IfOk, string_bytes};
-ghost use Rattle.fault_place.specs.Places.{place_text};
+ghost use Rattle.fault_telling.specs.Places.{place_text};
 
 use super::lines::{RefusedLine, words_of};
 use super::log_words::{RefusedLog, push_log};
+use super::place::Place;
 use super::program_words::{Kind, push_bad_line};
 use super::shown::Shown;
-use fault_place::{Place, line_of};
-use log_file::FormatFault;
+use log_file::{FormatFault, line_of};
 use std::alloc::{AllocError, Global};
 
 /// What was refused, and why.

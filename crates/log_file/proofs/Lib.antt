@@ -6,6 +6,7 @@ pub mod Front
 pub mod Fronts
 pub mod Joined
 pub mod LineFeeds
+pub mod LineOf
 pub mod Lines
 pub mod Once
 pub mod NextRecord

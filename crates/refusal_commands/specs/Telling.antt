@@ -1,7 +1,7 @@
 -- What is told of a file that was refused.
 use Rattle.std.specs.Prelude.{◌≡◌, ⊤, ℕ, List, [], ◌++◌, codes}
 use Rattle.call_devices.specs.Sinks.{Sink, Takes}
-use Rattle.fault_place.specs.Places.{place_text}
+use Rattle.fault_telling.specs.Places.{place_text}
 use Rattle.litmus_test.specs.FaultTexts.{from_program}
 use Rattle.litmus_test.specs.declared.fault.LitmusFault.{LitmusFault}
 use Rattle.litmus_test.specs.declared.fault.LitmusFault.TheVariants.{BadLitmusLine, BadLine, TooLong, SkipPastEnd, OutOfMemory}

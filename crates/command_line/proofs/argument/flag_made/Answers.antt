@@ -3,5 +3,5 @@ use Rattle.command_line.proofs.argument.flag_made.Goals as goal
 
 pub returns : goal.returns
 returns c =
-    flag_rule c.new.result c.long.result c.action.result c.help.result c.args.argument.now.name _
+    flag_rule c.new.result c.long.result c.action.result c.help.result c.args.name _
     c.new.ensures.rule c.long.ensures c.action.ensures c.help.ensures

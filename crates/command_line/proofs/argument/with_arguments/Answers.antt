@@ -6,7 +6,7 @@ use Rattle.command_line.proofs.Rules.{simple_rule}
 use Rattle.command_line.proofs.argument.with_arguments.Goals as goal
 
 pub with_argument-requires : goal.with_argument-requires
-with_argument-requires c = ap (λ (r : Rule). r.is_simple) c.clap_argument.ensures ∙ simple_rule _ _
+with_argument-requires c = ap (λ (r : Rule). r.is_simple) c.clap_argument.ensures ∙ simple_rule _
 
 pub loop-argument-preserved : goal.loop-argument-preserved
 loop-argument-preserved c =

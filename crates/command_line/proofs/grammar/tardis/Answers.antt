@@ -1,16 +1,20 @@
-use Rattle.std.proofs.Common.{ap}
+use Rattle.std.proofs.Common.{◌≡◌, ◌∙◌, ap, refl, true}
+use Rattle.std.specs.Prelude.{IfOk}
 use Rattle.std.proofs.lemmas.Result.{IfOk-weaker}
-use Rattle.clap.specs.Words.{App}
-use Rattle.command_line.specs.Grammar.{confirm, judging, search, upgrade, with_machine}
-use Rattle.command_line.proofs.Local.{adds_known, no_globals}
+use Rattle.clap.specs.Simple.{app_of_fields, on_top}
+use Rattle.clap.specs.Words.{App, Shape, app_of}
+use Rattle.command_line.specs.Grammar.{bare, tardis}
+use Rattle.command_line.specs.inner.Arguments.{with_subcommands}
+use Rattle.command_line.proofs.Local.{no_globals}
+use Rattle.command_line.proofs.Plain.{from_known}
 use Rattle.command_line.proofs.grammar.tardis.Goals as goal
 
 pub returns : goal.returns
 returns c =
-    let one = adds_known c.with_command-command.result _ c.upgrade.result (with_machine judging) upgrade c.running.ensures c.upgrade.ensures c.with_command-command.ensures in
-    let two = adds_known c.with_command-command-2.result _ c.search.result _ search one c.search.ensures c.with_command-command-2.ensures in
-    let adds = adds_known c.with_command.result _ c.confirm.result _ confirm two c.confirm.ensures c.with_command.ensures in
+    let start = ap app_of_fields c.subcommand_required-command.ensures ∙ ap (on_top (λ (top : Shape). record top { subcommand_required = true })) c.named.ensures in
+    let adds : IfOk c.with_subcommands.result (λ made. app_of made ≡ tardis) =
+    from_known c.with_subcommands.result _ bare tardis _ start c.with_subcommands.ensures (unfold with_subcommands in refl) in
     record {
       app = adds;
-      local = IfOk-weaker c.with_command.result _ _ (λ made is. no_globals made (ap (λ (app : App). app.top.is_plain) is)) adds;
+      local = IfOk-weaker c.with_subcommands.result (λ made. app_of made ≡ tardis) _ (λ made is. no_globals made (ap (λ (app : App). app.top.is_plain) is)) adds;
     }

@@ -1,6 +1,8 @@
 -- One operation more, which breaks a rule or doesn't.
-use Rattle.std.proofs.Common.{rules, ◌≡◌, ◌∙◌, ap, arith, sym, Option, None, Some}
+use Rattle.std.proofs.Common.{rules, ◌≡◌, ◌∙◌, ap, arith, refl, sym, Option, None, Some, filter}
+use Rattle.std.specs.Prelude.{count_by}
 use Rattle.std.specs.Option.{is_some}
+use Rattle.std.proofs.lemmas.List.{take_all}
 use Rattle.log_record.specs.declared.record.Entry.{Entry}
 use Rattle.address_check.specs.declared.fault.AddressRule.TheVariants.{Source, Value}
 use Rattle.address_check.specs.LastStores.{at_its_address}
@@ -59,3 +61,21 @@ loop-entry-preserved c =
             w.value-is ∙ none_counted (λ r. is_value_rule (rule_broken es r)) es k e (omega arith) c.entry-item.is c.loop-entry.value so_far.value (ap is_value_rule (sym broken ∙ is)))
       ];
     }
+
+pub loop-entry-init : goal.loop-entry-init
+loop-entry-init c = record { last = refl; found = c.new-found.ensures.items; source = refl; value = refl }
+
+pub returns-clause-faulty : goal.returns-clause-faulty
+returns-clause-faulty c =
+    let es = c.args.entries.now in
+    c.loop-entry.invariant.found ∙ ap (filter (λ e. is_some (rule_broken es e))) (take_all c.loop-entry.entry-index es (omega arith))
+
+pub returns-clause-source : goal.returns-clause-source
+returns-clause-source c =
+    let es = c.args.entries.now in
+    c.loop-entry.invariant.source ∙ ap (count_by (λ e. is_source_rule (rule_broken es e))) (take_all c.loop-entry.entry-index es (omega arith))
+
+pub returns-clause-value : goal.returns-clause-value
+returns-clause-value c =
+    let es = c.args.entries.now in
+    c.loop-entry.invariant.value ∙ ap (count_by (λ e. is_value_rule (rule_broken es e))) (take_all c.loop-entry.entry-index es (omega arith))

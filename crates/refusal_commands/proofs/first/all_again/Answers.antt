@@ -1,5 +1,6 @@
-use Rattle.std.proofs.Common.{rules, ◌≡◌, ◌++◌, ◌∷◌, ◌∙◌, [], subst, ℕ, List, Bor, get_or}
+use Rattle.std.proofs.Common.{inl, rules, ◌≡◌, ◌++◌, ◌∷◌, ◌∙◌, [], subst, ℕ, List, Bor, get_or}
 use Rattle.std.proofs.lemmas.List.{get_or_default}
+use Rattle.call_devices.proofs.Files.{only_read_after}
 use Rattle.call_devices.specs.Files.{Files, IsUnread}
 use Rattle.call_devices.specs.inner.Texts.{IsNoText}
 use Rattle.log_file.specs.declared.device_fault.ReadFault.{ReadFault}
@@ -34,3 +35,15 @@ returns-in-Err-Read-clause-texts g c =
     let held = λ (d : Bor (List ℕ)).
     subst (Unread (files c.args.folder.now) (files c.read_text.new.folder)) (get_or_default c.args.names.now c.loop-name.name-index none d c.loop-name-test.true) unread in
     (c.loop-name.name-index, (c.loop-name-test.true, held))
+
+pub returns-in-Err-Read-clause-read : goal.returns-in-Err-Read-clause-read
+returns-in-Err-Read-clause-read g c = only_read_after _ _ _ c.loop-name.invariant.quiet c.in-Err-Read.ensures.read
+
+pub returns-in-Err-OutOfMemory-clause-read : goal.returns-in-Err-OutOfMemory-clause-read
+returns-in-Err-OutOfMemory-clause-read g c = only_read_after _ _ _ c.loop-name.invariant.quiet c.in-Err-OutOfMemory.ensures.read
+
+pub returns-in_err-push-in-Ok-clause-read : goal.returns-in_err-push-in-Ok-clause-read
+returns-in_err-push-in-Ok-clause-read g c = inl (c.in-Ok.ensures.quiet ∙ c.loop-name.invariant.quiet)
+
+pub returns-clause-read : goal.returns-clause-read
+returns-clause-read g c = inl c.loop-name.invariant.quiet

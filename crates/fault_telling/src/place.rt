@@ -14,7 +14,7 @@ pub struct Place<'a> {
 
 impl<'a> Display for Place<'a> {
     ghost use Rattle.std.specs.Prelude.{Some};
-    ghost use Rattle.fault_place.specs.Places.{place_text};
+    ghost use Rattle.fault_telling.specs.Places.{place_text};
 
     ghost output = { λ place. Some (place_text place.file.now place.line) };
 

@@ -1,4 +1,4 @@
-//! The lines of a text.
+//! The line of a text that has a number.
 
 ghost use Rattle.std.specs.Prelude.{◌≡◌};
 ghost use Rattle.log_file.specs.Log.{line, lines_of};

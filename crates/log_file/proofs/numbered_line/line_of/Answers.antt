@@ -3,8 +3,8 @@ use Rattle.std.specs.Prelude.{slice_get}
 use Rattle.std.proofs.lemmas.Iterator.Consumers.{nth_from_yields_List}
 use Rattle.std.proofs.lemmas.Iterator.Splits.{YieldsList-from_slice_split}
 use Rattle.log_file.specs.Log.{lines_of}
-use Rattle.fault_place.proofs.Parts.{line_got}
-use Rattle.fault_place.proofs.lines.line_of.Goals as goal
+use Rattle.log_file.proofs.LineOf.{line_got}
+use Rattle.log_file.proofs.numbered_line.line_of.Goals as goal
 
 pub returns : goal.returns
 returns c =
