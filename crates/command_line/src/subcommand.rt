@@ -8,7 +8,7 @@ pub(crate) struct Subcommand<'a> {
     pub(crate) name: &'a str,
     /// What it does.
     pub(crate) about: &'a str,
-    /// What a call of it looks like.
+    /// What a call of it looks like, and what its answer doesn't say.
     pub(crate) example: &'a str,
     /// The options that give the numbers of the machine, where it runs one; they come first.
     pub(crate) limits: &'a [Argument<'a>],
@@ -32,7 +32,7 @@ const CHECK: Subcommand<'static> = Subcommand {
             "workers",
             "How many workers judge in parallel, 1 to 64 [default: 1]",
         ),
-        Argument::File("program", "The programs whose logs these have to be"),
+        Argument::File("program", "Also check the logs against these programs"),
         Argument::Files(LOGS_HELP),
     ],
 };
@@ -53,12 +53,12 @@ const EXPLAIN: Subcommand<'static> = Subcommand {
     example: "Examples: tardis explain --svg why.svg log.0 log.1\n          tardis explain --litmus SB.litmus",
     limits: &[],
     arguments: &[
-        Argument::File("program", "The programs whose logs these have to be"),
+        Argument::File("program", "Also check the logs against these programs"),
         Argument::File(
             "svg",
             "The file that a picture of it goes to [default: none]",
         ),
-        Argument::Flag("no-search", "Looks for no other order of logs that get No"),
+        Argument::Flag("no-search", "After a no, don't search for another order"),
         Argument::Flag("litmus", "FILE is a litmus test, and is only read"),
         Argument::Flag("programs", "FILE is a set of programs, and is only read"),
         Argument::Files("The logs, that of core 0 first; with --litmus or --programs one file"),
@@ -78,7 +78,7 @@ const SIM: Subcommand<'static> = Subcommand {
         ),
         Argument::Number(
             "seed",
-            "What the rounds after it are drawn from, 0 to 18446744073709551615 [default: no draws, core 0 first]",
+            "Seed of the random interleaving that follows the schedule, 0 to 18446744073709551615 [default: no draws, core 0 first]",
         ),
         Argument::File("stats", STATS_HELP),
         Argument::Name("PROGRAMS", PROGRAMS_HELP),
@@ -102,8 +102,8 @@ const RUN: Subcommand<'static> = Subcommand {
 /// The subcommand that runs a litmus test again and again, and counts its outcomes.
 const LITMUS: Subcommand<'static> = Subcommand {
     name: "litmus",
-    about: "Runs a litmus test again and again, judges each run, and counts the outcomes",
-    example: "Example: tardis litmus --runs 1000 examples/litmus/SB.litmus",
+    about: "Runs a litmus test many times on a machine of this program's own, judges each run, and counts the outcomes",
+    example: "Example: tardis litmus --runs 1000 examples/litmus/SB.litmus\n\nThe runs, also with --threads, are of this program's own Tardis machine and not of your processor, for which there is examples/hardware.\nThey are samples: a forbidden outcome that none of them had isn't proved impossible.",
     limits: &LIMITS,
     arguments: &[
         Argument::Number(
@@ -112,15 +112,12 @@ const LITMUS: Subcommand<'static> = Subcommand {
         ),
         Argument::Number(
             "seed",
-            "What the rounds of the first run are drawn from, 0 to 18446744073709551615; one more for each run after it [default: 1]",
+            "Seed of the random interleaving of the first run, 0 to 18446744073709551615; one more for each run after it [default: 1]",
         ),
-        Argument::Flag(
-            "threads",
-            "Runs each core in a thread; the seed has no use then",
-        ),
+        Argument::Flag("threads", "Run each core in a thread; --seed is ignored"),
         Argument::File(
             "stats",
-            "The file that the numbers of all runs go to [default: none]",
+            "Write the counts of all runs together to F, as CSV [default: none]",
         ),
         Argument::Name("TEST", "The file of the test"),
     ],
@@ -151,7 +148,7 @@ const SEARCH: Subcommand<'static> = Subcommand {
         Argument::Flag("logs", "Reads logs, and leaves their times out"),
         Argument::Number(
             "budget",
-            "How many steps the search may make, 0 to 18446744073709551615 [default: 100000000, and 100 for each operation]",
+            "How many steps the search may make, 0 to 18446744073709551615 [default: 100000000, plus 100 for each operation]",
         ),
         Argument::File("order", "The file that an order goes to [default: none]"),
         Argument::File(
@@ -188,7 +185,7 @@ const LIMITS: [Argument<'static>; 6] = [
     ),
     Argument::Number(
         "period",
-        "How many operations until a core's stamp goes up by itself, 1 to 1000000 [default: 100]",
+        "Operations between two self-increments of a core's stamp, 1 to 1000000 [default: 100]",
     ),
     Argument::Number(
         "cache",
@@ -214,4 +211,4 @@ const PROGRAMS_HELP: &str = "The file of the programs";
 const OUT_HELP: &str = "What the names of the logs begin with: log for log.0, log.1 and so on";
 
 /// What the help says of the file of the numbers of a run.
-const STATS_HELP: &str = "The file that the numbers of the run go to [default: none]";
+const STATS_HELP: &str = "Write the run's counts to F, as CSV [default: none]";
