@@ -3,6 +3,7 @@
 use super::call::Done;
 use super::fault::RowsFault;
 use memory_folder::File;
+use std::fmt;
 
 /// What a call should do.
 #[derive(Clone, Copy)]
@@ -39,24 +40,28 @@ fn is_like_line(expected: &str, line: &str) -> bool {
     }
 }
 
-/// Whether a call did what it should; if not, what it did is told.
+/// Whether a call did what it should; if not, what it did otherwise is told.
 pub(crate) fn compare<R: Print>(
     rt: &R,
     words: &[&str],
     expected: &Expected<'_>,
     done: &Done,
 ) -> Result<bool, RowsFault> {
-    let line = expected.line;
-    let is_good = done.status == expected.status
-        && is_like(expected.printed, done.printed.as_str())
-        && is_like(expected.told, done.told.as_str());
+    let has_ended = done.status == expected.status;
+    let has_printed = is_like(expected.printed, done.printed.as_str());
+    let has_told = is_like(expected.told, done.told.as_str());
+    let is_good = has_ended && has_printed && has_told;
     if !is_good {
-        println!(rt;
-            "line {line}: {words:?} ended with {}, not {}",
-            done.status, expected.status
-        )?;
+        println!(rt; "line {}: {words:?}", expected.line)?;
+    }
+    if !has_ended {
+        println!(rt; "it ended with {}, not {}", done.status, expected.status)?;
+    }
+    if !has_printed {
         println!(rt; "it printed {:?}, not {:?}", done.printed, expected.printed)?;
-        println!(rt; "and told {:?}, not {:?}", done.told, expected.told)?;
+    }
+    if !has_told {
+        println!(rt; "it told {:?}, not {:?}", done.told, expected.told)?;
     }
     Ok(is_good)
 }
@@ -68,7 +73,7 @@ fn is_put(wanted: &File, put: &File) -> bool {
             || wanted.bytes.as_slice() == put.bytes.as_slice())
 }
 
-/// Whether just the files were put that should be; if not, it is told.
+/// Whether just the files were put that should be; if not, how many were put, or which is another, is told.
 pub(crate) fn compare_files<R: Print>(
     rt: &R,
     line: usize,
@@ -76,18 +81,29 @@ pub(crate) fn compare_files<R: Print>(
     put: &[File],
 ) -> Result<bool, RowsFault> {
     let mut is_good = wanted.len() == put.len();
-    for (one, other) in wanted.iter().zip(put) {
-        is_good = is_good && is_put(one, other);
-    }
     if !is_good {
-        println!(rt; "line {line}: it put {} files", put.len())?;
-        for file in put {
-            println!(rt;
-                "{}: {:?}",
-                file.name,
-                str::from_utf8(file.bytes.as_slice())
-            )?;
+        println!(rt;
+            "line {line}: it put {} files, not {}",
+            put.len(),
+            wanted.len()
+        )?;
+    }
+    for (one, other) in wanted.iter().zip(put) {
+        if !is_put(one, other) {
+            is_good = false;
+            println!(rt; "line {line}: it put {}, not {}", Shown(other), Shown(one))?;
         }
     }
     Ok(is_good)
+}
+
+/// A file: its name, and its text.
+#[derive(Clone, Copy)]
+struct Shown<'a>(&'a File);
+
+impl<'a> fmt::Display for Shown<'a> {
+    fn fmt<W: fmt::Write>(&self, f: &mut fmt::Formatter<W>) -> fmt::Result {
+        let (name, text) = (&self.0.name, str::from_utf8(self.0.bytes.as_slice()));
+        write!(f, "{name} of {text:?}")
+    }
 }

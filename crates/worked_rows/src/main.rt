@@ -1,6 +1,6 @@
-//! Replays rows: calls of the program over files in memory, with what each prints, its status and the files that it puts. The words
-//! name the files of rows, and `docs/ROWS.md` tells how they are written. Besides, each call is made again in other ways, of which
-//! `again.rt` knows what has to come.
+//! Replays rows: calls of the program over files in memory, with what each prints, its status and the files that it puts. They are those
+//! of each file whose name ends with `.rows` in the folder where this runs, and `docs/ROWS.md` tells how they are written. Besides, each
+//! call is made again in other ways, of which `again.rt` knows what has to come.
 #![tactic(auto)]
 
 mod again;
@@ -14,7 +14,7 @@ mod words;
 use fault::{RowsFault, text_of};
 use log_file::{FromRead, read_all};
 use replay::replay;
-use std::{env, fs};
+use std::fs;
 
 /// The text of a file of the host.
 fn read_text(rt: &HostRuntime, name: &str) -> Result<String, RowsFault> {
@@ -25,9 +25,23 @@ fn read_text(rt: &HostRuntime, name: &str) -> Result<String, RowsFault> {
     }
 }
 
+/// The names of the files of rows in the folder where this runs, in ascending order.
+fn file_names(rt: &HostRuntime) -> Result<Vec<String>, RowsFault> {
+    let mut names = Vec::new(rt.alloc());
+    for entry in fs::read_dir(rt, ".")? {
+        let entry = entry?;
+        let name = entry.file_name();
+        if name.ends_with(".rows") {
+            names.push(String::from_str(rt.alloc(), name)?)?;
+        }
+    }
+    names.sort()?;
+    Ok(names)
+}
+
 fn main(rt: HostRuntime) -> Result<(), RowsFault> {
     let mut wrong: u64 = 0;
-    for name in env::args(&rt)?.skip(1) {
+    for name in &file_names(&rt)? {
         let text = read_text(&rt, name.as_str())?;
         let tally = replay(&rt, rt.alloc(), text.as_str())?;
         println!(rt; "{name}: {} calls, {} wrong", tally.calls, tally.wrong)?;

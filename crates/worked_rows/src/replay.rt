@@ -18,7 +18,7 @@ pub(crate) struct Tally {
     pub(crate) wrong: u64,
 }
 
-/// Makes a call, and makes it again in other ways. Answers how often it went wrong, and the files that it put.
+/// Makes a call, and makes it again in other ways where it went right. Answers how often it went wrong, and the files that it put.
 fn perform<R: Threads + Wait + Sync + Print>(
     rt: &R,
     alloc: Global,
@@ -42,8 +42,11 @@ fn perform<R: Threads + Wait + Sync + Print>(
     };
     let is_told = compare(rt, words.as_slice(), &expected, &done)?;
     let is_put = compare_files(rt, wanted.line, wanted.put.as_slice(), done.put.as_slice())?;
-    let wrong = wrong_again(rt, alloc, words.as_slice(), given, &expected, &done)?;
-    let wrong = wrong.saturating_add(u64::from(!(is_told && is_put)));
+    let wrong = if is_told && is_put {
+        wrong_again(rt, alloc, words.as_slice(), given, &expected, &done)?
+    } else {
+        1
+    };
     Ok((wrong, done.put))
 }
 
