@@ -3,6 +3,7 @@
 use super::field::{Field, Trouble, Troubled, number_in};
 use super::lines::{RefusedLine, count_of};
 use super::shape::push_trouble;
+use super::shown::Counted;
 use std::alloc::AllocError;
 use std::str;
 
@@ -28,11 +29,13 @@ pub(crate) fn push_show(
         return text.push_str("Another line before it says show.\n");
     }
     let cores = cores_of(at.first_line());
-    let sections = at.begun_before(b"core ");
-    if sections as u64 != cores {
+    let sections = at.begun_before(b"core ") as u64;
+    if sections != cores {
         return write!(
             text,
-            "The first line says {cores} cores, and {sections} sections stand before it.\n"
+            "The first line says {}, and this line has {} before it.\n",
+            Counted(cores, "core"),
+            Counted(sections, "section")
         );
     }
     push_registers(text, cores, registers)
@@ -88,8 +91,9 @@ pub(crate) fn push_forbid(
     if registers != values.len() {
         return write!(
             text,
-            "It has {} values, and show has {registers} registers.\n",
-            values.len()
+            "It has {}, and show has {}.\n",
+            Counted(values.len() as u64, "value"),
+            Counted(registers as u64, "register")
         );
     }
     if at.begun_before(b"forbid ") >= FORBIDDEN {

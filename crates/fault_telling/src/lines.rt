@@ -7,6 +7,8 @@ use std::str;
 /// A line that was refused, and the text in which it stands.
 #[derive(Clone, Copy)]
 pub(crate) struct RefusedLine<'a> {
+    /// The name of the file.
+    pub(crate) name: &'a str,
     /// The whole text.
     pub(crate) text: &'a [u8],
     /// The number of the line, counted from 1.

@@ -2,6 +2,7 @@
 
 use super::field::number_in;
 use super::lines::RefusedLine;
+use super::program_words::begun_by;
 use super::shape::{RECORDS, push_departure, shape_of};
 use super::slip::first_slip;
 use log_file::FormatFault;
@@ -13,10 +14,6 @@ const HEADER: &str =
 
 /// As many bytes has a record at most, of either format.
 const LONGEST: usize = 96;
-
-/// What to write where the files were given in another order.
-const ORDER: &str =
-    "The files are given in the order of their cores, that of core 0 first. log.* has log.10 before log.2; write $(ls -v log.*).\n";
 
 /// A refused log: its place among the files, how many there are, and its fault.
 #[derive(Clone, Copy)]
@@ -43,7 +40,7 @@ pub(crate) fn push_log(
         FormatFault::CountDiffers => push_count(text, at.number),
         FormatFault::TrailingBytes => push_trailing(text, at),
         FormatFault::Truncated => push_truncated(text, at),
-        FormatFault::WrongCore => push_wrong_core(text, refused, at.words),
+        FormatFault::WrongCore => push_wrong_core(text, refused, at),
     }
 }
 
@@ -53,19 +50,10 @@ fn push_bad_header(text: &mut String, at: &RefusedLine<'_>) -> Result<(), AllocE
     if let Some(slip) = first_slip(at) {
         return text.push_str(slip);
     }
-    let line = at.line;
-    text.push_str(if line.starts_with(b"tardis-trace ") {
-        "It begins a trace, which tardis search reads.\n"
-    } else if line.starts_with(b"tardis-programs ") {
-        "It begins a set of programs, which goes after --program.\n"
-    } else if line.starts_with(b"tardis-litmus ") {
-        "It begins a litmus test, which tardis litmus runs.\n"
-    } else if line.starts_with(b"tardis-log ") && !matches!(at.words.get(1), Some(&("1" | "2"))) {
-        "There are formats 1 and 2.\n"
-    } else if line.starts_with(b"S ") || line.starts_with(b"L ") || line.starts_with(b"X ") {
-        "It is a record: the header before it is missing.\n"
-    } else {
-        ""
+    text.push_str(match at.words {
+        ["tardis-log", "1" | "2", ..] | [] => "",
+        ["tardis-log", ..] => "There are formats 1 and 2.\n",
+        [first, ..] => begun_by(first),
     })
 }
 
@@ -107,7 +95,7 @@ fn push_record(text: &mut String, words: &[&str]) -> Result<(), AllocError> {
 fn push_count(text: &mut String, line: u64) -> Result<(), AllocError> {
     write!(
         text,
-        "It has to say how many operations the log has, and {} stand before it.\n",
+        "It has to say how many operations stand before it, which is {}.\n",
         line.saturating_sub(2)
     )
 }
@@ -143,23 +131,35 @@ fn push_truncated(text: &mut String, at: &RefusedLine<'_>) -> Result<(), AllocEr
     )
 }
 
-/// Adds what is told of a header, of these words, of another core or of another number of cores.
+/// Adds what is told of a header of another core or of another number of cores.
 fn push_wrong_core(
     text: &mut String,
     refused: &RefusedLog,
-    words: &[&str],
+    at: &RefusedLine<'_>,
 ) -> Result<(), AllocError> {
     write!(
         text,
         "It was given as file {} of {}, counted from 0, so it has to say core {} of {}.\n",
         refused.file, refused.files, refused.file, refused.files
     )?;
-    match words.get(5) {
-        Some(cores) if number_in(cores) == Some(refused.files as u64) => text.push_str(ORDER),
+    match at.words.get(5) {
+        Some(cores) if number_in(cores) == Some(refused.files as u64) => push_order(text, at.name),
         Some(cores) => write!(
             text,
             "It is a log of a set of {cores}: give the logs of all cores, and those of one run.\n"
         ),
         None => Ok(()),
+    }
+}
+
+/// Adds in which order the files are given; and how to get that from the shell, where the number in this name has two digits.
+fn push_order(text: &mut String, name: &str) -> Result<(), AllocError> {
+    text.push_str("The files are given in the order of their cores, that of core 0 first.\n")?;
+    match name.rsplit_once('.') {
+        Some((stem, number)) if number.len() > 1 && number_in(number).is_some() => write!(
+            text,
+            "The shell has {stem}.10 before {stem}.2; write $(ls -v {stem}.*).\n"
+        ),
+        _ => Ok(()),
     }
 }

@@ -30,7 +30,7 @@ pub(crate) fn push_bad_line(
         return text.push_str("It comes after the line end, which is the last.\n");
     }
     if !at.is_whole() {
-        return push_cut_off(text, at.line);
+        return push_cut_off(text, at);
     }
     if at.line.is_empty() {
         return text.push_str("It is empty; there are no empty lines.\n");
@@ -48,10 +48,12 @@ pub(crate) fn push_bad_line(
 }
 
 /// Adds what is told of a last line without a line feed.
-fn push_cut_off(text: &mut String, line: &[u8]) -> Result<(), AllocError> {
-    text.push_str(if line.is_empty() {
+fn push_cut_off(text: &mut String, at: &RefusedLine<'_>) -> Result<(), AllocError> {
+    text.push_str(if at.text.is_empty() {
+        "The file is empty.\n"
+    } else if at.line.is_empty() {
         "The file ends here, before its last line, end.\n"
-    } else if line == b"end".as_slice() {
+    } else if at.line == b"end".as_slice() {
         "The file ends before the line feed of its last line: write one there too.\n"
     } else {
         "The file ends in the middle of a line: it is cut off.\n"
@@ -81,13 +83,17 @@ fn push_first(
     )
 }
 
-/// What is told of a first line that begins with this word; nothing of a word that begins no line of the formats.
-fn begun_by(first: &str) -> &'static str {
+/// What is told of a first line that begins with this word, in place of that of another format; nothing of a word that begins no
+/// line of the formats.
+pub(crate) fn begun_by(first: &str) -> &'static str {
     match first {
         "tardis-litmus" => "It begins a litmus test, which tardis litmus runs.\n",
-        "tardis-programs" => "It begins a set of programs, which tardis sim and tardis run run.\n",
+        "tardis-programs" => {
+            "It begins a set of programs, which tardis sim and tardis run run; beside logs it goes after --program.\n"
+        }
         "tardis-log" => "It begins a log.\n",
-        "core" => "It begins a section: the first line before it is missing.\n",
+        "core" => "It begins a section of programs: the first line before it is missing.\n",
+        "S" | "L" | "X" => "It is a record of a log: the header before it is missing.\n",
         _ => "",
     }
 }
@@ -109,8 +115,22 @@ fn push_later(
         ),
         ("show", Kind::Litmus) => push_show(text, at, fields),
         ("forbid", Kind::Litmus) => push_forbid(text, at, fields),
-        _ => push_instruction(text, at, first, fields),
+        _ => match meant_by(first) {
+            Some(meant) => write!(
+                text,
+                "A line that begins with {meant} seems to be meant: write that word in small letters and without a colon.\n"
+            ),
+            None => push_instruction(text, at, first, fields),
+        },
     }
+}
+
+/// The first word of the line that was meant by one with this first word, which has capital letters or a colon.
+fn meant_by(first: &str) -> Option<&'static str> {
+    let bare = first.strip_suffix(':').unwrap_or(first);
+    ["core", "show", "forbid", "end"]
+        .into_iter()
+        .find(|word| word.eq_ignore_ascii_case(bare))
 }
 
 /// Adds what is told of a line that begins as the last one of this text.

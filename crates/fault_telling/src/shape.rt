@@ -126,12 +126,14 @@ pub(crate) fn push_departure(
     }
 }
 
-/// Adds which fields are missing after these words. Where the last of four is a source, it is the rank that was left out.
+/// Adds which fields are missing after these words. Where the last of four is a source, it is the rank that was left out, and
+/// where the number of cores of a test has its word before it, it is the name.
 fn push_missing(text: &mut String, missing: &[Field], words: &[&str]) -> Result<(), AllocError> {
-    match words {
-        [_, _, _, last] if *last == "init" || last.contains('.') => {
+    match (missing, words) {
+        (_, [_, _, _, last]) if *last == "init" || last.contains('.') => {
             return text.push_str("Its rank is missing, 0 where all times differ.\n");
         }
+        ([Field::Cores], [_, "cores", _]) => return text.push_str("Its name is missing.\n"),
         _ => {}
     }
     for field in missing {

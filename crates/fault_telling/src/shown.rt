@@ -3,6 +3,18 @@
 use std::fmt;
 use std::fmt::Display;
 
+/// A number of things, with the word for one of them.
+#[derive(Clone, Copy)]
+pub(crate) struct Counted<'a>(pub(crate) u64, pub(crate) &'a str);
+
+impl<'a> Display for Counted<'a> {
+    fn fmt<W: fmt::Write>(&self, f: &mut fmt::Formatter<W>) -> fmt::Result {
+        let (count, one) = (self.0, self.1);
+        let ending = if count == 1 { "" } else { "s" };
+        write!(f, "{count} {one}{ending}")
+    }
+}
+
 /// As many bytes of a line, or of a word, are shown at most.
 const SHOWN: usize = 80;
 

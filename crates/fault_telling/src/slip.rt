@@ -5,6 +5,9 @@ use super::lines::RefusedLine;
 /// What is told of the first slip that a line has.
 pub(crate) fn first_slip(at: &RefusedLine<'_>) -> Option<&'static str> {
     let line = at.line;
+    if at.number == 1 && is_trace(at.text) {
+        return Some("This is a trace; tardis search judges it.\n");
+    }
     if line.starts_with(b"\xef\xbb\xbf") {
         return Some("The file begins with a byte order mark, the bytes EF BB BF; write none.\n");
     }
@@ -21,6 +24,14 @@ pub(crate) fn first_slip(at: &RefusedLine<'_>) -> Option<&'static str> {
         return Some("It has a tab, \\t; write one space between two fields.\n");
     }
     slip_of_words(line, at.words)
+}
+
+/// Whether a line of a text is that of an operation of a trace, which begins with a digit and has `M[`.
+fn is_trace(text: &[u8]) -> bool {
+    text.split(|byte| *byte == b'\n').any(|line| {
+        line.first().is_some_and(u8::is_ascii_digit)
+            && line.windows(2).any(|pair| pair == b"M[".as_slice())
+    })
 }
 
 /// What is told of the first slip that a line of these words has.

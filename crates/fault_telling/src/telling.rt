@@ -64,6 +64,7 @@ impl<'a> Telling<'a> {
         let line = line_of(bytes, self.place.line);
         let words = words_of(alloc, line)?;
         let at = RefusedLine {
+            name: self.place.file,
             text: bytes,
             number: self.place.line,
             line,

@@ -7,7 +7,7 @@ use Rattle.verdict.specs.declared.answer.Verdict.TheVariants.{Yes, No}
 use Rattle.verdict.specs.declared.rule.Rule.TheVariants.{Program}
 
 abbrev pub another_text : List ℕ
-another_text = codes "\nanother order explains all values: the times are wrong, or the sources\n"
+another_text = codes "\nanother order explains all values, so this run is sequentially consistent; a time or a source was logged wrong, or the machine broke its own order and no value of this run shows it\n"
 
 abbrev pub none_text : List ℕ
 none_text = codes "\nno order explains all values:\n"

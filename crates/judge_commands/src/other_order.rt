@@ -24,7 +24,8 @@ const STEPS: u64 = 1_000_000;
 const STEPS_EACH: u64 = 100;
 
 /// What is told where there is one.
-const ANOTHER: &str = "\nanother order explains all values: the times are wrong, or the sources\n";
+const ANOTHER: &str =
+    "\nanother order explains all values, so this run is sequentially consistent; a time or a source was logged wrong, or the machine broke its own order and no value of this run shows it\n";
 
 /// What is told where there is none, before the argument.
 const NONE: &str = "\nno order explains all values:\n";

@@ -34,7 +34,7 @@ use verdict::{Examined, Verdict};
 
 /// What is told where a picture is asked for and the set is too large for one.
 const NO_PICTURE: &str =
-    "picture        none, of more than 200 operations; a file of its name is an older one\n";
+    "picture        none, of more than 200 operations; where there is a file of its name, that is an older one\n";
 
 /// What is told of a verdict.
 #[derive(Drop)]
