@@ -7,7 +7,7 @@ use Rattle.log_record.specs.declared.record.Record.{Record}
 use Rattle.log_file.specs.declared.fault.LogFault.{LogFault}
 use Rattle.log_file.specs.declared.line_reader.LineReader.{LineReader}
 use Rattle.log_file.specs.declared.line_reader.TakenLine.{TakenLine}
-use Rattle.log_file.specs.Standing.{IsSettledWith, SameLog, Takes, TakesNext, TakesRecord, with_read}
+use Rattle.log_file.specs.Standing.{IsLastRead, IsSettledWith, SameLog, Takes, TakesNext, TakesRecord, with_read}
 use Rattle.log_file.proofs.TakenParts.{takes_more, settled_more}
 
 module _ (piece rest : List ℕ) (taken : ℕ) (is : rest ≡ drop taken piece) where
@@ -19,11 +19,11 @@ module _ (piece rest : List ℕ) (taken : ℕ) (is : rest ≡ drop taken piece) 
     module _ {old mid : LineReader} {records : List Record} (first : Takes old records (take taken piece) mid records) (new : LineReader)
         (next : TakesNext mid records rest found new) where
       -- one more line, after those that were taken
-      line_more : Takes old records (take (taken + line.taken) piece) new (with_read records line.logged) × (new.begun.items ≡ [])
+      line_more : Takes old records (take (taken + line.taken) piece) new (with_read records line.logged) × (new.begun.items ≡ []) × IsLastRead line.logged new.progress.stage
       line_more =
           let second : TakesNext mid records rest (Some line) new = rw found-is at next in
           let text : take (taken + line.taken) piece ≡ take taken piece ++ take line.taken rest = rw is (take-add taken line.taken piece) in
-          (rw text (takes_more old mid new records records (with_read records line.logged) (take taken piece) (take line.taken rest) first second.0), second.1)
+          (rw text (takes_more old mid new records records (with_read records line.logged) (take taken piece) (take line.taken rest) first second.0), second.1, second.2)
 
       -- a line of no record
       pub goes_on : is_some line.logged ≡ false → Takes old records (take (taken + line.taken) piece) new records

@@ -14,7 +14,7 @@ use Rattle.log_file.specs.declared.line_reader.LineReader.{LineReader}
 use Rattle.log_file.specs.Log.{IsFirstFault, Spells, begun, text_of, spelling, with_lf, lines_of}
 use Rattle.log_file.specs.Feeding.{IsSettled}
 use Rattle.log_file.specs.OneLine.{IsOneLine}
-use Rattle.log_file.specs.Standing.{BehindAt, IsBehind, IsEnded, limit_at, RefusedAt, IsSound, IsTooFar, Stands, Takes, TakesNext, IsPartRefused, IsLineRefused, IsSettledWith, fault_of_more, read_text, whole_text, with_read}
+use Rattle.log_file.specs.Standing.{BehindAt, IsBehind, IsEnded, IsLastRead, limit_at, RefusedAt, IsSound, IsTooFar, Stands, Takes, TakesNext, IsPartRefused, IsLineRefused, IsSettledWith, fault_of_more, read_text, whole_text, with_read}
 use Rattle.log_file.proofs.Front.{body_cut, body_refused, header_cut, header_refused, some_line}
 use Rattle.log_file.proofs.Lines.{begun_push, fits_push, lines_of_front, spelling_is}
 use Rattle.log_file.proofs.OneLine.{bad_least, header_bad}
@@ -28,6 +28,13 @@ Taken q old line records after new =
     IsSound new.stage new.core new.cores after []
     × (new.count ≡ length after)
     × (whole_text new.stage new.core new.cores after ≡ whole_text q old.core old.cores records ++ with_lf line)
+
+-- a record's line leaves the reader among the records
+last_read : (q : Stage) (old new : Progress) (line : List ℕ) (r : Option Record) → old.stage ≡ q → BehindAt q old line r new → IsLastRead r new.stage
+last_read (stage.Records format) old new line (Some r) at (is, fits, few, new-is) = rw (new-is, at) tt
+last_read (stage.Records format) old new line None at behind = tt
+last_read stage.Header old new line None at behind = tt
+last_read q old new line r at behind = absurd behind
 
 pub line_taken : (q : Stage) (old new : Progress) (line part : List ℕ) (r : Option Record) (records : List Record)
     → old.stage ≡ q → IsSound q old.core old.cores records part → old.count ≡ length records
@@ -135,6 +142,7 @@ module _ {old : LineReader} {records : List Record} (stands : Stands old records
             text = rw (none, append-nil, taken.2, taken-is) (simp append_assoc);
           },
           none,
+          last_read p.stage p new.progress (old.begun.items ++ part) r refl behind,
         )
 
     piece_is : piece ≡ with_lf part ++ drop n piece

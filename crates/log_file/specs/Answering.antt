@@ -4,7 +4,7 @@ use Rattle.log_record.specs.declared.record.Record.{Record}
 use Rattle.log_file.specs.declared.fault.LogFault.{LogFault}
 use Rattle.log_file.specs.declared.progress.Stage.{Stage}
 use Rattle.log_file.specs.OneLine.{IsOneLine}
-use Rattle.log_file.specs.Standing.{IsSound, limit_at, whole_text}
+use Rattle.log_file.specs.Standing.{IsInRecords, IsSound, limit_at, whole_text}
 
 -- A reader of the log of one core: what it read last in whole lines, how many records these were, the bytes of the line that
 -- isn't whole yet, and the fault that it answers from then on.
@@ -33,10 +33,10 @@ pub record HasAnswered (s : Answering) (bytes : List ℕ) (records : List Record
 abbrev pub IsFaultless : Answering → Type 0
 IsFaultless s = (bytes : List ℕ) × ((records : List Record) × HasAnswered s bytes records)
 
--- What is answered to a piece after these bytes and records: the next record, whose line ends with the bytes that were used,
--- or none, where the piece was used whole.
+-- What is answered to a piece after these bytes and records: the next record, whose line ends with the bytes that were used and
+-- was read last, or none, where the piece was used whole.
 abbrev pub AnswersOne : List ℕ → List Record → List ℕ → (ℕ × Option Record) → Answering → Type 0
 AnswersOne bytes records piece (used, None) new =
     (used ≡ length piece) × HasAnswered new (bytes ++ piece) records
 AnswersOne bytes records piece (used, Some r) new =
-    (0 < used) × HasAnswered new (bytes ++ take used piece) (records ++ r ∷ []) × (new.begun ≡ [])
+    (0 < used) × HasAnswered new (bytes ++ take used piece) (records ++ r ∷ []) × (new.begun ≡ []) × IsInRecords new.stage

@@ -30,6 +30,11 @@ IsInRecords stage.Header = ⊥
 IsInRecords (stage.Records format) = ⊤
 IsInRecords (stage.Ended format) = ⊥
 
+-- where a record is answered, its line was read last
+abbrev pub IsLastRead : Option Record → Stage → Type 0
+IsLastRead None at = ⊤
+IsLastRead (Some r) at = IsInRecords at
+
 -- the end line was
 abbrev pub IsEnded : Stage → Type 0
 IsEnded stage.Header = ⊥
@@ -142,11 +147,11 @@ IsSettledWith s records bytes fault = IsSettled s.progress.core s.progress.cores
 abbrev pub TakesNext : LineReader → List Record → List ℕ → Option TakenLine → LineReader → Type 0
 TakesNext old records piece None new = Takes old records piece new records
 TakesNext old records piece (Some l) new =
-    Takes old records (take l.taken piece) new (with_read records l.logged) × (new.begun.items ≡ [])
+    Takes old records (take l.taken piece) new (with_read records l.logged) × (new.begun.items ≡ []) × IsLastRead l.logged new.progress.stage
 
 -- what was taken of a piece: the lines up to the next record's, or all of it, in which no record's line ends
 abbrev pub TakesRecord : LineReader → List Record → List ℕ → (ℕ × Option Record) → LineReader → Type 0
 TakesRecord old records piece (taken, None) new =
     (taken ≡ length piece) × Takes old records piece new records
 TakesRecord old records piece (taken, Some r) new =
-    (0 < taken) × Takes old records (take taken piece) new (records ++ r ∷ []) × (new.begun.items ≡ [])
+    (0 < taken) × Takes old records (take taken piece) new (records ++ r ∷ []) × (new.begun.items ≡ []) × IsInRecords new.progress.stage

@@ -37,7 +37,7 @@ module _ (bytes : List ℕ) (records : List Record) (old new : Answering) (piece
       → TakesOne bytes records (record { reader = old; unused = unused }) (Ok logged)
       (record { reader = new; unused = take (filled - (used + count)) (drop (used + count) piece) })
   one_taken count None few (all, answered) = (sym (left_over piece used filled count within few) ∙ drop_all count unused (omega (arith, all)), answered)
-  one_taken count (Some r) few (some, answered, none) = (
+  one_taken count (Some r) few (some, answered, none, last) = (
     take count unused,
     ap (λ xs. take count unused ++ xs) (sym (left_over piece used filled count within few)) ∙ take-append-drop count unused,
     answered,
