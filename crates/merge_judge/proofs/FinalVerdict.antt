@@ -3,7 +3,7 @@ use Rattle.std.specs.Prelude.{◌≡◌, ℕ, zero, suc, ◌+◌, ◌<◌, Bool,
 use Rattle.std.specs.Option.{option_map, option_map_or}
 use Rattle.std.specs.Ordering.{is_lt, nat_cmp}
 use Rattle.std.proofs.Common.{sym, ◌∙◌, ap, subst, inl, inr, arith, append-nil}
-use Rattle.std.proofs.lemmas.Bool.{false_from_ne_true}
+use Rattle.std.proofs.lemmas.Bool.{cases_lt, false_from_ne_true}
 use Rattle.std.proofs.lemmas.Map.Lookups.{exact_unsigned}
 use Rattle.std.proofs.lemmas.Option.{slice_get_within}
 use Rattle.line_stamps.specs.Ordered.{In, IsLeastIn}
@@ -16,7 +16,7 @@ use Rattle.core_check.specs.CoreOrder.{is_core_fault}
 use Rattle.core_check.specs.CoreFaults.{least_core_fault, order_fault, order_faults}
 use Rattle.core_check.specs.FaultOrder.{core_fault_cmp, rule_number}
 use Rattle.mem_op.specs.Limits.{operation_limit}
-use Rattle.merge_judge.proofs.Merged.{less_parts}
+use Rattle.merge_judge.proofs.Merged.{less_parts, one, there}
 use Rattle.core_check.specs.declared.fault.RuleFault.{RuleFault}
 use Rattle.core_check.proofs.FaultFacts.{core_fault_total, tied_core_faults}
 use Rattle.core_check.proofs.OrderFaultFacts.{FaultIn, fault_in_log, fault_of_log, record_at_fault}
@@ -25,13 +25,14 @@ use Rattle.log_file.specs.declared.fault.LogFault.TheVariants.{At, OutOfMemory, 
 use Rattle.log_file.specs.Answers.{IsFaultOrDevice}
 use Rattle.log_file.specs.Devices.{Tells}
 use Rattle.log_file.specs.Log.{IsFirstFault, Spells}
-use Rattle.log_file.specs.Sets.{SpellBefore, SpellFrom, SpellSet, TellEach, text_at, ReaderFailed}
+use Rattle.log_file.specs.Sets.{NoneFailed, SpellBefore, SpellFrom, SpellSet, TellEach, text_at, ReaderFailed}
 use Rattle.verdict.proofs.ProgramOrder.{less_index}
 use Rattle.verdict.specs.Counts.{IsBadCount}
 use Rattle.verdict.specs.Judgement.{IsAnswerTo}
 use Rattle.verdict.specs.SetFaults.{from_set}
 use Rattle.merge_judge.specs.LaneParts.{LaneParts}
 use Rattle.merge_judge.specs.inner.Lanes.{AllEnded, IsMerged, IsStage, NoFalls, front_list, log_at}
+use Rattle.merge_judge.specs.Answer.{IsQuietUpTo}
 use Rattle.merge_judge.specs.Begun.{BeginsLog}
 use Rattle.merge_judge.specs.inner.FinalVerdict.{AreBegun, NoneFaulty, NoneFalls, IsFinalVerdict}
 use Rattle.address_check.specs.declared.fault.AddressFault.{AddressFault}
@@ -44,6 +45,7 @@ use Rattle.verdict.specs.VerdictOf.{verdict_of, verdict_with}
 use Rattle.merge_judge.specs.inner.Memory.{first_along}
 use Rattle.merge_judge.proofs.Along.{along_is_least}
 use Rattle.merge_judge.proofs.Begins.{begins_whole}
+use Rattle.merge_judge.proofs.Quiet.{quiet_all, quiet_to}
 
 -- ---- one text for each reader
 
@@ -74,14 +76,6 @@ spell_from core cores (text ∷ texts) (log ∷ logs) long h = (
   subst (λ c. Spells c cores text log) (let e : core + 0 ≡ core = omega arith in e) (h 0 (omega arith)),
   spell_from (core + 1) cores texts logs (omega (arith, long)) (λ k l. subst (λ c. Spells c cores (text_at texts k) (log_at logs k)) (let e : core + suc k ≡ core + 1 + k = omega arith in e) (h (suc k) (omega arith))),
 )
-
-pub there : {X : Type 0} (xs : List X) (n : ℕ) → n < length xs → (x : X) × (slice_get xs n ≡ Some x)
-there [] n l = absurd (omega arith)
-there (x ∷ xs) zero l = (x, refl)
-there (x ∷ xs) (suc n) l = there xs n (omega arith)
-
-pub one : {X : Type 0} (o : Option X) (a b : X) → o ≡ Some a → o ≡ Some b → a ≡ b
-one o a b p q = cc
 
 pub log_there : (logs : List (List Record)) (k : ℕ) → k < length logs → slice_get logs k ≡ Some (log_at logs k)
 log_there [] k l = absurd (omega arith)
@@ -267,6 +261,22 @@ module _ {S : Type 0} (remaining : S → Option (List ℕ)) (failed : S → ℕ)
       let a = there after file (let n = m.many in let x = m.readers in omega (arith, w, n, x)) in
       (b.0, (a.0, b.1, a.1, (m.lane file b.0 a.0 l b.1 a.1 hl).read some))
 
+  -- none failed before the file that is told, and its own reader only where that is told
+  quiet_at : (file : ℕ) (fault : LogFault) (l : LaneParts) → slice_get lanes file ≡ Some l → l.fault ≡ Some fault → NoneFaulty lanes file → IsQuietUpTo failed before after (Some (Err (from_set file fault)))
+  quiet_at file (At line f) l hl some none = quiet_to remaining failed before after lanes numbers clean merged done m (file + 1) (λ k x less hx read. elim (cases_lt k file) [
+    | inl earlier ↦ (let sound = none k x earlier hx in cc)
+    | inr here ↦ (let same : k ≡ file = omega (arith, less, here) in
+        let is : l ≡ x = one (slice_get lanes file) l x hl (subst (λ n. slice_get lanes n ≡ Some x) same hx) in
+        let found : x.fault ≡ Some (At line f) = ap (λ (y : LaneParts). y.fault) (sym is) ∙ some in
+        cc)
+  ])
+  quiet_at file OutOfMemory l hl some none = tt
+  quiet_at file Read l hl some none = quiet_to remaining failed before after lanes numbers clean merged done m file (λ k x less hx read. (let sound = none k x less hx in cc))
+
+  -- where no log has a fault
+  quiet_whole : NoneFaulty lanes (length lanes) → NoneFailed failed before after
+  quiet_whole whole = quiet_all remaining failed before after lanes numbers clean merged done m (λ k l hl read. (let sound = whole k l (slice_get_within lanes k l hl) hl in cc))
+
   only_read : (file other : ℕ) (fault : LogFault) → from_set file fault ≡ ReadFile other → (fault ≡ Read) × (file ≡ other)
   only_read file other (At line f) h = absurd cc
   only_read file other OutOfMemory h = absurd cc
@@ -281,6 +291,7 @@ module _ {S : Type 0} (remaining : S → Option (List ℕ)) (failed : S → ℕ)
     clean = tt;
     failed_at = λ other h. (let t = only_read file other fault h in
         subst (λ k. ReaderFailed failed before after k) t.1 (reader_failed file l hl (some ∙ ap (λ f. Some f) t.0)));
+    quiet = quiet_at file fault l hl some none;
   }
 
   pub final_fall : (core index : ℕ) (l : LaneParts) → slice_get lanes core ≡ Some l → l.falls ≡ Some index → NoneFalls lanes core → NoneFaulty lanes (length lanes)
@@ -292,6 +303,7 @@ module _ {S : Type 0} (remaining : S → Option (List ℕ)) (failed : S → ℕ)
     answers = (merged, spell_set whole, ap (λ o. verdict_with o merged) (first_falls core index l hl some none));
     clean = (spell_set whole, inl (refl, (subst (λ o. IsLeastWhere (is_core_fault (log_at merged core)) o) some (fall_of core l hl)).0));
     failed_at = tt;
+    quiet = quiet_whole whole;
   }
 
   module _ (none : NoneFalls lanes (length lanes)) (whole : NoneFaulty lanes (length lanes)) (address : Option AddressFault) (first : NoFalls lanes → address ≡ first_along [] done) where
@@ -315,6 +327,7 @@ module _ {S : Type 0} (remaining : S → Option (List ℕ)) (failed : S → ℕ)
       answers = (merged, spell_set whole, ap (λ o. option_map_or No (option_map from_address o) (Yes (length done))) (sym is) ∙ verdict_is);
       clean = (spell_set whole, inr (steady, (fault, sym least_address ∙ is, refl)));
       failed_at = tt;
+      quiet = quiet_whole whole;
     }
 
     pub final_yes : (count : ℕ) → count ≡ length done → address ≡ None → IsFinalVerdict remaining failed before after lanes merged (Ok (Yes count))
@@ -327,4 +340,5 @@ module _ {S : Type 0} (remaining : S → Option (List ℕ)) (failed : S → ℕ)
           answers = (merged, spell_set whole, says);
           clean = (spell_set whole, says, λ k l hl. (steady k l hl, whole k l (slice_get_within lanes k l hl) hl));
           failed_at = tt;
+          quiet = quiet_whole whole;
         }

@@ -12,7 +12,7 @@ use Rattle.merge_judge.specs.Begun.{BeginsOrder, BeginsWhole, EndBefore, StopsBe
 use Rattle.merge_judge.specs.inner.Lanes.{IsMerged, NoFalls}
 use Rattle.verdict.proofs.Told.{each_tells, told}
 use Rattle.std.specs.Io.KnownBytes.{Appends}
-use Rattle.merge_judge.specs.Answer.{judged}
+use Rattle.merge_judge.specs.Answer.{IsQuietUpTo, judged}
 use Rattle.merge_judge.specs.declared.merge_fault.MergeFault.{MergeFault}
 use Rattle.merge_judge.specs.declared.merge_fault.MergeFault.TheVariants.{Judge, Write}
 use Rattle.merge_judge.specs.OrderText.{LacksEnd, end_line, id_lines, order_text}
@@ -36,14 +36,15 @@ use Rattle.merge_judge.specs.inner.Merging.{HasMerged}
 use Rattle.merge_judge.specs.inner.FinalVerdict.{IsFinalVerdict}
 use Rattle.merge_judge.specs.inner.Writing.{IsWritten}
 use Rattle.merge_judge.proofs.MergeSoFar.{front_of, joined, lacks_end, lacks_more, lines_where}
+use Rattle.merge_judge.proofs.Quiet.{quiet_clean, quiet_write}
 use Rattle.merge_judge.proofs.Shown.{IsShown, ids, order_where}
 use Rattle.merge_judge.proofs.Stopped.{before_fault, begins_order, begun_texts, none_begins}
 use Rattle.merge_judge.proofs.WritingFacts.{appends_none}
 
 -- what ends in place of a verdict has no word of the texts but how they begin
 module _ {S : Type 0} (remaining : S → Option (List ℕ)) (failed : S → ℕ) (old new : Option (List ℕ)) (before after : List S) (written : List ℕ) (appends : Appends old new written) (lacks : LacksEnd written) (texts : List (List ℕ)) (tells : TellEach remaining before texts) where
-  early : (fault : MergeFault) → IfSome (judged (Err fault)) (IsAnswerTo texts) → StopsBefore texts (Err fault) written → ((file : ℕ) → fault ≡ Judge (Read file) → ⊥) → IsMergedBy remaining failed old new before after (Err fault)
-  early fault answers stops unread = record {
+  early : (fault : MergeFault) → IfSome (judged (Err fault)) (IsAnswerTo texts) → StopsBefore texts (Err fault) written → ((file : ℕ) → fault ≡ Judge (Read file) → ⊥) → IsQuietUpTo failed before after (judged (Err fault)) → IsMergedBy remaining failed old new before after (Err fault)
+  early fault answers stops unread quiet = record {
     texts = texts;
     tells = tells;
     answers = answers;
@@ -52,11 +53,12 @@ module _ {S : Type 0} (remaining : S → Option (List ℕ)) (failed : S → ℕ)
     writes = lacks;
     stops = stops;
     read = λ file h. absurd (unread file h);
+    quiet = quiet;
   }
 
-  pub ends_early : (f : WriteFault) → BeginsOrder texts (Err (from_write f)) written ⊎ BeginsWhole texts written → IsMergedBy remaining failed old new before after (Err (from_write f))
-  ends_early NoMemory stops = early (Judge OutOfMemory) tt stops (λ file h. cc)
-  ends_early WriteFailed stops = early Write tt stops (λ file h. cc)
+  pub ends_early : (f : WriteFault) → BeginsOrder texts (Err (from_write f)) written ⊎ BeginsWhole texts written → IsQuietUpTo failed before after (judged (Err (from_write f))) → IsMergedBy remaining failed old new before after (Err (from_write f))
+  ends_early NoMemory stops quiet = early (Judge OutOfMemory) tt stops (λ file h. cc) quiet
+  ends_early WriteFailed stops quiet = early Write tt stops (λ file h. cc) quiet
 
 -- a failed write is told as such
 pub wrote : (f : WriteFault) → ◌≡◌ {A = Result (Unit {0}) WriteFault} (Err f) (Err WriteFailed) → from_write f ≡ Write
@@ -72,7 +74,7 @@ pub no_memory : {S : Type 0} (remaining : S → Option (List ℕ)) (failed : S �
 no_memory remaining failed old before after =
     let texts = map (λ reader. told (remaining reader)) before in
     ends_early remaining failed old old before after [] (appends_none old) (lacks_end [] [] [] refl) texts (each_tells remaining before) NoMemory
-    (inl (none_begins remaining before OutOfMemory))
+    (inl (none_begins remaining before OutOfMemory)) tt
 
 no_end_before : (f : WriteFault) (texts : List (List ℕ)) (logs : List (List Record)) → EndBefore texts (Err (from_write f)) logs
 no_end_before NoMemory texts logs = tt
@@ -80,13 +82,14 @@ no_end_before WriteFailed texts logs = tt
 
 -- a write that fails at a record
 pub look_fails : {S : Type 0} (remaining : S → Option (List ℕ)) (failed : S → ℕ) (old mid new : Option (List ℕ)) (before after : List S) (lanes : List LaneParts) (numbers : List ℕ) (clean : Bool) (merged : List (List Record)) (done : List Entry) (written kept kept_new : List ℕ) (order : List OpId) (on : Bool) (id : OpId) (f : WriteFault)
-    → IsMerged remaining failed before after lanes numbers clean merged done → IsShown (order_where on order id) merged done lanes
+    → IsMerged remaining failed before after lanes numbers clean merged done → clean ≡ true → IsShown (order_where on order id) merged done lanes
     → Appends old mid written → written ++ kept ≡ id_lines order → IsWritten mid new (kept ++ line_where on id) (Err f) kept_new → IsMergedBy remaining failed old new before after (Err (from_write f))
-look_fails remaining failed old mid new before after lanes numbers clean merged done written kept kept_new order on id f m shown appends lines w =
+look_fails remaining failed old mid new before after lanes numbers clean merged done written kept kept_new order on id f m steady shown appends lines w =
     let all : (written ++ w.0) ++ w.1.0 ≡ id_lines (order_where on order id) = joined written kept w.0 w.1.0 (line_where on id) (id_lines order) lines w.1.2 ∙ sym (lines_where on order id) in
     let t = begun_texts remaining failed before after lanes numbers clean merged done m in
     ends_early remaining failed old new before after (written ++ w.0) (appends_more old mid new written w.0 appends w.1.1) (lacks_end (written ++ w.0) w.1.0 (order_where on order id) all) t.0 t.1.0 f
     (inl (begins_order t.0 (Err (from_write f)) (order_where on order id) merged done lanes (written ++ w.0) w.1.0 shown t.1.1 all (no_end_before f t.0 shown.logs)))
+    (quiet_write failed before after f (quiet_clean remaining failed before after lanes numbers clean merged done m steady))
 
 -- a set without a verdict, and one with a No
 module _ {S : Type 0} (remaining : S → Option (List ℕ)) (failed : S → ℕ) (old new : Option (List ℕ)) (before after : List S) (lanes : List LaneParts) (merged : List (List Record)) (done : List Entry) (written kept : List ℕ) (order : List OpId)
@@ -101,6 +104,7 @@ module _ {S : Type 0} (remaining : S → Option (List ℕ)) (failed : S → ℕ)
     writes = lacks_end written kept order lines;
     stops = go fault counts;
     read = λ file h. s.failed_at file (let e : fault ≡ Read file = cc in e);
+    quiet = s.quiet;
   }
     where
       go : (f : JudgeFault) → (IsBadCount f → ⊥) → StopsBefore s.texts (Err (Judge f)) written
@@ -119,6 +123,7 @@ module _ {S : Type 0} (remaining : S → Option (List ℕ)) (failed : S → ℕ)
     writes = lacks_end written kept order lines;
     stops = begins_order s.texts (Ok (No fault)) order merged done lanes written kept shown s.begun lines (before_fault order merged done lanes shown s.texts fault by_key_is s.clean.0 s.clean.1);
     read = tt;
+    quiet = s.quiet;
   }
 
 -- a Yes: all records were merged without a fault, and their order is written
@@ -159,6 +164,7 @@ module _ {S L : Type 0} (remaining : S → Option (List ℕ)) (failed : S → �
     );
     stops = tt;
     read = tt;
+    quiet = s.quiet;
   }
 
   pub end_fails : (f : WriteFault) → IsWritten mid new (kept ++ end_line count) (Err f) kept_new → IsMergedBy remaining failed old new before after (Err (from_write f))
@@ -166,6 +172,7 @@ module _ {S L : Type 0} (remaining : S → Option (List ℕ)) (failed : S → �
       ends_early remaining failed old new before after (written ++ w.0) (appends_more old mid new written w.0 appends w.1.1)
       (lacks_more (written ++ w.0) w.1.0 order all_is w.1.4) s.texts s.tells f
       (inr (merged, (s.clean.0, (subst IsYes s.clean.1 tt, (length (written ++ w.0), sym (front_of (written ++ w.0) w.1.0 (order_text order) all_is) ∙ ap (λ ids. take (length (written ++ w.0)) (order_text ids)) by_key_is)))))
+      (quiet_write failed before after f (quiet_clean remaining failed before after merge.lanes.items merge.fronts merge.clean merged done m steady))
     where
       all_is : (written ++ w.0) ++ w.1.0 ≡ order_text order
       all_is = joined written kept w.0 w.1.0 (end_line count) (id_lines order) lines w.1.2 ∙ ap (λ n. id_lines order ++ end_line n) long

@@ -12,6 +12,7 @@ pub mod Opening
 pub mod FinalVerdict
 pub mod Shown
 pub mod MergeSoFar
+pub mod Quiet
 pub mod Stopped
 pub mod Judged
 pub mod Slices

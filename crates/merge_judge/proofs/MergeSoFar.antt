@@ -1,5 +1,5 @@
 -- A merge with what it has checked and written.
-use Rattle.std.specs.Prelude.{◌≡◌, ◌≢◌, ℕ, zero, suc, ◌<◌, ◌≤◌, Bool, true, false, List, [], ◌∷◌, ◌++◌, refl, Option, Some, None, is_some, is_none, ◌&&◌, length, take, slice_get}
+use Rattle.std.specs.Prelude.{◌≡◌, ◌≢◌, ℕ, ◌≤◌, Bool, true, false, List, [], ◌∷◌, ◌++◌, refl, Option, Some, None, is_some, is_none, ◌&&◌, length, take}
 use Rattle.std.proofs.Common.{sym, ◌∙◌, ap, arith, append_assoc, append-nil, length-append}
 use Rattle.std.specs.Option.{option_or}
 use Rattle.std.specs.Io.KnownBytes.{Appends}
@@ -15,8 +15,9 @@ use Rattle.merge_judge.specs.declared.merge.Merge.{Merge}
 use Rattle.merge_judge.specs.OrderText.{LacksEnd, end_line, id_line, id_lines, order_text}
 use Rattle.merge_judge.specs.inner.Judging.{line_where}
 use Rattle.merge_judge.specs.inner.Merging.{HasMerged}
-use Rattle.merge_judge.specs.inner.Memory.{Holds, first_along}
+use Rattle.merge_judge.specs.inner.Memory.{Holds, IsMemory, first_along}
 use Rattle.merge_judge.proofs.Added.{entries_few}
+use Rattle.merge_judge.proofs.Merged.{there}
 use Rattle.merge_judge.proofs.Shown.{IsShown, ids, order_where}
 use Rattle.merge_judge.proofs.WritingFacts.{end_line_some}
 
@@ -25,8 +26,7 @@ pub record MergeSoFar {S L : Type 0} (remaining : S → Option (List ℕ)) (fail
   pub done : List Entry
   pub is_merged : HasMerged remaining failed before after merge merged done
   pub counted : count ≡ length done
-  pub words : length values ≡ 65536
-  pub origins : length sources ≡ 65536
+  pub whole : IsMemory values sources
   pub holds : fault ≡ None → Holds values sources done
   pub first : fault ≡ first_along [] done
   pub written : List ℕ
@@ -38,11 +38,6 @@ pub record MergeSoFar {S L : Type 0} (remaining : S → Option (List ℕ)) (fail
   pub quiet : failed_now ≡ failed_before
 
 -- ---- how many records there are
-
-there : {X : Type 0} (xs : List X) (n : ℕ) → n < length xs → (x : X) × (slice_get xs n ≡ Some x)
-there [] n l = absurd (omega arith)
-there (x ∷ xs) zero l = (x, refl)
-there (x ∷ xs) (suc n) l = there xs n (omega arith)
 
 pub few_done : {S L : Type 0} (remaining : S → Option (List ℕ)) (failed : S → ℕ) (before after : List S) (merge : Merge L) (merged : List (List Record)) (done : List Entry) → HasMerged remaining failed before after merge merged done → length done ≤ 67108864
 few_done remaining failed before after merge merged done m =

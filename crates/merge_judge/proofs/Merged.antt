@@ -103,12 +103,12 @@ set_same [] n x h = absurd cc
 set_same (y ∷ ys) zero x h = let e : y ≡ x = cc in ap (λ z. z ∷ ys) (sym e)
 set_same (y ∷ ys) (suc n) x h = ap (λ zs. y ∷ zs) (set_same ys n x h)
 
-there : {X : Type 0} (xs : List X) (n : ℕ) → n < length xs → (x : X) × (slice_get xs n ≡ Some x)
+pub there : {X : Type 0} (xs : List X) (n : ℕ) → n < length xs → (x : X) × (slice_get xs n ≡ Some x)
 there [] n l = absurd (omega arith)
 there (x ∷ xs) zero l = (x, refl)
 there (x ∷ xs) (suc n) l = there xs n (omega arith)
 
-one : {X : Type 0} (o : Option X) (a b : X) → o ≡ Some a → o ≡ Some b → a ≡ b
+pub one : {X : Type 0} (o : Option X) (a b : X) → o ≡ Some a → o ≡ Some b → a ≡ b
 one o a b p q = cc
 
 pub taken_there : (lanes : List LaneParts) (core : ℕ) (lane lane_new : LaneParts) (r : Record) → slice_get lanes core ≡ Some lane → lane.front ≡ Some r → IsTaken core r lanes (slice_set lanes core lane_new)

@@ -30,7 +30,8 @@ use Rattle.merge_judge.proofs.Added.{add_here, add_long, add_other}
 use Rattle.merge_judge.proofs.Along.{along_is_least}
 use Rattle.merge_judge.proofs.Falls.{fall_past, never_front}
 use Rattle.merge_judge.proofs.Opening.{no_entries}
-use Rattle.merge_judge.proofs.FinalVerdict.{log_there, one, there}
+use Rattle.merge_judge.proofs.FinalVerdict.{log_there}
+use Rattle.merge_judge.proofs.Merged.{one, there}
 
 abbrev pub ids : List Entry → List OpId
 ids done = map (λ e. e.id) done

@@ -42,7 +42,8 @@ use Rattle.merge_judge.proofs.Falls.{fall_left}
 use Rattle.merge_judge.proofs.Following.{begun_text}
 use Rattle.merge_judge.proofs.MergeSoFar.{front_of}
 use Rattle.merge_judge.proofs.Opening.{no_entries, none_there, replicate_long}
-use Rattle.merge_judge.proofs.FinalVerdict.{gather, log_there, one, tell_each, there}
+use Rattle.merge_judge.proofs.FinalVerdict.{gather, log_there, tell_each}
+use Rattle.merge_judge.proofs.Merged.{one, there}
 use Rattle.merge_judge.proofs.Shown.{IsShown, none_yes, yes_where}
 
 -- what is written of the ids that are shown

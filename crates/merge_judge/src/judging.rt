@@ -1,6 +1,6 @@
 //! The judge that merges.
 
-ghost use Rattle.std.specs.Prelude.{◌≡◌, ◌↔◌, ◌<◌, ◌≤◌, ◌∷◌, ◌++◌, ◌&&◌, ℕ, List, [], None, length, is_none, IfErr, IfSome, IsErrOf};
+ghost use Rattle.std.specs.Prelude.{◌≡◌, ◌↔◌, ◌<◌, ◌≤◌, ◌∷◌, ◌++◌, ◌&&◌, ℕ, List, [], None, Some, length, is_none, true, IfErr, IfSome, IsErr, IsErrOf};
 ghost use Rattle.std.specs.Io.KnownBytes.{Appends};
 ghost use Rattle.log_file.specs.Devices.{TellsFailure};
 ghost use Rattle.log_file.specs.Sets.{ReaderFailed, TellEach};
@@ -9,12 +9,12 @@ ghost use Rattle.verdict.specs.Judgement.{IsAnswerTo};
 ghost use Rattle.verdict.specs.declared.judge_fault.Count.TheVariants.{Files, Programs, Workers};
 ghost use Rattle.verdict.specs.declared.judge_fault.JudgeFault.TheVariants.{BadConfig, Read};
 ghost use Rattle.merge_judge.specs.declared.merge_fault.MergeFault.TheVariants.{Judge, Write};
-ghost use Rattle.merge_judge.specs.Answer.{WritesOrder, judged};
+ghost use Rattle.merge_judge.specs.Answer.{IsQuietUpTo, WritesOrder, judged};
 ghost use Rattle.merge_judge.specs.Begun.{StopsBefore};
 ghost use Rattle.std.specs.Option.{option_or};
 ghost use Rattle.log_record.specs.declared.record.Entry.{Entry};
 ghost use Rattle.merge_judge.specs.inner.Judging.{IsMergedBy, IsNoCount, line_where};
-ghost use Rattle.merge_judge.specs.inner.Memory.{Holds, fault_after};
+ghost use Rattle.merge_judge.specs.inner.Memory.{Holds, IsMemory, fault_after};
 ghost use Rattle.merge_judge.specs.inner.Merging.{Fit};
 ghost use Rattle.merge_judge.specs.inner.Writing.{IsWritten};
 
@@ -41,10 +41,8 @@ fn look<W: ByteSink, O: Order<W>>(
     order: &mut O,
     order_out: &mut W,
 ) -> Result<(), WriteFault>
-    requires words { length words.old.values.items ≡ 65536 }
-    requires origins { length words.old.sources.items ≡ 65536 }
-    ensures words { length words.new.values.items ≡ 65536 }
-    ensures origins { length words.new.sources.items ≡ 65536 }
+    requires { IsMemory words.old.values.items words.old.sources.items }
+    ensures whole { IsMemory words.new.values.items words.new.sources.items }
     ensures holds { (done : List Entry)
         → (fault.old ≡ None → Holds words.old.values.items words.old.sources.items done)
         → fault.new ≡ None → Holds words.new.values.items words.new.sources.items (done ++ entry.now ∷ []) }
@@ -55,6 +53,7 @@ fn look<W: ByteSink, O: Order<W>>(
         (O.kept order.old ++ line_where (is_none fault.new && clean) entry.now.id) result (O.kept order.new) }
     ensures failures { TellsFailure (IsErrOf result WriteFault.Write)
         (W.failed order_out.old) (W.failed order_out.new) }
+    ensures unwritten { IsErr result → clean ≡ true }
 {
     if fault.is_some() {
         return Ok(());
@@ -136,6 +135,8 @@ pub fn merge_judge<S: ByteSource, W: ByteSink>(
         × WritesOrder texts result written × StopsBefore texts result written) }
     ensures read { IfErr result (λ fault. (file : ℕ) → fault ≡ Judge (Read file)
         → ReaderFailed S.failed readers.old readers.new file) }
+    // No failed read is passed over, but behind the file that is told, and where memory was refused.
+    ensures quiet { IsQuietUpTo S.failed readers.old readers.new (judged result) }
     // A failed write is answered only where the writer failed in this call, and none is passed over.
     ensures failures { TellsFailure (IsErrOf result Write) (W.failed order_out.old) (W.failed order_out.new) }
 {
@@ -161,6 +162,7 @@ pub fn merged_verdict<S: ByteSource>(
         × IsAnswerTo texts result }
     ensures read { IfErr result (λ fault. (file : ℕ) → fault ≡ Read file
         → ReaderFailed S.failed readers.old readers.new file) }
+    ensures quiet { IsQuietUpTo S.failed readers.old readers.new (Some result) }
 {
     check_counts(readers.len(), 1)?;
     match merged::<OpenLog, S, Nowhere, Nowhere>(alloc, readers, &mut Nowhere, Nowhere) {

@@ -4,7 +4,7 @@ ghost use Rattle.std.specs.Prelude.{◌≡◌, ◌<◌, ℕ, [], ◌∷◌, ◌+
 ghost use Rattle.mem_op.specs.declared.id.Source.TheVariants.{Init};
 ghost use Rattle.log_record.specs.declared.record.Entry.{Entry};
 ghost use Rattle.address_check.specs.AddressFaults.{fault_by};
-ghost use Rattle.merge_judge.specs.inner.Memory.{Holds, fault_after};
+ghost use Rattle.merge_judge.specs.inner.Memory.{Holds, IsMemory, fault_after};
 
 use address_check::{AddressFault, AddressRule, broken_by, is_store};
 use log_record::{Act, Entry};
@@ -61,8 +61,7 @@ impl SourcedMemory {
 
     /// What an operation breaks by the word of its address.
     fn fault_of(&self, entry: &Entry) -> Option<AddressFault>
-        requires words { length self.now.values.items ≡ 65536 }
-        requires origins { length self.now.sources.items ≡ 65536 }
+        requires { IsMemory self.now.values.items self.now.sources.items }
         ensures { (done : List Entry) → Holds self.now.values.items self.now.sources.items done
             → result ≡ fault_after done entry.now }
     {
@@ -77,10 +76,8 @@ impl SourcedMemory {
 
     /// Answers what a load or a swap breaks, and writes what a store or a swap writes.
     pub(crate) fn perform(&mut self, entry: &Entry) -> Option<AddressFault>
-        requires words { length self.old.values.items ≡ 65536 }
-        requires origins { length self.old.sources.items ≡ 65536 }
-        ensures words { length self.new.values.items ≡ 65536 }
-        ensures origins { length self.new.sources.items ≡ 65536 }
+        requires { IsMemory self.old.values.items self.old.sources.items }
+        ensures whole { IsMemory self.new.values.items self.new.sources.items }
         ensures fault { (done : List Entry) → Holds self.old.values.items self.old.sources.items done
             → result ≡ fault_after done entry.now }
         ensures holds { (done : List Entry) → Holds self.old.values.items self.old.sources.items done

@@ -19,6 +19,7 @@ use Rattle.verdict.specs.declared.rule.Rule.TheVariants.{CoreOrder}
 use Rattle.merge_judge.specs.inner.Lanes.{NoFalls, front_list, log_at}
 use Rattle.log_file.specs.declared.fault.SetFault.{SetFault}
 use Rattle.merge_judge.specs.LaneParts.{LaneParts}
+use Rattle.merge_judge.specs.Answer.{IsQuietUpTo}
 use Rattle.merge_judge.specs.Begun.{BeginsLog}
 
 -- none of the first n logs has a fault
@@ -66,3 +67,4 @@ pub record IsFinalVerdict {S : Type 0} (remaining : S → Option (List ℕ)) (fa
   pub begun : AreBegun texts lanes merged
   pub clean : IsClean lanes merged texts result
   pub failed_at : IfErr result (λ fault. (file : ℕ) → fault ≡ Read file → ReaderFailed failed before after file)
+  pub quiet : IsQuietUpTo failed before after (Some result)

@@ -1,10 +1,10 @@
 -- The text that records would have as a log, and how far it was given.
-use Rattle.std.specs.Prelude.{◌≡◌, ◌<◌, ◌≤◌, ℕ, Bool, true, false, List, [], ◌∷◌, ◌++◌, Option, None, Some, drop, length, map}
+use Rattle.std.specs.Prelude.{◌<◌, ◌≤◌, ℕ, Bool, true, false, List, [], ◌∷◌, ◌++◌, None, drop, length, map}
 use Rattle.log_record.specs.declared.format.Format.TheVariants.{Two}
 use Rattle.log_record.specs.declared.record.Record.{Record}
 use Rattle.log_record.specs.Line.{end_text, record_text}
 use Rattle.log_file.specs.declared.progress.Stage.TheVariants.{Records}
-use Rattle.log_file.specs.Log.{begun, spelling, text_of}
+use Rattle.log_file.specs.Log.{spelling, text_of}
 use Rattle.merge_judge.specs.LaneParts.{KeptLog}
 use Rattle.merge_judge.specs.Records.{AreOfLog}
 

@@ -10,7 +10,7 @@ use Rattle.verdict.specs.Counts.{IsBadCount}
 use Rattle.verdict.specs.Judgement.{IsAnswerTo}
 use Rattle.merge_judge.specs.declared.merge_fault.MergeFault.{MergeFault}
 use Rattle.merge_judge.specs.declared.merge_fault.MergeFault.TheVariants.{Judge, Write}
-use Rattle.merge_judge.specs.Answer.{WritesOrder, judged}
+use Rattle.merge_judge.specs.Answer.{IsQuietUpTo, WritesOrder, judged}
 use Rattle.merge_judge.specs.Begun.{StopsBefore}
 
 -- the line of an id, or none
@@ -32,3 +32,4 @@ pub record IsMergedBy {S : Type 0} (remaining : S → Option (List ℕ)) (failed
   pub writes : WritesOrder texts result written
   pub stops : StopsBefore texts result written
   pub read : IfErr result (λ fault. (file : ℕ) → fault ≡ Judge (Read file) → ReaderFailed failed before after file)
+  pub quiet : IsQuietUpTo failed before after (judged result)

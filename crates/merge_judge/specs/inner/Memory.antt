@@ -10,6 +10,11 @@ use Rattle.address_check.specs.AddressFaults.{is_store, source_from, value_from,
 abbrev pub last_store_to : ℕ → List Entry → Option Entry
 last_store_to addr done = find (λ e. is_store e.logged.act && (e.logged.addr == addr)) (reverse done)
 
+-- a word for each address, and where it comes from
+pub record IsMemory (values : List ℕ) (sources : List Source) : Type 0 where
+  pub words : length values ≡ 65536
+  pub origins : length sources ≡ 65536
+
 -- for each address the value of its word, and where that comes from
 pub record Holds (values : List ℕ) (sources : List Source) (done : List Entry) : Type 0 where
   pub words : length values ≡ 65536

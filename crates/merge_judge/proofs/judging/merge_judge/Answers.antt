@@ -6,6 +6,7 @@ use Rattle.verdict.proofs.Soundness.{bad_count_answers}
 use Rattle.verdict.proofs.Told.{each_tells, told}
 use Rattle.merge_judge.proofs.Judged.{bad_no_read, no_memory, nothing_after}
 use Rattle.merge_judge.proofs.MergeSoFar.{lacks_end}
+use Rattle.merge_judge.proofs.Quiet.{quiet_unread}
 use Rattle.merge_judge.proofs.WritingFacts.{appends_none}
 use Rattle.merge_judge.proofs.judging.merge_judge.Goals as goal
 
@@ -36,3 +37,11 @@ returns-in_err-order-clause-exact g c =
     let p = err_from_is_err_and c.from_residual-in_err-order.result c.from_residual-in_err-order.ensures.1 in
     let b = no_memory g.S.ByteSource.remaining g.S.ByteSource.failed (g.W.ByteSink.contents c.args.order_out.now) c.args.readers.now c.args.readers.now in
     rw (p.1, p.2) (b.texts, b.tells, b.answers, (b.written, b.appends, b.writes, b.stops))
+
+pub returns-clause-quiet : goal.returns-clause-quiet
+returns-clause-quiet g c = c.merged.ensures.exact.quiet
+
+pub returns-in_err-check_counts-clause-quiet : goal.returns-in_err-check_counts-clause-quiet
+returns-in_err-check_counts-clause-quiet g c =
+    let p = err_from_is_err_and c.from_residual.result c.from_residual.ensures.1 in
+    rw (p.1, p.2) (quiet_unread g.S.ByteSource.failed c.args.readers.now c.in_err-check_counts.field-0.0 c.in_err-check_counts.ensures.err)

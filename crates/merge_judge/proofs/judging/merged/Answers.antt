@@ -1,5 +1,5 @@
 -- What is answered and written.
-use Rattle.std.proofs.Common.{◌++◌, ◌∷◌, [], Ok, Err, arith, rules, length, sym, ap, subst, ◌∙◌, refl}
+use Rattle.std.proofs.Common.{◌++◌, ◌∷◌, [], Ok, Err, arith, length, sym, ap, subst, ◌∙◌, refl}
 use Rattle.std.specs.Prelude.{is_none, ◌&&◌}
 use Rattle.std.specs.Option.{option_or}
 use Rattle.std.proofs.lemmas.Result.{err_from_is_err_and}
@@ -34,8 +34,7 @@ loop-entry-init g c = record {
   done = [];
   is_merged = c.in_ok-merge.ensures;
   counted = refl;
-  words = c.in_ok-words.ensures.words;
-  origins = c.in_ok-words.ensures.origins;
+  whole = record { words = c.in_ok-words.ensures.words; origins = c.in_ok-words.ensures.origins };
   holds = λ none. c.in_ok-words.ensures;
   first = refl;
   written = [];
@@ -74,8 +73,7 @@ loop-entry-preserved g c =
       done = s.done ++ e ∷ [];
       is_merged = merged;
       counted = omega (arith, s.counted, length_push s.done e);
-      words = l.words;
-      origins = l.origins;
+      whole = l.whole;
       holds = λ none. l.holds s.done s.holds none;
       first = first;
       written = s.written ++ w.0;
@@ -99,7 +97,7 @@ returns-in_err-look-clause-exact g c =
     let all = all_where c.loop-entry.fault c.look.new.fault (fault_after s.done e) new.clean c.loop-entry.merge.clean s.order s.done e (l.fault s.done s.holds) c.in-Some.ensures.clean s.all in
     let shown = shown_more g.S.RecordSource.remaining g.S.RecordSource.failed c.args.readers.now c.take_first.new.readers new.lanes.items new.fronts s.merged s.done s.order e c.look.new.fault new.clean c.loop-entry.merge.lanes.items c.in-Some.ensures.taken s.shown merged first all in
     rw (p.1, p.2) (look_fails g.S.RecordSource.remaining g.S.RecordSource.failed (g.W.ByteSink.contents c.args.order_out.now) (g.W.ByteSink.contents c.loop-entry.order_out) (g.W.ByteSink.contents c.look.new.order_out) c.args.readers.now c.take_first.new.readers
-    new.lanes.items new.fronts new.clean (add s.merged e.id.core e.logged) (s.done ++ e ∷ []) s.written (g.O.Order.kept c.loop-entry.order) (g.O.Order.kept c.look.new.order) s.order (is_none c.look.new.fault && new.clean) e.id c.in_err-look.field-0.0 merged shown s.appends s.lines l.written)
+    new.lanes.items new.fronts new.clean (add s.merged e.id.core e.logged) (s.done ++ e ∷ []) s.written (g.O.Order.kept c.loop-entry.order) (g.O.Order.kept c.look.new.order) s.order (is_none c.look.new.fault && new.clean) e.id c.in_err-look.field-0.0 merged (l.unwritten refl) shown s.appends s.lines l.written)
 
 pub returns-in_err-fault-clause-exact : goal.returns-in_err-fault-clause-exact
 returns-in_err-fault-clause-exact g c =

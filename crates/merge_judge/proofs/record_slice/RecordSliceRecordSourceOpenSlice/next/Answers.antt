@@ -1,6 +1,5 @@
 -- The record at the index, or the end of the log.
-use Rattle.std.proofs.Common.{◌≡◌, ◌≤◌, ◌+◌, ◌∙◌, arith, ap, length, map, subst, sym, Ok, Some}
-use Rattle.std.specs.Prelude.{slice_get}
+use Rattle.std.proofs.Common.{◌≤◌, ◌+◌, ◌∙◌, arith, map, subst, sym, Ok, Some}
 use Rattle.std.proofs.lemmas.List.{length-map}
 use Rattle.std.proofs.lemmas.Option.{slice_get_within}
 use Rattle.mem_op.specs.Limits.{operation_limit}

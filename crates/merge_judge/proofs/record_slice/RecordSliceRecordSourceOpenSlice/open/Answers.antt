@@ -1,5 +1,5 @@
 -- The text of the log is handed over.
-use Rattle.std.proofs.Common.{◌≡◌, ◌∙◌, [], Some, ap, map, subst, sym}
+use Rattle.std.proofs.Common.{◌≡◌, [], Some, map, subst, sym}
 use Rattle.std.specs.Prelude.{false, true}
 use Rattle.merge_judge.specs.Records.{GivenLog}
 use Rattle.merge_judge.specs.inner.Following.{FollowsOn}
