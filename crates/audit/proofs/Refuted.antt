@@ -18,7 +18,7 @@ use Rattle.audit.specs.declared.machine_fault.Cause.{Cause}
 use Rattle.audit.specs.Lists.{transcript_of, history_of, transcripts, histories}
 use Rattle.audit.specs.Merges.{HasMerge, InFronts, IsAuditFault}
 use Rattle.audit.specs.Pairs.{Agrees}
-use Rattle.audit.specs.Runs.{AllEnded, AllNumbered, IsRun, IsShort, NoneReportsBelow, Reports}
+use Rattle.audit.specs.Runs.{AllEnded, AllNumbered, IsRun, IsRunFault, IsShort, NoneReportsBelow, Reports}
 
 module _ (ts : List (List CoreEntry)) (hs : List (List HistoryEntry)) where
   -- whole lists that have a merge are merged fronts
@@ -41,13 +41,18 @@ module _ (ts : List (List CoreEntry)) (hs : List (List HistoryEntry)) where
   no_run core slice place (inr (also, first)) agree m =
       first.out (in_whole m core first.at (slice_get_within (transcript_of ts core) first.at _ first.got))
 
--- of units and slices that are those of a run but for their lists, an audit says whether they are
-pub run_or_not : {T : Type 0} (programs : List (List Instruction)) (g : ConfigParts) (us : List UnitParts) (ss : List SliceParts) → length us ≡ length programs → length ss ≡ g.slices
+-- of units and slices that are those of a run but for their lists, an audit says whether they are, and why not
+pub run_or_why : {T : Type 0} (programs : List (List Instruction)) (g : ConfigParts) (us : List UnitParts) (ss : List SliceParts) → length us ≡ length programs → length ss ≡ g.slices
     → AllEnded programs g us → AllNumbered g ss → (r : Result T AuditFault)
     → MatchResult r (λ x. Agrees (transcripts us) (histories ss) × HasMerge (transcripts us) (histories ss)) (λ f. IsAuditFault (transcripts us) (histories ss) f.core f.slice f.place)
-    → MatchResult r (λ x. IsRun programs g us ss) (λ f. ¬ IsRun programs g us ss)
-run_or_not programs g us ss cores count ended numbered (Ok x) h = record { cores = cores; count = count; units = ended; slices = numbered; agree = h.0; merge = h.1 }
-run_or_not programs g us ss cores count ended numbered (Err f) h = λ run. no_run (transcripts us) (histories ss) f.core f.slice f.place h run.agree run.merge
+    → MatchResult r (λ x. IsRun programs g us ss) (λ f. IsRunFault programs g us ss f)
+run_or_why programs g us ss cores count ended numbered (Ok x) h = record { cores = cores; count = count; units = ended; slices = numbered; agree = h.0; merge = h.1 }
+run_or_why programs g us ss cores count ended numbered (Err f) h = inr (record { cores = cores; count = count; units = ended; slices = numbered }, h)
+
+-- what tells why they aren't tells that they aren't
+pub no_whole_run : (programs : List (List Instruction)) (g : ConfigParts) (us : List UnitParts) (ss : List SliceParts) (fault : AuditFault) → IsRunFault programs g us ss fault → IsRun programs g us ss → ⊥
+no_whole_run programs g us ss fault (inl other) run = other.0 (record { cores = run.cores; count = run.count; units = run.units; slices = run.slices })
+no_whole_run programs g us ss fault (inr found) run = no_run (transcripts us) (histories ss) fault.core fault.slice fault.place found.1 run.agree run.merge
 
 -- a unit whose program has ended hasn't stopped short
 pub not_short : (programs : List (List Instruction)) (core : ℕ) (u : UnitParts) → IsFront u → u.state.position ≡ length u.program → IsShort programs core u → ⊥

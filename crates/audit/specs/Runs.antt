@@ -1,5 +1,5 @@
 -- What a run of threads ends with.
-use Rattle.std.specs.Prelude.{◌≡◌, ◌==◌, ◌<◌, ◌⊎◌, ⊤, ℕ, if◌then◌else◌, List, [], length, Option, None, Some, slice_get}
+use Rattle.std.specs.Prelude.{◌≡◌, ◌==◌, ◌<◌, ◌⊎◌, ℕ, if◌then◌else◌, List, [], length, Option, None, Some, slice_get}
 use Rattle.std.specs.Option.{option_map_or}
 use Rattle.lease_rule.specs.ConfigParts.{ConfigParts}
 use Rattle.log_record.specs.declared.record.Record.{Record}
@@ -10,10 +10,11 @@ use Rattle.manager_slice.specs.Replay as slice
 use Rattle.core_unit.specs.Kept as kept
 use Rattle.core_unit.specs.Laws.{performed_by}
 use Rattle.core_unit.specs.Parts.{UnitParts}
+use Rattle.audit.specs.declared.fault.AuditFault.{AuditFault}
 use Rattle.audit.specs.declared.machine_fault.Cause.{Cause}
 use Rattle.audit.specs.declared.machine_fault.Cause.TheVariants as cause
 use Rattle.audit.specs.Lists.{transcripts, histories}
-use Rattle.audit.specs.Merges.{HasMerge}
+use Rattle.audit.specs.Merges.{HasMerge, IsAuditFault}
 use Rattle.audit.specs.Pairs.{Agrees}
 
 -- a unit that has run core c's program to its end
@@ -75,10 +76,15 @@ kept_log us c = option_map_or (λ u. if u.core == c then u.log else []) (slice_g
 
 -- ---- what a run of threads ends with
 
--- core c's thread met this fault, and it is one to report: 30 and 31 are only where its unit has stopped before the program's end
+-- Core c may report this fault. 33 is none of a core, and 30 and 31 are only where its unit has stopped before the program's end.
+pub record MayReport (programs : List (List Instruction)) (us : List UnitParts) (c : ℕ) (met_cause : Cause) : Type 0 where
+  pub own : (fault : AuditFault) → met_cause ≡ cause.Audit fault → ⊥
+  pub short : (met_cause ≡ cause.GaveUp) ⊎ (met_cause ≡ cause.Stopped) → StoppedShort programs us c
+
+-- core c's thread met this fault, and it is one to report
 pub record Reports (programs : List (List Instruction)) (us : List UnitParts) (faults : List (Option Cause)) (c : ℕ) (met_cause : Cause) : Type 0 where
   pub met : slice_get faults c ≡ Some (Some met_cause)
-  pub short : (met_cause ≡ cause.GaveUp) ⊎ (met_cause ≡ cause.Stopped) → StoppedShort programs us c
+  pub may : MayReport programs us c met_cause
 
 -- no core below c has a fault to report
 abbrev pub NoneReportsBelow : List (List Instruction) → List UnitParts → List (Option Cause) → ℕ → Type 0
@@ -93,12 +99,28 @@ pub record IsFirstReport (programs : List (List Instruction)) (us : List UnitPar
   pub reports : Reports programs us faults c found
   pub before : NoneReportsBelow programs us faults c
 
--- the cause is 33
-abbrev pub IsAuditCause : Cause → Type 0
-IsAuditCause (cause.Audit fault) = ⊤
-IsAuditCause cause.GaveUp = ⊥
-IsAuditCause cause.Stopped = ⊥
-IsAuditCause cause.Spawn = ⊥
-IsAuditCause (cause.Unit fault) = ⊥
-IsAuditCause (cause.Slice fault) = ⊥
-IsAuditCause cause.OutOfMemory = ⊥
+-- ---- 33
+
+-- units and slices as a whole run of the programs leaves them, whatever their lists tell of each other
+pub record AreWhole (programs : List (List Instruction)) (g : ConfigParts) (us : List UnitParts) (ss : List SliceParts) : Type 0 where
+  pub cores : length us ≡ length programs
+  pub count : length ss ≡ g.slices
+  pub units : AllEnded programs g us
+  pub slices : AllNumbered g ss
+
+-- Why they aren't those of a whole run. A difference of cores, programs, numbers, configurations, hands or ends has no place, and
+-- is told with 0 of each; where there is none, it is the fault that the audit finds in their lists.
+abbrev pub IsRunFault : List (List Instruction) → ConfigParts → List UnitParts → List SliceParts → AuditFault → Type 0
+IsRunFault programs g us ss fault =
+    ((AreWhole programs g us ss → ⊥) × (fault ≡ record { core = 0; slice = 0; place = 0 }))
+    ⊎ (AreWhole programs g us ss × IsAuditFault (transcripts us) (histories ss) fault.core fault.slice fault.place)
+
+-- core c's cause is 33, for this reason
+abbrev pub RefusesRun : List (List Instruction) → ConfigParts → List UnitParts → List SliceParts → ℕ → Cause → Type 0
+RefusesRun programs g us ss c (cause.Audit fault) = (c ≡ fault.core) × IsRunFault programs g us ss fault
+RefusesRun programs g us ss c cause.GaveUp = ⊥
+RefusesRun programs g us ss c cause.Stopped = ⊥
+RefusesRun programs g us ss c cause.Spawn = ⊥
+RefusesRun programs g us ss c (cause.Unit fault) = ⊥
+RefusesRun programs g us ss c (cause.Slice fault) = ⊥
+RefusesRun programs g us ss c cause.OutOfMemory = ⊥

@@ -1,7 +1,7 @@
 //! What the units and slices that threads gave back are found to be.
 
 ghost use Rattle.std.specs.Prelude.{◌≡◌, ◌≢◌, ◌<◌, ◌≤◌, ◌⊎◌, length, slice_get, Some, IfSome, IfOk, IfErr, OnOk, MatchBool, MatchOption, MatchResult};
-ghost use Rattle.audit.specs.Runs.{AllEnded, AllNumbered, HasEnded, IsAuditCause, IsFirstReport, IsNumbered, IsRun, IsShort, NoneReports, Reports, StoppedShort};
+ghost use Rattle.audit.specs.Runs.{AllEnded, AllNumbered, HasEnded, IsFirstReport, IsNumbered, IsRun, IsRunFault, IsShort, MayReport, NoneReports, RefusesRun, Reports, StoppedShort};
 ghost use Rattle.audit.specs.declared.machine_fault.Cause.{Cause};
 ghost use Rattle.audit.specs.declared.machine_fault.Cause.TheVariants.{GaveUp, Stopped};
 
@@ -130,7 +130,7 @@ fn all_numbered(slices: &[ManagerSlice], config: &Config) -> bool
 
 // A difference that has no place.
 fn nowhere() -> AuditFault
-    ensures { (result.core ≡ 0) × (result.slice ≡ 0) × (result.place ≡ 0) }
+    ensures { result ≡ record { core = 0; slice = 0; place = 0 } }
 {
     AuditFault {
         core: 0,
@@ -148,7 +148,7 @@ fn check_run(
 ) -> Result<(), AuditFault>
     ensures { MatchResult result
         (λ _. IsRun programs.now.programs config.now units.now slices.now)
-        (λ _. ¬ IsRun programs.now.programs config.now units.now slices.now) }
+        (λ fault. IsRunFault programs.now.programs config.now units.now slices.now fault) }
 {
     if units.len() != programs.len() || slices.len() != config.slices() {
         return Err(nowhere());
@@ -174,14 +174,15 @@ fn stopped_short(programs: &ProgramSet, units: &[CoreUnit], core: usize) -> bool
     true
 }
 
-// Whether a core's fault is one to report: 30 and 31 are only where its unit has stopped before the program's end.
+// Whether a core's fault is one to report.
 fn reports(programs: &ProgramSet, units: &[CoreUnit], core: usize, cause: Cause) -> bool
     ensures { MatchBool result
-        ((cause ≡ GaveUp ⊎ cause ≡ Stopped) → StoppedShort programs.now.programs units.now core)
-        (¬ ((cause ≡ GaveUp ⊎ cause ≡ Stopped) → StoppedShort programs.now.programs units.now core)) }
+        (MayReport programs.now.programs units.now core cause)
+        (¬ MayReport programs.now.programs units.now core cause) }
 {
     match cause {
         Cause::GaveUp | Cause::Stopped => stopped_short(programs, units, core),
+        Cause::Audit(_) => false,
         _ => true,
     }
 }
@@ -226,7 +227,8 @@ fn first_report(
 /// What a run of threads ends with, of what its threads gave back: at index c of `units` the unit of core c, and at index c of
 /// `faults` the fault that its thread met, if it did.
 ///
-/// The fault is the least core's that has one; 30 and 31 are none of a unit that isn't of that core and its program, or has ended.
+/// The fault is the least core's that has one; 33 is none of a core, and 30 and 31 are none of a unit that isn't of that core and
+/// its program, or has ended.
 /// Where no core has one, cores, programs, numbers and configurations are compared, each hand has to be empty and each
 /// program to have ended: a difference there is 33 at core 0, slice 0, place 0. Then comes what `audit` finds. Takes no memory.
 pub fn accept_run(
@@ -241,10 +243,11 @@ pub fn accept_run(
     ensures kept { IfOk result (λ end. (end.units.items ≡ units.items) × (end.slices.items ≡ slices.items)) }
     ensures short { IfErr result (λ f. (f.cause ≡ GaveUp ⊎ f.cause ≡ Stopped) →
         StoppedShort programs.now.programs f.units.items f.core) }
-    // Each refusal is the first report's, or 33 where there is none and the units and slices aren't those of a whole run.
+    // Each refusal is the first report's, or, where there is none, 33, which tells why these are no whole run.
     ensures refused { IfErr result (λ f.
         IsFirstReport programs.now.programs units.items faults.now f.core f.cause
-        ⊎ (NoneReports programs.now.programs units.items faults.now × IsAuditCause f.cause
+        ⊎ (NoneReports programs.now.programs units.items faults.now
+        × RefusesRun programs.now.programs config.now units.items slices.items f.core f.cause
         × (¬ IsRun programs.now.programs config.now units.items slices.items))) }
     ensures left { IfErr result (λ f. f.units.items ≡ units.items) }
     ensures slices { IfErr result (λ f. f.slices.items ≡ slices.items) }

@@ -1,6 +1,6 @@
 use Rattle.std.proofs.Common.{◌≡◌, length, rules}
 use Rattle.audit.specs.Runs.{AllEnded, AllNumbered}
-use Rattle.audit.proofs.Refuted.{run_or_not}
+use Rattle.audit.proofs.Refuted.{run_or_why}
 use Rattle.audit.proofs.accepting.check_run.Goals as goal
 
 pub returns : goal.returns
@@ -13,4 +13,4 @@ returns c =
     let count : length ss ≡ g.slices = search rules in
     let ended : AllEnded programs g us = search rules in
     let numbered : AllNumbered g ss = search rules in
-    run_or_not programs g us ss cores count ended numbered c.audit.result c.audit.ensures
+    run_or_why programs g us ss cores count ended numbered c.audit.result c.audit.ensures

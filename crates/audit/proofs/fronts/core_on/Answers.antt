@@ -1,4 +1,4 @@
-use Rattle.std.proofs.Common.{◌≡◌, ◌<◌, length, slice_index, ap, sym, ◌∙◌, arith, true}
+use Rattle.std.proofs.Common.{◌≡◌, ◌<◌, length, slice_index, sym, ◌∙◌, arith, true}
 use Rattle.audit.specs.Lists.{transcripts, histories, transcript_of}
 use Rattle.audit.specs.inner.Fronts.{goes_alone}
 use Rattle.audit.proofs.Moving.{own_there, one_on, on_again, sum_on}
