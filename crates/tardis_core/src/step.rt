@@ -2,16 +2,16 @@
 
 ghost use Rattle.std.specs.Prelude.{◌≡◌, true, false, Some, IfErr};
 ghost use Rattle.core_machine.specs.Machine.{core_event, is_alone};
-ghost use Rattle.core_machine.specs.Parts.{world};
+ghost use Rattle.core_machine.specs.Parts.{programs_of, world};
 ghost use Rattle.core_machine.specs.Steps.{OutcomeLeads, MachineLeads, alone, spill_told, step_outcome};
-ghost use Rattle.machine_laws.specs.Laws.{GetYes, logs_of};
+ghost use Rattle.machine_laws.specs.Laws.{GetYes, GetYesBy, HaveEnded, logs_of};
 ghost use Rattle.machine_laws.specs.Refusals.{is_protocol_fault};
 
 use super::machine::Core;
 use core_machine::{CoreFault, Event};
 use core_unit::Outcome;
 use machine_laws::refusals::never_refused;
-use machine_laws::verdicts::runs_get_yes;
+use machine_laws::verdicts::{ended_runs_get_yes, runs_get_yes};
 use mem_op::{Addr, CoreId};
 
 impl Core {
@@ -25,7 +25,7 @@ impl Core {
     /// 10 OutOfMemory; of a slice 4 StampLimit, 12 HistoryFull, 10 OutOfMemory. They change nothing.
     ///
     /// Before and after each event the logs that the cores have made get Yes: their operations are
-    /// sequentially consistent.
+    /// sequentially consistent. Where every program has ended, they get Yes against the programs.
     #[inline(always)]
     pub fn step(&mut self, event: Event) -> Result<Outcome, CoreFault>
         // The event leads there by the relation of the machine, and NoEffect comes exactly where it
@@ -40,11 +40,14 @@ impl Core {
         // The logs so far get Yes.
         ensures before { GetYes (logs_of (world self.old)) }
         ensures after { GetYes (logs_of (world self.new)) }
+        // Where every program has ended then, they get it against the programs too.
+        ensures ended { HaveEnded (world self.new) → GetYesBy (programs_of self.old) (logs_of (world self.new)) }
 
         // No event is refused with 14 BadReply or 11 NotOwner.
         ensures passes { IfErr result (λ fault. is_protocol_fault fault ≡ false) }
     {
         runs_get_yes();
+        ended_runs_get_yes();
         never_refused();
         self.keeps();
         self.apply(event)

@@ -1,4 +1,4 @@
-use Rattle.tardis_core.proofs.Judged.{yes_before, yes_after, passes}
+use Rattle.tardis_core.proofs.Judged.{ended_after, yes_before, yes_after, passes}
 use Rattle.tardis_core.proofs.machine.Core.step.Goals as goal
 
 pub returns-clause-before : goal.returns-clause-before
@@ -6,6 +6,9 @@ returns-clause-before c = yes_before c.runs_get_yes.ensures.yes c.args.self.now 
 
 pub returns-clause-after : goal.returns-clause-after
 returns-clause-after c = yes_after c.runs_get_yes.ensures.yes c.args.event c.args.self.now c.apply.result c.apply.new.self c.keeps.ensures.reached c.apply.ensures.leads
+
+pub returns-clause-ended : goal.returns-clause-ended
+returns-clause-ended c = ended_after c.ended_runs_get_yes.ensures.yes c.args.event c.args.self.now c.apply.result c.apply.new.self c.keeps.ensures.reached c.apply.ensures.leads
 
 pub returns-clause-passes : goal.returns-clause-passes
 returns-clause-passes c = passes c.never_refused.ensures.passes c.args.event c.args.self.now c.apply.result c.apply.new.self c.keeps.ensures c.apply.ensures.outcome
