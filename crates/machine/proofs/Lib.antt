@@ -1,3 +1,4 @@
 mod Giving
 mod Judged
 mod Kept
+mod Refused

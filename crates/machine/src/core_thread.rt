@@ -12,13 +12,14 @@ use audit::Cause;
 use core_unit::{CoreUnit, Outcome};
 use inbox::Inbox;
 use line_stamps::{Message, Recall, Reply};
+use mem_op::CoreId;
 use slice_bank::Port;
 use std::hint::spin_loop;
 use std::sync::Wait;
 use std::thread;
 
 /// A core that is answered Busy looks into its inbox so often before it asks again, so that the owner of the line finds the lock of
-/// the slice free; after a recall it asks at once.
+/// the slice free, and since two cores may wait for each other's lines; after a recall it asks at once.
 const INBOX_LOOKS_AFTER_BUSY: u32 = 64;
 
 /// After as many turns for an operation a core that is answered Busy lets other threads have its processor, since the owner of the
@@ -104,7 +105,7 @@ fn has_ended(unit: &CoreUnit) -> bool {
 }
 
 // Makes turns until one more operation is performed: 31 where the pace says Stop, 30 where as many turns as the configuration
-// says bring none. Between two turns it takes one recall at most, and none after a turn that filled a line.
+// says bring none. Before each it asks the pace, and then takes one recall at most, and none after a turn that filled a line.
 fn perform<T: Port, P: Pace, R: Wait>(
     rt: &R,
     unit: &mut CoreUnit,
@@ -115,21 +116,18 @@ fn perform<T: Port, P: Pace, R: Wait>(
     ensures same { SameUnit unit.old unit.new }
     ensures free { OnOk result (unit.new.hand ≡ None) }
 {
-    // Whether it looks into its inbox before the next turn.
-    let mut looks = true;
+    let mut looks = 1;
     for turn in 0..unit.config().turns() {
         if pace.before(unit.core(), unit.log().len(), turn) == Go::Stop {
             return Err(Cause::Stopped);
         }
-        if looks {
-            answer_recall(rt, unit, port, inboxes)?;
-        }
+        answer_recall(rt, unit, port, inboxes, looks)?;
         match make_turn(rt, unit, port, inboxes)? {
             Turned::Performed => return Ok(()),
-            Turned::Filled => looks = false,
-            Turned::Waits => looks = true,
+            Turned::Filled => looks = 0,
+            Turned::Waits => looks = 1,
             Turned::Refused => {
-                looks = !stand_back(rt, unit, port, inboxes)?;
+                looks = INBOX_LOOKS_AFTER_BUSY;
                 if turn % BUSY_TURNS_BETWEEN_YIELDS == BUSY_TURNS_BETWEEN_YIELDS - 1 {
                     thread::yield_now();
                 }
@@ -139,42 +137,34 @@ fn perform<T: Port, P: Pace, R: Wait>(
     Err(Cause::GaveUp)
 }
 
-// Asks nothing for a while, or until a recall is answered, since two cores may wait for each other's lines. Whether one was: it is
-// the one before the next turn.
-fn stand_back<T: Port, R: Wait>(
-    rt: &R,
-    unit: &mut CoreUnit,
-    port: &mut T,
-    inboxes: &[Inbox],
-) -> Result<bool, Cause>
-    ensures { SameUnit unit.old unit.new }
-{
-    for _ in 0..INBOX_LOOKS_AFTER_BUSY {
-        spin_loop();
-        if answer_recall(rt, unit, port, inboxes)? {
-            return Ok(true);
-        }
-    }
-    Ok(false)
-}
-
-// Takes a recall from the core's inbox, if one waits there, and gives its line back. Whether one waited.
+// Takes a recall from the core's inbox, if one comes there while it looks so often, and gives its line back.
 fn answer_recall<T: Port, R: Wait>(
     rt: &R,
     unit: &mut CoreUnit,
     port: &mut T,
     inboxes: &[Inbox],
-) -> Result<bool, Cause>
+    looks: u32,
+) -> Result<(), Cause>
     ensures { SameUnit unit.old unit.new }
 {
-    let Some(own) = inboxes.get(unit.core().get() as usize) else {
-        return Ok(false);
-    };
-    let Some(recall) = own.poll(rt) else {
-        return Ok(false);
-    };
-    give_back(unit, port, &recall)?;
-    Ok(true)
+    match next_recall(rt, unit.core(), inboxes, looks) {
+        Some(recall) => give_back(unit, port, &recall),
+        None => Ok(()),
+    }
+}
+
+// The next recall in a core's inbox, into which it looks so often.
+fn next_recall<R: Wait>(rt: &R, core: CoreId, inboxes: &[Inbox], looks: u32) -> Option<Recall> {
+    let own = inboxes.get(core.get() as usize)?;
+    for look in 0..looks {
+        if look > 0 {
+            spin_loop();
+        }
+        if let Some(recall) = own.poll(rt) {
+            return Some(recall);
+        }
+    }
+    None
 }
 
 // Gives the line back that a recall asks for, where the core has it as Exclusive.

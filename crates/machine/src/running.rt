@@ -3,8 +3,9 @@
 ghost use Rattle.std.specs.Prelude.{◌≡◌, ◌⊎◌, ℕ, [], All, IfOk, IfErr, length};
 ghost use Rattle.core_unit.specs.Kept.{Replays};
 ghost use Rattle.manager_slice.specs.Replay.{Replays as SliceReplays};
-ghost use Rattle.audit.specs.Runs.{IsRun, IsUnitLog, StoppedShort, kept_log};
-ghost use Rattle.audit.specs.declared.machine_fault.Cause.TheVariants.{GaveUp, Stopped};
+ghost use Rattle.audit.specs.Runs.{IsRun, IsRunFault, IsUnitLog, StoppedShort, kept_log};
+ghost use Rattle.audit.specs.declared.fault.AuditFault.{AuditFault};
+ghost use Rattle.audit.specs.declared.machine_fault.Cause.TheVariants.{Audit, GaveUp, Stopped};
 ghost use Rattle.machine.specs.Runs.{AreSlices, AreSlicesLeft, IsMachineRun};
 ghost use Rattle.machine_laws.specs.Laws.{GetYesBy, unit_logs};
 
@@ -46,6 +47,9 @@ pub fn run_threads<P: Pace + Sync, R: Threads + Wait + Sync>(
     ensures yes { IfOk result (λ end. GetYesBy programs.now.programs (unit_logs end.units.items)) }
     ensures short { IfErr result (λ f. (f.cause ≡ GaveUp ⊎ f.cause ≡ Stopped) →
         StoppedShort programs.now.programs f.units.items f.core) }
+    // 33 tells why the units and slices that are left are those of no whole run.
+    ensures refused { IfErr result (λ f. (fault : AuditFault) → f.cause ≡ Audit fault → (f.core ≡ fault.core)
+        × IsRunFault programs.now.programs config.now f.units.items f.slices.items fault) }
     // Each log that is left is that of a unit of its core whose transcript replays, or empty.
     ensures logs { IfErr result (λ f. (c : ℕ) → IsUnitLog c (kept_log f.units.items c) ⊎ (kept_log f.units.items c ≡ [])) }
     // All slices are left, each with a state that is the replay of its history, or nothing where memory was refused beside the cores.
@@ -79,6 +83,8 @@ fn accepted(
     ensures yes { IfOk result (λ end. GetYesBy programs.now.programs (unit_logs end.units.items)) }
     ensures short { IfErr result (λ f. (f.cause ≡ GaveUp ⊎ f.cause ≡ Stopped) →
         StoppedShort programs.now.programs f.units.items f.core) }
+    ensures refused { IfErr result (λ f. (fault : AuditFault) → f.cause ≡ Audit fault → (f.core ≡ fault.core)
+        × IsRunFault programs.now.programs config.now f.units.items f.slices.items fault) }
     ensures logs { IfErr result (λ f. (c : ℕ) → IsUnitLog c (kept_log f.units.items c) ⊎ (kept_log f.units.items c ≡ [])) }
     ensures slices { IfErr result (λ f. AreSlices (length slices.items) f.slices.items) }
 {
