@@ -20,7 +20,7 @@ class Verdict(ctypes.Structure):
 
 class Operation(ctypes.Structure):
     _fields_ = [(n, ctypes.c_uint64) for n in ("value", "read", "ts")] + [
-        (n, ctypes.c_uint32) for n in ("rank", "source_index")] + [("addr", ctypes.c_uint16)] + [
+        (n, ctypes.c_uint32) for n in ("rank", "source_index")] + [("addr", ctypes.c_uint64)] + [
         (n, ctypes.c_uint8) for n in ("kind", "source_core")]
 
 
@@ -187,7 +187,7 @@ for case in range(int(sys.argv[3])):
             o = r.choice(log)
             field = r.choice(["value", "read", "ts", "rank", "source_index", "source_core", "addr"])
             setattr(o, field, r.choice([0, 1, 2, 3, 5, 1048575, 1048576, 63, 255, 281474976710656, 281474976710657])
-                    & {"addr": 65535, "source_core": 255, "rank": 2**32 - 1, "source_index": 2**32 - 1}.get(field, 2**64 - 1))
+                    & {"source_core": 255, "rank": 2**32 - 1, "source_index": 2**32 - 1}.get(field, 2**64 - 1))
     texts = [text(k, len(logs), log) for k, log in enumerate(logs)]
     wanted, numbers = command(texts), by_numbers(logs)
     if by_text(texts) != wanted:

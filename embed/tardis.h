@@ -14,7 +14,7 @@
  *   TARDIS_REFUSED     number, and where: see each function
  *   TARDIS_BAD_COUNT   number 6: there are fewer than 1 or more than 64 logs
  *   TARDIS_NO_ANSWER   number 10: malloc or realloc gave no memory. number 44: the search gave up
- *   TARDIS_BAD_ENDS    an end is less than the one before it, or the last isn't the length of the array
+ *   TARDIS_BAD_ENDS    number 0: an end is less than the one before it, or the last isn't the length of the array
  *
  * The first five are the exit statuses of the commands `tardis check` and `tardis search`.
  *
@@ -71,7 +71,7 @@ typedef struct TardisOperation {
     uint64_t ts;           /* when it took place, 0 to 2^48 */
     uint32_t rank;         /* its order among those of its stamp */
     uint32_t source_index; /* of a load or a swap: the store that it read is operation source_index, up to 1,048,575, */
-    uint16_t addr;         /* the address of the word */
+    uint64_t addr;         /* the address of the word, 0 to 65,535 */
     uint8_t kind;          /* TARDIS_LOAD, TARDIS_STORE or TARDIS_SWAP */
     uint8_t source_core;   /* .. of core source_core, 0 to 63; TARDIS_INITIAL where it read the initial 0 */
 } TardisOperation;

@@ -24,11 +24,11 @@ public:
     }
 };
 
-static TardisOperation store(uint16_t addr, uint64_t value, uint64_t ts) {
+static TardisOperation store(uint64_t addr, uint64_t value, uint64_t ts) {
     return {value, 0, ts, 0, 0, addr, TARDIS_STORE, TARDIS_INITIAL};
 }
 
-static TardisOperation load(uint16_t addr, uint64_t value, uint64_t ts, uint8_t core, uint32_t index) {
+static TardisOperation load(uint64_t addr, uint64_t value, uint64_t ts, uint8_t core, uint32_t index) {
     return {value, 0, ts, 0, index, addr, TARDIS_LOAD, core};
 }
 
@@ -52,4 +52,7 @@ int main() {
     tell(run);
     run.perform(0, {8, 0, 7, 0, 0, 100, 3, 0}); // of no kind
     tell(run);
+    Run far(1);
+    far.perform(0, store(65536 + 100, 7, 1)); // past the last address
+    tell(far);
 }

@@ -20,7 +20,7 @@ struct TardisOperation {
     ts: u64,
     rank: u32,
     source_index: u32,
-    addr: u16,
+    addr: u64,
     kind: u8,
     source_core: u8,
 }
@@ -41,11 +41,11 @@ fn check(cores: &[&[TardisOperation]]) -> (u8, TardisVerdict) {
     (status, told)
 }
 
-fn load(addr: u16, value: u64, ts: u64, source_core: u8, source_index: u32) -> TardisOperation {
+fn load(addr: u64, value: u64, ts: u64, source_core: u8, source_index: u32) -> TardisOperation {
     TardisOperation { value, read: 0, ts, rank: 0, source_index, addr, kind: 0, source_core }
 }
 
-fn store(addr: u16, value: u64, ts: u64) -> TardisOperation {
+fn store(addr: u64, value: u64, ts: u64) -> TardisOperation {
     TardisOperation { kind: 1, ..load(addr, value, ts, INITIAL, 0) }
 }
 

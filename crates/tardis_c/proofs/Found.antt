@@ -10,7 +10,7 @@ use Rattle.refutation.proofs.Sound.{refutations-hold}
 use Rattle.trace.specs.Growing.{IsOfSize}
 use Rattle.tardis_c.specs.Accesses.{IsAccess, operation_of, trace_of}
 use Rattle.tardis_c.specs.Faults.{AreOperations, IsFirstFault}
-use Rattle.tardis_c.specs.Found.{IsFindingOf, finding_status, text_of, with_text}
+use Rattle.tardis_c.specs.Found.{IsFindingOf, IsFoundOfEnds, finding_status, finding_told, text_of, with_text}
 use Rattle.tardis_c.specs.declared.finding.Finding.{Finding}
 use Rattle.tardis_c.specs.declared.finding.Finding.TheVariants.{Order, Refutation, Undecided}
 use Rattle.tardis_c.specs.declared.operations_fault.OperationsFault.{OperationsFault}
@@ -35,6 +35,15 @@ no_is_none parts (Ok Undecided) is one = absurd cc
 no_is_none parts (Err OutOfMemory) is one = absurd cc
 no_is_none parts (Err (TooMany core)) is one = absurd cc
 no_is_none parts (Err (OutOfRange core index)) is one = absurd cc
+
+-- what was found is a refusal of neither the ends nor their number
+pub found_of_ends : (found : Result Finding OperationsFault) → IsFoundOfEnds (finding_status found) (finding_told found)
+found_of_ends (Ok (Order text)) = (λ five. absurd cc, λ three. absurd cc)
+found_of_ends (Ok (Refutation text)) = (λ five. absurd cc, λ three. absurd cc)
+found_of_ends (Ok Undecided) = (λ five. absurd cc, λ three. absurd cc)
+found_of_ends (Err OutOfMemory) = (λ five. absurd cc, λ three. absurd cc)
+found_of_ends (Err (TooMany core)) = (λ five. absurd cc, λ three. absurd cc)
+found_of_ends (Err (OutOfRange core index)) = (λ five. absurd cc, λ three. absurd cc)
 
 either : (b : Bool) (buffer : List ℕ) → (if b then buffer else buffer) ≡ buffer
 either true buffer = refl

@@ -85,6 +85,9 @@ source_of_swap op kind is = swap_source op (λ h. omega (arith, kind, h)) (λ h.
 pub late_is_none : (op : TardisOperation) → 281474976710656 < op.ts → IsOperation op → false ≡ true
 late_is_none op late is = absurd (let ts = is.1.numbers.ts in omega (arith, late, ts))
 
+pub far_is_none : (op : TardisOperation) → 65535 < op.addr → IsOperation op → false ≡ true
+far_is_none op far is = absurd (let addr = is.1.numbers.addr in omega (arith, far, addr))
+
 pub other_is_none : (op : TardisOperation) → 2 < op.kind → IsOperation op → false ≡ true
 other_is_none op other is = absurd (omega (arith, other, is.0))
 

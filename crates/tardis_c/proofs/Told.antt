@@ -8,7 +8,7 @@ use Rattle.verdict.specs.declared.answer.Verdict.{Verdict}
 use Rattle.verdict.specs.declared.answer.Verdict.TheVariants.{Yes, No}
 use Rattle.verdict.specs.declared.judge_fault.JudgeFault.{JudgeFault}
 use Rattle.verdict.specs.declared.judge_fault.JudgeFault.TheVariants.{BadConfig, Log, OutOfMemory, Read}
-use Rattle.verdict.specs.Counts.{IsOutOfRange}
+use Rattle.verdict.specs.Counts.{IsBadCount, IsOutOfRange}
 use Rattle.verdict.specs.declared.judge_fault.Count.TheVariants.{Files, Workers, Programs}
 use Rattle.verdict.proofs.Bridge.{yes_is_consistent}
 use Rattle.mem_op.specs.Consistency.{IsConsistent}
@@ -19,7 +19,7 @@ use Rattle.tardis_c.specs.declared.operations_fault.OperationsFault.{OperationsF
 use Rattle.tardis_c.specs.declared.operations_fault.OperationsFault.TheVariants as bad
 use Rattle.tardis_c.specs.declared.tardis_operation.TardisOperation.{TardisOperation}
 use Rattle.tardis_c.specs.Operations.{logs_of}
-use Rattle.tardis_c.specs.Told.{IsAnswerOf, operations_status, status_of}
+use Rattle.tardis_c.specs.Told.{IsAnswerOf, IsToldOfEnds, operations_status, operations_told, status_of, told_of}
 
 -- the texts that sources over slices tell are these slices
 pub told : (sources : List SliceSource) (texts parts : List (List ℕ)) → AllZip (λ source text. Tells (Some source.bytes.now) text) sources texts → map rest_of sources ≡ parts → texts ≡ parts
@@ -56,7 +56,31 @@ refused_files (Err (BadConfig Programs)) n files workers programs = absurd (prog
 refused_files (Err OutOfMemory) n files workers programs = (λ is. absurd cc, λ out. (let p = files.1 out in absurd cc))
 refused_files (Err (Read file)) n files workers programs = (λ is. absurd cc, λ out. (let p = files.1 out in absurd cc))
 
+-- no answer to texts in the buffer is a refusal of its ends, and one of the number of logs tells 6
+pub answer_of_ends : (answer : Result Verdict JudgeFault) → IsToldOfEnds (status_of answer) (told_of answer)
+answer_of_ends (Ok (Yes count)) = (λ five. absurd cc, λ three. absurd cc)
+answer_of_ends (Ok (No fault)) = (λ five. absurd cc, λ three. absurd cc)
+answer_of_ends (Err (Log file line fault)) = (λ five. absurd cc, λ three. absurd cc)
+answer_of_ends (Err (BadConfig count)) = (λ five. absurd cc, λ three. refl)
+answer_of_ends (Err OutOfMemory) = (λ five. absurd cc, λ three. absurd cc)
+answer_of_ends (Err (Read file)) = (λ five. absurd cc, λ three. absurd cc)
+
 -- ---- operations
+
+-- of a wrong number of cores
+pub count_told : (fault : JudgeFault) → IsBadCount fault → IsToldOfEnds 3 (told_of (Err fault))
+count_told (BadConfig count) bad = (λ five. absurd cc, λ three. refl)
+count_told (Log file line fault) bad = absurd bad
+count_told OutOfMemory bad = absurd bad
+count_told (Read file) bad = absurd bad
+
+-- an answer to operations is a refusal of neither
+pub operations_of_ends : (answer : Result Verdict OperationsFault) → IsToldOfEnds (operations_status answer) (operations_told answer)
+operations_of_ends (Ok (Yes count)) = (λ five. absurd cc, λ three. absurd cc)
+operations_of_ends (Ok (No fault)) = (λ five. absurd cc, λ three. absurd cc)
+operations_of_ends (Err bad.OutOfMemory) = (λ five. absurd cc, λ three. absurd cc)
+operations_of_ends (Err (bad.TooMany core)) = (λ five. absurd cc, λ three. absurd cc)
+operations_of_ends (Err (bad.OutOfRange core index)) = (λ five. absurd cc, λ three. absurd cc)
 
 -- where the status is 0, they are consistent
 pub yes_is_consistent_of : (parts : List (List TardisOperation)) (answer : Result Verdict OperationsFault) → IsAnswerOf parts answer → operations_status answer ≡ 0 → IsConsistent (operations_of (logs_of parts))

@@ -37,6 +37,10 @@ finding_status (Err (OutOfRange core index)) = 2
 abbrev pub nothing_found : TardisFinding
 nothing_found = record { length = 0; core = 0; index = 0; number = 0 }
 
+-- after a refusal of the ends nothing is told, and after one of the number of cores 6 alone
+abbrev pub IsFoundOfEnds : ℕ → TardisFinding → Type 0
+IsFoundOfEnds status told = (status ≡ 5 → told ≡ nothing_found) × (status ≡ 3 → told ≡ record nothing_found { number = 6 })
+
 abbrev pub finding_told : Result Finding OperationsFault → TardisFinding
 finding_told (Ok (Order text)) = record nothing_found { length = length (string_bytes text) }
 finding_told (Ok (Refutation text)) = record nothing_found { length = length (string_bytes text) }

@@ -59,6 +59,10 @@ IsToldTo texts status told =
     (answer : Result Verdict JudgeFault) × ((file : ℕ) → ¬ IsErrOf answer (Read file)) × IsAnswerTo texts answer × (status ≡ status_of answer)
     × (told ≡ told_of answer)
 
+-- after a refusal of the ends nothing is told, and after one of the number of logs 6 alone
+abbrev pub IsToldOfEnds : ℕ → TardisVerdict → Type 0
+IsToldOfEnds status told = (status ≡ 5 → told ≡ nothing) × (status ≡ 3 → told ≡ record nothing { number = 6 })
+
 -- ---- operations in numbers
 
 -- the verdict on the logs of the operations, or why they are none

@@ -8,7 +8,7 @@ ghost use Rattle.verdict.specs.Judgement.{IsAnswerTo, SpellConsistentSet};
 ghost use Rattle.verdict.specs.declared.judge_fault.JudgeFault.TheVariants.{Read};
 ghost use Rattle.tardis_c.specs.Operations.{logs_of};
 ghost use Rattle.tardis_c.specs.Parts.{AreEnds, parts_of};
-ghost use Rattle.tardis_c.specs.Told.{AreToldOf, IsAnswerOf, IsToldTo, status_of};
+ghost use Rattle.tardis_c.specs.Told.{AreToldOf, IsAnswerOf, IsToldOfEnds, IsToldTo, status_of};
 
 use super::cutting::{are_ends, slices_of, sources_of};
 use super::operations::check_parts;
@@ -57,6 +57,7 @@ pub extern "C" fn tardis_check(
     // are, and are too few or too many.
     ensures ends { result ≡ 5 ↔ ¬ AreEnds bytes.now ends.now }
     ensures logs { result ≡ 3 ↔ (AreEnds bytes.now ends.now × IsOutOfRange (length ends.now)) }
+    ensures refused { IsToldOfEnds result out.new }
     // What is told is the verdict on the set that the texts in the buffer spell, or their first fault; only
     // lack of memory may come instead.
     ensures exact { AreEnds bytes.now ends.now → IsToldTo (parts_of bytes.now ends.now) result out.new }
@@ -107,6 +108,7 @@ pub extern "C" fn tardis_check_operations(
 ) -> u8
     ensures ends { result ≡ 5 ↔ ¬ AreEnds operations.now ends.now }
     ensures cores { result ≡ 3 ↔ (AreEnds operations.now ends.now × IsOutOfRange (length ends.now)) }
+    ensures refused { IsToldOfEnds result out.new }
     // What is told is the verdict on the records of the operations, or the first that is none; only lack of memory
     // may come instead.
     ensures exact { AreEnds operations.now ends.now → IsInRange (length ends.now)

@@ -6,7 +6,7 @@ ghost use Rattle.mem_op.specs.Consistency.{IsConsistent};
 ghost use Rattle.verdict.specs.Counts.{IsInRange, IsOutOfRange};
 ghost use Rattle.tardis_c.specs.Accesses as accesses;
 ghost use Rattle.tardis_c.specs.Faults.{AreOperations};
-ghost use Rattle.tardis_c.specs.Found.{AreFoundOf, IsFindingOf, Shows, finding_status};
+ghost use Rattle.tardis_c.specs.Found.{AreFoundOf, IsFindingOf, IsFoundOfEnds, Shows, finding_status};
 ghost use Rattle.tardis_c.specs.Parts.{AreEnds, parts_of};
 
 use super::checking::{BAD_COUNT, BAD_ENDS};
@@ -125,6 +125,7 @@ pub extern "C" fn tardis_search_operations(
 ) -> u8
     ensures ends { result ≡ 5 ↔ ¬ AreEnds operations.now ends.now }
     ensures cores { result ≡ 3 ↔ (AreEnds operations.now ends.now × IsOutOfRange (length ends.now)) }
+    ensures refused { IsFoundOfEnds result out.new }
     // 2 comes exactly where the ends and their number are right, and what a core is said to have done is none.
     ensures malformed { result ≡ 2 ↔ (AreEnds operations.now ends.now × IsInRange (length ends.now)
         × ¬ All (AreOperations accesses.IsAccess) (parts_of operations.now ends.now)) }

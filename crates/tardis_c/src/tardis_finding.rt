@@ -6,6 +6,8 @@ ghost use Rattle.tardis_c.specs.Found.{finding_status, finding_told, nothing_fou
 use super::finding::Finding;
 use super::operations_fault::OperationsFault;
 
+const _: () = prove!(size_of::<TardisFinding>() == 32);
+
 /// What a search finds beside the status. A field that the answer doesn't have is 0.
 #[repr(C)]
 #[derive(Clone, Copy)]

@@ -10,6 +10,11 @@ use log_record::{Act, Record};
 use mem_op::{Addr, CoreId, OpId, OpIndex, Source};
 use merge_judge::Recorded;
 
+const _: () = prove!(size_of::<TardisOperation>() == 48);
+
+/// The last address.
+const LAST_ADDRESS: u64 = 65_535;
+
 /// The last stamp.
 const LAST_STAMP: u64 = 281_474_976_710_656;
 
@@ -36,8 +41,8 @@ pub struct TardisOperation {
     pub rank: u32,
     /// Of a load or a swap from a store: the index of that store in its core's log, 0 to 1,048,575.
     pub source_index: u32,
-    /// The address of the word.
-    pub addr: u16,
+    /// The address of the word, 0 to 65,535.
+    pub addr: u64,
     /// 0 a load, 1 a store, 2 a swap.
     pub kind: u8,
     /// Of a load or a swap: the core of the store that it read, 0 to 63; 255 where it read the initial 0.
@@ -61,13 +66,15 @@ fn has_source(operation: &TardisOperation) -> bool
 impl InNumbers for TardisOperation {
     ghost in_range = { λ operation. IsOperation operation };
 
-    #[tactic(auto, using(crate::proofs::Numbers::late_is_none, crate::proofs::Numbers::other_is_none, crate::proofs::Numbers::is_load, crate::proofs::Numbers::is_store, crate::proofs::Numbers::is_swap, crate::proofs::Numbers::source_of_load, crate::proofs::Numbers::source_of_swap))]
+    #[tactic(auto, using(crate::proofs::Numbers::late_is_none, crate::proofs::Numbers::far_is_none, crate::proofs::Numbers::other_is_none, crate::proofs::Numbers::is_load, crate::proofs::Numbers::is_store, crate::proofs::Numbers::is_swap, crate::proofs::Numbers::source_of_load, crate::proofs::Numbers::source_of_swap))]
     fn is_in_range(&self) -> bool {
         let _value = self.value;
         let _read = self.read;
         let _rank = self.rank;
-        let _addr = self.addr;
         if self.ts > LAST_STAMP {
+            return false;
+        }
+        if self.addr > LAST_ADDRESS {
             return false;
         }
         match self.kind {
@@ -116,7 +123,7 @@ impl Recorded for TardisOperation {
         let Ok(rank) = Rank::new(u64::from(self.rank)) else {
             unreachable!()
         };
-        let Ok(addr) = Addr::new(u64::from(self.addr)) else {
+        let Ok(addr) = Addr::new(self.addr) else {
             unreachable!()
         };
         Record::new(self.value, ts, rank, addr, &act_of(self))

@@ -7,6 +7,8 @@ use super::operations_fault::OperationsFault;
 use log_file::FormatFault;
 use verdict::{JudgeFault, Rule, Verdict};
 
+const _: () = prove!(size_of::<TardisVerdict>() == 48);
+
 /// What the judge answers beside the status. A field that the answer doesn't have is 0.
 #[repr(C)]
 #[derive(Clone, Copy)]

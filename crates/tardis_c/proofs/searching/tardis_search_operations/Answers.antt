@@ -1,7 +1,7 @@
 -- What is told, and what it says.
 use Rattle.std.proofs.Common.{◌≤◌, ℕ, sym, subst, ◌∙◌}
 use Rattle.tardis_c.specs.Parts.{parts_of}
-use Rattle.tardis_c.proofs.Found.{kept_without_text, no_is_none, yes_is_consistent_of}
+use Rattle.tardis_c.proofs.Found.{found_of_ends, kept_without_text, no_is_none, yes_is_consistent_of}
 use Rattle.tardis_c.proofs.searching.tardis_search_operations.Goals as goal
 
 pub returns-clause-exact : goal.returns-clause-exact
@@ -25,3 +25,6 @@ returns-clause-refuted c =
 pub returns-clause-kept : goal.returns-clause-kept
 returns-clause-kept c =
     λ more. c.put_text.ensures ∙ kept_without_text c.find-answer.result c.args.text.now (subst (λ (n : ℕ). 2 ≤ n) c.finding_status.ensures more)
+
+pub returns-clause-refused : goal.returns-clause-refused
+returns-clause-refused c = rw (c.finding_status.ensures, c.finding_told.ensures) (found_of_ends c.find-answer.result)
