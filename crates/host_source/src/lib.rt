@@ -1,6 +1,8 @@
-//! A file of the host, or its standard input, as a source of bytes.
+//! The host's files: read as sources of bytes, and put whole.
 #![tactic(auto)]
 
+mod putting;
 mod source;
 
-pub use source::HostSource;
+pub use putting::put;
+pub use source::{HostSource, open};

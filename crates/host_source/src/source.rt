@@ -1,22 +1,37 @@
 //! What the host's bytes are read from.
 
-ghost use Rattle.host_source.specs.Sources.{failed_reads};
+ghost use Rattle.host_source.specs.Sources.{failed_reads, left};
 
 use log_file::{ByteSource, FromRead, ReadFailed};
+use std::fs;
 use std::fs::File;
-use std::io::Stdin;
+use std::io::{Read, Stdin};
 
 /// A file, or the standard input.
 #[derive(Drop)]
-pub enum HostSource {
+pub enum HostSource<F, I> {
     /// A file.
-    File(FromRead<File>),
+    File(FromRead<F>),
     /// The standard input.
-    Input(FromRead<Stdin>),
+    Input(FromRead<I>),
 }
 
-impl ByteSource for HostSource {
-    ghost failed = { failed_reads };
+/// Opens the file of a name. `/dev/stdin` is the standard input itself, since whoever may read that may still be refused to open it by
+/// its name.
+pub fn open(rt: &HostRuntime, name: &str) -> Result<HostSource<File, Stdin>, ReadFailed> {
+    if name == "/dev/stdin" {
+        return Ok(HostSource::Input(FromRead::new(rt.stdin())));
+    }
+    match fs::open(rt, name) {
+        Ok(file) => Ok(HostSource::File(FromRead::new(file))),
+        Err(_) => Err(ReadFailed),
+    }
+}
+
+impl<F: Read, I: Read> ByteSource for HostSource<F, I> {
+    ghost remaining = { λ source. left F.remaining I.remaining source };
+
+    ghost failed = { λ source. failed_reads source };
 
     fn read(&mut self, buf: &mut [u8]) -> Result<usize, ReadFailed> {
         match self {

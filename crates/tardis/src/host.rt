@@ -6,9 +6,10 @@ ghost use Rattle.tardis.specs.Host.{host_files};
 use super::progress::Progress;
 use super::shown::Shown;
 use call_devices::Folder;
-use host_source::HostSource;
-use log_file::{FromRead, ReadFailed, WriteFailed};
-use std::fs;
+use host_source::{HostSource, open, put};
+use log_file::{ReadFailed, WriteFailed};
+use std::fs::File;
+use std::io::Stdin;
 
 /// The host's files by their paths.
 #[derive(Clone, Copy)]
@@ -38,34 +39,26 @@ impl<'a> HostFolder<'a> {
 impl<'a> Folder for HostFolder<'a> {
     ghost files = { λ folder. host_files folder.failures folder.unopened };
 
-    type Source = Shown<'a, HostSource>;
+    type Source = Shown<'a, HostSource<File, Stdin>>;
 
-    fn open_file(&mut self, name: &str) -> Result<Shown<'a, HostSource>, ReadFailed> {
-        let progress = self.progress;
-        // Whoever may read the standard input may still be refused to open it by its name.
-        if name == "/dev/stdin" {
-            let device = HostSource::Input(FromRead::new(self.rt.stdin()));
-            return Ok(Shown { device, progress });
-        }
-        match fs::open(self.rt, name) {
-            Ok(file) => {
-                let device = HostSource::File(FromRead::new(file));
-                Ok(Shown { device, progress })
-            }
-            Err(_) => {
+    fn open_file(&mut self, name: &str) -> Result<Self::Source, ReadFailed> {
+        match open(self.rt, name) {
+            Ok(device) => Ok(Shown {
+                device,
+                progress: self.progress,
+            }),
+            Err(failed) => {
                 self.unopened = self.unopened.saturating_add(1);
-                Err(ReadFailed)
+                Err(failed)
             }
         }
     }
 
     fn put(&mut self, name: &str, bytes: &[u8]) -> Result<(), WriteFailed> {
-        match fs::write(self.rt, name, bytes) {
-            Ok(()) => Ok(()),
-            Err(_) => {
-                self.failures = self.failures.saturating_add(1);
-                Err(WriteFailed)
-            }
+        let is_put = put(self.rt, name, bytes);
+        if is_put.is_err() {
+            self.failures = self.failures.saturating_add(1);
         }
+        is_put
     }
 }

@@ -24,7 +24,7 @@ answer_text (Readable kind cores) = kind_text kind ++ (decimal cores ++ codes " 
 answer_text (Searched answer) = search_text answer
 answer_text (Counted forbidden) = []
 answer_text (Done operations) = codes "done: " ++ (decimal operations ++ codes " operations")
-answer_text Version = codes "tardis 1.0, proved with rattle-kit-13f logic dac8208d650f15bf"
+answer_text Version = codes "tardis 1.0, proved with logic dac8208d650f15bf"
 
 -- what standard error is told of an answer: the verdict, where the order is what goes to standard output
 abbrev pub told_text : Answer → List ℕ

@@ -30,8 +30,8 @@ pub enum Answer {
     Version,
 }
 
-/// The version of the program, and the line of the toolchain with which it was proved.
-const VERSION: &str = "tardis 1.0, proved with rattle-kit-13f logic dac8208d650f15bf";
+/// The version of the program, and the logic of the toolchain with which it was proved.
+const VERSION: &str = "tardis 1.0, proved with logic dac8208d650f15bf";
 
 impl Answer {
     /// The exit status: 1 for No and for a forbidden outcome, else 0.

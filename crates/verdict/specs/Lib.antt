@@ -8,6 +8,8 @@ pub mod Faults
 pub mod FlatMachine
 pub mod Judgement
 pub mod Laws
+pub mod Reports
 pub mod SetFaults
+pub mod Statuses
 pub mod Texts
 pub mod VerdictOf

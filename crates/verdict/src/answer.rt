@@ -1,5 +1,8 @@
 //! What the judge answers.
 
+ghost use Rattle.std.specs.Prelude.{◌≡◌};
+ghost use Rattle.verdict.specs.Statuses.{verdict_status};
+
 use super::fault::Fault;
 use std::fmt;
 use std::fmt::Display;
@@ -11,6 +14,18 @@ pub enum Verdict {
     Yes(usize),
     /// The first record that breaks a rule.
     No(Fault),
+}
+
+impl Verdict {
+    /// The exit status of a program that answers so: 0 for Yes, 1 for No.
+    pub fn status(&self) -> u8
+        ensures { result ≡ verdict_status self.now }
+    {
+        match self {
+            Verdict::Yes(_) => 0,
+            Verdict::No(_) => 1,
+        }
+    }
 }
 
 impl Display for Verdict {

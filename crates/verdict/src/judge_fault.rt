@@ -3,6 +3,7 @@
 ghost use Rattle.std.specs.Prelude.{◌≡◌};
 ghost use Rattle.verdict.specs.declared.judge_fault.JudgeFault.TheVariants.{OutOfMemory};
 ghost use Rattle.verdict.specs.SetFaults.{from_set};
+ghost use Rattle.verdict.specs.Statuses.{judge_fault_status};
 
 use fault_names::FaultName;
 use log_file::{FormatFault, LogFault, SetFault};
@@ -54,6 +55,19 @@ pub enum JudgeFault {
     Read {
         file: usize,
     },
+}
+
+impl JudgeFault {
+    /// The exit status of a program that is refused so: 2 for the fault of a log, 3 for a count out of range, else 4.
+    pub fn status(&self) -> u8
+        ensures { result ≡ judge_fault_status self.now }
+    {
+        match self {
+            JudgeFault::Log { .. } => 2,
+            JudgeFault::BadConfig(_) => 3,
+            JudgeFault::Read { .. } | JudgeFault::OutOfMemory => 4,
+        }
+    }
 }
 
 impl Display for JudgeFault {

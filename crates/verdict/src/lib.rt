@@ -13,6 +13,7 @@ mod judging;
 mod laws;
 mod open_gate;
 mod replay;
+mod reporting;
 mod rule;
 mod run_judging;
 
@@ -28,5 +29,6 @@ pub use laws::{key_order_is_sequential, texts_have_one_answer, yes_is_consistent
 pub use log_file::LogSet;
 pub use open_gate::OpenGate;
 pub use replay::replay_order;
+pub use reporting::report;
 pub use rule::Rule;
 pub use run_judging::judge_run;

@@ -2,7 +2,7 @@
 
 ghost use Rattle.std.specs.Prelude.{◌<◌};
 
-use super::call::{Done, Outputs, SOUND, call};
+use super::call::{Done, Outputs, SOUND, call, check_alone};
 use super::compare::{Expected, compare};
 use super::fault::RowsFault;
 use super::words::{have, have_word, other_call, texts_of};
@@ -44,6 +44,7 @@ pub(crate) fn wrong_again<R: Threads + Wait + Sync + Print>(
     wrong.unless(is_seen(command, done));
     if command == "check" && !expected.told.starts_with("error") {
         wrong.unless(again.by_workers()?);
+        wrong.unless(again.alone()?);
         wrong.unless(again.as_order()?);
         wrong.unless(again.as_explanation()?);
         wrong.unless(again.cut_off()?);
@@ -119,6 +120,18 @@ impl<'a, R: Threads + Wait + Sync + Print> Again<'a, R> {
     fn by(&self, option: &'a str) -> Result<bool, RowsFault> {
         let words = other_call(self.alloc, "check", Some(option), self.words)?;
         self.does(words.as_slice(), self.given, SOUND, &self.expected)
+    }
+
+    /// The judge alone, as the program `tardis_check` calls it, answers the same.
+    fn alone(&self) -> Result<bool, RowsFault> {
+        let Some(names) = self.words.get(2..) else {
+            return Ok(false);
+        };
+        if have(names, "-") {
+            return Ok(true);
+        }
+        let done = check_alone(self.rt, self.alloc, names, self.given)?;
+        compare(self.rt, self.words, &self.expected, &done)
     }
 
     /// Where an order is written the verdict goes to standard error, and only with a Yes the order is whole.

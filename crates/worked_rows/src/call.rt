@@ -7,12 +7,14 @@ ghost use Rattle.tardis_command.specs.Endings.{AreConsistent, AskFor};
 
 use super::fault::{RowsFault, text_of};
 use super::watch::Counting;
+use call_devices::{Folder, open_all};
 use log_file::{MemSink, Step};
 use memory_folder::{File, Given, MemoryFolder};
 use std::alloc::Global;
 use std::sync::Wait;
 use std::thread::Threads;
 use tardis_command::serve;
+use verdict::{JudgeFault, OpenGate, check_counts, judge, report};
 
 /// How the writes of a call go.
 #[derive(Clone, Copy)]
@@ -66,4 +68,38 @@ pub(crate) fn call<R: Threads + Wait + Sync>(
         put: folder.into_put(),
         seen: watch.seen(),
     })
+}
+
+/// Judges the logs in files of these names and prints the answer, as the program `tardis_check` does.
+pub(crate) fn check_alone<R: Threads + Sync>(
+    rt: &R,
+    alloc: Global,
+    names: &[&str],
+    given: Given<'_>,
+) -> Result<Done, RowsFault> {
+    let mut folder = MemoryFolder::new(alloc, given);
+    let mut out = MemSink::new(alloc, &[]);
+    let mut err = MemSink::new(alloc, &[]);
+    let answer = match open_logs(alloc, &mut folder, names) {
+        Ok(mut logs) => judge(rt, alloc, logs.as_mut_slice(), 1, &OpenGate),
+        Err(fault) => Err(fault),
+    };
+    let status = report(alloc, answer, &mut out, &mut err);
+    Ok(Done {
+        status,
+        printed: text_of(Vec::from_slice(alloc, out.bytes())?)?,
+        told: text_of(Vec::from_slice(alloc, err.bytes())?)?,
+        put: Vec::new(alloc),
+        seen: (0, 0),
+    })
+}
+
+/// Opens the files of these names, the log of each core, unless there are too many.
+fn open_logs<F: Folder>(
+    alloc: Global,
+    folder: &mut F,
+    names: &[&str],
+) -> Result<Vec<F::Source>, JudgeFault> {
+    check_counts(names.len(), 1)?;
+    open_all(alloc, folder, names)
 }
