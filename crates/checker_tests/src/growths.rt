@@ -170,14 +170,16 @@ fn replayed<R: Threads + Sync>(
     Ok(replay_order(alloc, order, &all)?)
 }
 
-// Core 0's operations and then core 1's, and the same with the first two exchanged.
+// Core 0's operations and then core 1's; the same with the first two exchanged, and with the first twice in place of both.
 #[test]
 fn orders(rt: HostRuntime) {
     let in_order = [id(0), id(1), id(2), id(3)];
     let exchanged = [id(1), id(0), id(2), id(3)];
+    let doubled = [id(0), id(0), id(2), id(3)];
     for (logs, order, holds) in [
         (&READ_ACROSS, &in_order, true),
         (&READ_ACROSS, &exchanged, false),
+        (&READ_ACROSS, &doubled, false),
         (&BOTH_READ_OLD, &in_order, false),
     ] {
         let mut answer = replayed(&rt, rt.alloc(), logs, order);

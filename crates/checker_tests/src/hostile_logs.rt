@@ -1,5 +1,6 @@
 //! Logs that no machine writes.
 
+use super::writing::THREE_RECORDS;
 use log_file::{FormatFault, LogFault, LogReader, RecordReader};
 use mem_op::CoreId;
 use std::test::Fail;
@@ -30,5 +31,27 @@ fn a_line_of_a_million_bytes(rt: HostRuntime) -> Result<(), Fail> {
             }
         }
     }
+    Ok(())
+}
+
+// It ends too early at one line more than it has line feeds, however it is cut; whole it is a log.
+#[test]
+fn a_log_that_is_cut_after_each_byte(rt: HostRuntime) -> Result<(), Fail> {
+    let text = THREE_RECORDS.as_bytes();
+    let core = CoreId::new(0)?;
+    assert_eq!(rt; text.len(), 65);
+    let mut line = 1u64;
+    for cut in 0..text.len() {
+        let mut reader = LogReader::new(rt.alloc(), core, 1);
+        assert_eq!(rt; reader.feed(&text[..cut]), Ok(()), "after {cut}");
+        let fault = LogFault::At(line, FormatFault::Truncated);
+        assert_eq!(rt; reader.finish().err(), Some(fault), "after {cut}");
+        if text[cut] == b'\n' {
+            line = line.saturating_add(1);
+        }
+    }
+    let mut whole = LogReader::new(rt.alloc(), core, 1);
+    whole.feed(text)?;
+    assert_eq!(rt; whole.finish()?.len(), 3);
     Ok(())
 }

@@ -21,6 +21,14 @@ fn printed(alloc: Global, answer: Result<Verdict, JudgeFault>) -> Result<String,
     })
 }
 
+/// A gate that is always open.
+#[derive(Clone, Copy)]
+struct Open;
+
+impl Gate for Open {
+    fn enter(&self, _phase: Phase, _piece: usize) {}
+}
+
 /// A gate that tells in which order a single worker entered pieces, three digits a piece.
 #[derive(Drop)]
 struct Steps {
@@ -106,5 +114,13 @@ fn two_workers_enter_at_once(rt: HostRuntime) -> Result<(), Fail> {
     let answer = judged_by(&rt, rt.alloc(), 2, &both)?;
     assert_eq!(rt; answer.as_str(), "no: 1.1 SOURCE");
     assert_eq!(rt; both.late.load(Ordering::SeqCst), 0);
+    Ok(())
+}
+
+#[test]
+fn the_number_of_files_comes_before_that_of_workers(rt: HostRuntime) -> Result<(), Fail> {
+    let mut none: [MemSource; 0] = [];
+    let answer = judge(&rt, rt.alloc(), &mut none, 0, &Open);
+    assert_eq!(rt; printed(rt.alloc(), answer)?.as_str(), "6 BadConfig files");
     Ok(())
 }

@@ -40,7 +40,7 @@ fn swaps_are_written_in_format_2_alone(rt: HostRuntime) -> Result<(), Fail> {
 }
 
 /// A log of 65 bytes: a store, a load and a store.
-const THREE_RECORDS: &str =
+pub(super) const THREE_RECORDS: &str =
     "tardis-log 1 core 0 of 1\nS 5 7 1 0\nL 5 7 1 1 0.0\nS 5 8 1 1\nend 3\n";
 
 #[test]
