@@ -1,8 +1,8 @@
 -- The texts of the faults: whose it is, a number and a name.
 use Rattle.std.specs.Prelude.{ℕ, List, ◌++◌, codes}
 use Rattle.std.specs.Fmt.{decimal}
-use Rattle.fault_names.specs.Names.{name_text}
-use Rattle.fault_names.specs.declared.fault_name.FaultName.TheVariants as named
+use Rattle.mem_op.specs.Names.{name_text}
+use Rattle.mem_op.specs.declared.fault_name.FaultName.TheVariants as named
 use Rattle.manager_slice.specs.Faults as slice
 use Rattle.core_unit.specs.Faults as unit
 use Rattle.audit.specs.declared.fault.AuditFault.{AuditFault}

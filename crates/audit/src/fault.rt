@@ -1,6 +1,6 @@
 //! Where cores and slices don't agree.
 
-use fault_names::FaultName;
+use mem_op::FaultName;
 use std::fmt;
 use std::fmt::Display;
 use thiserror::Error;

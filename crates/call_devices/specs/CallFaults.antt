@@ -1,8 +1,8 @@
 -- What is told of why a call was refused, whatever its command, and its exit status.
 use Rattle.std.specs.Prelude.{ℕ, List, ◌++◌, codes}
 use Rattle.std.specs.Fmt.{decimal}
-use Rattle.fault_names.specs.Names.{name_text}
-use Rattle.fault_names.specs.declared.fault_name.FaultName.TheVariants as named
+use Rattle.mem_op.specs.Names.{name_text}
+use Rattle.mem_op.specs.declared.fault_name.FaultName.TheVariants as named
 use Rattle.core_program.specs.FaultTexts.{fault_text}
 use Rattle.core_program.specs.declared.fault.ProgramFault.{ProgramFault}
 use Rattle.core_program.specs.declared.fault.ProgramFault.TheVariants.{BadLine, TooLong, SkipPastEnd, OutOfMemory as NoTextMemory}

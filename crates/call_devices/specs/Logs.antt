@@ -7,7 +7,7 @@ use Rattle.log_record.specs.declared.record.Record.{Record}
 use Rattle.call_devices.specs.Files.{Files}
 use Rattle.call_devices.specs.declared.call_fault.CallFault.{CallFault}
 use Rattle.call_devices.specs.declared.call_fault.CallFault.TheVariants.{LogUnwritten, OutOfMemory}
-pub use Rattle.run_files.specs.Names.{log_name}
+pub use Rattle.command_line.specs.RunFiles.{log_name}
 
 -- core c's log, of `cores`, is told under its name, in its one spelling in this format
 abbrev pub TellsLog : Format → (List ℕ → Option (List ℕ)) → List ℕ → ℕ → (ℕ → List Record) → ℕ → Type 0

@@ -4,7 +4,7 @@ ghost use Rattle.std.specs.Prelude.{◌≡◌};
 ghost use Rattle.call_devices.specs.CallFaults.{call_fault_status, from_program};
 
 use core_program::ProgramFault;
-use fault_names::FaultName;
+use mem_op::FaultName;
 use std::fmt;
 use std::fmt::Display;
 use thiserror::Error;

@@ -4,6 +4,7 @@
 mod argument;
 mod explaining;
 mod grammar;
+mod log_names;
 mod names;
 mod refusal;
 mod request;

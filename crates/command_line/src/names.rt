@@ -4,9 +4,9 @@ ghost use Rattle.std.specs.Prelude.{◌≡◌, ◌↔◌, IfOk, IsTrue, false};
 ghost use Rattle.std.specs.Option.{option_map_or};
 ghost use Rattle.std.specs.Str.{bytes_eq};
 ghost use Rattle.command_line.specs.Asking.{text_of};
-ghost use Rattle.run_files.specs.Names.{IsRunFile};
+ghost use Rattle.command_line.specs.RunFiles.{IsRunFile};
 
-use run_files::is_log_name;
+use super::log_names::is_log_name;
 use std::alloc::{AllocError, Global};
 
 /// Whether a file of a run has this name: that of its programs, that of its schedule, or what may be a log.

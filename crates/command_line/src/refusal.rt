@@ -1,6 +1,6 @@
 //! Why a command line asks for nothing.
 
-use fault_names::FaultName;
+use mem_op::FaultName;
 use std::alloc::AllocError;
 use std::fmt;
 use std::fmt::Display;

@@ -3,7 +3,7 @@
 ghost use Rattle.std.specs.Prelude.{◌≡◌};
 ghost use Rattle.core_program.specs.declared.fault.ProgramFault.TheVariants.{OutOfMemory};
 
-use fault_names::FaultName;
+use mem_op::FaultName;
 use std::alloc::{AllocError, AllocFailed};
 use std::fmt;
 use std::fmt::Display;

@@ -3,8 +3,8 @@
 ghost use Rattle.std.specs.Prelude.{◌≡◌};
 ghost use Rattle.core_unit.specs.declared.fault.UnitFault.TheVariants.{OutOfMemory, Stamp};
 
-use fault_names::FaultName;
 use line_stamps::StampFault;
+use mem_op::FaultName;
 use private_cache::FillFault;
 use std::alloc::AllocError;
 use std::fmt;

@@ -6,6 +6,7 @@ pub mod Kinds
 pub mod LogFaults
 pub mod Pictures
 pub mod ProgramOf
+pub mod Scenes
 pub mod Times
 pub mod Uses
 pub mod Windows

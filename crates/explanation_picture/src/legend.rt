@@ -1,7 +1,7 @@
 //! The legend of a picture.
 
 use super::shown::{has_source, has_swap};
-use explanation_scene::{Scene, Wanted};
+use explain::{Scene, Wanted};
 use std::alloc::{AllocError, Global};
 
 /// What a line of the legend tells of.

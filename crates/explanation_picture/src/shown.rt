@@ -1,7 +1,6 @@
 //! What of a scene is shown.
 
-use explain::{is_swap, named_id, place_of};
-use explanation_scene::Scene;
+use explain::{Scene, is_swap, named_id, place_of};
 use log_record::Entry;
 use mem_op::CoreId;
 use std::alloc::{AllocError, Global};

@@ -6,8 +6,8 @@ ghost use Rattle.judge_commands.specs.declared.fault.JudgingFault.TheVariants.{C
 ghost use Rattle.call_devices.specs.declared.call_fault.CallFault.TheVariants as call;
 
 use call_devices::CallFault;
-use fault_names::FaultName;
 use log_file::WriteFailed;
+use mem_op::FaultName;
 use merge_judge::MergeFault;
 use std::alloc::AllocError;
 use std::fmt;

@@ -1,7 +1,7 @@
 -- The texts of the faults: the number and name, and the parameter that is out of its range.
 use Rattle.std.specs.Prelude.{ℕ, List, ◌++◌, codes}
-use Rattle.fault_names.specs.Names.{name_text}
-use Rattle.fault_names.specs.declared.fault_name.FaultName.TheVariants as named
+use Rattle.mem_op.specs.Names.{name_text}
+use Rattle.mem_op.specs.declared.fault_name.FaultName.TheVariants as named
 use Rattle.lease_rule.specs.declared.fault.BadConfig.{BadConfig}
 use Rattle.lease_rule.specs.declared.fault.BadConfig.TheVariants.{Slices, Lease, Period, CacheLines, SliceLines, Inbox, Turns}
 

@@ -1,6 +1,6 @@
 //! Which number of a configuration is out of its range.
 
-use fault_names::FaultName;
+use mem_op::FaultName;
 use std::fmt;
 use std::fmt::Display;
 use thiserror::Error;

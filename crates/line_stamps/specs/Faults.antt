@@ -1,7 +1,7 @@
 -- The texts of the faults: a number and a name.
 use Rattle.std.specs.Prelude.{ℕ, List}
-use Rattle.fault_names.specs.Names.{name_text}
-use Rattle.fault_names.specs.declared.fault_name.FaultName.TheVariants as named
+use Rattle.mem_op.specs.Names.{name_text}
+use Rattle.mem_op.specs.declared.fault_name.FaultName.TheVariants as named
 use Rattle.line_stamps.specs.declared.fault.StampFault.{StampFault}
 use Rattle.line_stamps.specs.declared.fault.StampFault.TheVariants.{StampLimit, RankLimit}
 

@@ -1,6 +1,6 @@
 //! Why there is no such stamp or rank.
 
-use fault_names::FaultName;
+use mem_op::FaultName;
 use std::fmt;
 use std::fmt::Display;
 use thiserror::Error;

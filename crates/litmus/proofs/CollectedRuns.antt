@@ -8,7 +8,7 @@ use Rattle.core_machine.specs.Machine.{World}
 use Rattle.core_machine.specs.Parts.{CoreParts, world}
 use Rattle.litmus.specs.Collecting.{AreEndsOf}
 use Rattle.litmus_test.specs.Parts.{LitmusParts}
-use Rattle.litmus_outcome.specs.Ends.{ThreadEnd, left, outcome_of}
+use Rattle.litmus.specs.Ends.{ThreadEnd, left, outcome_of}
 use Rattle.litmus.specs.Runs.{IsEndOf, IsSeededRun, IsThreadRun, seed_of, seeded_numbers, thread_numbers}
 use Rattle.statistics.specs.Runs.{RunNumbers}
 use Rattle.statistics.specs.Totals.{IsBounded, totals_of, with_run}

@@ -4,8 +4,8 @@ use Rattle.std.specs.Prelude.{Result, MatchResult}
 use Rattle.core_machine.specs.Machine.{World}
 use Rattle.statistics.specs.Runs.{RunNumbers}
 use Rattle.litmus_test.specs.Parts.{LitmusParts}
-use Rattle.litmus_outcome.specs.Ends.{GetsYes, IsJudgeCause, outcome_of}
-use Rattle.litmus_outcome.specs.declared.run_cause.RunCause.{RunCause}
+use Rattle.litmus.specs.Ends.{GetsYes, IsJudgeCause, outcome_of}
+use Rattle.litmus.specs.declared.run_cause.RunCause.{RunCause}
 use Rattle.litmus.specs.Runs.{IsCauseOf, IsEndOf, not_yes}
 use Rattle.litmus.specs.declared.collecting.Kept.{Kept}
 

@@ -11,10 +11,10 @@ use Rattle.machine_laws.proofs.Below.{ended_below_get_yes, whole_below_get_yes}
 use Rattle.simulation.specs.Events.{simulated_events}
 use Rattle.simulation.proofs.Ended.{simulated_ended}
 use Rattle.litmus_test.specs.Parts.{LitmusParts}
-use Rattle.litmus_outcome.specs.Ends.{ThreadEnd, SaysNo, left, logs_of}
+use Rattle.litmus.specs.Ends.{ThreadEnd, SaysNo, left, logs_of}
 use Rattle.litmus.specs.Runs.{IsCauseOf, IsRunCause, IsSeededRun, IsThreadCause, IsThreadRun, IsUnsimulated, IsUnthreaded, no_memory, not_ended, not_yes}
-use Rattle.litmus_outcome.specs.declared.run_cause.RunCause.{RunCause}
-use Rattle.litmus_outcome.specs.declared.run_cause.RunCause.TheVariants as cause
+use Rattle.litmus.specs.declared.run_cause.RunCause.{RunCause}
+use Rattle.litmus.specs.declared.run_cause.RunCause.TheVariants as cause
 
 seeded_yes : (t : LitmusParts) (g : ConfigParts) (seed : ℕ) (q : CoreParts) → length t.programs ≤ 64 → IsSeededRun t g seed q → GetYesBy t.programs (logs_of t (world q))
 seeded_yes t g seed q few (did, run) =

@@ -9,13 +9,13 @@ use Rattle.core_machine.specs.Machine.{World}
 use Rattle.core_machine.specs.Parts.{CoreParts, world}
 use Rattle.litmus_test.specs.Outcomes.{is_forbidden, is_outcome}
 use Rattle.litmus_test.specs.Parts.{LitmusParts}
-use Rattle.litmus_outcome.specs.Ends.{ThreadEnd, GetsYes, SaysNo, left, outcome_of}
+use Rattle.litmus.specs.Ends.{ThreadEnd, GetsYes, SaysNo, left, outcome_of}
 use Rattle.litmus.specs.Runs.{IsRunCause, IsSeededRun, IsThreadCause, IsThreadRun, seed_of, seeded_numbers, thread_numbers}
 use Rattle.litmus.specs.declared.collecting.Collected.{Collected}
 use Rattle.litmus_test.specs.TableParts.{RowParts}
 use Rattle.statistics.specs.Runs.{RunNumbers}
 use Rattle.statistics.specs.Totals.{totals_of}
-use Rattle.litmus_outcome.specs.declared.run_cause.RunCause.{RunCause}
+use Rattle.litmus.specs.declared.run_cause.RunCause.{RunCause}
 use Rattle.litmus.specs.declared.run_fault.CollectFault.{CollectFault}
 use Rattle.litmus.specs.declared.run_fault.CollectFault.TheVariants.{BadRuns, Run, OutOfMemory}
 

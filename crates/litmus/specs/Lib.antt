@@ -1,4 +1,5 @@
 pub mod Collecting
+pub mod Ends
 pub mod RunFaults
 pub mod Runs
 pub mod inner

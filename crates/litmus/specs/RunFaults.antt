@@ -1,15 +1,15 @@
 -- The texts of why there is no table.
 use Rattle.std.specs.Prelude.{ℕ, List, ◌++◌, codes}
 use Rattle.std.specs.Fmt.{decimal}
-use Rattle.fault_names.specs.Names.{name_text}
-use Rattle.fault_names.specs.declared.fault_name.FaultName.TheVariants as named
+use Rattle.mem_op.specs.Names.{name_text}
+use Rattle.mem_op.specs.declared.fault_name.FaultName.TheVariants as named
 use Rattle.machine.specs.Faults as threads
 use Rattle.simulation.specs.Faults as simulation
 use Rattle.verdict.specs.Texts as verdict
 use Rattle.litmus.specs.declared.run_fault.CollectFault.{CollectFault}
 use Rattle.litmus.specs.declared.run_fault.CollectFault.TheVariants as fault
-use Rattle.litmus_outcome.specs.declared.run_cause.RunCause.{RunCause}
-use Rattle.litmus_outcome.specs.declared.run_cause.RunCause.TheVariants.{Simulation, Threads, No, OutOfMemory}
+use Rattle.litmus.specs.declared.run_cause.RunCause.{RunCause}
+use Rattle.litmus.specs.declared.run_cause.RunCause.TheVariants.{Simulation, Threads, No, OutOfMemory}
 
 -- of run k
 abbrev pub cause_text : ℕ → RunCause → List ℕ

@@ -2,15 +2,17 @@
 
 ghost use Rattle.std.specs.Prelude.{◌≡◌, ◌↔◌, ℕ, List, IfErr, IfOk, IsOk, MatchResult, length};
 ghost use Rattle.litmus.specs.Collecting.{AreRowsOf, IsRunCount};
-ghost use Rattle.litmus_outcome.specs.Ends.{GetsYes, IsJudgeCause, outcome_of};
+ghost use Rattle.litmus.specs.Ends.{GetsYes, IsJudgeCause, outcome_of};
 ghost use Rattle.statistics.specs.Runs.{run_numbers};
 ghost use Rattle.litmus.specs.declared.run_fault.CollectFault.TheVariants.{BadRuns};
 ghost use Rattle.litmus.specs.inner.Tallies.{IsTally};
 
+use super::ended::Ended;
+use super::judging::judged_outcome;
+use super::run_cause::RunCause;
 use super::run_fault::CollectFault;
 use super::tally::rows_of;
 use lease_rule::Config;
-use litmus_outcome::{Ended, RunCause, judged_outcome};
 use litmus_test::{Litmus, Table};
 use statistics::{RunCounts, RunParts, RunTotals};
 use std::alloc::{AllocError, Global};

@@ -2,14 +2,17 @@
 #![tactic(auto)]
 
 mod collecting;
+mod ended;
+mod judging;
+mod run_cause;
 mod run_fault;
 mod seeded;
 mod tally;
 mod threaded;
 
 pub use collecting::Collected;
-pub use litmus_outcome::RunCause;
 pub use litmus_test::{Litmus, LitmusFault, Row, Shown, Table, write_table};
+pub use run_cause::RunCause;
 pub use run_fault::CollectFault;
 pub use seeded::collect_seeded;
 pub use threaded::collect_threaded;

@@ -3,8 +3,8 @@
 ghost use Rattle.std.specs.Prelude.{◌≡◌};
 ghost use Rattle.litmus.specs.declared.run_fault.CollectFault.TheVariants.{OutOfMemory};
 
-use fault_names::FaultName;
-use litmus_outcome::RunCause;
+use super::run_cause::RunCause;
+use mem_op::FaultName;
 use std::alloc::{AllocError, AllocFailed};
 use std::fmt;
 use std::fmt::Display;

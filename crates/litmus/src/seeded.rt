@@ -2,16 +2,16 @@
 
 ghost use Rattle.std.specs.Prelude.{◌≡◌, ◌↔◌, IsErrOf, IfErr, MatchResult};
 ghost use Rattle.litmus.specs.Collecting.{IsBadRunCount, IsCollectFault, IsSeededTable, TellsNo};
-ghost use Rattle.litmus_outcome.specs.Ends.{SaysNo};
+ghost use Rattle.litmus.specs.Ends.{SaysNo};
 ghost use Rattle.litmus.specs.Runs.{IsRunCause, IsSeededEnd, IsSeededRun, IsUnsimulated};
 ghost use Rattle.litmus.specs.declared.run_fault.CollectFault.TheVariants.{BadRuns};
-ghost use Rattle.litmus_outcome.specs.declared.run_cause.RunCause.TheVariants as cause;
+ghost use Rattle.litmus.specs.declared.run_cause.RunCause.TheVariants as cause;
 
 use super::collecting::{Collected, Kept, check_runs, keep, table_of};
+use super::run_cause::RunCause;
 use super::run_fault::CollectFault;
 use super::tally::count_outcome;
 use lease_rule::Config;
-use litmus_outcome::RunCause;
 use litmus_test::Litmus;
 use simulation::simulate;
 use statistics::RunTotals;

@@ -2,15 +2,15 @@
 
 ghost use Rattle.std.specs.Prelude.{◌↔◌, IsErrOf, IfErr, MatchResult};
 ghost use Rattle.litmus.specs.Collecting.{IsBadRunCount, IsThreadFault, IsThreadTable, TellsNo};
-ghost use Rattle.litmus_outcome.specs.Ends.{SaysNo};
+ghost use Rattle.litmus.specs.Ends.{SaysNo};
 ghost use Rattle.litmus.specs.Runs.{IsThreadCause, IsThreadEnd};
 ghost use Rattle.litmus.specs.declared.run_fault.CollectFault.TheVariants.{BadRuns};
 
 use super::collecting::{Collected, Kept, check_runs, keep, table_of};
+use super::run_cause::RunCause;
 use super::run_fault::CollectFault;
 use super::tally::count_outcome;
 use lease_rule::Config;
-use litmus_outcome::RunCause;
 use litmus_test::Litmus;
 use machine::{Go, Pace, ThreadsFault, run_threads};
 use mem_op::CoreId;

@@ -5,7 +5,7 @@ ghost use Rattle.litmus_test.specs.declared.fault.LitmusFault.TheVariants.{OutOf
 ghost use Rattle.litmus_test.specs.FaultTexts.{from_program};
 
 use core_program::ProgramFault;
-use fault_names::FaultName;
+use mem_op::FaultName;
 use std::alloc::{AllocError, AllocFailed};
 use std::fmt;
 use std::fmt::Display;

@@ -1,7 +1,7 @@
 -- The texts of faults of reading.
 use Rattle.std.specs.Prelude.{ℕ, List}
-use Rattle.fault_names.specs.Names.{name_text}
-use Rattle.fault_names.specs.declared.fault_name.FaultName.TheVariants as named
+use Rattle.mem_op.specs.Names.{name_text}
+use Rattle.mem_op.specs.declared.fault_name.FaultName.TheVariants as named
 use Rattle.log_file.specs.declared.device_fault.ReadFault.{ReadFault}
 use Rattle.log_file.specs.declared.device_fault.ReadFault.TheVariants.{OutOfMemory, Read}
 

@@ -1,8 +1,8 @@
 -- The text of a fault of a set: the file and the line, where there are any, a number and a name.
 use Rattle.std.specs.Prelude.{ℕ, List, ◌++◌, codes}
 use Rattle.std.specs.Fmt.{decimal}
-use Rattle.fault_names.specs.Names.{name_text}
-use Rattle.fault_names.specs.declared.fault_name.FaultName.TheVariants as named
+use Rattle.mem_op.specs.Names.{name_text}
+use Rattle.mem_op.specs.declared.fault_name.FaultName.TheVariants as named
 use Rattle.log_file.specs.declared.fault.LogFault.{LogFault}
 use Rattle.log_file.specs.declared.fault.LogFault.TheVariants.{At, OutOfMemory, Read}
 use Rattle.log_file.specs.declared.fault.SetFault.{SetFault}

@@ -1,7 +1,7 @@
 -- The texts of the faults of writing: a number and a name.
 use Rattle.std.specs.Prelude.{ℕ, List}
-use Rattle.fault_names.specs.Names.{name_text}
-use Rattle.fault_names.specs.declared.fault_name.FaultName.TheVariants as named
+use Rattle.mem_op.specs.Names.{name_text}
+use Rattle.mem_op.specs.declared.fault_name.FaultName.TheVariants as named
 use Rattle.log_file.specs.declared.device_fault.WriteFault.{WriteFault}
 use Rattle.log_file.specs.declared.device_fault.WriteFault.TheVariants.{OutOfMemory, Write}
 use Rattle.log_file.specs.declared.write_fault.LogWriteFault.{LogWriteFault}

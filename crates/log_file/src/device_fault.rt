@@ -1,6 +1,6 @@
 //! How devices fail, and why their bytes could not be had or given.
 
-use fault_names::FaultName;
+use mem_op::FaultName;
 use std::alloc::AllocError;
 use std::fmt;
 use std::fmt::Display;
@@ -12,8 +12,8 @@ pub struct ReadFailed;
 
 impl Display for ReadFailed {
     ghost use Rattle.std.specs.Prelude.{Some};
-    ghost use Rattle.fault_names.specs.Names.{name_text};
-    ghost use Rattle.fault_names.specs.declared.fault_name.FaultName.TheVariants as named;
+    ghost use Rattle.mem_op.specs.Names.{name_text};
+    ghost use Rattle.mem_op.specs.declared.fault_name.FaultName.TheVariants as named;
 
     ghost output = { λ fault. Some (name_text named.Read) };
 
@@ -28,8 +28,8 @@ pub struct WriteFailed;
 
 impl Display for WriteFailed {
     ghost use Rattle.std.specs.Prelude.{Some};
-    ghost use Rattle.fault_names.specs.Names.{name_text};
-    ghost use Rattle.fault_names.specs.declared.fault_name.FaultName.TheVariants as named;
+    ghost use Rattle.mem_op.specs.Names.{name_text};
+    ghost use Rattle.mem_op.specs.declared.fault_name.FaultName.TheVariants as named;
 
     ghost output = { λ fault. Some (name_text named.Write) };
 

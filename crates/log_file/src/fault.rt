@@ -1,7 +1,7 @@
 //! What is wrong with a log, and with a set of logs.
 
 use super::device_fault::ReadFailed;
-use fault_names::FaultName;
+use mem_op::FaultName;
 use std::alloc::{AllocError, AllocFailed};
 use std::fmt;
 use std::fmt::Display;

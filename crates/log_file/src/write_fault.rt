@@ -1,7 +1,7 @@
 //! Why a log wasn't written.
 
 use super::device_fault::WriteFault;
-use fault_names::FaultName;
+use mem_op::FaultName;
 use std::fmt;
 use std::fmt::Display;
 use thiserror::Error;

@@ -1,6 +1,6 @@
 //! Why a line isn't a record's.
 
-use fault_names::FaultName;
+use mem_op::FaultName;
 use std::fmt;
 use std::fmt::Display;
 use thiserror::Error;

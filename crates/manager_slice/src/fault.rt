@@ -3,7 +3,7 @@
 ghost use Rattle.std.specs.Prelude.{◌≡◌};
 ghost use Rattle.manager_slice.specs.declared.fault.SliceFault.TheVariants.{OutOfMemory};
 
-use fault_names::FaultName;
+use mem_op::FaultName;
 use std::alloc::AllocError;
 use std::fmt;
 use std::fmt::Display;

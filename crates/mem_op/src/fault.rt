@@ -1,6 +1,6 @@
 //! Why a number is out of range.
 
-use fault_names::FaultName;
+use super::fault_name::FaultName;
 use std::fmt;
 use std::fmt::Display;
 use thiserror::Error;

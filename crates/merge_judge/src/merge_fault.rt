@@ -5,8 +5,8 @@ ghost use Rattle.verdict.specs.declared.judge_fault.JudgeFault.TheVariants.{OutO
 ghost use Rattle.merge_judge.specs.declared.merge_fault.MergeFault.TheVariants.{Judge};
 ghost use Rattle.merge_judge.specs.WriteFaults.{from_write};
 
-use fault_names::FaultName;
 use log_file::WriteFault;
+use mem_op::FaultName;
 use std::alloc::AllocError;
 use std::fmt;
 use std::fmt::Display;

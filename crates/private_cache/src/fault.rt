@@ -1,6 +1,6 @@
 //! Why a reply isn't filled in.
 
-use fault_names::FaultName;
+use mem_op::FaultName;
 use std::fmt;
 use std::fmt::Display;
 use thiserror::Error;

@@ -31,7 +31,7 @@ use Rattle.simulation.proofs.SimulatedRuns.{simulated_run}
 use Rattle.command_line.specs.Asking.{AreApart}
 use Rattle.command_line.specs.declared.request.Run.{Run as AskedRun}
 use Rattle.command_line.specs.declared.request.Sim.{Sim as AskedSim}
-use Rattle.litmus_outcome.proofs.Judged.{spell_push}
+use Rattle.litmus.proofs.JudgedOutcome.{spell_push}
 use Rattle.call_devices.specs.Files.{Files}
 use Rattle.call_devices.specs.Outputs.{PutsAt}
 use Rattle.run_commands.specs.Leaving.{AreLogTexts, LeavesYes}

@@ -1,13 +1,13 @@
 -- What is told of refusals, and their exit statuses.
 use Rattle.std.specs.Prelude.{ℕ, List, ◌++◌, codes}
-use Rattle.fault_names.specs.Names.{name_text}
-use Rattle.fault_names.specs.declared.fault_name.FaultName.TheVariants as named
+use Rattle.mem_op.specs.Names.{name_text}
+use Rattle.mem_op.specs.declared.fault_name.FaultName.TheVariants as named
 use Rattle.lease_rule.specs.Faults.{fault_text as config_fault_text}
 use Rattle.litmus_test.specs.FaultTexts.{fault_text as test_fault_text}
 use Rattle.litmus_test.specs.declared.fault.LitmusFault.{LitmusFault}
 use Rattle.litmus_test.specs.declared.fault.LitmusFault.TheVariants as test
-use Rattle.litmus_outcome.specs.declared.run_cause.RunCause.{RunCause}
-use Rattle.litmus_outcome.specs.declared.run_cause.RunCause.TheVariants as cause
+use Rattle.litmus.specs.declared.run_cause.RunCause.{RunCause}
+use Rattle.litmus.specs.declared.run_cause.RunCause.TheVariants as cause
 use Rattle.litmus.specs.RunFaults.{cause_text, fault_text as table_fault_text}
 use Rattle.litmus.specs.declared.run_fault.CollectFault.{CollectFault}
 use Rattle.litmus.specs.declared.run_fault.CollectFault.TheVariants as table

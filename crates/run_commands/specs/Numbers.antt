@@ -11,7 +11,7 @@ use Rattle.call_devices.specs.Files.{Files}
 use Rattle.call_devices.specs.declared.call_fault.CallFault.TheVariants.{OutOfMemory}
 use Rattle.call_devices.specs.Logs.{ArePut, ArePutAsFar, ArePutUpTo, IsUnwritten}
 use Rattle.call_devices.specs.Outputs.{FailsPutAt, IsNameOf, PutsAt}
-use Rattle.run_files.specs.Names.{IsLogName}
+use Rattle.command_line.specs.RunFiles.{IsLogName}
 use Rattle.run_commands.specs.declared.fault.RunningFault.{RunningFault}
 use Rattle.run_commands.specs.declared.fault.RunningFault.TheVariants.{StatisticsUnwritten, Call}
 

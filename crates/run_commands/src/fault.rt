@@ -6,11 +6,11 @@ ghost use Rattle.run_commands.specs.declared.fault.RunningFault.TheVariants.{Cal
 ghost use Rattle.call_devices.specs.CallFaults.{from_write};
 
 use call_devices::CallFault;
-use fault_names::FaultName;
 use lease_rule::BadConfig;
 use litmus::{CollectFault, LitmusFault, RunCause};
 use log_file::WriteFault;
 use machine::ThreadsFault;
+use mem_op::FaultName;
 use schedule::ScheduleFault;
 use simulation::SimulationFault;
 use std::fmt;

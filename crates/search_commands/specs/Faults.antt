@@ -1,7 +1,7 @@
 -- What is told of refusals, and their exit statuses.
 use Rattle.std.specs.Prelude.{ℕ, List, ◌++◌, codes}
-use Rattle.fault_names.specs.Names.{name_text}
-use Rattle.fault_names.specs.declared.fault_name.FaultName.TheVariants as named
+use Rattle.mem_op.specs.Names.{name_text}
+use Rattle.mem_op.specs.declared.fault_name.FaultName.TheVariants as named
 use Rattle.call_devices.specs.CallFaults.{call_fault_status, call_fault_text, judge_fault_status}
 use Rattle.call_devices.specs.declared.call_fault.CallFault.TheVariants.{OutOfMemory}
 use Rattle.refutation.specs.FaultTexts.{fault_text as certificate_text}

@@ -6,8 +6,8 @@ ghost use Rattle.search_commands.specs.declared.fault.SearchingFault.TheVariants
 ghost use Rattle.call_devices.specs.declared.call_fault.CallFault.TheVariants as call;
 
 use call_devices::CallFault;
-use fault_names::FaultName;
 use log_file::WriteFailed;
+use mem_op::FaultName;
 use refutation::CertificateFault;
 use std::alloc::AllocError;
 use std::fmt;

@@ -3,8 +3,8 @@
 ghost use Rattle.std.specs.Prelude.{◌≡◌};
 ghost use Rattle.simulation.specs.declared.fault.SimulationFault.TheVariants.{Core, OutOfMemory};
 
-use fault_names::FaultName;
 use manager_slice::SliceFault;
+use mem_op::FaultName;
 use std::alloc::AllocError;
 use std::fmt;
 use std::fmt::Display;

@@ -1,7 +1,7 @@
 -- What is told of words that can't be read, and the exit status.
 use Rattle.std.specs.Prelude.{ℕ, List, ◌++◌, codes}
-use Rattle.fault_names.specs.Names.{name_text}
-use Rattle.fault_names.specs.declared.fault_name.FaultName.TheVariants as named
+use Rattle.mem_op.specs.Names.{name_text}
+use Rattle.mem_op.specs.declared.fault_name.FaultName.TheVariants as named
 use Rattle.tardis.specs.declared.words.WordsFault.{WordsFault}
 use Rattle.tardis.specs.declared.words.WordsFault.TheVariants.{NotText, OutOfMemory}
 

@@ -4,7 +4,7 @@ ghost use Rattle.std.specs.Prelude.{◌≡◌, IfOk, map, string_bytes};
 ghost use Rattle.tardis.specs.Words.{words_fault_status};
 ghost use Rattle.tardis.specs.declared.words.WordsFault.TheVariants.{OutOfMemory};
 
-use fault_names::FaultName;
+use mem_op::FaultName;
 use std::alloc::{AllocFailed, Global};
 use std::io::ErrorKind;
 use std::{env, fmt, io};

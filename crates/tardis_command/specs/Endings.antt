@@ -2,7 +2,7 @@
 use Rattle.std.specs.Prelude.{◌≡◌, ◌⊎◌, ⊤, ℕ, List, Option, Result, Ok, Err}
 use Rattle.std.specs.Io.KnownBytes.{Appends, Keeps}
 use Rattle.command_line.specs.Asking.{AreMisused, Asks, IsCommandLine}
-use Rattle.run_files.specs.Names.{IsLogName}
+use Rattle.command_line.specs.RunFiles.{IsLogName}
 use Rattle.command_line.specs.declared.request.Request.{Request}
 use Rattle.command_line.specs.declared.request.Request.TheVariants.{Check, Order, Explain, Inspect, Upgrade, Sim, Run, Litmus, Search, Confirm, Version as AskedVersion}
 use Rattle.tardis_command.specs.Answers.{answer_status, answer_text, told_text}

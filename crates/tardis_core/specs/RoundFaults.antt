@@ -1,7 +1,7 @@
 -- The texts of the faults of rounds: whose it is, a number and a name.
 use Rattle.std.specs.Prelude.{ℕ, List}
-use Rattle.fault_names.specs.Names.{name_text}
-use Rattle.fault_names.specs.declared.fault_name.FaultName.TheVariants as named
+use Rattle.mem_op.specs.Names.{name_text}
+use Rattle.mem_op.specs.declared.fault_name.FaultName.TheVariants as named
 use Rattle.audit.specs.Faults.{core_text}
 use Rattle.core_machine.specs.Faults as core
 use Rattle.tardis_core.specs.declared.rounds.fault.RoundCause.{RoundCause}

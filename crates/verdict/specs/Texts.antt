@@ -1,8 +1,8 @@
 -- The texts of verdicts and of faults.
 use Rattle.std.specs.Prelude.{ℕ, List, ◌++◌, codes}
 use Rattle.std.specs.Fmt.{decimal}
-use Rattle.fault_names.specs.Names.{name_text}
-use Rattle.fault_names.specs.declared.fault_name.FaultName.TheVariants as named
+use Rattle.mem_op.specs.Names.{name_text}
+use Rattle.mem_op.specs.declared.fault_name.FaultName.TheVariants as named
 use Rattle.mem_op.specs.Texts.{id_text}
 use Rattle.log_file.specs.Faults.{fault_text as line_fault_text}
 use Rattle.verdict.specs.declared.rule.Rule.{Rule}

@@ -5,8 +5,8 @@ ghost use Rattle.verdict.specs.declared.judge_fault.JudgeFault.TheVariants.{OutO
 ghost use Rattle.verdict.specs.SetFaults.{from_set};
 ghost use Rattle.verdict.specs.Statuses.{judge_fault_status};
 
-use fault_names::FaultName;
 use log_file::{FormatFault, LogFault, SetFault};
+use mem_op::FaultName;
 use std::alloc::AllocError;
 use std::fmt;
 use std::fmt::Display;

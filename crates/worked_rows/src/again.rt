@@ -7,7 +7,7 @@ use super::compare::{Expected, compare};
 use super::fault::RowsFault;
 use super::words::{have, have_word, other_call, texts_of};
 use log_file::Step;
-use memory_folder::{File, Given, find};
+use rows::{File, Given, find};
 use std::alloc::Global;
 use std::sync::Wait;
 use std::thread::Threads;

@@ -2,14 +2,14 @@
 
 ghost use Rattle.std.specs.Prelude.{◌≡◌, [], IfOk};
 ghost use Rattle.command_line.specs.Asking.{texts};
-ghost use Rattle.memory_folder.specs.Files.{told_of};
+ghost use Rattle.rows.specs.Files.{told_of};
 ghost use Rattle.tardis_command.specs.Endings.{AreConsistent, AskFor};
 
 use super::fault::{RowsFault, text_of};
 use super::watch::Counting;
 use call_devices::{Folder, open_all};
 use log_file::{MemSink, Step};
-use memory_folder::{File, Given, MemoryFolder};
+use rows::{File, Given, MemoryFolder};
 use std::alloc::Global;
 use std::sync::Wait;
 use std::thread::Threads;

@@ -2,7 +2,7 @@
 
 use super::call::Done;
 use super::fault::RowsFault;
-use memory_folder::File;
+use rows::File;
 use std::fmt;
 
 /// What a call should do.

@@ -1,6 +1,6 @@
 //! Why rows can't be replayed.
 
-use row_text::RowFault;
+use rows::RowFault;
 use std::alloc::{AllocError, AllocFailed};
 use std::io;
 

@@ -1,8 +1,7 @@
 //! Why a round, an operation or a program isn't ended.
 
 use core_machine::CoreFault;
-use fault_names::FaultName;
-use mem_op::CoreId;
+use mem_op::{CoreId, FaultName};
 use std::fmt;
 use std::fmt::Display;
 use thiserror::Error;

@@ -1,7 +1,7 @@
 use Rattle.std.proofs.Common.{rules, ◌≡◌, ◌∙◌, Err, refl, ap}
 use Rattle.core_machine.specs.Opening.{opening_parts}
 use Rattle.litmus.specs.Runs.{not_ended}
-use Rattle.litmus_outcome.specs.declared.run_cause.RunCause.TheVariants.{Simulation}
+use Rattle.litmus.specs.declared.run_cause.RunCause.TheVariants.{Simulation}
 use Rattle.litmus.proofs.seeded.simulate_run.Goals as goal
 
 pub returns-in_err-simulate : goal.returns-in_err-simulate

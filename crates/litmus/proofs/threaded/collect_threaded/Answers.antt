@@ -1,6 +1,6 @@
 -- One more run, its outcome counted and its numbers added.
 use Rattle.std.proofs.Common.{rules, ◌≡◌, ◌<◌, ◌≤◌, ◌^◌, [], arith}
-use Rattle.litmus_outcome.specs.Ends.{ThreadEnd, left}
+use Rattle.litmus.specs.Ends.{ThreadEnd, left}
 use Rattle.litmus.specs.Runs.{IsThreadRun, thread_numbers}
 use Rattle.litmus.proofs.CollectedRuns.{none_so_far, one_more_run}
 use Rattle.litmus.proofs.threaded.collect_threaded.Goals as goal

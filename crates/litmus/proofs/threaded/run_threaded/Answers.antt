@@ -1,7 +1,7 @@
 use Rattle.std.proofs.Common.{subst, List}
 use Rattle.core_program.specs.declared.instruction.Instruction.{Instruction}
 use Rattle.audit.specs.Runs.{IsRun}
-use Rattle.litmus_outcome.specs.Ends.{ThreadEnd, left}
+use Rattle.litmus.specs.Ends.{ThreadEnd, left}
 use Rattle.litmus.specs.Runs.{IsThreadEnd, IsThreadRun, IsUnthreaded, thread_numbers}
 use Rattle.machine.specs.Runs.{IsMachineRun}
 use Rattle.litmus.proofs.Judged.{judged_end}

@@ -1,6 +1,0 @@
-//! The numbers and names of all faults.
-#![tactic(auto)]
-
-mod fault_name;
-
-pub use fault_name::FaultName;

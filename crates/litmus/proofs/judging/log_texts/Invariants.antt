@@ -1,0 +1,6 @@
+-- The texts so far are those of the cores so far.
+use Rattle.litmus.proofs.JudgedOutcome.{TextsSoFar}
+use Rattle.litmus.proofs.judging.log_texts.Given as goal
+
+abbrev pub invariant-loop-number : goal.invariant-loop-number
+invariant-loop-number g l = TextsSoFar (g.E.Ended.at_end l.end) l.cores l.texts.items l.number

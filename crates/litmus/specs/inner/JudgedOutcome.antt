@@ -1,0 +1,21 @@
+-- What the judge answers to the logs of a run, and a verdict of No as it is told. Private contracts cite these.
+use Rattle.std.specs.Prelude.{◌≡◌, List, Result, Ok, Err}
+use Rattle.log_record.specs.declared.record.Record.{Record}
+use Rattle.core_program.specs.declared.instruction.Instruction.{Instruction}
+use Rattle.verdict.specs.VerdictOf.{run_verdict_of}
+use Rattle.verdict.specs.declared.answer.Verdict.{Verdict}
+use Rattle.verdict.specs.declared.answer.Verdict.TheVariants.{Yes, No}
+use Rattle.verdict.specs.declared.judge_fault.JudgeFault.{JudgeFault}
+use Rattle.verdict.specs.declared.judge_fault.JudgeFault.TheVariants as fault
+use Rattle.litmus.specs.declared.run_cause.RunCause.{RunCause}
+use Rattle.litmus.specs.declared.run_cause.RunCause.TheVariants as cause
+
+-- the verdict on the logs, against the programs; lack of memory may come instead, and no other fault
+abbrev pub IsVerdictOn : List (List Instruction) → List (List Record) → Result Verdict JudgeFault → Type 0
+IsVerdictOn programs logs (Ok verdict) = run_verdict_of programs logs ≡ verdict
+IsVerdictOn programs logs (Err why) = why ≡ fault.OutOfMemory
+
+-- the cause is its fault
+abbrev pub IsNo : Verdict → RunCause → Type 0
+IsNo (Yes count) why = ⊥
+IsNo (No fault) why = why ≡ cause.No fault

@@ -1,7 +1,0 @@
--- What is known of a folder in memory.
-use Rattle.call_devices.specs.Files.{Files}
-use Rattle.memory_folder.specs.Files.{files_in}
-use Rattle.memory_folder.specs.declared.folder.MemoryFolder.{MemoryFolder}
-
-abbrev pub files_held : MemoryFolder → Files
-files_held folder = files_in folder.given.files.now folder.put.items folder.failures folder.unopened

@@ -1,0 +1,22 @@
+-- What files in memory tell.
+use Rattle.std.specs.Prelude.{ℕ, List, [], ◌∷◌, Option, None, Some, if◌then◌else◌, string_bytes}
+use Rattle.std.specs.Option.{option_or}
+use Rattle.std.specs.Str.{bytes_eq}
+use Rattle.call_devices.specs.Files.{Files}
+use Rattle.rows.specs.declared.file.File.{File}
+
+-- the bytes of a file, where it has this name
+abbrev pub told_by : File → List ℕ → Option (List ℕ)
+told_by file name = if bytes_eq (string_bytes file.name) name then Some file.bytes.items else None
+
+-- the bytes of the last file of a name
+abbrev pub told_in : List File → List ℕ → Option (List ℕ)
+told_in [] name = None
+told_in (file ∷ files) name = option_or (told_in files name) (told_by file name)
+
+-- a folder of these files, in which these were put later
+abbrev pub told_of : List File → List File → List ℕ → Option (List ℕ)
+told_of given put name = option_or (told_in put name) (told_in given name)
+
+abbrev pub files_in : List File → List File → ℕ → ℕ → Files
+files_in given put failed unopened = record { told = told_of given put; failed = failed; unopened = unopened }

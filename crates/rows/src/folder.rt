@@ -1,0 +1,114 @@
+//! A folder in memory.
+
+ghost use Rattle.std.specs.Prelude.{◌≡◌, ◌∷◌, ◌++◌, [], OnErr, OnOk, IfSome, Some, string_bytes};
+ghost use Rattle.rows.specs.Files.{files_in, told_of};
+ghost use Rattle.rows.specs.Held.{files_held};
+ghost use Rattle.rows.specs.Reading.{bytes_left};
+ghost use Rattle.rows.specs.declared.file.File.{File};
+
+use super::file::{File, find};
+use super::source::FileSource;
+use call_devices::Folder;
+use log_file::{ReadFailed, Step, WriteFailed};
+use std::alloc::Global;
+
+/// Files by their names, and how the reads of one of them go.
+#[derive(Clone, Copy)]
+pub struct Given<'a> {
+    /// The files.
+    pub files: &'a [File],
+    /// The name of a file, and the steps of its reads.
+    pub slow: Option<(&'a str, &'a [Step])>,
+    /// How many files the folder takes.
+    pub room: usize,
+}
+
+/// A folder in memory: it tells the bytes of each of its files, and of one that was put those that were put last.
+#[derive(Drop)]
+pub struct MemoryFolder<'a> {
+    alloc: Global,
+    given: Given<'a>,
+    put: Vec<File>,
+    failures: u64,
+    unopened: u64,
+}
+
+impl<'a> MemoryFolder<'a> {
+    /// The folder of these files.
+    pub fn new(alloc: Global, given: Given<'a>) -> MemoryFolder<'a>
+        ensures { files_held result ≡ files_in given.entry.files.now [] 0 0 }
+    {
+        MemoryFolder {
+            alloc,
+            given,
+            put: Vec::new(alloc),
+            failures: 0,
+            unopened: 0,
+        }
+    }
+
+    /// The files that were put, in their order.
+    pub fn into_put(self) -> Vec<File>
+        ensures { result ≡ self.entry.put }
+    {
+        let MemoryFolder { put, .. } = self;
+        put
+    }
+
+    /// Copies the file of a name, to be read; none where there is no such file or no memory.
+    fn copy(&self, name: &str) -> Option<FileSource<'a>>
+        ensures { IfSome result (λ source. told_of self.now.given.files.now self.now.put.items name.now ≡ Some (bytes_left source)) }
+    {
+        let file = find(self.put.as_slice(), name).or(find(self.given.files, name))?;
+        let steps = match self.given.slow {
+            Some((slow, steps)) if slow == name => steps,
+            _ => &[],
+        };
+        FileSource::new(self.alloc, file.bytes.as_slice(), steps).ok()
+    }
+
+    /// Takes a file, where there is room and memory for it.
+    fn take(&mut self, name: &str, bytes: &[u8]) -> Result<(), WriteFailed>
+        ensures ok { OnOk result ((file : File) × (string_bytes file.name ≡ name.now) × (file.bytes.items ≡ bytes.now)
+            × (self.new.put.items ≡ self.old.put.items ++ file ∷ [])) }
+        ensures err { OnErr result (self.new.put.items ≡ self.old.put.items) }
+        ensures given { self.new.given ≡ self.old.given }
+        ensures failures { self.new.failures ≡ self.old.failures }
+        ensures unopened { self.new.unopened ≡ self.old.unopened }
+    {
+        if self.put.len() >= self.given.room {
+            return Err(WriteFailed);
+        }
+        let Ok(file) = File::new(self.alloc, name, bytes) else {
+            return Err(WriteFailed);
+        };
+        if self.put.push(file).is_err() {
+            return Err(WriteFailed);
+        }
+        Ok(())
+    }
+}
+
+impl<'a> Folder for MemoryFolder<'a> {
+    ghost files = { files_held };
+
+    type Source = FileSource<'a>;
+
+    fn open_file(&mut self, name: &str) -> Result<FileSource<'a>, ReadFailed> {
+        match self.copy(name) {
+            Some(source) => Ok(source),
+            None => {
+                self.unopened = self.unopened.saturating_add(1);
+                Err(ReadFailed)
+            }
+        }
+    }
+
+    fn put(&mut self, name: &str, bytes: &[u8]) -> Result<(), WriteFailed> {
+        let taken = self.take(name, bytes);
+        if taken.is_err() {
+            self.failures = self.failures.saturating_add(1);
+        }
+        taken
+    }
+}
