@@ -18,6 +18,5 @@ pub use acts::{is_swap, kind_name, named_id};
 pub use explaining::explain;
 pub use explanation::{Departure, Due, Explanation, Fall, FaultCounts, Summary, Use, WrongRead};
 pub use scene::{Scene, Wanted, scene_of};
-pub use summary::by_key;
 pub use times::ties;
 pub use wrong_read::place_of;

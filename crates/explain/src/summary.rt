@@ -127,7 +127,7 @@ fn sharing(
 }
 
 /// These entries in the order of their keys.
-pub fn by_key(alloc: Global, entries: &[Entry]) -> Result<Vec<Entry>, AllocError>
+pub(crate) fn by_key(alloc: Global, entries: &[Entry]) -> Result<Vec<Entry>, AllocError>
     ensures same { IfOk result (λ rows. IsPermutation entries.now rows.items) }
     ensures sorted { IfOk result (λ rows. IsSorted entry_cmp rows.items) }
 {

@@ -125,7 +125,7 @@ fn judge_end<R: Threads + Sync, E: Ended>(
 }
 
 /// The outcome of a run that has ended, whose logs get Yes.
-pub fn judged_outcome<R: Threads + Sync, E: Ended>(
+pub(crate) fn judged_outcome<R: Threads + Sync, E: Ended>(
     rt: &R,
     alloc: Global,
     test: &Litmus,
