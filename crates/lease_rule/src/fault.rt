@@ -31,14 +31,15 @@ impl Display for BadConfig {
     ghost output = { λ fault. Some (fault_text fault) };
 
     fn fmt<W: fmt::Write>(&self, f: &mut fmt::Formatter<W>) -> fmt::Result {
-        match self {
-            BadConfig::Slices => write!(f, "{} slices", FaultName::BadConfig),
-            BadConfig::Lease => write!(f, "{} lease", FaultName::BadConfig),
-            BadConfig::Period => write!(f, "{} period", FaultName::BadConfig),
-            BadConfig::CacheLines => write!(f, "{} cache_lines", FaultName::BadConfig),
-            BadConfig::SliceLines => write!(f, "{} slice_lines", FaultName::BadConfig),
-            BadConfig::Inbox => write!(f, "{} inbox", FaultName::BadConfig),
-            BadConfig::Turns => write!(f, "{} turns", FaultName::BadConfig),
-        }
+        let field = match self {
+            BadConfig::Slices => "slices",
+            BadConfig::Lease => "lease",
+            BadConfig::Period => "period",
+            BadConfig::CacheLines => "cache_lines",
+            BadConfig::SliceLines => "slice_lines",
+            BadConfig::Inbox => "inbox",
+            BadConfig::Turns => "turns",
+        };
+        write!(f, "{} {field}", FaultName::BadConfig)
     }
 }

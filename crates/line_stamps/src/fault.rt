@@ -21,9 +21,10 @@ impl Display for StampFault {
     ghost output = { λ fault. Some (fault_text fault) };
 
     fn fmt<W: fmt::Write>(&self, f: &mut fmt::Formatter<W>) -> fmt::Result {
-        match self {
-            StampFault::StampLimit => write!(f, "{}", FaultName::StampLimit),
-            StampFault::RankLimit => write!(f, "{}", FaultName::RankLimit),
-        }
+        let name = match self {
+            StampFault::StampLimit => FaultName::StampLimit,
+            StampFault::RankLimit => FaultName::RankLimit,
+        };
+        name.fmt(f)
     }
 }

@@ -29,12 +29,13 @@ impl Display for SliceFault {
     ghost output = { λ fault. Some (fault_text fault) };
 
     fn fmt<W: fmt::Write>(&self, f: &mut fmt::Formatter<W>) -> fmt::Result {
-        match self {
-            SliceFault::NotOwner => write!(f, "{}", FaultName::NotOwner),
-            SliceFault::StampLimit => write!(f, "{}", FaultName::StampLimit),
-            SliceFault::HistoryFull => write!(f, "{}", FaultName::HistoryFull),
-            SliceFault::OutOfMemory => write!(f, "{}", FaultName::OutOfMemory),
-        }
+        let name = match self {
+            SliceFault::NotOwner => FaultName::NotOwner,
+            SliceFault::StampLimit => FaultName::StampLimit,
+            SliceFault::HistoryFull => FaultName::HistoryFull,
+            SliceFault::OutOfMemory => FaultName::OutOfMemory,
+        };
+        name.fmt(f)
     }
 }
 

@@ -23,10 +23,11 @@ impl Display for RangeFault {
     ghost output = { λ fault. Some (fault_text fault) };
 
     fn fmt<W: fmt::Write>(&self, f: &mut fmt::Formatter<W>) -> fmt::Result {
-        match self {
-            RangeFault::AddrRange => write!(f, "{}", FaultName::AddrRange),
-            RangeFault::CoreRange => write!(f, "{}", FaultName::CoreRange),
-            RangeFault::IndexRange => write!(f, "{}", FaultName::IndexRange),
-        }
+        let name = match self {
+            RangeFault::AddrRange => FaultName::AddrRange,
+            RangeFault::CoreRange => FaultName::CoreRange,
+            RangeFault::IndexRange => FaultName::IndexRange,
+        };
+        name.fmt(f)
     }
 }
