@@ -35,16 +35,17 @@ impl Display for FormatFault {
     ghost output = { λ fault. Some (fault_text fault) };
 
     fn fmt<W: fmt::Write>(&self, f: &mut fmt::Formatter<W>) -> fmt::Result {
-        match self {
-            FormatFault::BadHeader => write!(f, "{}", FaultName::BadHeader),
-            FormatFault::BadLine => write!(f, "{}", FaultName::BadLine),
-            FormatFault::OutOfRange => write!(f, "{}", FaultName::OutOfRange),
-            FormatFault::TooMany => write!(f, "{}", FaultName::TooMany),
-            FormatFault::CountDiffers => write!(f, "{}", FaultName::CountDiffers),
-            FormatFault::TrailingBytes => write!(f, "{}", FaultName::TrailingBytes),
-            FormatFault::Truncated => write!(f, "{}", FaultName::Truncated),
-            FormatFault::WrongCore => write!(f, "{}", FaultName::WrongCore),
-        }
+        let name = match self {
+            FormatFault::BadHeader => FaultName::BadHeader,
+            FormatFault::BadLine => FaultName::BadLine,
+            FormatFault::OutOfRange => FaultName::OutOfRange,
+            FormatFault::TooMany => FaultName::TooMany,
+            FormatFault::CountDiffers => FaultName::CountDiffers,
+            FormatFault::TrailingBytes => FaultName::TrailingBytes,
+            FormatFault::Truncated => FaultName::Truncated,
+            FormatFault::WrongCore => FaultName::WrongCore,
+        };
+        name.fmt(f)
     }
 }
 
