@@ -40,13 +40,18 @@ fn goes_back(rt: &impl Abort, cache: &mut PrivateCache) {
     assert_eq!(rt; cache.recall(recall, 10), Ok(None));
 }
 
-// Its lease has ended, and is renewed, though to no end before its write.
+// Its lease has ended.
+fn misses(rt: &impl Abort, cache: &mut PrivateCache) {
+    let asked = Load::Miss(read(0, Some(stamp(1)), 23));
+    assert_eq!(rt; cache.load(addr(0), stamp(23), rank(0)), Ok(asked));
+}
+
+// It is renewed, though to no end before its write.
 fn is_renewed(rt: &impl Abort, cache: &mut PrivateCache) {
-    let ended = Load::Miss(read(0, Some(stamp(1)), 23));
-    assert_eq!(rt; cache.load(addr(0), stamp(23), rank(0)), Ok(ended));
+    misses(rt, cache);
     let early = cache.fill(addr(0), &Reply::RenewRep(stamp(0)));
     assert_eq!(rt; early, Err(FillFault::BadReply));
-    assert_eq!(rt; cache.load(addr(0), stamp(23), rank(0)), Ok(ended));
+    misses(rt, cache);
     assert_eq!(rt; cache.fill(addr(0), &Reply::RenewRep(stamp(33))), Ok(()));
     let second = Load::Hit {
         value: 2,
