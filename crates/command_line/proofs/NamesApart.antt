@@ -80,8 +80,8 @@ one_more read name more = (
     kept name (0, omega arith, refl),
     (
       (λ has. let (k, below, same) = has in once 0 (suc k) name (omega arith) (omega arith) (sym same)),
-      ((λ x has. kept x (more_has name more x has)), (λ i j d before below. once (suc i) (suc j) d (omega arith) (omega arith)))
-    )
+      ((λ x has. kept x (more_has name more x has)), (λ i j d before below. once (suc i) (suc j) d (omega arith) (omega arith))),
+    ),
   ),
 )
 
@@ -95,7 +95,7 @@ rest_of put = texts (take (length put - 1) (drop 1 put))
 
 pub sliced : (read : List Text) (put : List (Bor Text)) (d : Bor Text) → 1 ≤ length put
     → (¬ (Contains read (slice_index_or put 0 d).now)) × ((¬ (Contains (rest_of put) (slice_index_or put 0 d).now)) × (AreKept read (rest_of put) × AreOnce (rest_of put)))
-        ↔ (AreKept read (texts put) × AreOnce (texts put))
+    ↔ (AreKept read (texts put) × AreOnce (texts put))
 sliced read [] d some = absurd (omega arith)
 sliced read (name ∷ more) d some =
     subst (λ (rest : List (Bor Text)). (¬ (Contains read name.now)) × ((¬ (Contains (texts rest) name.now)) × (AreKept read (texts rest) × AreOnce (texts rest))) ↔ (AreKept read (name.now ∷ texts more) × AreOnce (name.now ∷ texts more)))

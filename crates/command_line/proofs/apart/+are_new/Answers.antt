@@ -9,13 +9,12 @@ returns-then-not-is_among-2 t c =
     let whole = sliced (texts c.args.read.now) c.args.put.now nowhere c.in-len1-up.len_at_least in
     elim c.if-not-is_among.branch [
       | then-not-is_among w ↦ (
-        let unread : c.is_among.result ≡ false = search rules in
-        let new : w.is_among-then-not-is_among.result ≡ false = search rules in
-        (
-          λ yes. whole.0
-              (unfound c.is_among.result c.is_among.ensures unread, (unfound w.is_among-then-not-is_among.result w.is_among-then-not-is_among.ensures new, c.are_new.ensures.0 yes)),
-          λ all. c.are_new.ensures.1 ((whole.1 all).1.1),
-        ))
+          let unread : c.is_among.result ≡ false = search rules in
+          let new : w.is_among-then-not-is_among.result ≡ false = search rules in (
+            λ yes. whole.0
+                (unfound c.is_among.result c.is_among.ensures unread, (unfound w.is_among-then-not-is_among.result w.is_among-then-not-is_among.ensures new, c.are_new.ensures.0 yes)),
+            λ all. c.are_new.ensures.1 ((whole.1 all).1.1),
+          ))
       | else-not-is_among w ↦ absurd cc
     ]
 

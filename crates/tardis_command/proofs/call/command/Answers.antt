@@ -68,7 +68,7 @@ returns-in-Ok-perform-clause-flat g c zero =
     (c.in-Ok.request, c.in-Ok.ensures.request, c.in-Ok-perform.ensures.flat (sym c.tell_answer.ensures.status ∙ zero))
 
 pub returns-in-Ok-perform-clause-yes : goal.returns-in-Ok-perform-clause-yes
-returns-in-Ok-perform-clause-yes g c zero = 
+returns-in-Ok-perform-clause-yes g c zero =
     (c.in-Ok.request, c.in-Ok.ensures.request, c.in-Ok-perform.ensures.yes (sym c.tell_answer.ensures.status ∙ zero) c.in-Ok.ensures.apart)
 
 pub returns-clause-ends : goal.returns-clause-ends
