@@ -4,7 +4,7 @@ import re
 import sys
 import typing
 
-NUMBER = "(?:0|[1-9][0-9]*)"
+NUMBER = "(?:0|[1-9][0-9]{0,19})"
 RANGES = {"register": range(16), "other": range(16), "address": range(65536), "word": range(2**64), "skip": range(1, 4096)}
 SHAPES = {
     "ld": "ld r{register} {address}",
