@@ -89,7 +89,7 @@ class Reader:
         return found
 
     def take_list(self, first, part, count=None):
-        """The parts of the next line, each of a shape and with its numbers, where the line begins with this word."""
+        """What the next line has after this word, the numbers of each part, which is of a shape; nothing where the line begins otherwise."""
         if not self.next().startswith(first + " "):
             return []
         what = f"a line of {first} with {count or 'its'} parts"
