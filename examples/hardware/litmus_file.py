@@ -4,7 +4,7 @@ import re
 import sys
 import typing
 
-NUMBER = "(?:0|[1-9][0-9]*)"
+NUMBER = "(?:0|[1-9][0-9]{0,19})"
 RANGES = {"register": range(16), "other": range(16), "address": range(65536), "word": range(2**64), "skip": range(1, 4096)}
 SHAPES = {
     "ld": "ld r{register} {address}",
@@ -89,7 +89,7 @@ class Reader:
         return found
 
     def take_list(self, first, part, count=None):
-        """The parts of the next line, each of a shape and with its numbers, where the line begins with this word."""
+        """What the next line has after this word, the numbers of each part, which is of a shape; nothing where the line begins otherwise."""
         if not self.next().startswith(first + " "):
             return []
         what = f"a line of {first} with {count or 'its'} parts"
