@@ -1,5 +1,4 @@
 mod Local
-mod NamesApart
 mod Numbers
 mod Plain
 mod Reading

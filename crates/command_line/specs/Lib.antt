@@ -1,5 +1,4 @@
 pub mod Asking
-pub mod Files
 pub mod Grammar
 pub mod Refusals
 pub mod RunFiles

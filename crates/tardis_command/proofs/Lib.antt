@@ -1,3 +1,2 @@
 mod Ends
 mod Performed
-mod Unread
