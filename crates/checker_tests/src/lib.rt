@@ -10,8 +10,6 @@ mod failing_reads;
 #[cfg(test)]
 mod growths;
 #[cfg(test)]
-mod host_files;
-#[cfg(test)]
 mod hostile_logs;
 #[cfg(test)]
 mod litmus_outcomes;

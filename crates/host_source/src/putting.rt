@@ -4,12 +4,11 @@ use log_file::WriteFailed;
 use std::fs;
 use std::fs::File;
 use std::io::Write;
-use std::rt::Files;
 
 /// Puts a file of these bytes under a name, in place of any that is there. It is written beside that, under the name with `.new`, and then takes
 /// its place, so a write that fails leaves the name as it was. Only what isn't a plain file, as a device, a pipe or a link, and a name beside
 /// which no file can be made, is written to as it stands.
-pub fn put<R: Files + AllocGlobal>(rt: &R, name: &str, bytes: &[u8]) -> Result<(), WriteFailed> {
+pub fn put(rt: &HostRuntime, name: &str, bytes: &[u8]) -> Result<(), WriteFailed> {
     let Ok(beside) = format!(in rt.alloc(); "{name}.new") else {
         return Err(WriteFailed);
     };
@@ -27,7 +26,7 @@ pub fn put<R: Files + AllocGlobal>(rt: &R, name: &str, bytes: &[u8]) -> Result<(
 }
 
 /// Whether nothing stands under a name, or a plain file that may be written.
-fn is_replaceable(rt: &impl Files, name: &str) -> bool {
+fn is_replaceable(rt: &HostRuntime, name: &str) -> bool {
     match fs::symlink_metadata(rt, name) {
         Ok(data) => data.is_file() && !data.permissions().readonly(),
         Err(_) => true,
