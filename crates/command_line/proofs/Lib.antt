@@ -1,4 +1,5 @@
 mod Local
+mod NamesApart
 mod Numbers
 mod Plain
 mod Reading

@@ -7,10 +7,11 @@ use Rattle.std.proofs.lemmas.Slice.Eq.{bytes_eq-Decides}
 use Rattle.clap.specs.Faults.{fault_of}
 use Rattle.clap.specs.Kinds.{Kinds, HasKind, IsAmong}
 use Rattle.clap.specs.Matches.{ReadsOne}
-use Rattle.clap.specs.Words.{Row, Text, first_of, kind_of, subcommand_of}
+use Rattle.clap.specs.Words.{Row, Text, kind_of, subcommand_of}
 use Rattle.clap.specs.declared.error.Error.{Error}
 use Rattle.clap.specs.declared.error.kind.ErrorKind.TheVariants as error_kind
-use Rattle.command_line.specs.Asking.{AreMarked, AreOverIn, AskVersion, Asks, IsAskedBy, IsCommandLine, IsMisusedIn, IsNumber, IsNumberOf, IsOverTestIn, IsRefusalOf, IsRefusedBy, IsStrayIn, IsStrayOf, StandNotAlone, files_given, is_litmus, is_programs, texts}
+use Rattle.command_line.specs.Asking.{AreMarked, AskVersion, Asks, IsAskedBy, IsCommandLine, IsMixedIn, IsNumber, IsNumberOf, IsRefusalOf, IsRefusedBy, IsStrayIn, IsStrayOf, StandNotAlone, files_given, is_litmus, is_programs, texts}
+use Rattle.command_line.specs.Files.{IsApart}
 use Rattle.command_line.specs.Grammar.{tardis}
 use Rattle.command_line.specs.declared.refusal.Refusal.{Refusal}
 use Rattle.command_line.specs.declared.refusal.Refusal.TheVariants.{Usage, OutOfMemory}
@@ -30,7 +31,7 @@ refused words kinds error (Usage text) is (inr among) memory = inl (λ none. sub
 
 -- the subcommand that the words name is refused for what its arguments ask for
 pub refused_by : (words : List Text) (named : Text × List Row) (r : Refusal) → subcommand_of tardis words ≡ Some named → IsRefusedBy named r → IsRefusalOf words r
-refused_by words named (Usage text) is misused = inr (named, is, misused)
+refused_by words named (Usage text) is misused = inr (inl (named, is, misused))
 refused_by words named OutOfMemory is misused = tt
 
 -- or that is what the words ask for
@@ -57,34 +58,25 @@ pub stray : (named : Text × List Row) (r : Refusal) → (named.0 ≡ codes "sea
 stray named (Usage text) which files = inl (which, files)
 stray named OutOfMemory which files = tt
 
--- a picture would be drawn over a file that is read, or a file that isn't a log isn't alone
-pub unexplained : (named : Text × List Row) (r : Refusal) → named.0 ≡ codes "explain" → IsMisusedIn named.1 r → IsRefusedBy named r
-unexplained named (Usage text) explains misused = inr (inl (explains, misused))
-unexplained named OutOfMemory explains misused = tt
+-- a file that isn't a log isn't alone
+pub unexplained : (named : Text × List Row) (r : Refusal) → named.0 ≡ codes "explain" → IsMixedIn named.1 r → IsRefusedBy named r
+unexplained named (Usage text) explains mixed = inr (explains, mixed)
+unexplained named OutOfMemory explains mixed = tt
 
-pub mixed_one : (rows : List Row) (of : FileKind) (r : Refusal) → AreMarked (is_litmus of) (is_programs of) rows → StandNotAlone rows → IsMisusedIn rows r
-mixed_one rows of_file.Litmus (Usage text) marks others = inr (true, false, marks, others)
-mixed_one rows of_file.Programs (Usage text) marks others = inr (false, true, marks, others)
+pub mixed_one : (rows : List Row) (of : FileKind) (r : Refusal) → AreMarked (is_litmus of) (is_programs of) rows → StandNotAlone rows → IsMixedIn rows r
+mixed_one rows of_file.Litmus (Usage text) marks others = (true, false, marks, others)
+mixed_one rows of_file.Programs (Usage text) marks others = (false, true, marks, others)
 mixed_one rows of OutOfMemory marks others = tt
 
 pub mixed_files : (rows : List Row) (of : FileKind) (r : Refusal) → AreMarked (is_litmus of) (is_programs of) rows → IsStrayOf false (files_given rows) r
-    → IsMisusedIn rows r
+    → IsMixedIn rows r
 mixed_files rows of (Usage text) marks files = mixed_one rows of (Usage text) marks (inl files.1)
 mixed_files rows of OutOfMemory marks files = tt
 
--- the numbers of a run would be put over one of its files
-pub sim_over : (named : Text × List Row) (r : Refusal) → named.0 ≡ codes "sim" → AreOverIn (first_of (codes "schedule") named.1) named.1 r → IsRefusedBy named r
-sim_over named (Usage text) sims over = inr (inr (inl (sims, over)))
-sim_over named OutOfMemory sims over = tt
-
-pub run_over : (named : Text × List Row) (r : Refusal) → named.0 ≡ codes "run" → AreOverIn None named.1 r → IsRefusedBy named r
-run_over named (Usage text) runs over = inr (inr (inr (inl (runs, over))))
-run_over named OutOfMemory runs over = tt
-
--- the numbers of a test's runs would be put over the file of the test
-pub litmus_over : (named : Text × List Row) (r : Refusal) → named.0 ≡ codes "litmus" → IsOverTestIn named.1 r → IsRefusedBy named r
-litmus_over named (Usage text) tests over = inr (inr (inr (inr (tests, over))))
-litmus_over named OutOfMemory tests over = tt
+-- what the words ask for isn't apart
+pub not_apart : (words : List Text) (asked : Request) (are : Bool) (r : Refusal) → Asks words asked → IsTrue are ↔ IsApart asked → are ≡ false → IsRefusalOf words r
+not_apart words asked are (Usage text) asks tests off = inr (inr (asked, asks, (λ apart. let yes : false ≡ true = sym off ∙ tests.1 apart in cc)))
+not_apart words asked are OutOfMemory asks tests off = tt
 
 -- the text of a number, read
 pub numbered : {E : Type 0} (gives : List ℕ → Result ℕ E → Type 0) → ((t : List ℕ) (x : Result ℕ E) → gives t x → ParsesUnsigned 64 10 t x)

@@ -1,14 +1,12 @@
 -- What the words of a command line ask for, and when they ask for nothing.
-use Rattle.std.specs.Prelude.{◌≡◌, ◌≢◌, ◌<◌, ◌^◌, ◌⊎◌, ◌||◌, ⊤, ℕ, Bool, true, false, List, [], ◌∷◌, Option, Some, None, IfSome, IsSome, IsSomeAnd, map, option_map, unwrap_or, codes}
+use Rattle.std.specs.Prelude.{◌≡◌, ◌≢◌, ◌<◌, ◌^◌, ◌⊎◌, ⊤, ℕ, Bool, true, false, List, [], ◌∷◌, Option, Some, None, IsSome, unwrap_or, codes}
 use Rattle.std.specs.Borrow.{Bor}
-use Rattle.std.specs.List.{list_any}
-use Rattle.std.specs.Option.{option_map_or}
-use Rattle.std.specs.Str.{bytes_eq}
 use Rattle.std.specs.Str.Parse.{IsNumeral, digits_value, without_leading_plus}
 use Rattle.clap.specs.Faults.{fault_of}
 use Rattle.clap.specs.Words.{Row, Text, all_of, first_of, one_of, subcommand_of}
 use Rattle.command_line.specs.Grammar.{tardis}
-use Rattle.command_line.specs.RunFiles.{IsRunFile}
+use Rattle.command_line.specs.Files.{IsApart}
+pub use Rattle.command_line.specs.Files.{text_of, texts}
 use Rattle.command_line.specs.declared.refusal.Refusal.{Refusal}
 use Rattle.command_line.specs.declared.refusal.Refusal.TheVariants.{Usage, OutOfMemory}
 use Rattle.command_line.specs.declared.request.Check.{Check}
@@ -29,10 +27,6 @@ use Rattle.command_line.specs.declared.request.TraceFiles.{TraceFiles}
 use Rattle.command_line.specs.declared.request.TraceFiles.TheVariants.{One, Logs}
 use Rattle.command_line.specs.declared.request.Upgrade.{Upgrade}
 
--- the texts of words
-abbrev pub texts : List (Bor Text) → List Text
-texts = map (λ word. word.now)
-
 -- digits, after a plus or not, of a number below 2^64
 abbrev pub IsNumber : Text → Type 0
 IsNumber text = IsNumeral 10 (without_leading_plus text) × (digits_value 10 (without_leading_plus text) < 2 ^ 64)
@@ -52,10 +46,6 @@ pub record IsFlag (text : Option Text) (there : Bool) : Type 0 where
   pub yes : text ≡ Some (codes "true") → there ≡ true
   pub no : text ≡ Some (codes "false") → there ≡ false
 
--- the text of a word, where there is one
-abbrev pub text_of : Option (Bor Text) → Option Text
-text_of = option_map (λ word. word.now)
-
 -- a check of the files that were given, by the workers and against the programs that were given
 pub record IsCheck (rows : List Row) (check : Check) : Type 0 where
   pub workers : IsCountOr 1 (one_of (codes "workers") rows) check.workers
@@ -69,14 +59,6 @@ pub record IsOrder (rows : List Row) (order : Order) : Type 0 where
 -- the files that were given
 abbrev pub files_given : List Row → List Text
 files_given rows = unwrap_or (all_of (codes "FILE") rows) []
-
--- whether a file of this name is read: that of the programs, or one of these
-abbrev pub is_read : Option Text → List Text → Text → Bool
-is_read program files name = option_map_or (λ text. bytes_eq text name) program false || list_any (λ text. bytes_eq text name) files
-
--- whether the file for a picture is one that is read
-abbrev pub is_drawn_over : List Row → Bool
-is_drawn_over rows = option_map_or (is_read (first_of (codes "program") rows) (files_given rows)) (first_of (codes "svg") rows) false
 
 -- whether a file of this kind is marked by `--litmus`, and by `--programs`
 abbrev pub is_litmus : FileKind → Bool
@@ -92,8 +74,8 @@ pub record AreMarked (litmus programs : Bool) (rows : List Row) : Type 0 where
   pub litmus_flag : IsFlag (one_of (codes "litmus") rows) litmus
   pub programs_flag : IsFlag (one_of (codes "programs") rows) programs
 
--- A check of the files that were given by one worker, against the programs that were given, the file for a picture that was, which is
--- none of those, and whether another order is searched; neither flag says that a file isn't a log
+-- A check of the files that were given by one worker, against the programs that were given, the file for a picture that was, and whether
+-- another order is searched; neither flag says that a file isn't a log
 pub record IsExplain (rows : List Row) (explain : Explain) : Type 0 where
   pub marks : AreMarked false false rows
   pub workers : explain.check.workers ≡ 1
@@ -101,7 +83,6 @@ pub record IsExplain (rows : List Row) (explain : Explain) : Type 0 where
   pub picture : text_of explain.picture ≡ first_of (codes "svg") rows
   pub no_search : IsFlag (one_of (codes "no-search") rows) explain.no_search
   pub files : texts explain.check.files.items ≡ unwrap_or (all_of (codes "FILE") rows) []
-  pub apart : is_drawn_over rows ≡ false
 
 -- no option is there that is of logs
 pub record LackLogOptions (rows : List Row) : Type 0 where
@@ -136,12 +117,8 @@ programs_given rows = unwrap_or (first_of (codes "PROGRAMS") rows) []
 abbrev pub out_given : List Row → Text
 out_given rows = unwrap_or (first_of (codes "OUT") rows) []
 
--- the file for the numbers of a run, where there is one, is none of the run's files
-abbrev pub AreApart : Option (Bor Text) → Option (Bor Text) → Text → Text → Type 0
-AreApart statistics schedule programs out = IfSome (text_of statistics) (λ name. ¬ (IsRunFile (text_of schedule) programs out name))
-
 -- a run of the programs of the file that was given, by the numbers, the schedule and the seed that were given, and the file for the
--- numbers of the run that was, which is none of its files
+-- numbers of the run that was
 pub record IsSim (rows : List Row) (sim : Sim) : Type 0 where
   pub limits : AreLimits rows sim.limits
   pub schedule : text_of sim.schedule ≡ first_of (codes "schedule") rows
@@ -149,27 +126,21 @@ pub record IsSim (rows : List Row) (sim : Sim) : Type 0 where
   pub statistics : text_of sim.statistics ≡ first_of (codes "stats") rows
   pub programs : sim.programs.now ≡ programs_given rows
   pub out : sim.out.now ≡ out_given rows
-  pub apart : AreApart sim.statistics sim.schedule sim.programs.now sim.out.now
 
 -- a run in threads of the programs of the file that was given, by the numbers that were given, and the file for the numbers of the run
--- that was, which is none of its files
+-- that was
 pub record IsThreaded (rows : List Row) (run : Run) : Type 0 where
   pub limits : AreLimits rows run.limits
   pub statistics : text_of run.statistics ≡ first_of (codes "stats") rows
   pub programs : run.programs.now ≡ programs_given rows
   pub out : run.out.now ≡ out_given rows
-  pub apart : AreApart run.statistics None run.programs.now run.out.now
 
 -- the file of the test that was given
 abbrev pub test_given : List Row → Text
 test_given rows = unwrap_or (first_of (codes "TEST") rows) []
 
--- whether the file for the numbers of a test's runs is that of the test
-abbrev pub is_over_test : List Row → Bool
-is_over_test rows = option_map_or (λ text. bytes_eq text (test_given rows)) (first_of (codes "stats") rows) false
-
 -- runs of the test of the file that was given, by the numbers, as many and from the seed that were given, and the file for the numbers
--- of all runs that was, which isn't that of the test
+-- of all runs that was
 pub record IsLitmus (rows : List Row) (litmus : Litmus) : Type 0 where
   pub limits : AreLimits rows litmus.limits
   pub runs : IsCountOr 100 (one_of (codes "runs") rows) litmus.runs
@@ -177,7 +148,6 @@ pub record IsLitmus (rows : List Row) (litmus : Litmus) : Type 0 where
   pub threads : IsFlag (one_of (codes "threads") rows) litmus.threads
   pub statistics : text_of litmus.statistics ≡ first_of (codes "stats") rows
   pub test : litmus.test.now ≡ test_given rows
-  pub apart : is_over_test rows ≡ false
 
 -- these files are those of logs, or the only one is that of a trace
 abbrev pub IsTraceOf : Bool → List Text → TraceFiles → Type 0
@@ -270,54 +240,36 @@ AreMixedBy false false rows = ⊥
 abbrev pub AreMixed : List Row → Type 0
 AreMixed rows = (litmus : Bool) × (programs : Bool) × AreMarked litmus programs rows × AreMixedBy litmus programs rows
 
--- what is explained is refused for its usage only where a picture would be drawn over a file that is read, or a file that isn't a log
--- isn't alone
-abbrev pub IsMisusedIn : List Row → Refusal → Type 0
-IsMisusedIn rows (Usage text) = (is_drawn_over rows ≡ true) ⊎ AreMixed rows
-IsMisusedIn rows OutOfMemory = ⊤
+-- only a look at a file that isn't a log, and isn't alone, is refused for its usage
+abbrev pub IsMixedIn : List Row → Refusal → Type 0
+IsMixedIn rows (Usage text) = AreMixed rows
+IsMixedIn rows OutOfMemory = ⊤
 
--- only an explanation whose picture would be drawn over a file that it reads is refused for its usage
-abbrev pub IsOverIn : List Row → Refusal → Type 0
-IsOverIn rows (Usage text) = is_drawn_over rows ≡ true
-IsOverIn rows OutOfMemory = ⊤
-
--- only a file for the numbers of a run that is one of the run's files is refused for its usage
-abbrev pub IsOverRunFile : Option Text → Option Text → Text → Text → Refusal → Type 0
-IsOverRunFile statistics schedule programs out (Usage text) = IsSomeAnd statistics (IsRunFile schedule programs out)
-IsOverRunFile statistics schedule programs out OutOfMemory = ⊤
-
--- so are the numbers of the run by this schedule that was given
-abbrev pub AreOverIn : Option Text → List Row → Refusal → Type 0
-AreOverIn schedule rows = IsOverRunFile (first_of (codes "stats") rows) schedule (programs_given rows) (out_given rows)
-
--- the numbers of the run by this schedule that was given would be put over one of its files
-abbrev pub AreOver : Option Text → List Row → Type 0
-AreOver schedule rows = IsSomeAnd (first_of (codes "stats") rows) (IsRunFile schedule (programs_given rows) (out_given rows))
-
--- only a file for the numbers of a test's runs that is that of the test is refused for its usage
-abbrev pub IsOverTestIn : List Row → Refusal → Type 0
-IsOverTestIn rows (Usage text) = is_over_test rows ≡ true
-IsOverTestIn rows OutOfMemory = ⊤
-
--- these arguments of the subcommand of this name ask for what isn't done: for more files than one without `--logs`, for a picture over a
--- file that is read, for a look at a file that isn't alone, or for the numbers of runs over a file of theirs
+-- these arguments of the subcommand of this name aren't of one thing: more files than one are given without `--logs`, or one that isn't a
+-- log isn't alone
 abbrev pub IsMisused : Text × List Row → Type 0
 IsMisused named =
-    (((named.0 ≡ codes "search") ⊎ (named.0 ≡ codes "confirm")) × HasStrayFiles named.1)
-    ⊎ (((named.0 ≡ codes "explain") × ((is_drawn_over named.1 ≡ true) ⊎ AreMixed named.1))
-    ⊎ (((named.0 ≡ codes "sim") × AreOver (first_of (codes "schedule") named.1) named.1)
-    ⊎ (((named.0 ≡ codes "run") × AreOver None named.1) ⊎ ((named.0 ≡ codes "litmus") × (is_over_test named.1 ≡ true)))))
+    (((named.0 ≡ codes "search") ⊎ (named.0 ≡ codes "confirm")) × HasStrayFiles named.1) ⊎ ((named.0 ≡ codes "explain") × AreMixed named.1)
 
--- only a subcommand that asks for what isn't done is refused for its usage
+-- only such arguments are refused for their usage
 abbrev pub IsRefusedBy : Text × List Row → Refusal → Type 0
 IsRefusedBy named (Usage text) = IsMisused named
 IsRefusedBy named OutOfMemory = ⊤
 
--- the words name a subcommand that asks for what isn't done
+-- the words name a subcommand with such arguments
 abbrev pub AreMisused : List Text → Type 0
 AreMisused words = (named : Text × List Row) × (subcommand_of tardis words ≡ Some named) × IsMisused named
 
--- only words that aren't a command line of the program, or ask for what isn't done, are refused for their usage
+-- they ask for what would put a file in the place of one that is read, or of another that is put
+abbrev pub AskNotApart : List Text → Type 0
+AskNotApart words = (asked : Request) × Asks words asked × ¬ (IsApart asked)
+
+-- why words are refused for their usage: they aren't a command line of the program, their arguments aren't of one thing, or what would be
+-- put isn't apart
+abbrev pub AreRefused : List Text → Type 0
+AreRefused words = ¬ (IsCommandLine words) ⊎ (AreMisused words ⊎ AskNotApart words)
+
+-- only such words are refused for their usage
 abbrev pub IsRefusalOf : List Text → Refusal → Type 0
-IsRefusalOf words (Usage text) = ¬ (IsCommandLine words) ⊎ AreMisused words
+IsRefusalOf words (Usage text) = AreRefused words
 IsRefusalOf words OutOfMemory = ⊤

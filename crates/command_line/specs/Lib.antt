@@ -1,4 +1,5 @@
 pub mod Asking
+pub mod Files
 pub mod Grammar
 pub mod Refusals
 pub mod RunFiles

@@ -1,5 +1,5 @@
--- The names of a run's files.
-use Rattle.std.specs.Prelude.{◌≡◌, ◌<◌, ◌⊎◌, ℕ, List, ◌++◌, Option, Some, codes}
+-- The names of logs.
+use Rattle.std.specs.Prelude.{◌≡◌, ◌<◌, ℕ, List, ◌++◌, codes}
 use Rattle.std.specs.Fmt.{decimal}
 
 -- the name of core c's log: that of the logs, a dot and the core's number
@@ -9,7 +9,3 @@ log_name out c = out ++ (codes "." ++ decimal c)
 -- a name that a run may give to a log
 abbrev pub IsLogName : List ℕ → List ℕ → Type 0
 IsLogName out name = (c : ℕ) × (c < 64) × (name ≡ log_name out c)
-
--- the name of a file of a run: of its programs, of its schedule, or one that it may give to a log
-abbrev pub IsRunFile : Option (List ℕ) → List ℕ → List ℕ → List ℕ → Type 0
-IsRunFile schedule programs out name = (name ≡ programs) ⊎ ((schedule ≡ Some name) ⊎ IsLogName out name)

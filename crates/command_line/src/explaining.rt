@@ -1,13 +1,9 @@
 //! What the words after `explain` ask for.
 
 ghost use Rattle.std.specs.Prelude.{◌≡◌, IfErr, IfOk, IsTrue, codes, false};
-ghost use Rattle.std.specs.List.{list_any};
-ghost use Rattle.std.specs.Option.{option_map_or};
-ghost use Rattle.std.specs.Str.{bytes_eq};
 ghost use Rattle.clap.specs.Words.{found_of, rows_of};
 ghost use Rattle.command_line.specs.Asking as asking;
 
-use super::names::is_name;
 use super::refusal::Refusal;
 use super::request::{Check, Explain, FileKind, Inspect, Request};
 use super::words::{files_of, flag_of, misuse, name_of, only};
@@ -20,7 +16,7 @@ pub(crate) fn explaining_of<'a>(
     matches: &ArgMatches<'a>,
 ) -> Result<Request<'a>, Refusal>
     ensures asked { IfOk result (asking.IsAskedBy (codes "explain", rows_of (found_of matches.now))) }
-    ensures usage { IfErr result (asking.IsMisusedIn (rows_of (found_of matches.now))) }
+    ensures usage { IfErr result (asking.IsMixedIn (rows_of (found_of matches.now))) }
 {
     match (flag_of(matches, "litmus"), flag_of(matches, "programs")) {
         (false, false) => explain_of(alloc, matches),
@@ -38,7 +34,7 @@ fn inspect_of<'a>(
 ) -> Result<Request<'a>, Refusal>
     requires { asking.AreMarked (asking.is_litmus kind) (asking.is_programs kind) (rows_of (found_of matches.now)) }
     ensures asked { IfOk result (asking.IsAskedBy (codes "explain", rows_of (found_of matches.now))) }
-    ensures usage { IfErr result (asking.IsMisusedIn (rows_of (found_of matches.now))) }
+    ensures usage { IfErr result (asking.IsMixedIn (rows_of (found_of matches.now))) }
 {
     let files = files_of(alloc, matches)?;
     if has_log_option(matches) {
@@ -63,54 +59,20 @@ fn has_log_option(matches: &ArgMatches<'_>) -> bool
 const NOT_ALONE: &str =
     "error: with '--litmus' or with '--programs' one file is read, and no other option goes with it\n\nFor more information, try '--help'.\n";
 
-/// What the words after `explain` ask for of logs, or why they ask for nothing.
+/// What the words after `explain` ask for of logs.
 fn explain_of<'a>(alloc: Global, matches: &ArgMatches<'a>) -> Result<Request<'a>, Refusal>
     requires { asking.AreMarked false false (rows_of (found_of matches.now)) }
     ensures asked { IfOk result (asking.IsAskedBy (codes "explain", rows_of (found_of matches.now))) }
-    ensures usage { IfErr result (asking.IsOverIn (rows_of (found_of matches.now))) }
+    ensures memory { IfErr result (λ refusal. refusal ≡ Refusal.OutOfMemory) }
 {
-    let files = files_of(alloc, matches)?;
-    let program = name_of(matches, "program");
-    let picture = name_of(matches, "svg");
-    if is_drawn_over(picture, program, files.as_slice()) {
-        return Err(misuse(alloc, DRAWN_OVER));
-    }
     let check = Check {
         workers: 1,
-        program,
-        files,
+        program: name_of(matches, "program"),
+        files: files_of(alloc, matches)?,
     };
     Ok(Request::Explain(Explain {
         check,
-        picture,
+        picture: name_of(matches, "svg"),
         no_search: flag_of(matches, "no-search"),
     }))
 }
-
-/// Whether the file for a picture, if there is one, is that of the programs or one of these.
-fn is_drawn_over(picture: Option<&str>, program: Option<&str>, files: &[&str]) -> bool
-    ensures { result ≡ option_map_or (asking.is_read (asking.text_of program.entry) (asking.texts files.now))
-        (asking.text_of picture.entry) false }
-{
-    match picture {
-        Some(name) => is_name(program, name) || is_among(name, files),
-        None => false,
-    }
-}
-
-/// Whether one of the files has this name.
-fn is_among(name: &str, files: &[&str]) -> bool
-    ensures { result ≡ list_any (λ text. bytes_eq text name.now) (asking.texts files.now) }
-{
-    let mut is_among = false;
-    for file in files {
-        if *file == name {
-            is_among = true;
-        }
-    }
-    is_among
-}
-
-/// What the user is told of a picture that would be drawn over a file that is read.
-const DRAWN_OVER: &str =
-    "error: the picture would take the place of a file that is read\n\nFor more information, try '--help'.\n";

@@ -1,11 +1,11 @@
 //! The command line of the program: what its words ask for.
 #![tactic(auto)]
 
+mod apart;
 mod argument;
 mod explaining;
 mod grammar;
 mod log_names;
-mod names;
 mod refusal;
 mod request;
 mod subcommand;

@@ -1,18 +1,16 @@
 //! Reads the words of a command line.
 
-ghost use Rattle.std.specs.Prelude.{◌≡◌, ◌∷◌, ◌↔◌, IfErr, IfOk, IsSomeAnd, IsTrue, None, OnOk, [], codes, false, unwrap_or};
-ghost use Rattle.std.specs.List.{list_any};
-ghost use Rattle.std.specs.Option.{option_map_or};
-ghost use Rattle.std.specs.Str.{bytes_eq};
+ghost use Rattle.std.specs.Prelude.{◌≡◌, ◌∷◌, ◌↔◌, IfErr, IfOk, IsTrue, [], codes, false, unwrap_or};
 ghost use Rattle.clap.specs.Words.{all_of, first_of, found_of, kind_of, one_of, rows_of};
 ghost use Rattle.clap.specs.declared.error.kind.ErrorKind.TheVariants as kind;
 ghost use Rattle.command_line.specs.Asking as asking;
+ghost use Rattle.command_line.specs.Files.{IsApart};
 ghost use Rattle.command_line.specs.inner.Names.{is_subcommand};
 ghost use Rattle.command_line.specs.inner.Numbers.{HasNumbers, takes_number};
 
+use super::apart::are_apart;
 use super::explaining::explaining_of;
 use super::grammar::tardis;
-use super::names::{is_name, is_run_file};
 use super::refusal::Refusal;
 use super::request::{
     Check, Confirm, Limits, Litmus, Order, Request, Run, Search, Sim, TraceFiles, Upgrade,
@@ -22,8 +20,26 @@ use clap::{ArgMatches, Error};
 use std::alloc::{AllocError, Global};
 
 /// What the words ask for; the first is the program's own name. Numbers are those of a
-/// u64, and another word in the place of one is refused; whether they are in range isn't looked at.
+/// u64, and another word in the place of one is refused; whether they are in range isn't looked at. Nothing that is asked for takes the
+/// place of a file that is read, or of something else that is put.
 pub fn read<'a>(alloc: Global, words: &'a [&'a str]) -> Result<Request<'a>, Refusal>
+    ensures request { IfOk result (asking.Asks (asking.texts words.entry.now)) }
+    ensures apart { IfOk result IsApart }
+    ensures usage { IfErr result (asking.IsRefusalOf (asking.texts words.entry.now)) }
+{
+    let request = request_of(alloc, words)?;
+    if !are_apart(alloc, &request)? {
+        return Err(misuse(alloc, NOT_APART));
+    }
+    Ok(request)
+}
+
+/// What the user is told of an output that would take the place of another file.
+const NOT_APART: &str =
+    "error: an output would take the place of a file that is read, of a log or of another output\n\nFor more information, try '--help'.\n";
+
+/// What the words ask for, whatever files it would take the place of.
+fn request_of<'a>(alloc: Global, words: &'a [&'a str]) -> Result<Request<'a>, Refusal>
     ensures request { IfOk result (asking.Asks (asking.texts words.entry.now)) }
     ensures usage { IfErr result (asking.IsRefusalOf (asking.texts words.entry.now)) }
 {
@@ -52,9 +68,9 @@ fn asked_of<'a>(alloc: Global, name: &str, matches: &ArgMatches<'a>) -> Result<R
         "order" => order_of(alloc, matches),
         "explain" => explaining_of(alloc, matches),
         "upgrade" => upgrade_of(alloc, matches),
-        "sim" => sim_of(alloc, matches),
-        "run" => run_of(alloc, matches),
-        "litmus" => litmus_of(alloc, matches),
+        "sim" => Ok(sim_of(matches)),
+        "run" => Ok(run_of(matches)),
+        "litmus" => Ok(litmus_of(matches)),
         "search" => search_of(alloc, matches),
         "confirm" => confirm_of(alloc, matches),
         _ => unreachable!(),
@@ -181,84 +197,47 @@ pub(crate) fn only<'a>(alloc: Global, files: &[&'a str], text: &str) -> Result<&
 const STRAY_FILE: &str =
     "error: more files than one are read as logs only, with '--logs'\n\nFor more information, try '--help'.\n";
 
-/// What the words after `sim` ask for, or why they ask for nothing.
-fn sim_of<'a>(alloc: Global, matches: &ArgMatches<'a>) -> Result<Request<'a>, Refusal>
+/// What the words after `sim` ask for.
+fn sim_of<'a>(matches: &ArgMatches<'a>) -> Request<'a>
     requires { HasNumbers (rows_of (found_of matches.now)) }
-    ensures sim { IfOk result (asking.IsAskedBy (codes "sim", rows_of (found_of matches.now))) }
-    ensures usage { IfErr result (asking.AreOverIn
-        (first_of (codes "schedule") (rows_of (found_of matches.now))) (rows_of (found_of matches.now))) }
+    ensures { asking.IsAskedBy (codes "sim", rows_of (found_of matches.now)) result }
 {
-    let sim = Sim {
+    Request::Sim(Sim {
         limits: limits_of(matches),
         schedule: name_of(matches, "schedule"),
         seed: number_of(matches, "seed"),
         statistics: name_of(matches, "stats"),
         programs: word_of(matches, "PROGRAMS"),
         out: word_of(matches, "OUT"),
-    };
-    check_apart(alloc, sim.statistics, sim.schedule, sim.programs, sim.out)?;
-    Ok(Request::Sim(sim))
+    })
 }
 
-/// What the words after `run` ask for, or why they ask for nothing.
-fn run_of<'a>(alloc: Global, matches: &ArgMatches<'a>) -> Result<Request<'a>, Refusal>
+/// What the words after `run` ask for.
+fn run_of<'a>(matches: &ArgMatches<'a>) -> Request<'a>
     requires { HasNumbers (rows_of (found_of matches.now)) }
-    ensures run { IfOk result (asking.IsAskedBy (codes "run", rows_of (found_of matches.now))) }
-    ensures usage { IfErr result (asking.AreOverIn None (rows_of (found_of matches.now))) }
+    ensures { asking.IsAskedBy (codes "run", rows_of (found_of matches.now)) result }
 {
-    let run = Run {
+    Request::Run(Run {
         limits: limits_of(matches),
         statistics: name_of(matches, "stats"),
         programs: word_of(matches, "PROGRAMS"),
         out: word_of(matches, "OUT"),
-    };
-    check_apart(alloc, run.statistics, None, run.programs, run.out)?;
-    Ok(Request::Run(run))
+    })
 }
 
-/// Checks that the file for the numbers of a run, if there is one, is none of the run's files.
-fn check_apart(
-    alloc: Global,
-    statistics: Option<&str>,
-    schedule: Option<&str>,
-    programs: &str,
-    out: &str,
-) -> Result<(), Refusal>
-    ensures apart { OnOk result (asking.AreApart statistics.entry schedule.entry programs.now out.now) }
-    ensures usage { IfErr result (asking.IsOverRunFile
-        (asking.text_of statistics.entry) (asking.text_of schedule.entry) programs.now out.now) }
-{
-    let Some(name) = statistics else {
-        return Ok(());
-    };
-    if is_run_file(alloc, schedule, programs, out, name)? {
-        return Err(misuse(alloc, COUNTED_OVER));
-    }
-    Ok(())
-}
-
-/// What the user is told of numbers that would be put over a file of their run.
-const COUNTED_OVER: &str =
-    "error: the numbers would take the place of a file that is read, or of a log\n\nFor more information, try '--help'.\n";
-
-/// What the words after `litmus` ask for, or why they ask for nothing.
-fn litmus_of<'a>(alloc: Global, matches: &ArgMatches<'a>) -> Result<Request<'a>, Refusal>
+/// What the words after `litmus` ask for.
+fn litmus_of<'a>(matches: &ArgMatches<'a>) -> Request<'a>
     requires { HasNumbers (rows_of (found_of matches.now)) }
-    ensures litmus { IfOk result (asking.IsAskedBy (codes "litmus", rows_of (found_of matches.now))) }
-    ensures usage { IfErr result (asking.IsOverTestIn (rows_of (found_of matches.now))) }
+    ensures { asking.IsAskedBy (codes "litmus", rows_of (found_of matches.now)) result }
 {
-    let litmus = Litmus {
+    Request::Litmus(Litmus {
         limits: limits_of(matches),
         runs: count_of(matches, "runs", 100),
         seed: count_of(matches, "seed", 1),
         threads: flag_of(matches, "threads"),
         statistics: name_of(matches, "stats"),
         test: word_of(matches, "TEST"),
-    };
-    if is_name(litmus.statistics, litmus.test) {
-        return Err(misuse(alloc, COUNTED_OVER));
-    }
-    Ok(Request::Litmus(litmus))
+    })
 }
 
 /// The numbers of the machine.

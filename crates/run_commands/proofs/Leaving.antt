@@ -1,8 +1,9 @@
 -- The judge says Yes to the logs that a run leaves.
 use Rattle.std.proofs.Common.{◌≡◌, ◌<◌, ◌≤◌, ℕ, zero, suc, ◌+◌, List, [], ◌∷◌, ◌++◌, length, map, inl, inr, refl, sym, ap, subst, ◌∙◌, arith, eq-eqb, Bor}
-use Rattle.std.specs.Prelude.{Option, None, Some, Ok, if◌then◌else◌, nat_eq, slice_get}
+use Rattle.std.specs.Prelude.{Contains, Option, None, Some, Ok, if◌then◌else◌, nat_eq, slice_get}
 use Rattle.std.specs.Option.{option_map, option_map_or}
 use Rattle.std.proofs.lemmas.List.{length-append}
+use Rattle.std.proofs.lemmas.List.Elements.{Contains-append_right}
 use Rattle.std.proofs.lemmas.Option.{slice_get-map}
 use Rattle.lease_rule.specs.ConfigParts.{ConfigParts}
 use Rattle.log_record.specs.declared.record.Record.{Record}
@@ -28,7 +29,9 @@ use Rattle.machine_laws.proofs.Below.{ended_below_get_yes, whole_below_get_yes}
 use Rattle.simulation.specs.Events.{simulated_events}
 use Rattle.simulation.proofs.Ended.{simulated_ended}
 use Rattle.simulation.proofs.SimulatedRuns.{simulated_run}
-use Rattle.command_line.specs.Asking.{AreApart}
+use Rattle.command_line.specs.Files.{IsApart, files_read, names_given}
+use Rattle.command_line.specs.RunFiles.{IsLogName}
+use Rattle.command_line.specs.declared.request.Request.TheVariants as request
 use Rattle.command_line.specs.declared.request.Run.{Run as AskedRun}
 use Rattle.command_line.specs.declared.request.Sim.{Sim as AskedSim}
 use Rattle.litmus.proofs.JudgedOutcome.{spell_push}
@@ -78,16 +81,16 @@ leaves told told' name out set w read first gets_yes =
     let spell = subst (λ n. SpellFrom 0 n below.texts (logs_below w (length set.programs))) (sym below.count) below.spell in
     (set, read, below.texts, below.count, below.told_each, length (entries (logs_below w (length set.programs))), (logs_below w (length set.programs), spell, sym gets_yes))
 
--- the numbers of a run leave the logs as they are told, as they go to none of its files
-spared : (format : Format) (mid new : Files) (schedule : Option (Bor (List ℕ))) (programs out : List ℕ) (cores : ℕ) (made : ℕ → List Record) (n : ℕ)
-    (statistics : Option (Bor (List ℕ))) (text : List ℕ) → n ≤ 64 → AreApart statistics schedule programs out → PutsAt mid new statistics text
+-- the numbers of a run leave the logs as they are told, as they go to none of them
+spared : (format : Format) (mid new : Files) (out : List ℕ) (cores : ℕ) (made : ℕ → List Record) (n : ℕ) (statistics : Option (Bor (List ℕ))) (text : List ℕ)
+    → n ≤ 64 → ((name : List ℕ) → IsLogName out name → ¬ (Contains (names_given (statistics ∷ [])) name)) → PutsAt mid new statistics text
     → TellsFirst format mid.told out cores made n → TellsFirst format new.told out cores made n
-spared format mid new schedule programs out cores made n None text few apart same first =
+spared format mid new out cores made n None text few apart same first =
     subst (λ (files : Files). TellsFirst format files.told out cores made n) (sym same) first
-spared format mid new schedule programs out cores made n (Some name) text few apart put first = λ c below.
+spared format mid new out cores made n (Some name) text few apart put first = λ c below.
     let (log, tells, spells) = first c below in
     let core : c < 64 = omega arith in
-    let keeps = put.others (log_name out c) (λ same. apart (inr (inr (c, core, sym same)))) in
+    let keeps = put.others (log_name out c) (λ same. apart name.now (c, core, sym same) (0, omega arith, refl)) in
     (log, subst (λ (t : Option (List ℕ)). Tells t log) (sym keeps) tells, spells)
 
 -- ---- a simulation
@@ -96,15 +99,16 @@ at_most_64 : (told : List ℕ → Option (List ℕ)) (name : List ℕ) (set : Se
 at_most_64 told name set (text, tells, spells) = spells.0.few
 
 pub sim_leaves : (old new : Files) (unread : List ℕ → Type 0) (asked : AskedSim) (count : ℕ) → simulating.IsRun old new unread asked (Ok count)
-    → AreApart asked.statistics asked.schedule asked.programs.now asked.out.now → LeavesYes old.told new.told asked.programs.now asked.out.now
+    → IsApart (request.Sim asked) → LeavesYes old.told new.told asked.programs.now asked.out.now
 sim_leaves old new unread asked count (sound, set, read, (commands, parsed, (q, did, (counted, (mid, put, later))))) apart =
     let g = config_of asked.limits in
     let start = opening_parts set.programs g in
     let run = simulated_run commands asked.seed start q did in
     let led = subst (λ (w : World). Run g w (simulated_events commands asked.seed start q did) (world q)) (opening_world set.programs g) run.run in
     leaves old.told new.told asked.programs.now asked.out.now set (world q) read
-    (spared (log_format set.format) mid new asked.schedule asked.programs.now asked.out.now (length set.programs) (log_at (world q)) (length set.programs) asked.statistics _
-    (at_most_64 old.told asked.programs.now set read) apart later put.0.logs)
+    (spared (log_format set.format) mid new asked.out.now (length set.programs) (log_at (world q)) (length set.programs) asked.statistics _
+    (at_most_64 old.told asked.programs.now set read)
+    (λ name log has. apart.logs name log (Contains-append_right (files_read (request.Sim asked)) (names_given (asked.statistics ∷ [])) name has)) later put.0.logs)
     (ended_below_get_yes set.programs g (world q) (at_most_64 old.told asked.programs.now set read) (simulated_events commands asked.seed start q did, led) (simulated_ended commands asked.seed start q did))
 
 -- ---- a run in threads
@@ -119,12 +123,13 @@ kept_is programs g us ss run c = rw (slice_get-map (λ (u : UnitParts). core_of 
     go (Some u) at = ap (λ b. if b then u.log else []) (eq-eqb u.core c (run.units c u at).core)
 
 pub run_leaves : (old new : Files) (unread : List ℕ → Type 0) (asked : AskedRun) (count : ℕ) → IsThreadRun old new unread asked (Ok count)
-    → AreApart asked.statistics None asked.programs.now asked.out.now → LeavesYes old.told new.told asked.programs.now asked.out.now
+    → IsApart (request.Run asked) → LeavesYes old.told new.told asked.programs.now asked.out.now
 run_leaves old new unread asked count (sound, set, read, (us, ss, run, events, (counted, (mid, put, later)))) apart =
     let g = config_of asked.limits in
     let w : World = world_of (map (λ u. core_of u None) us) ss in
-    let first = spared (log_format set.format) mid new None asked.programs.now asked.out.now (length set.programs) (kept_log us) (length set.programs) asked.statistics _
-    (at_most_64 old.told asked.programs.now set read) apart later put.0.logs in
+    let first = spared (log_format set.format) mid new asked.out.now (length set.programs) (kept_log us) (length set.programs) asked.statistics _
+    (at_most_64 old.told asked.programs.now set read)
+    (λ name log has. apart.logs name log (Contains-append_right (files_read (request.Run asked)) (names_given (asked.statistics ∷ [])) name has)) later put.0.logs in
     leaves old.told new.told asked.programs.now asked.out.now set w read
     (λ c below. subst (λ (log : List Record). (text : List ℕ) × Tells (new.told (log_name asked.out.now c)) text × SpellsIn (log_format set.format) c (length set.programs) text log) (kept_is set.programs g us ss run c) (first c below))
     (whole_below_get_yes set.programs g us ss run)

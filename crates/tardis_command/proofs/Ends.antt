@@ -3,7 +3,7 @@ use Rattle.std.proofs.Common.{rules, ◌≡◌, ◌⊎◌, ◌∙◌, ap, subst,
 use Rattle.std.specs.Prelude.{IfOk, OnOk, IfErr}
 use Rattle.std.specs.Io.KnownBytes.{Appends, Keeps}
 use Rattle.std.proofs.KnownBytes.{Keeps-refl}
-use Rattle.command_line.specs.Asking.{AreMisused, Asks, IsCommandLine}
+use Rattle.command_line.specs.Asking.{AreRefused, Asks}
 use Rattle.command_line.specs.declared.request.Check.{Check}
 use Rattle.command_line.specs.declared.request.Explain.{Explain}
 use Rattle.command_line.specs.declared.request.Request.{Request}
@@ -14,7 +14,6 @@ use Rattle.verdict.specs.declared.answer.Verdict.{Verdict}
 use Rattle.verdict.specs.declared.answer.Verdict.TheVariants.{Yes, No}
 use Rattle.tardis_command.specs.Answers.{answer_status, answer_text, told_text, verdict_status}
 use Rattle.tardis_command.specs.declared.answer.Answer.{Answer}
-use Rattle.tardis_command.specs.inner.Apart.{HasApart}
 use Rattle.tardis_command.specs.inner.Printing.{IsUnprinted}
 use Rattle.tardis_command.specs.Endings.{Answered, Ending, EndsBy, IsAnswered, IsDoneBy, IsPrinted, Misused, Refused, Says, Sink, Takes, Unprinted, Unread, Untold, line, status_of}
 use Rattle.tardis_command.specs.More.{IsOfFileOf, IsOfLogs, IsOfLook, IsToldMore, TellsMore}
@@ -40,12 +39,6 @@ use Rattle.tardis_command.specs.declared.fault.CommandFault.TheVariants.{Call}
 use Rattle.call_devices.specs.declared.call_fault.CallFault.TheVariants.{Output, OutOfMemory, Programs}
 use Rattle.judge_commands.specs.declared.fault.JudgingFault.{JudgingFault}
 use Rattle.judge_commands.specs.declared.fault.JudgingFault.TheVariants as judging
-
--- the numbers of a run that the words ask for go to none of its files
-pub has_apart : (words : List (List ℕ)) (asked : Request) → Asks words asked → HasApart asked
-has_apart words (request.Sim asked) (line, (named, is, (same, sim))) = sim.apart
-has_apart words (request.Run asked) (line, (named, is, (same, run))) = run.apart
-has_apart words other asks = tt
 
 -- ---- commands whose answer is printed
 
@@ -183,7 +176,7 @@ unprinted_more asked middle out' fault is (inl (text, told, takes)) = absurd (no
 unprinted_more asked middle out' fault is (inr same) = same
 
 module _ (before after : Files) (unread : List ℕ → Type 0) (words : List (List ℕ)) (out err : Sink) where
-  pub ends_misused : (err' : Sink) (text : List ℕ) → ¬ (IsCommandLine words) ⊎ AreMisused words → Takes err err' text
+  pub ends_misused : (err' : Sink) (text : List ℕ) → AreRefused words → Takes err err' text
       → EndsBy before after unread words out out err err' (Misused text)
   ends_misused err' text misused takes = record { end = (misused, Keeps-refl out.contents); complaint = takes }
 

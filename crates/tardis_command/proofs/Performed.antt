@@ -2,13 +2,13 @@
 use Rattle.std.proofs.Common.{◌≡◌, ◌∙◌, ap, subst, sym, refl, ℕ, List, Result, Ok, Err}
 use Rattle.std.specs.Prelude.{IfOk}
 use Rattle.call_devices.specs.Files.{Files, KeepsFiles}
+use Rattle.command_line.specs.Files.{IsApart}
 use Rattle.command_line.specs.declared.request.Request.{Request}
 use Rattle.tardis_command.specs.Answers.{answer_status}
 use Rattle.tardis_command.specs.Endings.{AreConsistent, AreOrdered, AreRefuted, Ending, IsAnswered, IsDoneBy, IsPutName, LeaveYes, RunFlat, Sink}
 use Rattle.tardis_command.specs.Faults.{fault_status}
 use Rattle.tardis_command.specs.declared.answer.Answer.{Answer}
 use Rattle.tardis_command.specs.declared.fault.CommandFault.{CommandFault}
-use Rattle.tardis_command.specs.inner.Apart.{HasApart}
 use Rattle.tardis_command.specs.inner.Performing.{IsPerformed}
 
 module _ (old new : Files) (unread : List ℕ → Type 0) (asked : Request) (out out' : Sink) where
@@ -22,7 +22,7 @@ module _ (old new : Files) (unread : List ℕ → Type 0) (asked : Request) (out
     pub refuted : answer_status answer ≡ 1 → AreRefuted old.told asked
     pub order : answer_status answer ≡ 0 → AreOrdered old.told out out' asked
     pub flat : answer_status answer ≡ 0 → RunFlat old.told asked
-    pub yes : answer_status answer ≡ 0 → HasApart asked → LeaveYes old.told new.told asked
+    pub yes : answer_status answer ≡ 0 → IsApart asked → LeaveYes old.told new.told asked
 
   -- it was refused
   pub refused : (fault : CommandFault) (came : Result Answer CommandFault) → came ≡ Err fault → Ends came → KeepsFiles old.told new.told (IsPutName asked)

@@ -1,7 +1,8 @@
 -- How a call of the program ends.
-use Rattle.std.specs.Prelude.{◌≡◌, ◌⊎◌, ⊤, ℕ, List, Option, Result, Ok, Err}
+use Rattle.std.specs.Prelude.{◌≡◌, ⊤, ℕ, List, Contains, Option, Result, Ok, Err}
 use Rattle.std.specs.Io.KnownBytes.{Appends, Keeps}
-use Rattle.command_line.specs.Asking.{AreMisused, Asks, IsCommandLine}
+use Rattle.command_line.specs.Asking.{AreRefused, Asks}
+use Rattle.command_line.specs.Files.{files_read}
 use Rattle.command_line.specs.RunFiles.{IsLogName}
 use Rattle.command_line.specs.declared.request.Request.{Request}
 use Rattle.command_line.specs.declared.request.Request.TheVariants.{Check, Order, Explain, Inspect, Upgrade, Sim, Run, Litmus, Search, Confirm, Version as AskedVersion}
@@ -116,6 +117,10 @@ IsPutName (Litmus asked) name = IsNameOf asked.statistics name
 IsPutName (Search asked) name = IsOutputName asked name
 IsPutName other name = ⊥
 
+-- such a name, under which no file is read
+abbrev pub IsPutUnread : Request → List ℕ → Type 0
+IsPutUnread asked name = IsPutName asked name × ¬ (Contains (files_read asked) name)
+
 -- ---- how it ends
 
 -- the answer, or the refusal, that a command makes of what it came to, of which `Is` holds
@@ -164,12 +169,11 @@ IsAnswered (Refused fault) came = came ≡ Err fault
 IsAnswered other came = ⊥
 
 -- A call with these words may end so, and leave standard output so; what is told more of a refusal comes after that. Words that aren't a
--- command line, that name more files than a trace has, or a picture or the numbers of runs in place of another file, end in what the user is
--- told of them, or memory runs out before it is known what they ask for. A refusal that there was no memory to tell left all as it leaves it where
--- it is told.
+-- command line, that name more files than a trace has, or an output in place of another file, end in what the user is told of them, or memory
+-- runs out before it is known what they ask for. A refusal that there was no memory to tell left all as it leaves it where it is told.
 abbrev pub IsEnd : Files → Files → (List ℕ → Type 0) → List (List ℕ) → Sink → Sink → Ending → Type 0
 IsEnd old new unread words out out' Unread = Keeps out.contents out'.contents
-IsEnd old new unread words out out' (Misused text) = (¬ (IsCommandLine words) ⊎ AreMisused words) × Keeps out.contents out'.contents
+IsEnd old new unread words out out' (Misused text) = AreRefused words × Keeps out.contents out'.contents
 IsEnd old new unread words out out' (Refused fault) =
     AskFor words (λ asked. (before : Sink) × IsDoneBy old new unread asked out before (Refused fault) × TellsMore asked fault before out')
 IsEnd old new unread words out out' (Untold fault) =

@@ -45,7 +45,7 @@ pub fn command<
         (endings.sink_of E.contents E.failed err.old)
         (endings.sink_of E.contents E.failed err.new) ending }
     ensures files { endings.KeepsFiles (F.files folder.old).told (F.files folder.new).told
-        (λ name. endings.AskFor (texts words.entry.now) (λ asked. endings.IsPutName asked name)) }
+        (λ name. endings.AskFor (texts words.entry.now) (λ asked. endings.IsPutUnread asked name)) }
     ensures sound { result ≡ 0 → endings.AskFor (texts words.entry.now)
         (endings.AreConsistent (F.files folder.old).told) }
     ensures refuted { result ≡ 1 → endings.AskFor (texts words.entry.now)

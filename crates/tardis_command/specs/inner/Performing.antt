@@ -2,12 +2,12 @@
 use Rattle.std.specs.Prelude.{◌≡◌, ℕ, List, Result, IfOk}
 use Rattle.call_devices.specs.Files.{Files, KeepsFiles}
 use Rattle.call_devices.specs.Sinks.{Sink}
+use Rattle.command_line.specs.Files.{IsApart}
 use Rattle.command_line.specs.declared.request.Request.{Request}
 use Rattle.tardis_command.specs.Answers.{answer_status}
 use Rattle.tardis_command.specs.Endings.{AreConsistent, AreOrdered, AreRefuted, Ending, IsAnswered, IsDoneBy, IsPutName, LeaveYes, RunFlat, status_in}
 use Rattle.tardis_command.specs.declared.answer.Answer.{Answer}
 use Rattle.tardis_command.specs.declared.fault.CommandFault.{CommandFault}
-use Rattle.tardis_command.specs.inner.Apart.{HasApart}
 
 -- The request came to this answer or refusal, and left the folder and standard output so: how it ended, which files stay, and what its status
 -- says.
@@ -18,4 +18,4 @@ pub record IsPerformed (old new : Files) (unread : List ℕ → Type 0) (asked :
   pub refuted : status_in came ≡ 1 → AreRefuted old.told asked
   pub order : IfOk came (λ answer. answer_status answer ≡ 0 → AreOrdered old.told out out' asked)
   pub flat : IfOk came (λ answer. answer_status answer ≡ 0 → RunFlat old.told asked)
-  pub yes : IfOk came (λ answer. answer_status answer ≡ 0 → HasApart asked → LeaveYes old.told new.told asked)
+  pub yes : IfOk came (λ answer. answer_status answer ≡ 0 → IsApart asked → LeaveYes old.told new.told asked)

@@ -2,7 +2,8 @@ use Rattle.std.proofs.Common.{◌∙◌, refl, subst, sym, ℕ, List}
 use Rattle.call_devices.specs.Files.{IsUnread}
 use Rattle.call_devices.proofs.Files.{keeps_files}
 use Rattle.command_line.specs.Asking.{IsRefusalOf, texts}
-use Rattle.tardis_command.proofs.Ends.{done_after, ends_answered, ends_misused, ends_refused, ends_unread, has_apart, told_no, told_not_zero}
+use Rattle.tardis_command.proofs.Ends.{done_after, ends_answered, ends_misused, ends_refused, ends_unread, told_no, told_not_zero}
+use Rattle.tardis_command.proofs.Unread.{put_unread}
 use Rattle.tardis_command.specs.Endings.{Misused}
 use Rattle.tardis_command.proofs.call.command.Goals as goal
 
@@ -67,12 +68,8 @@ returns-in-Ok-perform-clause-flat g c zero =
     (c.in-Ok.request, c.in-Ok.ensures.request, c.in-Ok-perform.ensures.flat (sym c.tell_answer.ensures.status ∙ zero))
 
 pub returns-in-Ok-perform-clause-yes : goal.returns-in-Ok-perform-clause-yes
-returns-in-Ok-perform-clause-yes g c zero = (
-  c.in-Ok.request,
-  c.in-Ok.ensures.request,
-  c.in-Ok-perform.ensures.yes (sym c.tell_answer.ensures.status ∙ zero)
-      (has_apart (texts c.args.words.now) c.in-Ok.request c.in-Ok.ensures.request),
-)
+returns-in-Ok-perform-clause-yes g c zero =
+    (c.in-Ok.request, c.in-Ok.ensures.request, c.in-Ok-perform.ensures.yes (sym c.tell_answer.ensures.status ∙ zero) c.in-Ok.ensures.apart)
 
 pub returns-clause-ends : goal.returns-clause-ends
 returns-clause-ends g c =
@@ -86,9 +83,9 @@ returns-clause-ends g c =
 
 pub returns-in-Ok-perform-clause-files : goal.returns-in-Ok-perform-clause-files
 returns-in-Ok-perform-clause-files g c name none =
-    c.in-Ok-perform.ensures.files name (λ is. none (c.in-Ok.request, c.in-Ok.ensures.request, is))
+    c.in-Ok-perform.ensures.files name (λ is. none (c.in-Ok.request, c.in-Ok.ensures.request, (is, put_unread c.in-Ok.request c.in-Ok.ensures.apart name is)))
 
 pub returns-clause-files : goal.returns-clause-files
 returns-clause-files g c name none =
     keeps_files _ _ (λ (other : List ℕ). ⊥) c.tell_more.ensures.read name (λ never. never)
-    ∙ c.in-Err.ensures.files name (λ is. none (c.in-Ok.request, c.in-Ok.ensures.request, is))
+    ∙ c.in-Err.ensures.files name (λ is. none (c.in-Ok.request, c.in-Ok.ensures.request, (is, put_unread c.in-Ok.request c.in-Ok.ensures.apart name is)))
