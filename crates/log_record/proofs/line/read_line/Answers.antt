@@ -1,5 +1,5 @@
 -- Nothing was read, or a record that a log of this format doesn't have: the line is no record's.
-use Rattle.std.proofs.Common.{rules, sym, ◌∙◌}
+use Rattle.std.proofs.Common.{sym, ◌∙◌}
 use Rattle.log_record.proofs.Raws.{none_is_bad, other_format, out_of_range}
 use Rattle.log_record.proofs.line.read_line.Goals as goal
 
@@ -13,10 +13,3 @@ returns-then-not-has_raw-clause-bad c =
 pub returns-in-None-clause-range : goal.returns-in-None-clause-range
 returns-in-None-clause-range c =
     λ e. out_of_range c.args.format c.args.line.now c.in-Some.raw (sym c.in-Some.is ∙ c.raw_record.ensures) (λ a same. sym (c.if-not-has_raw.ensures a same)) c.in-None.ensures.none
-
--- What an error would say, where none is answered or another.
-pub returns-in-None-clause-bad : goal.returns-in-None-clause-bad
-returns-in-None-clause-bad c = search rules
-
-pub returns-in-Some-in_range-clause-range : goal.returns-in-Some-in_range-clause-range
-returns-in-Some-in_range-clause-range c = search rules
