@@ -36,3 +36,6 @@ returns-clause-written g c =
     let loop = c.loop-logged in
     end_written a.format a.core a.cores a.records.now _ _ _ loop.logged-index c.write_line-2.result (omega arith) loop.invariant.written
     (rw c.in_ok-print_end.ensures at c.write_line-2.ensures.written)
+
+pub loop-logged-init : goal.loop-logged-init
+loop-logged-init g c = search rules
