@@ -135,10 +135,14 @@ fn pairs(alloc: Global, ids: &[OpId]) -> Result<Vec<(u64, u64)>, AllocError> {
 #[test]
 fn the_order_in_which_operations_were_written(rt: HostRuntime) -> Result<(), Fail> {
     let lines = b"1: M[0] := 1\n0: M[1] == 0 # @ 9:9\n0: sync @ 8:8\n1: M[1] := 1\n";
-    let times = b"1: M[0] := 1\n0: M[1] == 0 @ 1:2\n1: M[1] := 1 @ :0x5\n2: M[0] == 1 @ 3:\n0: M[7] == 0 @ 3:4\n";
+    let times =
+        b"1: M[0] := 1\n0: M[1] == 0 @ 1:2\n1: M[1] := 1 @ :0x5\n2: M[0] == 1 @ 3:\n0: M[7] == 0 @ 3:4\n";
     let due = [
         (lines.as_slice(), [(1, 0), (0, 0), (1, 1)].as_slice()),
-        (times.as_slice(), [(1, 0), (0, 0), (0, 1), (1, 1), (2, 0)].as_slice()),
+        (
+            times.as_slice(),
+            [(1, 0), (0, 0), (0, 1), (1, 1), (2, 0)].as_slice(),
+        ),
     ];
     for (text, due) in due {
         let trace = Trace::parse(rt.alloc(), text)?;

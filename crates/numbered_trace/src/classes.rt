@@ -80,7 +80,12 @@ impl Classes {
     }
 
     /// Those of them that are a core's.
-    pub fn candidates_of(&self, operation: &Operation, operations: &Operations, core: u32) -> &[Place] {
+    pub fn candidates_of(
+        &self,
+        operation: &Operation,
+        operations: &Operations,
+        core: u32,
+    ) -> &[Place] {
         let all = self.candidates(operation);
         let from = all.partition_point(|store| operations.core(*store) < core);
         let to = all.partition_point(|store| operations.core(*store) <= core);
@@ -127,7 +132,9 @@ impl Classes {
         }
         for touch in touches {
             let operation = operations.all.get_mut(touch.place as usize);
-            operation.ok_or(Stop::GivenUp)?.enter(address, class, touch.stores);
+            operation
+                .ok_or(Stop::GivenUp)?
+                .enter(address, class, touch.stores);
             if touch.stores {
                 self.stores.push(touch.place)?;
             }

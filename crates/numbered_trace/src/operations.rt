@@ -35,11 +35,6 @@ impl Operation {
         (self.stored != NONE).then_some(self.stored)
     }
 
-    /// Whether it reads, and this class.
-    pub fn has_read(&self, class: u32) -> bool {
-        self.read == class
-    }
-
     /// Whether it is a load or a swap.
     pub fn reads(&self) -> bool {
         self.read != NONE

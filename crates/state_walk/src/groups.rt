@@ -9,7 +9,9 @@ pub fn groups_of(alloc: Global, operations: &Operations, addresses: u32) -> Trie
     let mut groups = Vec::new(alloc);
     for first in operations.cores() {
         if at(&group_of, first) == first {
-            let cores = operations.cores().filter(|core| at(&group_of, *core) == first);
+            let cores = operations
+                .cores()
+                .filter(|core| at(&group_of, *core) == first);
             let group: Vec<u32> = cores.collect(alloc)?;
             groups.push(group)?;
         }

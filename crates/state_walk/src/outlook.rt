@@ -9,6 +9,7 @@ const AHEAD: u32 = 12;
 /// What a read that is so far ahead counts where memory has its word, and where it doesn't: the logarithms, times 100, of
 /// how likely that is in a run, beside how likely it is by chance.
 const FITS: [u64; 12] = [121, 103, 88, 74, 62, 51, 42, 34, 27, 22, 18, 14];
+
 const MISFITS: [u64; 12] = [151, 93, 64, 46, 34, 25, 19, 15, 11, 9, 7, 5];
 
 /// The longest wait that is counted.
@@ -23,7 +24,9 @@ impl State<'_> {
         let mut outlook = EVEN;
         for core in &self.cores {
             let lag = self.lag(*core);
-            outlook = self.with_reads(*core, outlook).saturating_sub(lag.wrapping_mul(lag) / 8);
+            outlook = self
+                .with_reads(*core, outlook)
+                .saturating_sub(lag.wrapping_mul(lag) / 8);
         }
         outlook
     }
@@ -32,7 +35,9 @@ impl State<'_> {
     fn lag(&self, core: u32) -> u64 {
         let (start, end) = (at(&self.operations.starts, core), self.operations.end(core));
         let own = u64::from(end.saturating_sub(start));
-        let due = own.wrapping_mul(self.order.len() as u64).checked_div(self.total as u64);
+        let due = own
+            .wrapping_mul(self.order.len() as u64)
+            .checked_div(self.total as u64);
         let done = at(&self.positions, core).saturating_sub(start);
         due.unwrap_or(0).saturating_sub(u64::from(done))
     }
@@ -61,8 +66,12 @@ impl State<'_> {
         let misfit = MISFITS.get(far).copied().unwrap_or(0);
         let near = self.nearest_store(read, core).unwrap_or(0);
         let wait = u64::from(near.min(LONG)).saturating_sub(far as u64);
-        let long = wait.wrapping_mul(wait).checked_div((far as u64).wrapping_add(1));
-        outlook.saturating_sub(misfit).saturating_sub(long.unwrap_or(0))
+        let long = wait
+            .wrapping_mul(wait)
+            .checked_div((far as u64).wrapping_add(1));
+        outlook
+            .saturating_sub(misfit)
+            .saturating_sub(long.unwrap_or(0))
     }
 
     /// How far ahead another core's nearest store of a class is.

@@ -41,7 +41,9 @@ impl<'a> State<'a> {
     ) -> Tried<State<'a>> {
         let mut total = 0usize;
         for core in &cores {
-            let own = operations.end(*core).saturating_sub(at(&operations.starts, *core));
+            let own = operations
+                .end(*core)
+                .saturating_sub(at(&operations.starts, *core));
             total = total.saturating_add(own as usize);
         }
         Ok(State {

@@ -61,7 +61,10 @@ impl Tree {
 
     /// The node of a number. The search gives up where there is none.
     pub(crate) fn node(&self, number: u32) -> Tried<Node> {
-        self.nodes.get(number as usize).copied().ok_or(Stop::GivenUp)
+        self.nodes
+            .get(number as usize)
+            .copied()
+            .ok_or(Stop::GivenUp)
     }
 
     /// Adds a state that looks so likely, and gives its number.
@@ -100,7 +103,9 @@ impl Tree {
     /// Puts a layer into the queue.
     fn queue_layer(&mut self, depth: u32) -> Tried<()> {
         let layer = self.layers.get(depth as usize).ok_or(Stop::GivenUp)?;
-        let foremost = EVEN.saturating_add(u64::from(depth)).saturating_sub(u64::from(layer.left));
+        let foremost = EVEN
+            .saturating_add(u64::from(depth))
+            .saturating_sub(u64::from(layer.left));
         Ok(self.queue.push((foremost, depth))?)
     }
 

@@ -99,7 +99,12 @@ impl<'a> Walk<'a> {
             if self.expand(number)? {
                 return Ok(Walked::Order);
             }
-            budget.use_up(self.state.performed.saturating_sub(performed).saturating_add(1));
+            budget.use_up(
+                self.state
+                    .performed
+                    .saturating_sub(performed)
+                    .saturating_add(1),
+            );
         }
         Ok(Walked::GivenUp)
     }
