@@ -42,9 +42,11 @@ fn no_operation_is_consistent(rt: HostRuntime) -> Result<(), Fail> {
 }
 
 #[test]
-fn with_no_budget_nothing_is_decided(rt: HostRuntime) -> Result<(), Fail> {
-    assert_eq!(rt; answer_to(rt.alloc(), &[], 0)?, Told::Undecided);
+fn with_no_budget_the_order_as_written_is_tried_alone(rt: HostRuntime) -> Result<(), Fail> {
+    assert_eq!(rt; answer_to(rt.alloc(), &[], 0)?, Told::Order(0));
     let rows = [(0, Access::store(0, 1)), (1, Access::load(0, 1))];
+    assert_eq!(rt; answer_to(rt.alloc(), &rows, 0)?, Told::Order(2));
+    let rows = [(1, Access::load(0, 1)), (0, Access::store(0, 1))];
     assert_eq!(rt; answer_to(rt.alloc(), &rows, 0)?, Told::Undecided);
     Ok(())
 }

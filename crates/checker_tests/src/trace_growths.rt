@@ -40,20 +40,19 @@ fn a_reader_that_is_fed(rt: HostRuntime) {
     assert_eq!(rt; answer, Ok(3));
 }
 
-/// What is printed of the trace of a text.
-fn printed(alloc: Global, text: &[u8]) -> Result<String, TraceFault> {
+/// How many operations a text tells, in the order of its lines.
+fn written(alloc: Global, text: &[u8]) -> Result<usize, TraceFault> {
     let trace = Trace::parse(alloc, text)?;
-    Ok(trace.print(alloc)?)
+    Ok(trace.as_written(alloc)?.len())
 }
 
 #[test]
-fn a_text_that_is_read_and_printed(rt: HostRuntime) -> Result<(), Fail> {
-    let mut answer = printed(rt.alloc(), TEXT.as_bytes());
-    if matches!(&answer, Err(TraceFault::OutOfMemory)) {
-        answer = printed(rt.alloc(), TEXT.as_bytes());
+fn the_order_of_a_text(rt: HostRuntime) {
+    let mut answer = written(rt.alloc(), TEXT.as_bytes());
+    if answer == Err(TraceFault::OutOfMemory) {
+        answer = written(rt.alloc(), TEXT.as_bytes());
     }
-    assert_eq!(rt; answer?.as_str(), TEXT);
-    Ok(())
+    assert_eq!(rt; answer, Ok(3));
 }
 
 #[test]

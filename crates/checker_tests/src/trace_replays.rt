@@ -50,11 +50,14 @@ fn traces_of_logs(rt: HostRuntime) -> Result<(), Fail> {
     let second = vec![in rt.alloc(); swapped]?;
     let logs = vec![in rt.alloc(); first, second]?;
     let trace = Trace::from_logs(rt.alloc(), &logs)?;
-    assert_eq!(rt;
-        trace.print(rt.alloc())?.as_str(),
-        "0: M[5] := 7\n0: M[5] == 8\n1: { M[5] == 7; M[5] := 8 }\n"
-    );
+    assert_eq!(rt; trace.operation(&id(0, 0)), Some(Access::store(5, 7)));
+    assert_eq!(rt; trace.operation(&id(0, 1)), Some(Access::load(5, 8)));
     assert_eq!(rt; trace.operation(&id(1, 0)), Some(Access::swap(5, 7, 8)));
+    let written = trace.as_written(rt.alloc())?;
+    assert_eq!(rt;
+        written.as_slice(),
+        [id(0, 0), id(1, 0), id(0, 1)].as_slice()
+    );
     assert_eq!(rt; trace.operation(&id(1, 1)), None);
     let lent = logs.as_slice();
     assert!(rt; replays(rt.alloc(), &lent, &[id(0, 0), id(1, 0), id(0, 1)])?);
@@ -81,9 +84,13 @@ fn a_trace_that_grows(rt: HostRuntime) -> Result<(), Fail> {
     trace.push(CoreId::at(1), Access::store(3, 4))?;
     trace.push(CoreId::at(0), Access::load(3, 4))?;
     trace.push(CoreId::at(1), Access::load(3, 4))?;
+    let written = trace.as_written(rt.alloc())?;
     assert_eq!(rt;
-        trace.print(rt.alloc())?.as_str(),
-        "0: M[3] == 4\n1: M[3] := 4\n1: M[3] == 4\n"
+        written.as_slice(),
+        [id(1, 0), id(0, 0), id(1, 1)].as_slice()
     );
+    assert_eq!(rt; trace.operation(&id(0, 0)), Some(Access::load(3, 4)));
+    assert_eq!(rt; trace.operation(&id(1, 0)), Some(Access::store(3, 4)));
+    assert_eq!(rt; trace.operation(&id(1, 1)), Some(Access::load(3, 4)));
     Ok(())
 }

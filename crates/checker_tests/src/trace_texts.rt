@@ -1,5 +1,7 @@
 //! Texts that are traces.
 
+use mem_op::OpId;
+use std::alloc::{AllocError, Global};
 use std::test::Fail;
 use trace::{Access, Trace, TraceReader};
 
@@ -123,35 +125,29 @@ fn pieces_cut_anywhere(rt: HostRuntime) -> Result<(), Fail> {
     Ok(())
 }
 
-#[test]
-fn printing(rt: HostRuntime) -> Result<(), Fail> {
-    let text =
-        "0: M[0] := 1\n0: M[1] == 0\n1: M[1] := 1\n1: M[0] == 0\n1: { M[2] == 0; M[2] := 7 }\n";
-    let trace = Trace::parse(rt.alloc(), STORE_BUFFERING)?;
-    assert_eq!(rt; trace.print(rt.alloc())?.as_str(), text);
-    let trace = Trace::parse(rt.alloc(), b"2: sync\n1: M[0x10] := 1")?;
-    assert_eq!(rt; trace.cores().len(), 2);
-    assert_eq!(rt; trace.print(rt.alloc())?.as_str(), "1: M[16] := 1\n");
-    let trace = Trace::parse(rt.alloc(), b"63: sync # alone")?;
-    assert_eq!(rt; trace.cores().len(), 0);
-    let trace = Trace::parse(rt.alloc(), b"# nothing")?;
-    assert_eq!(rt; trace.print(rt.alloc())?.as_str(), "");
-    Ok(())
+/// The cores and indices of operations.
+fn pairs(alloc: Global, ids: &[OpId]) -> Result<Vec<(u64, u64)>, AllocError> {
+    ids.iter()
+        .map(|id| (id.core.get(), id.index.get()))
+        .collect(alloc)
 }
 
 #[test]
-fn a_line_of_10_megabytes(rt: HostRuntime) -> Result<(), Fail> {
-    let blanks = vec![in rt.alloc(); b' '; 10_000_000]?;
-    let mut reader = TraceReader::new(rt.alloc());
-    reader.feed(b"0: M[1]")?;
-    reader.feed(&blanks)?;
-    reader.feed(b":= 2 #")?;
-    reader.feed(&blanks)?;
-    let trace = reader.finish()?;
-    assert_eq!(rt; trace.cores().len(), 1);
-    assert_eq!(rt;
-        trace.cores()[0].as_slice(),
-        [Access::store(1, 2)].as_slice()
-    );
+fn the_order_in_which_operations_were_written(rt: HostRuntime) -> Result<(), Fail> {
+    let lines = b"1: M[0] := 1\n0: M[1] == 0 # @ 9:9\n0: sync @ 8:8\n1: M[1] := 1\n";
+    let times =
+        b"1: M[0] := 1\n0: M[1] == 0 @ 1:2\n1: M[1] := 1 @ :0x5\n2: M[0] == 1 @ 3:\n0: M[7] == 0 @ 3:4\n";
+    let due = [
+        (lines.as_slice(), [(1, 0), (0, 0), (1, 1)].as_slice()),
+        (
+            times.as_slice(),
+            [(1, 0), (0, 0), (0, 1), (1, 1), (2, 0)].as_slice(),
+        ),
+    ];
+    for (text, due) in due {
+        let trace = Trace::parse(rt.alloc(), text)?;
+        let written = trace.as_written(rt.alloc())?;
+        assert_eq!(rt; pairs(rt.alloc(), &written)?.as_slice(), due);
+    }
     Ok(())
 }

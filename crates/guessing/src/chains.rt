@@ -1,7 +1,7 @@
 //! Chains of facts that lead from one operation to another.
 
 use super::knowledge::Knowledge;
-use super::stop::{NONE, Place, START, Tried, at, put};
+use numbered_trace::{NONE, Place, START, Tried, at, put};
 use std::alloc::Global;
 use std::iter::successors;
 
@@ -28,9 +28,9 @@ struct Walk {
     limit: u32,
 }
 
-impl Knowledge {
+impl Knowledge<'_> {
     /// A shortest chain of facts below `limit` by which one operation is before another.
-    pub(crate) fn chain(&self, from: Place, to: Place, limit: u32) -> Tried<Option<Vec<u32>>> {
+    pub(crate) fn chain(&mut self, from: Place, to: Place, limit: u32) -> Tried<Option<Vec<u32>>> {
         let (core, end_core) = (self.operations.core(from), self.operations.core(to));
         if from == START || from <= to && core == end_core {
             return Ok(Some(Vec::new(self.alloc)));
@@ -46,6 +46,7 @@ impl Knowledge {
             let Some(hop) = walk.hops.get(number as usize).copied() else {
                 break;
             };
+            self.budget.spend(1)?;
             if self.walk_from(&mut walk, number, hop)? {
                 return Ok(Some(walk.chain(self.alloc)?));
             }

@@ -1,35 +1,7 @@
 //! What is known to be before each operation.
 
-use super::operations::Operations;
-use super::stop::{Place, Stop, Tried, at};
+use numbered_trace::{CoreSet, Operations, Place, Stop, Tried, at};
 use std::alloc::Global;
-
-/// A set of cores, of which there are at most 64: a bit for each.
-#[derive(Clone, Copy, PartialEq, Eq)]
-pub(crate) struct CoreSet(u64);
-
-impl CoreSet {
-    /// All cores.
-    pub(crate) const ALL: CoreSet = CoreSet(u64::MAX);
-
-    /// No core.
-    pub(crate) const NONE: CoreSet = CoreSet(0);
-
-    /// Whether a core is one of them.
-    pub(crate) fn contains(self, core: u32) -> bool {
-        self.0 & 1u64.wrapping_shl(core) != 0
-    }
-
-    /// Adds a core.
-    pub(crate) fn insert(&mut self, core: u32) {
-        self.0 |= 1u64.wrapping_shl(core);
-    }
-
-    /// Adds others.
-    pub(crate) fn extend(&mut self, others: CoreSet) {
-        self.0 |= others.0;
-    }
-}
 
 /// An entry of the clocks that rose, with what it was before.
 #[derive(Clone, Copy)]
@@ -103,6 +75,11 @@ impl Clocks {
             }
         }
         Ok(risen)
+    }
+
+    /// The entries of all operations, one after the other.
+    pub(crate) fn into_entries(self) -> Vec<Place> {
+        self.entries
     }
 
     /// Takes back what rose since the trail had this many rises.

@@ -1,10 +1,9 @@
 //! Why a case is closed, from the conflict back to what was known at first.
 
-use super::facts::Fact;
+use super::facts::{Fact, Reason};
 use super::knowledge::Knowledge;
 use super::proof::{Derived, Line, Proof, Rule};
-use super::stop::{Conflict, NONE, Place, Stop, Tried, short};
-use std::iter::successors;
+use numbered_trace::{Conflict, Place, Stop, Tried, short};
 
 /// The number of the from-read in the case of a candidate that another store hides from a read.
 const CASE_FROM_READ: u32 = u32::MAX - 1;
@@ -24,9 +23,9 @@ struct Closing {
     steps: Proof,
 }
 
-impl Knowledge {
+impl Knowledge<'_> {
     /// The proof that a case is closed, which needs the facts of the conflict.
-    pub(crate) fn explain(&self, conflict: Conflict) -> Tried<Proof> {
+    pub(crate) fn explain(&mut self, conflict: Conflict) -> Tried<Proof> {
         let mut proof = Proof::new(self.alloc);
         let mark = short(self.facts.all.len())?;
         match conflict {
@@ -42,34 +41,37 @@ impl Knowledge {
     }
 
     /// Puts before a proof the steps that show the facts from `least` on that it needs.
-    pub(crate) fn show(&self, proof: &mut Proof, least: u32) -> Tried<()> {
+    pub(crate) fn show(&mut self, proof: &mut Proof, least: u32) -> Tried<()> {
         for _ in 0..self.facts.all.len() {
             let Some(number) = proof.take_need(least) else {
                 break;
             };
             let (_, fact) = self.facts.get(number).ok_or(Stop::GivenUp)?;
-            if fact.basis == NONE {
-                self.close_read(proof, fact.later, &[fact.earlier], number)?;
-            } else {
-                self.derive(proof, number, fact)?;
+            match fact.reason {
+                Reason::Rule(source) => self.derive(proof, number, fact, source)?,
+                Reason::Source(last) => {
+                    self.close_read(proof, fact.later, &[(fact.earlier, last)], number)?;
+                }
+                Reason::Case => return Err(Stop::GivenUp),
             }
         }
         Ok(())
     }
 
     /// Puts before a proof the step of from-read or of write-order that shows a fact.
-    fn derive(&self, proof: &mut Proof, number: u32, fact: Fact) -> Tried<()> {
-        let (_, source) = self.facts.get(fact.basis).ok_or(Stop::GivenUp)?;
-        let (rule, store, from, to) = if fact.earlier == source.later {
-            (Rule::FromRead, fact.later, source.earlier, fact.later)
-        } else {
-            (Rule::WriteOrder, fact.earlier, fact.earlier, source.later)
+    fn derive(&mut self, proof: &mut Proof, number: u32, fact: Fact, source: u32) -> Tried<()> {
+        let (_, of_read) = self.facts.get(source).ok_or(Stop::GivenUp)?;
+        let (rule, store, from, to) = match of_read.reason {
+            Reason::Source(last) if fact.earlier == of_read.later => {
+                (Rule::FromRead, fact.later, last, fact.later)
+            }
+            _ => (Rule::WriteOrder, fact.earlier, fact.earlier, of_read.later),
         };
         let path = self.chain(from, to, number)?;
-        proof.need(&[fact.basis])?;
+        proof.need(&[source])?;
         proof.derive(Derived {
             rule,
-            source: fact.basis,
+            source,
             store,
             path: path.ok_or(Stop::GivenUp)?,
             fact: number,
@@ -79,10 +81,10 @@ impl Knowledge {
     /// Puts before a proof the cases of a read, each of which begins with a fact of this number: those of all candidates
     /// but the kept ones, with the steps that close them by facts before it, and those of the kept ones.
     pub(crate) fn close_read(
-        &self,
+        &mut self,
         proof: &mut Proof,
         read: Place,
-        kept: &[Place],
+        kept: &[(Place, Place)],
         fact: u32,
     ) -> Tried<()> {
         let mut closing = Closing {
@@ -94,50 +96,135 @@ impl Knowledge {
         for core in self.operations.cores() {
             self.close_core(&mut closing, kept, core)?;
         }
-        let kept = kept.iter().map(|store| (*store, *store));
-        closing.ranges.extend(kept)?;
+        closing.ranges.extend_from_slice(kept)?;
         closing.steps.reversed.reverse();
         proof.prepend_proof(&mut closing.steps)?;
         Ok(proof.reversed.push(Line::Read(read, closing.ranges, fact))?)
     }
 
-    /// Closes the cases of one core's candidates: each hidden one, and then all from one on that is after the read.
-    fn close_core(&self, closing: &mut Closing, kept: &[Place], core: u32) -> Tried<()> {
-        let read = closing.read;
-        let class = self.operations.get(read).class;
-        let stores = self.candidates.of_core(class, &self.operations, core);
-        let others = stores.iter().copied();
-        for store in others.filter(|store| *store != read && !kept.contains(store)) {
-            if let Some(path) = self.chain(read, store, closing.fact)? {
-                let last = stores.last().copied().unwrap_or(store);
-                closing.ranges.push((store, last))?;
-                return closing.steps.close(closing.fact, path);
+    /// Closes the cases of one core's candidates: a range for all that are after the read, and one for each run of others that are
+    /// hidden from it. What hides the last one of a run hides them all.
+    fn close_core(
+        &mut self,
+        closing: &mut Closing,
+        kept: &[(Place, Place)],
+        core: u32,
+    ) -> Tried<()> {
+        let operation = self.operations.get(closing.read);
+        let stores = self
+            .classes
+            .candidates_of(&operation, self.operations, core);
+        let count = self.count_not_after(closing, stores)?;
+        let mut rest = stores.get(..count).unwrap_or(&[]);
+        for _ in 0..=kept.len() {
+            let run = self.first_that(rest, kept, false);
+            self.close_hidden(closing, run)?;
+            rest = rest.get(run.len()..).unwrap_or(&[]);
+            let run = self.first_that(rest, kept, true);
+            rest = rest.get(run.len()..).unwrap_or(&[]);
+        }
+        self.close_after(closing, kept, stores.get(count..).unwrap_or(&[]))
+    }
+
+    /// Whether a candidate lies in one of the ranges that are kept.
+    fn is_kept(&self, kept: &[(Place, Place)], store: Place) -> bool {
+        kept.iter()
+            .any(|(first, last)| self.lies_in(store, *first, *last))
+    }
+
+    /// The first of some stores that are kept, or aren't.
+    fn first_that<'b>(
+        &self,
+        stores: &'b [Place],
+        kept: &[(Place, Place)],
+        are_kept: bool,
+    ) -> &'b [Place] {
+        let count = stores
+            .iter()
+            .position(|store| self.is_kept(kept, *store) != are_kept);
+        stores.get(..count.unwrap_or(stores.len())).unwrap_or(&[])
+    }
+
+    /// How many of one core's candidates, the first ones, aren't the read itself and aren't known to be after it.
+    fn count_not_after(&mut self, closing: &Closing, stores: &[Place]) -> Tried<usize> {
+        let (mut low, mut high) = (0, stores.len());
+        for _ in 0..usize::BITS {
+            if low >= high {
+                break;
             }
-            if let Some((from_read, path)) = self.least_hiding(closing, store)? {
-                closing.ranges.push((store, store))?;
-                closing.steps.derive(from_read)?;
-                closing.steps.close(CASE_FROM_READ, path)?;
+            let middle = low.wrapping_add(high.wrapping_sub(low) / 2);
+            let store = stores.get(middle).copied().unwrap_or(closing.read);
+            if self.chain(closing.read, store, closing.fact)?.is_some() {
+                high = middle;
+            } else {
+                low = middle.wrapping_add(1);
             }
+        }
+        Ok(low)
+    }
+
+    /// Closes the cases of one core's candidates that are after the read, but for those that are kept and for the read itself.
+    fn close_after(
+        &mut self,
+        closing: &mut Closing,
+        kept: &[(Place, Place)],
+        stores: &[Place],
+    ) -> Tried<()> {
+        let (mut first, mut last) = (closing.read, closing.read);
+        for store in stores {
+            if *store != closing.read && !self.is_kept(kept, *store) {
+                last = *store;
+                if first == closing.read {
+                    first = *store;
+                }
+            }
+        }
+        if first != closing.read
+            && let Some(path) = self.chain(closing.read, first, closing.fact)?
+        {
+            closing.ranges.push((first, last))?;
+            closing.steps.close(closing.fact, path)?;
+        }
+        Ok(())
+    }
+
+    /// Closes the cases of one core's candidates of which the last is hidden from the read.
+    fn close_hidden(&mut self, closing: &mut Closing, stores: &[Place]) -> Tried<()> {
+        if let [first, ..] = stores
+            && let [.., last] = stores
+            && let Some((from_read, path)) = self.least_hiding(closing, *last)?
+        {
+            closing.ranges.push((*first, *last))?;
+            closing.steps.derive(from_read)?;
+            closing.steps.close(CASE_FROM_READ, path)?;
         }
         Ok(())
     }
 
     /// What hides a candidate by the fewest facts.
-    fn least_hiding(&self, closing: &Closing, hidden: Place) -> Tried<Option<Hiding>> {
-        let last = self.last_stores(closing.read)?;
-        let hidings = last.iter().map(|last| self.hiding(closing, hidden, *last));
-        let hidings: Vec<Option<Hiding>> = hidings.try_collect(self.alloc)?;
-        let hidings = hidings.into_iter().flatten();
-        Ok(hidings.min_by_key(|(step, path)| step.path.len().saturating_add(path.len())))
+    fn least_hiding(&mut self, closing: &Closing, hidden: Place) -> Tried<Option<Hiding>> {
+        let mut least = None;
+        let mut length = usize::MAX;
+        for last in &self.last_stores(closing.read)? {
+            if let Some((step, path)) = self.hiding(closing, hidden, *last)? {
+                let facts = step.path.len().saturating_add(path.len());
+                if facts < length {
+                    (least, length) = (Some((step, path)), facts);
+                }
+            }
+        }
+        Ok(least)
     }
 
     /// The last store of a core, up to this one, that hides another from the read by facts that were known then: the clocks
     /// may have risen since.
-    fn hiding(&self, closing: &Closing, hidden: Place, last: Place) -> Tried<Option<Hiding>> {
+    fn hiding(&mut self, closing: &Closing, hidden: Place, last: Place) -> Tried<Option<Hiding>> {
         let core = self.operations.core(last);
-        let stores = successors(Some(last), |store| self.last_store(*store, core));
-        let stores = stores.take(last as usize);
-        for store in stores.take_while(|store| self.hides(*store, hidden)) {
+        let mut store = last;
+        for _ in 0..last {
+            if !self.hides(store, hidden) {
+                break;
+            }
             if let Some(to_read) = self.chain(store, closing.read, closing.fact)?
                 && let Some(path) = self.chain(hidden, store, closing.fact)?
             {
@@ -150,6 +237,10 @@ impl Knowledge {
                 };
                 return Ok(Some((from_read, to_read)));
             }
+            let Some(before) = self.last_store(store, core) else {
+                break;
+            };
+            store = before;
         }
         Ok(None)
     }

@@ -1,17 +1,27 @@
 //! What is known to be before what, and why.
 
-use super::stop::{NONE, Place, Stop, Tried, at, put, short};
+use numbered_trace::{NONE, Place, Stop, Tried, at, put, short};
 use std::alloc::Global;
 
-/// That one operation is before another. It takes 16 bytes.
+/// Why a fact holds.
+#[derive(Clone, Copy)]
+pub(crate) enum Reason {
+    /// A case assumes it.
+    Case,
+    /// The source of the later operation, a read, lies from the earlier one to this one of the same core.
+    Source(Place),
+    /// By a rule, from the fact of this number, which says where the source of a read lies.
+    Rule(u32),
+}
+
+/// That one operation is before another. It takes 20 bytes.
 #[derive(Clone, Copy)]
 pub(crate) struct Fact {
     pub(crate) earlier: Place,
     pub(crate) later: Place,
     /// The fact made last before this one whose earlier operation is the same, or NONE.
     pub(crate) next: u32,
-    /// The fact that says where the read's source is, by which a from-read or a write-order holds; else NONE.
-    pub(crate) basis: u32,
+    pub(crate) reason: Reason,
 }
 
 /// All facts, numbered in the order in which they were found.
@@ -20,8 +30,10 @@ pub(crate) struct Facts {
     pub(crate) all: Vec<Fact>,
     /// Of each operation the last fact in which it is the earlier one, or NONE.
     latest: Vec<u32>,
-    /// Of each read the fact that says where its source is, or NONE.
+    /// Of each read the fact that says which its source is, or NONE.
     pub(crate) sources: Vec<u32>,
+    /// Of each read, as far as the list goes, the last fact that says in which range its source is, or NONE.
+    ranges: Vec<u32>,
 }
 
 impl Facts {
@@ -31,6 +43,7 @@ impl Facts {
             all: Vec::new(alloc),
             latest: vec![in alloc; NONE; operations]?,
             sources: vec![in alloc; NONE; operations]?,
+            ranges: Vec::new(alloc),
         })
     }
 
@@ -44,20 +57,37 @@ impl Facts {
         self.get(at(&self.latest, earlier))
     }
 
-    /// Whether a fact says where a read's source is.
+    /// What is known of where a read's source lies: the number of the fact, the first and the last place.
+    pub(crate) fn source(&self, read: Place) -> Option<(u32, Place, Place)> {
+        let exact = self.get(at(&self.sources, read));
+        let (number, fact) = exact.or(self.get(at(&self.ranges, read)))?;
+        match fact.reason {
+            Reason::Source(last) => Some((number, fact.earlier, last)),
+            _ => None,
+        }
+    }
+
+    /// A fact of this number says in which range a read's source is.
+    pub(crate) fn set_range(&mut self, read: Place, number: u32) -> Tried<()> {
+        let length = (read as usize).saturating_add(1).max(self.ranges.len());
+        self.ranges.resize(length, NONE)?;
+        put(&mut self.ranges, read, number)
+    }
+
+    /// Whether a fact says which a read's source is.
     pub(crate) fn is_source(&self, number: u32, fact: &Fact) -> bool {
         at(&self.sources, fact.later) == number
     }
 
     /// Appends a fact, and gives its number.
-    pub(crate) fn push(&mut self, earlier: Place, later: Place, basis: u32) -> Tried<u32> {
+    pub(crate) fn push(&mut self, earlier: Place, later: Place, reason: Reason) -> Tried<u32> {
         let number = short(self.all.len())?;
         let next = at(&self.latest, earlier);
         self.all.push(Fact {
             earlier,
             later,
             next,
-            basis,
+            reason,
         })?;
         put(&mut self.latest, earlier, number)?;
         Ok(number)

@@ -1,11 +1,12 @@
-//! What is found of a trace.
+//! What is found of a trace: the ways to search are tried one after the other.
 
-use super::numbering::{id, refutation};
+use super::numbering::refutation;
 use super::shrinking::shrink;
 use super::splits::Search;
-use super::stop::{Stop, Tried};
-use super::watch::SearchWatch;
+use mem_op::OpId;
+use numbered_trace::{Budget, Classes, Operations, Place, SearchWatch, Stop, Tried, id, number};
 use refutation::Answer;
+use state_walk::{Walk, Walked, groups_of};
 use std::alloc::{AllocError, Global};
 use trace::Trace;
 
@@ -17,21 +18,146 @@ pub fn guess<W: SearchWatch>(
     budget: u64,
     watch: &W,
 ) -> Result<Answer, AllocError> {
-    match find(alloc, trace, budget, watch) {
+    match find(alloc, trace, Budget::new(budget), watch) {
         Err(Stop::Refused) => Err(AllocError),
         found => Ok(found.unwrap_or(Answer::Undecided)),
     }
 }
 
 /// An order, or a refutation. The search may give up.
-fn find<W: SearchWatch>(alloc: Global, trace: &Trace, budget: u64, watch: &W) -> Tried<Answer> {
-    let mut search = Search::new(alloc, trace.cores(), budget)?;
-    let Some(reversed) = search.run(watch)? else {
-        let (operations, order) = search.into_order();
-        let ids = order.iter().skip(1).map(|place| id(&operations, *place));
-        return Ok(Answer::Order(ids.try_collect(alloc)?));
-    };
-    let (lines, places) = shrink(trace.cores(), &mut search.known, reversed)?;
-    let (operations, _) = search.into_order();
-    Ok(Answer::Refutation(refutation(alloc, &operations, &places, &lines)?))
+fn find<W: SearchWatch>(alloc: Global, trace: &Trace, budget: Budget, watch: &W) -> Tried<Answer> {
+    let (operations, classes) = number(alloc, trace.cores())?;
+    find_numbered(alloc, trace, &operations, &classes, budget, watch)
+}
+
+/// The same. Where words repeat, a walk comes first that knows of no fact: it finds most orders. In the end it goes on with all
+/// facts.
+fn find_numbered<W: SearchWatch>(
+    alloc: Global,
+    trace: &Trace,
+    operations: &Operations,
+    classes: &Classes,
+    mut budget: Budget,
+    watch: &W,
+) -> Tried<Answer> {
+    let mut walks = Vec::new(alloc);
+    let mut walked = Walked::GivenUp;
+    if words_repeat(operations, classes) {
+        walks = walks_of(alloc, operations, classes)?;
+        budget.allow(budget.left() / 4);
+        walked = walk(&mut walks, &mut budget, watch)?;
+        if walked == Walked::Order {
+            return order_of_walks(alloc, operations, &walks);
+        }
+        budget.allow(u64::MAX);
+    }
+    if walked != Walked::Closed {
+        budget.allow(budget.left() / 2);
+    }
+    let mut search = Search::new(alloc, operations, classes, budget)?;
+    if let Some(answer) = by_cases(&mut search, trace, watch)? {
+        return Ok(answer);
+    }
+    if walked == Walked::Closed {
+        return Err(Stop::GivenUp);
+    }
+    if walks.is_empty() {
+        walks = walks_of(alloc, operations, classes)?;
+    }
+    budget = search.known.budget;
+    budget.allow(u64::MAX);
+    walk_on(&mut walks, search.into_clocks()?, &mut budget, watch)?;
+    order_of_walks(alloc, operations, &walks)
+}
+
+/// What a search by cases finds. None where it gives up.
+fn by_cases<W: SearchWatch>(
+    search: &mut Search,
+    trace: &Trace,
+    watch: &W,
+) -> Tried<Option<Answer>> {
+    let (alloc, operations) = (search.known.alloc, search.known.operations);
+    match search.run(watch) {
+        Ok(None) => Ok(Some(Answer::Order(ids(alloc, operations, search.order())?))),
+        Ok(Some(reversed)) => {
+            let (lines, places) = shrink(trace.cores(), &mut search.known, reversed)?;
+            let found = refutation(alloc, operations, &places, &lines)?;
+            Ok(Some(Answer::Refutation(found)))
+        }
+        Err(Stop::GivenUp) => Ok(None),
+        Err(stop) => Err(stop),
+    }
+}
+
+/// A walk over the states of each group of cores that share no address with others.
+fn walks_of<'a>(
+    alloc: Global,
+    operations: &'a Operations,
+    classes: &'a Classes,
+) -> Tried<Vec<Walk<'a>>> {
+    let mut walks = Vec::new(alloc);
+    for group in groups_of(alloc, operations, classes.addresses())? {
+        walks.push(Walk::new(alloc, operations, classes, group)?)?;
+    }
+    Ok(walks)
+}
+
+/// Whether many reads have more than one candidate: one of eight.
+fn words_repeat(operations: &Operations, classes: &Classes) -> bool {
+    let (mut reads, mut open) = (0usize, 0usize);
+    for operation in operations.all.iter().filter(|operation| operation.reads()) {
+        reads = reads.saturating_add(1);
+        if classes.candidates(operation).len() > 1 {
+            open = open.saturating_add(1);
+        }
+    }
+    open > reads / 8
+}
+
+/// What these walks come to: an order where each does.
+fn walk<W: SearchWatch>(walks: &mut [Walk], budget: &mut Budget, watch: &W) -> Tried<Walked> {
+    for walk in walks {
+        let walked = walk.run(budget, watch)?;
+        if walked != Walked::Order {
+            return Ok(walked);
+        }
+    }
+    Ok(Walked::Order)
+}
+
+/// Walks on to an order in which each operation comes after what these clocks tell. The search gives up where there is none.
+fn walk_on<W: SearchWatch>(
+    walks: &mut [Walk],
+    mut clocks: Vec<Place>,
+    budget: &mut Budget,
+    watch: &W,
+) -> Tried<()> {
+    for walk in walks {
+        walk.exchange_clocks(&mut clocks);
+        let walked = walk.run(budget, watch)?;
+        walk.exchange_clocks(&mut clocks);
+        if walked != Walked::Order {
+            return Err(Stop::GivenUp);
+        }
+    }
+    Ok(())
+}
+
+/// The orders of walks, one after the other.
+fn order_of_walks(alloc: Global, operations: &Operations, walks: &[Walk]) -> Tried<Answer> {
+    let mut order = Vec::new(alloc);
+    for walk in walks {
+        for place in walk.order() {
+            order.push(id(operations, *place)?)?;
+        }
+    }
+    Ok(Answer::Order(order))
+}
+
+/// The operations at these places.
+fn ids(alloc: Global, operations: &Operations, places: &[Place]) -> Tried<Vec<OpId>> {
+    places
+        .iter()
+        .map(|place| id(operations, *place))
+        .try_collect(alloc)
 }

@@ -1,14 +1,11 @@
 //! All that is known of the orders that a trace can have.
 
-use super::candidates::{Candidates, number};
-use super::clocks::{Clocks, CoreSet};
-use super::facts::Facts;
-use super::operations::Operations;
-use super::stop::{Conflict, Place, Stop, Tried, at};
+use super::clocks::Clocks;
+use super::facts::{Facts, Reason};
 use super::stores::{Stores, count_first};
+use numbered_trace::{Budget, Classes, Conflict, CoreSet, Operations, Place, Stop, Tried, at};
 use std::alloc::Global;
 use std::collections::VecDeque;
-use trace::Access;
 
 /// The clock of an operation rose for some cores.
 #[derive(Clone, Copy)]
@@ -19,10 +16,10 @@ pub(crate) struct Risen {
 
 /// What is known of each order that keeps program order and in which each read has its word.
 #[derive(Drop)]
-pub(crate) struct Knowledge {
+pub(crate) struct Knowledge<'a> {
     pub(crate) alloc: Global,
-    pub(crate) operations: Operations,
-    pub(crate) candidates: Candidates,
+    pub(crate) operations: &'a Operations,
+    pub(crate) classes: &'a Classes,
     pub(crate) stores: Stores,
     pub(crate) clocks: Clocks,
     pub(crate) facts: Facts,
@@ -32,37 +29,29 @@ pub(crate) struct Knowledge {
     pub(crate) open: Vec<Place>,
     /// The clocks that rose, and from which nothing was concluded yet.
     pub(crate) risen: VecDeque<Risen>,
-    /// How many steps the search may make, and how many of them are left.
-    pub(crate) budget: u64,
-    pub(crate) left: u64,
-    /// How many steps its watch was told that it has made.
-    pub(crate) told: u64,
+    pub(crate) budget: Budget,
 }
 
-impl Knowledge {
-    /// Nothing is known, and no operation has come in. The search may make so many steps.
-    pub(crate) fn new(alloc: Global, cores: &[Vec<Access>], budget: u64) -> Tried<Knowledge> {
-        let (operations, candidates) = number(alloc, cores)?;
+impl<'a> Knowledge<'a> {
+    /// Nothing is known of these operations, and none has come in.
+    pub(crate) fn new(
+        alloc: Global,
+        operations: &'a Operations,
+        classes: &'a Classes,
+        budget: Budget,
+    ) -> Tried<Knowledge<'a>> {
         Ok(Knowledge {
             alloc,
-            stores: Stores::new(alloc, &operations, candidates.addresses)?,
-            clocks: Clocks::new(alloc, &operations)?,
+            stores: Stores::new(alloc, operations, classes.addresses())?,
+            clocks: Clocks::new(alloc, operations)?,
             facts: Facts::new(alloc, operations.all.len())?,
             entered: operations.starts.to_vec(alloc)?,
             open: Vec::new(alloc),
             risen: VecDeque::new(alloc),
             budget,
-            left: budget,
-            told: 0,
             operations,
-            candidates,
+            classes,
         })
-    }
-
-    /// Makes steps of the search, which gives up where not so many are left.
-    pub(crate) fn spend(&mut self, steps: u64) -> Tried<()> {
-        self.left = self.left.checked_sub(steps).ok_or(Stop::GivenUp)?;
-        Ok(())
     }
 
     /// Whether an operation has come in.
@@ -97,24 +86,35 @@ impl Knowledge {
 
     /// Whether an operation reads, and can have its word from a store to its address.
     pub(crate) fn can_read(&self, read: Place, store: Place) -> bool {
-        let class = self.operations.get(read).class;
-        match self.facts.get(at(&self.facts.sources, read)) {
-            Some((_, fact)) => fact.earlier == store,
-            None => self.candidates.of(class).binary_search(&store).is_ok(),
+        let operation = self.operations.get(read);
+        match self.facts.source(read) {
+            Some((_, first, last)) if first == last => first == store,
+            Some((_, first, last)) if !self.lies_in(store, first, last) => false,
+            _ => self
+                .classes
+                .candidates(&operation)
+                .binary_search(&store)
+                .is_ok(),
         }
     }
 
+    /// Whether a place lies from one to another, which is of the same core unless the first one is the START.
+    pub(crate) fn lies_in(&self, place: Place, first: Place, last: Place) -> bool {
+        let is_of_core = self.operations.core(place) == self.operations.core(last);
+        place == first || is_of_core && first <= place && place <= last
+    }
+
     /// Adds that one operation is before another, and gives the number of this fact.
-    pub(crate) fn add(&mut self, earlier: Place, later: Place, basis: u32) -> Tried<u32> {
-        let number = self.facts.push(earlier, later, basis)?;
+    pub(crate) fn add(&mut self, earlier: Place, later: Place, reason: Reason) -> Tried<u32> {
+        let number = self.facts.push(earlier, later, reason)?;
         self.flow(earlier, later, number)?;
         Ok(number)
     }
 
-    /// Adds that one operation is another, or is before it, where that isn't known.
-    pub(crate) fn learn(&mut self, earlier: Place, later: Place, basis: u32) -> Tried<()> {
+    /// Adds that one operation is another, or is before it, where that isn't known: by a rule, from a fact of this number.
+    pub(crate) fn learn(&mut self, earlier: Place, later: Place, source: u32) -> Tried<()> {
         if !self.is_before(earlier, later) {
-            self.add(earlier, later, basis)?;
+            self.add(earlier, later, Reason::Rule(source))?;
         }
         Ok(())
     }

@@ -1,7 +1,6 @@
 //! The body of the search: an order of a trace's operations or a refutation, which nobody has confirmed.
 #![tactic(auto)]
 
-mod candidates;
 mod chains;
 mod clocks;
 mod explanation;
@@ -9,16 +8,13 @@ mod facts;
 mod finding;
 mod knowledge;
 mod numbering;
-mod operations;
 mod proof;
 mod rules;
 mod saturation;
 mod schedule;
 mod shrinking;
 mod splits;
-mod stop;
 mod stores;
-mod watch;
 
 pub use finding::guess;
-pub use watch::{SearchWatch, Unwatched};
+pub use numbered_trace::{SearchWatch, Unwatched};

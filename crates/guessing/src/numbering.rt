@@ -1,9 +1,8 @@
 //! A proof that no order exists as a refutation, whose facts are named by their places among those in force.
 
-use super::operations::Operations;
 use super::proof::{Derived, Line, Rule};
-use super::stop::{Place, START, Stop, Tried, at};
-use mem_op::{CoreId, OpId, OpIndex};
+use mem_op::OpId;
+use numbered_trace::{Operations, Place, START, Stop, Tried, at, id};
 use refutation::{Path, Point, Range, Ranges, Refutation, Step};
 use std::alloc::Global;
 
@@ -36,15 +35,6 @@ pub(crate) fn refutation(
     };
     let steps = reversed.iter().rev().map(|line| numbering.step(line));
     Ok(Refutation::new(steps.try_collect(alloc)?))
-}
-
-/// The id of the operation at a place.
-pub(crate) fn id(operations: &Operations, place: Place) -> Tried<OpId> {
-    let (core, index) = operations.position(place);
-    match (CoreId::new(u64::from(core)), OpIndex::new(u64::from(index))) {
-        (Ok(core), Ok(index)) => Ok(OpId { core, index }),
-        _ => Err(Stop::GivenUp),
-    }
 }
 
 impl Numbering<'_> {

@@ -1,6 +1,6 @@
 //! Proofs that a case is closed, which grow from their end.
 
-use super::stop::{Place, Tried};
+use numbered_trace::{Place, Tried};
 use std::alloc::Global;
 use std::collections::BTreeSet;
 

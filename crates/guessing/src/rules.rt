@@ -1,22 +1,36 @@
 //! What follows from the source of a read.
 
-use super::clocks::CoreSet;
+use super::facts::Reason;
 use super::knowledge::Knowledge;
-use super::stop::{NONE, Place, START, Tried, at, put};
 use super::stores::count_first;
+use numbered_trace::{CoreSet, Place, START, Tried, put};
 
-impl Knowledge {
+impl Knowledge<'_> {
     /// Gives a read its source, after which the first store of each core comes after the read. All is to be concluded from
     /// the read.
     pub(crate) fn set_source(&mut self, read: Place, source: Place) -> Tried<()> {
-        let basis = self.add(source, read, NONE)?;
-        put(&mut self.facts.sources, read, basis)?;
+        let number = self.add(source, read, Reason::Source(source))?;
+        put(&mut self.facts.sources, read, number)?;
+        self.order_stores_after(read, number, source)?;
+        self.note(read, CoreSet::ALL)
+    }
+
+    /// A read's source lies from one store to another of the same core. All is to be concluded from the read.
+    pub(crate) fn set_range(&mut self, read: Place, first: Place, last: Place) -> Tried<()> {
+        let number = self.add(first, read, Reason::Source(last))?;
+        self.facts.set_range(read, number)?;
+        self.order_stores_after(read, number, last)?;
+        self.note(read, CoreSet::ALL)
+    }
+
+    /// The first store of each core after the last one that a read's source may be comes after the read, by this fact.
+    pub(crate) fn order_stores_after(&mut self, read: Place, fact: u32, last: Place) -> Tried<()> {
         for core in self.operations.cores() {
-            if let Some(store) = self.first_store_after(source, core, read) {
-                self.learn(read, store, basis)?;
+            if let Some(store) = self.first_store_after(last, core, read) {
+                self.learn(read, store, fact)?;
             }
         }
-        self.note(read, CoreSet::ALL)
+        Ok(())
     }
 
     /// The first store of a core to a read's address that is known to be after the read's source, other than the read.
@@ -34,14 +48,14 @@ impl Knowledge {
 
     /// The stores before a read whose clock rose for some cores are before its source.
     pub(crate) fn order_stores_before(&mut self, read: Place, cores: CoreSet) -> Tried<()> {
-        let basis = at(&self.facts.sources, read);
-        let source = match self.facts.get(basis) {
-            Some((_, fact)) if fact.earlier != START => fact.earlier,
-            _ => return Ok(()),
+        let Some((number, _, source)) = self.facts.source(read) else {
+            return Ok(());
         };
         for core in self.operations.cores().filter(|core| cores.contains(*core)) {
-            if let Some(store) = self.last_store(read, core) {
-                self.learn(store, source, basis)?;
+            if source != START
+                && let Some(store) = self.last_store(read, core)
+            {
+                self.learn(store, source, number)?;
             }
         }
         Ok(())
@@ -51,7 +65,7 @@ impl Knowledge {
     /// stands for the others, and the own core's for those before that one, to which the rule was applied already.
     pub(crate) fn order_reads_before(&mut self, store: Place, cores: CoreSet) -> Tried<()> {
         let operation = self.operations.get(store);
-        if !operation.stores {
+        if !operation.stores() {
             return Ok(());
         }
         let own = self.last_store(store, operation.core());

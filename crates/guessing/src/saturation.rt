@@ -1,18 +1,29 @@
 //! How the operations come in, and what is concluded from each.
 
-use super::clocks::CoreSet;
 use super::knowledge::{Knowledge, Risen};
-use super::stop::{Conflict, NONE, Place, Stop, Tried, at, put};
-use super::watch::SearchWatch;
+use numbered_trace::{
+    Conflict, CoreSet, NONE, Operation, Place, START, SearchWatch, Stop, Tried, at, put,
+};
 
 /// How many operations of a core come in before the next core's.
 const TURN: u32 = 4;
 
-impl Knowledge {
+/// Where the candidates of a read lie that aren't excluded.
+#[derive(Clone, Copy)]
+enum Left {
+    /// There is none.
+    Nothing,
+    /// From one to another of the same core; the first may be the START.
+    Range(Place, Place),
+    /// In several cores.
+    Several,
+}
+
+impl Knowledge<'_> {
     /// Lets all operations come in, the cores in turns, and concludes what follows.
     pub(crate) fn saturate<W: SearchWatch>(&mut self, watch: &W) -> Tried<()> {
         for _ in 0..self.operations.all.len() {
-            self.tell(watch);
+            self.budget.tell(watch)?;
             if !self.enter_turn()? && !self.enter_any()? {
                 break;
             }
@@ -28,7 +39,7 @@ impl Knowledge {
         let mut came = false;
         for turn in 0..self.operations.cores().end.saturating_mul(TURN) {
             if let Some((place, operation)) = self.operations.next(&self.entered, turn / TURN)
-                && !self.waits_for_source(place, operation.class)
+                && !self.waits_for_source(place, &operation)
             {
                 self.enter(place)?;
                 came = true;
@@ -47,9 +58,9 @@ impl Knowledge {
         Ok(next.is_some())
     }
 
-    /// Whether the only source that a read of this class can have hasn't come in.
-    fn waits_for_source(&self, read: Place, class: u32) -> bool {
-        matches!(self.candidates.of(class), [source] if *source != read && !self.has_entered(*source))
+    /// Whether the only source that a read can have hasn't come in.
+    fn waits_for_source(&self, read: Place, operation: &Operation) -> bool {
+        matches!(self.classes.candidates(operation), [source] if *source != read && !self.has_entered(*source))
     }
 
     /// Lets an operation come in, and concludes what follows.
@@ -61,11 +72,11 @@ impl Knowledge {
             self.clocks.join(previous, place)?;
         }
         put(&mut self.entered, core, place.saturating_add(1))?;
-        if operation.stores {
+        if operation.stores() {
             self.stores.activate(operation.address, core)?;
         }
         if operation.reads() {
-            let candidates = self.candidates.of(operation.class).iter().copied();
+            let candidates = self.classes.candidates(&operation).iter().copied();
             let mut others = candidates.filter(|store| *store != place);
             match (others.next(), others.next()) {
                 (None, _) => return Err(Stop::Closed(Conflict::NoSource(place))),
@@ -79,11 +90,11 @@ impl Knowledge {
 
     /// Concludes what follows from the clocks that rose, until nothing more does.
     pub(crate) fn conclude(&mut self) -> Tried<()> {
-        for _ in 0..self.left {
+        for _ in 0..u64::MAX {
             let Some(Risen { place, cores }) = self.risen.pop_front() else {
                 return Ok(());
             };
-            self.spend(1)?;
+            self.budget.spend(1)?;
             if self.has_entered(place) {
                 self.conclude_from(place, cores)?;
             }
@@ -118,6 +129,7 @@ impl Knowledge {
                 break;
             };
             idle = idle.saturating_add(1);
+            self.budget.spend(1)?;
             if self.settle(read)? {
                 idle = 0;
             } else if idle >= count {
@@ -132,29 +144,69 @@ impl Knowledge {
         if at(&self.facts.sources, read) != NONE {
             return Ok(false);
         }
-        match *self.candidates_left(read, 2)? {
-            [] => return Err(Stop::Closed(Conflict::NoSource(read))),
-            [source] => self.set_source(read, source)?,
-            _ => return Ok(false),
+        let facts = self.facts.all.len();
+        match self.left(read)? {
+            Left::Nothing => return Err(Stop::Closed(Conflict::NoSource(read))),
+            Left::Range(first, last) if first == last => self.set_source(read, first)?,
+            Left::Range(first, last) if !self.clocks.is_trailed => self.narrow(read, first, last)?,
+            _ => {}
         }
         self.conclude()?;
-        Ok(true)
+        Ok(self.facts.all.len() > facts)
     }
 
-    /// The candidates of a read that aren't excluded, at most so many.
-    pub(crate) fn candidates_left(&self, read: Place, limit: usize) -> Tried<Vec<Place>> {
-        let class = self.operations.get(read).class;
-        let last = self.last_stores(read)?;
-        let mut left = Vec::new(self.alloc);
+    /// A read's source lies in a range. Where that was known the rules are applied again.
+    fn narrow(&mut self, read: Place, first: Place, last: Place) -> Tried<()> {
+        match self.facts.source(read) {
+            Some((number, from, to)) if (from, to) == (first, last) => {
+                self.order_stores_after(read, number, last)
+            }
+            _ => self.set_range(read, first, last),
+        }
+    }
+
+    /// Where the candidates of a read lie that aren't excluded.
+    fn left(&self, read: Place) -> Tried<Left> {
+        let hiding = self.last_stores(read)?;
+        let mut left = Left::Nothing;
         for core in self.operations.cores() {
-            let stores = self.candidates.of_core(class, &self.operations, core);
-            let hidden = self.last_store(read, core).unwrap_or(0);
-            let first = stores.partition_point(|store| *store < hidden);
-            let stores = stores.get(first..).unwrap_or(&[]).iter().copied();
-            let before = stores.take_while(|store| !self.is_before(read, *store));
-            let open = before.filter(|store| !last.iter().any(|last| self.hides(*last, *store)));
-            left.extend(open.take(limit.saturating_sub(left.len())))?;
+            left = match (left, self.left_of(read, core, &hiding)) {
+                (left, []) => left,
+                (Left::Nothing, [START]) => Left::Range(START, START),
+                (Left::Nothing, [first, .., last]) => Left::Range(*first, *last),
+                (Left::Nothing, [only]) => Left::Range(*only, *only),
+                (Left::Range(START, START), [.., last]) => Left::Range(START, *last),
+                _ => return Ok(Left::Several),
+            };
         }
         Ok(left)
     }
+
+    /// The candidates of a read that are a core's and aren't excluded, where these are the last stores before the read.
+    fn left_of(&self, read: Place, core: u32, hiding: &[Place]) -> &[Place] {
+        let operation = self.operations.get(read);
+        let stores = self
+            .classes
+            .candidates_of(&operation, self.operations, core);
+        let from = stores.partition_point(|store| hiding
+            .iter()
+            .any(|last| self.hides(*last, *store)));
+        let to = stores.partition_point(|store| !self.is_before(read, *store));
+        cut(stores, from, to)
+    }
+
+    /// The candidates of a read that aren't excluded.
+    pub(crate) fn candidates_left(&self, read: Place) -> Tried<Vec<Place>> {
+        let hiding = self.last_stores(read)?;
+        let mut left = Vec::new(self.alloc);
+        for core in self.operations.cores() {
+            left.extend_from_slice(self.left_of(read, core, &hiding))?;
+        }
+        Ok(left)
+    }
+}
+
+/// The places of a list from one number up to another; none where it has not so many.
+fn cut(places: &[Place], from: usize, to: usize) -> &[Place] {
+    places.get(from..to).unwrap_or(&[])
 }

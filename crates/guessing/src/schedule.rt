@@ -1,8 +1,7 @@
 //! An order as far as it goes: the operations are performed one after the other.
 
 use super::knowledge::Knowledge;
-use super::stop::{NONE, Place, START, Stop, Tried, at, put, short};
-use super::watch::SearchWatch;
+use numbered_trace::{NONE, Place, START, SearchWatch, Stop, Tried, at, put, short};
 use std::alloc::Global;
 use std::iter::successors;
 
@@ -46,7 +45,7 @@ impl Schedule {
         Ok(Schedule {
             order: vec![in alloc; START; 1]?,
             positions: known.operations.starts.to_vec(alloc)?,
-            memory: vec![in alloc; START; known.candidates.addresses as usize]?,
+            memory: vec![in alloc; START; known.classes.addresses() as usize]?,
             when,
             overwritten: Vec::new(alloc),
             storing: 0,
@@ -57,8 +56,8 @@ impl Schedule {
     /// Performs what can be performed. Says whether that was all.
     pub(crate) fn run<W: SearchWatch>(&mut self, known: &mut Knowledge, watch: &W) -> Tried<bool> {
         self.loading = 0;
-        for _ in 0..known.left {
-            known.tell(watch);
+        for _ in 0..u64::MAX {
+            known.budget.tell(watch)?;
             let load = self.choose_load(known);
             let Some(core) = load.or_else(|| self.choose_store(known)) else {
                 break;
@@ -73,7 +72,7 @@ impl Schedule {
         let mut cores = (self.loading..known.operations.cores().end).chain(0..self.loading);
         cores.find(|core| {
             let next = known.operations.next(&self.positions, *core);
-            next.is_some_and(|(_, next)| !next.stores)
+            next.is_some_and(|(_, next)| !next.stores())
                 && self.try_move(known, *core) == Some(Move::Load)
         })
     }
@@ -107,7 +106,7 @@ impl Schedule {
             None
         } else if operation.reads() && !known.can_read(place, last) {
             (at(&known.facts.sources, place) == NONE).then_some(Move::OtherWord)
-        } else if !operation.stores {
+        } else if !operation.stores() {
             Some(Move::Load)
         } else if self.is_held(known, last, place) {
             Some(Move::Held)
@@ -133,12 +132,12 @@ impl Schedule {
 
     /// Performs a core's next operation.
     fn perform(&mut self, known: &mut Knowledge, core: u32) -> Tried<()> {
-        known.spend(1)?;
+        known.budget.spend(1)?;
         let place = at(&self.positions, core);
         let operation = known.operations.get(place);
         put(&mut self.when, place, short(self.order.len())?)?;
         self.order.push(place)?;
-        if operation.stores {
+        if operation.stores() {
             self.overwritten.push(at(&self.memory, operation.address))?;
             put(&mut self.memory, operation.address, place)?;
             (self.storing, self.loading) = (core, 0);
@@ -193,7 +192,7 @@ impl Schedule {
         for _ in length..self.order.len() {
             let place = self.order.pop().ok_or(Stop::GivenUp)?;
             let operation = known.operations.get(place);
-            if operation.stores {
+            if operation.stores() {
                 let last = self.overwritten.pop().ok_or(Stop::GivenUp)?;
                 put(&mut self.memory, operation.address, last)?;
             }

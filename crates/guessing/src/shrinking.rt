@@ -5,8 +5,9 @@
 use super::knowledge::Knowledge;
 use super::proof::Line;
 use super::splits::Search;
-use super::stop::{Place, START, Stop, Tried, at, short};
-use super::watch::Unwatched;
+use numbered_trace::{
+    Budget, Classes, Operations, Place, START, Stop, Tried, Unwatched, at, number, short,
+};
 use std::alloc::Global;
 use trace::Access;
 
@@ -21,8 +22,11 @@ const STEPS_EACH: u64 = 20;
 /// A shortest proof so far, of a trace of which some operations are tried.
 #[derive(Drop)]
 struct Shrinking<'a> {
+    alloc: Global,
     cores: &'a [Vec<Access>],
-    known: &'a mut Knowledge,
+    operations: &'a Operations,
+    classes: &'a Classes,
+    budget: &'a mut Budget,
     /// The lines of the proof, last one first.
     best: Vec<Line>,
     /// The operations that the lines name by their numbers in this list.
@@ -41,9 +45,12 @@ pub(crate) fn shrink(
     let places = 0..short(known.operations.all.len())?;
     let places: Vec<Place> = places.collect(known.alloc)?;
     let mut shrinking = Shrinking {
+        alloc: known.alloc,
         cores,
+        operations: known.operations,
+        classes: known.classes,
+        budget: &mut known.budget,
         named: named(known.alloc, &best, &places)?,
-        known,
         best,
         places,
     };
@@ -78,11 +85,11 @@ impl Shrinking<'_> {
     /// all that aren't named. Says whether some proof was shorter.
     fn leave_out_each(&mut self) -> Tried<bool> {
         let length = self.best.len();
-        let before = self.named.to_vec(self.known.alloc)?;
+        let before = self.named.to_vec(self.alloc)?;
         self.attempt(&before)?;
         for place in &before {
             if self.named.contains(place) {
-                let mut others = self.named.to_vec(self.known.alloc)?;
+                let mut others = self.named.to_vec(self.alloc)?;
                 others.retain(|other| *other != *place);
                 self.attempt(&others)?;
             }
@@ -94,17 +101,20 @@ impl Shrinking<'_> {
     /// isn't longer.
     fn attempt(&mut self, kept: &[Place]) -> Tried<()> {
         let places = self.with_candidates(kept)?;
-        let steps = STEPS.saturating_add(STEPS_EACH.saturating_mul(places.len() as u64));
-        if places.len() > LIMIT || self.known.left < steps {
+        let steps = STEPS.saturating_add(STEPS_EACH.wrapping_mul(places.len() as u64));
+        self.budget.use_up(places.len() as u64);
+        if places.len() > LIMIT || self.budget.left() < steps {
             return Ok(());
         }
         let trace = self.small_trace(&places, kept)?;
-        let mut search = Search::new(self.known.alloc, &trace, steps)?;
+        let (operations, classes) = number(self.alloc, &trace)?;
+        let mut search = Search::new(self.alloc, &operations, &classes, Budget::new(steps))?;
         let found = search.run(&Unwatched);
-        self.known.spend(steps.saturating_sub(search.known.left))?;
+        self.budget
+            .use_up(steps.saturating_sub(search.known.budget.left()));
         match found {
             Ok(Some(lines)) if lines.len() <= self.best.len() => {
-                self.named = named(self.known.alloc, &lines, &places)?;
+                self.named = named(self.alloc, &lines, &places)?;
                 self.named.retain(|place| kept.binary_search(place).is_ok());
                 (self.best, self.places) = (lines, places);
                 Ok(())
@@ -116,11 +126,11 @@ impl Shrinking<'_> {
 
     /// What comes before all operations, and some of them with all candidates of their reads, in the order of places.
     fn with_candidates(&self, kept: &[Place]) -> Tried<Vec<Place>> {
-        let mut places = kept.to_vec(self.known.alloc)?;
+        let mut places = kept.to_vec(self.alloc)?;
         places.push(START)?;
         for place in kept {
-            let class = self.known.operations.get(*place).class;
-            places.extend(self.known.candidates.of(class))?;
+            let operation = self.operations.get(*place);
+            places.extend(self.classes.candidates(&operation))?;
         }
         places.sort_unstable();
         places.dedup();
@@ -129,10 +139,10 @@ impl Shrinking<'_> {
 
     /// The trace of the operations at these places. A swap that isn't kept is there for what it stores alone.
     fn small_trace(&self, places: &[Place], kept: &[Place]) -> Tried<Vec<Vec<Access>>> {
-        let none = self.cores.iter().map(|_| Vec::new(self.known.alloc));
-        let mut trace: Vec<Vec<Access>> = none.collect(self.known.alloc)?;
+        let none = self.cores.iter().map(|_| Vec::new(self.alloc));
+        let mut trace: Vec<Vec<Access>> = none.collect(self.alloc)?;
         for place in places.iter().copied().filter(|place| *place != START) {
-            let (core, index) = self.known.operations.position(place);
+            let (core, index) = self.operations.position(place);
             let own = self.cores.get(core as usize).ok_or(Stop::GivenUp)?;
             let mut access = *own.get(index as usize).ok_or(Stop::GivenUp)?;
             if kept.binary_search(&place).is_err() {

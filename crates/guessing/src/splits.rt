@@ -1,19 +1,22 @@
 //! The search by cases.
 
+use super::facts::Reason;
 use super::knowledge::Knowledge;
-use super::operations::Operations;
 use super::proof::{Line, Proof};
 use super::schedule::{Move, Schedule};
-use super::stop::{Conflict, NONE, Place, START, Stop, Tried, at, short};
-use super::watch::SearchWatch;
+use numbered_trace::{
+    Budget, Classes, Conflict, NONE, Operations, Place, START, SearchWatch, Stop, Tried, at, short,
+};
 use std::alloc::Global;
-use trace::Access;
 
 /// Up to how many operations reads are given their sources in each case as soon as all other candidates are excluded.
 const SMALL: usize = 4000;
 
 /// How many steps the explanation of a conflict counts as.
 const EXPLANATION: u64 = 20;
+
+/// How many lines a proof has at most.
+const LINES: usize = 2_000_000;
 
 /// A split into cases, one of which is looked at.
 #[derive(Drop)]
@@ -34,17 +37,22 @@ struct Split {
 
 /// The state of the search.
 #[derive(Drop)]
-pub(crate) struct Search {
-    pub(crate) known: Knowledge,
+pub(crate) struct Search<'a> {
+    pub(crate) known: Knowledge<'a>,
     schedule: Schedule,
     /// The splits in whose current cases the search is.
     splits: Vec<Split>,
 }
 
-impl Search {
-    /// A search for an order of these cores' operations, which may make so many steps.
-    pub(crate) fn new(alloc: Global, cores: &[Vec<Access>], steps: u64) -> Tried<Search> {
-        let known = Knowledge::new(alloc, cores, steps)?;
+impl<'a> Search<'a> {
+    /// A search for an order of these operations.
+    pub(crate) fn new(
+        alloc: Global,
+        operations: &'a Operations,
+        classes: &'a Classes,
+        budget: Budget,
+    ) -> Tried<Search<'a>> {
+        let known = Knowledge::new(alloc, operations, classes, budget)?;
         Ok(Search {
             schedule: Schedule::new(alloc, &known)?,
             splits: Vec::new(alloc),
@@ -56,9 +64,9 @@ impl Search {
     /// order.
     pub(crate) fn run<W: SearchWatch>(&mut self, watch: &W) -> Tried<Option<Vec<Line>>> {
         let mut step = self.known.saturate(watch);
-        for _ in 0..self.known.left {
-            self.known.spend(1)?;
-            self.known.tell(watch);
+        for _ in 0..u64::MAX {
+            self.known.budget.spend(1)?;
+            self.known.budget.tell(watch)?;
             step = match step {
                 Ok(()) if self.schedule.run(&mut self.known, watch)? => return Ok(None),
                 Ok(()) => self.split(),
@@ -72,10 +80,15 @@ impl Search {
         Err(Stop::GivenUp)
     }
 
-    /// Lets all go but the operations, and those that were performed in their order, behind what comes before them.
-    pub(crate) fn into_order(self) -> (Operations, Vec<Place>) {
-        let (known, schedule) = (self.known, self.schedule);
-        (known.operations, schedule.order)
+    /// The operations that were performed in their order.
+    pub(crate) fn order(&self) -> &[Place] {
+        self.schedule.order.get(1..).unwrap_or(&[])
+    }
+
+    /// What is known to be before each operation, whatever the case: of each, one after the other, a place for each core.
+    pub(crate) fn into_clocks(mut self) -> Tried<Vec<Place>> {
+        self.known.clocks.undo(0)?;
+        Ok(self.known.clocks.into_entries())
     }
 
     /// Splits where the schedule is stuck, and takes up the first case: by the order of a store that would write over a word
@@ -109,7 +122,7 @@ impl Search {
         let read = self.schedule.stuck(&self.known, Move::OtherWord);
         let read = read.ok_or(Stop::GivenUp)?;
         let length = short(self.schedule.order.len())?;
-        let mut sources = self.known.candidates_left(read, usize::MAX)?;
+        let mut sources = self.known.candidates_left(read)?;
         sources.sort_unstable_by_key(|store| (self.distance(*store, length), *store));
         if sources.is_empty() {
             return Err(Stop::Closed(Conflict::NoSource(read)));
@@ -136,7 +149,7 @@ impl Search {
         if is_of_source {
             self.known.set_source(later, earlier)?;
         } else {
-            self.known.add(earlier, later, NONE)?;
+            self.known.add(earlier, later, Reason::Case)?;
         }
         self.known.conclude()?;
         if self.known.operations.all.len() <= SMALL {
@@ -147,7 +160,7 @@ impl Search {
 
     /// Closes the current case, and those splits that have no other. Gives the proof where none is left.
     fn close(&mut self, conflict: Conflict) -> Tried<Option<Proof>> {
-        self.known.spend(EXPLANATION)?;
+        self.known.budget.spend(EXPLANATION)?;
         let mut proof = self.known.explain(conflict)?;
         for _ in 0..=self.splits.len() {
             let Some(mut split) = self.splits.pop() else {
@@ -159,6 +172,9 @@ impl Search {
                 continue;
             }
             proof.prepend_proof(&mut split.closed)?;
+            if proof.reversed.len() > LINES {
+                return Err(Stop::GivenUp);
+            }
             split.current = split.current.saturating_add(1);
             if split.current < split.cases.len() {
                 split.closed = proof;
@@ -172,13 +188,13 @@ impl Search {
     }
 
     /// Puts before a proof that closes all cases of a split the step that makes them.
-    fn join_cases(&self, proof: &mut Proof, split: &Split) -> Tried<()> {
+    fn join_cases(&mut self, proof: &mut Proof, split: &Split) -> Tried<()> {
         let (one, other) = *split.cases.first().ok_or(Stop::GivenUp)?;
         if !split.is_of_source {
             return Ok(proof.reversed.push(Line::Order(one, other, split.mark))?);
         }
-        let kept = split.cases.iter().map(|(store, _)| *store);
-        let kept: Vec<Place> = kept.collect(self.known.alloc)?;
+        let kept = split.cases.iter().map(|(store, _)| (*store, *store));
+        let kept: Vec<(Place, Place)> = kept.collect(self.known.alloc)?;
         self.known.close_read(proof, other, &kept, split.mark)
     }
 }

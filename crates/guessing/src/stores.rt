@@ -1,7 +1,6 @@
 //! The stores to each address, core by core.
 
-use super::operations::Operations;
-use super::stop::{Place, Tried, at, part, put, short};
+use numbered_trace::{Operations, Place, Tried, at, part, put, short};
 use std::alloc::Global;
 
 /// The stores of each core to each address, in program order. Those of operations that have come in are active.
@@ -19,7 +18,7 @@ impl Stores {
     /// The stores of these operations, to so many addresses. None is active.
     pub(crate) fn new(alloc: Global, operations: &Operations, addresses: u32) -> Tried<Stores> {
         let all = 0..short(operations.all.len())?;
-        let stored = all.filter(|place| operations.get(*place).stores);
+        let stored = all.filter(|place| operations.get(*place).stores());
         let mut places: Vec<Place> = stored.collect(alloc)?;
         places.sort_unstable_by_key(|place| (operations.get(*place).address, *place));
         let cores = operations.cores().end;

@@ -27,6 +27,12 @@ pub fn search_watched<W: SearchWatch>(
     ensures right { IfOk result (IsRight trace.now) }
     ensures shown { IfOk result (IsShown trace.now) }
 {
+    let written = Answer::Order(trace.as_written(alloc)?);
+    let confirmed = confirm(alloc, trace, written)?;
+    if !matches!(confirmed, Answer::Undecided) {
+        watch.found();
+        return Ok(confirmed);
+    }
     let found = guessing::guess(alloc, trace, budget, watch);
     watch.found();
     confirm(alloc, trace, found?)

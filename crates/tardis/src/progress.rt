@@ -100,11 +100,12 @@ impl<'a> Watch for Progress<'a> {
 }
 
 impl<'a> SearchWatch for Progress<'a> {
-    fn steps(&self, made: u64) {
+    fn steps(&self, made: u64, _budget: u64) -> bool {
         if self.is_terminal {
             self.steps.store(made, Ordering::SeqCst);
             self.tell(&self.steps, "steps made");
         }
+        true
     }
 
     fn found(&self) {

@@ -5,7 +5,4 @@ pub mod Numerals
 pub mod OneFault
 pub mod OneTrace
 pub mod Parts
-pub mod Printed
-pub mod PrintedLines
-pub mod PrintedTrace
 pub mod Saying

@@ -6,14 +6,14 @@ mod laws;
 mod line;
 mod logs;
 mod numeral;
-mod print;
 mod reader;
 mod refusal;
 mod trace;
+mod written;
 
 pub use fault::TraceFault;
 pub use flat_replay::{Access, Address, Operations, replays};
-pub use laws::{one_fault, printed_is_spelled, spelled_is_named, spelled_is_read, spells_one};
+pub use laws::{one_fault, spelled_is_read, spells_one};
 pub use reader::TraceReader;
 pub use refusal::Refusal;
 pub use trace::Trace;

@@ -9,6 +9,7 @@ use super::numeral::number;
 use decimal_text::after_text;
 use flat_replay::{Access, Address};
 use mem_op::{CoreId, Word};
+use memchr::memchr;
 
 /// What a line of a trace says.
 #[derive(Clone, Copy, Debug, PartialEq, Eq)]
@@ -168,4 +169,14 @@ pub(crate) fn read_line(line: &[u8]) -> Option<TraceLine>
         return None;
     };
     said_of(core, rest)
+}
+
+/// When the operation of a line ended, if its times tell that.
+pub(crate) fn end_of(line: &[u8]) -> Option<u64> {
+    let at = memchr(b'@', line)?;
+    if memchr(b'#', &line[..at]).is_some() {
+        return None;
+    }
+    let (end, _) = number(mark(b":", after_time(&line[at + 1..]))?)?;
+    Some(end)
 }

@@ -7,6 +7,7 @@ ghost use Rattle.trace.specs.Growing.{IsRefusalOfAll};
 
 use super::refusal::Refusal;
 use super::trace::Trace;
+use super::written::Written;
 use flat_replay::{Access, access_of};
 use log_record::Record;
 use std::alloc::{AllocError, Global};
@@ -37,6 +38,7 @@ impl Trace {
         ensures trace { IfOk result (λ trace. trace ≡ operations_of (record_lists logs.now)) }
         ensures refused { IfErr result (IsRefusalOfAll (operations_of (record_lists logs.now))) }
     {
-        Trace::of(alloc, operations_of_logs(alloc, logs)?)
+        let trace = Trace::of(alloc, operations_of_logs(alloc, logs)?)?;
+        Ok(trace.with_written(Written::of_logs(alloc, logs)?))
     }
 }

@@ -36,7 +36,7 @@ fn take_line(trace: &mut Trace, count: &mut u64, line: &[u8]) -> Result<(), Trac
     let Some(said) = read_line(line) else {
         return Err(TraceFault::BadTraceLine { line: number });
     };
-    match trace.add(said) {
+    match trace.add(line, said) {
         Ok(()) => Ok(()),
         Err(Refusal::TooMany) => Err(TraceFault::TooMany { line: number }),
         Err(Refusal::OutOfMemory) => Err(TraceFault::OutOfMemory),

@@ -12,6 +12,7 @@ ghost use Rattle.trace.specs.inner.Widening.{IsWidened};
 
 use super::line::TraceLine;
 use super::refusal::Refusal;
+use super::written::Written;
 use flat_replay::{Access, Operations, lengths_of};
 use mem_op::{CoreId, OpId};
 use std::alloc::{AllocError, Global};
@@ -60,6 +61,7 @@ fn push_at(cores: &mut Vec<Vec<Access>>, place: usize, access: Access) -> Result
 #[derive(Debug, Drop)]
 pub struct Trace {
     cores: Vec<Vec<Access>>,
+    written: Written,
     alloc: Global,
 }
 
@@ -83,6 +85,7 @@ impl Trace {
     {
         Trace {
             cores: Vec::new(alloc),
+            written: Written::new(alloc),
             alloc,
         }
     }
@@ -97,7 +100,24 @@ impl Trace {
         if cores.len() > CORE_LIMIT || !are_short(&cores) {
             return Err(Refusal::TooMany);
         }
-        Ok(Trace { cores, alloc })
+        Ok(Trace {
+            cores,
+            written: Written::new(alloc),
+            alloc,
+        })
+    }
+
+    /// The same operations, which were written as this tells.
+    pub(crate) fn with_written(self, written: Written) -> Trace
+        ensures { result ≡ self }
+    {
+        Trace { written, ..self }
+    }
+
+    /// The operations in the order in which they were pushed or their lines stood; where lines tell when operations ended, in
+    /// the order of that; those of logs in the order of their keys. Nothing is promised of it. Err where memory was refused.
+    pub fn as_written(&self, alloc: Global) -> Result<Vec<OpId>, AllocError> {
+        self.written.order(alloc)
     }
 
     /// The operations of each core, core 0's first.
@@ -144,12 +164,16 @@ impl Trace {
         }
         let place = core.get() as usize;
         widen(self.alloc, &mut self.cores, place)?;
-        push_at(&mut self.cores, place, access)?;
+        self.written.push(core)?;
+        if let Err(refusal) = push_at(&mut self.cores, place, access) {
+            self.written.pop();
+            return Err(Refusal::from(refusal));
+        }
         Ok(())
     }
 
     /// Adds what one more line says.
-    pub(crate) fn add(&mut self, said: TraceLine) -> Result<(), Refusal>
+    pub(crate) fn add(&mut self, line: &[u8], said: TraceLine) -> Result<(), Refusal>
         ensures added { OnOk result (self.new ≡ with_line self.old said) }
         ensures refused { IfErr result (IsLineRefusal self.old said) }
         ensures size { OnOk result (IsOfSize self.new) }
@@ -157,7 +181,11 @@ impl Trace {
         let _cores = &self.cores;
         match said {
             TraceLine::Nothing => Ok(()),
-            TraceLine::Performs(core, access) => self.push(core, access),
+            TraceLine::Performs(core, access) => {
+                self.push(core, access)?;
+                self.written.end(line)?;
+                Ok(())
+            }
         }
     }
 }

@@ -1,0 +1,144 @@
+//! Who touches which word.
+
+use super::operations::{Operation, Operations};
+use super::stop::{Place, START, Stop, Tried, at, part, short};
+use mem_op::Word;
+use std::alloc::Global;
+use trace::{Access, Address};
+
+/// The stores of each class. The classes of an address stand side by side, that of the word 0 first.
+#[derive(Drop)]
+pub struct Classes {
+    /// Where the stores of each class begin, and where the last ones end.
+    starts: Vec<u32>,
+    /// The stores, class by class, those of a class in the order of their places.
+    stores: Vec<Place>,
+    /// Of each address its class of the word 0.
+    pub zeros: Vec<u32>,
+}
+
+/// A word that an operation read at an address, or stored there. The order is that of addresses, words and places.
+#[derive(Clone, Copy, PartialEq, Eq, PartialOrd, Ord)]
+struct Touch {
+    addr: Address,
+    word: Word,
+    place: Place,
+    stores: bool,
+}
+
+/// Numbers the addresses and classes of these cores' operations. Gives the operations and the classes.
+pub fn number(alloc: Global, cores: &[Vec<Access>]) -> Tried<(Operations, Classes)> {
+    let mut operations = Operations::new(alloc, cores)?;
+    let mut classes = Classes {
+        starts: Vec::new(alloc),
+        stores: Vec::new(alloc),
+        zeros: Vec::new(alloc),
+    };
+    let touches = touches(alloc, cores)?;
+    for of_address in touches.chunk_by(|one, other| one.addr == other.addr) {
+        classes.enter_address(of_address, &mut operations)?;
+    }
+    classes.bound()?;
+    Ok((operations, classes))
+}
+
+/// What these cores' operations read and stored, in order.
+fn touches(alloc: Global, cores: &[Vec<Access>]) -> Tried<Vec<Touch>> {
+    let mut count = 0usize;
+    for access in cores.iter().flatten() {
+        let is_swap = access.read().is_some() && access.is_store_to(access.addr());
+        count = count.saturating_add(usize::from(is_swap)).saturating_add(1);
+    }
+    let mut touches = Vec::with_capacity(alloc, count)?;
+    for (access, place) in cores.iter().flatten().zip(1..=u32::MAX) {
+        let addr = access.addr();
+        let touch = |word, stores| Touch {
+            addr,
+            word,
+            place,
+            stores,
+        };
+        touches.extend(access.read().map(|word| touch(word, false)))?;
+        if access.is_store_to(addr) {
+            touches.push(touch(access.word_left(), true))?;
+        }
+    }
+    touches.sort_unstable();
+    Ok(touches)
+}
+
+impl Classes {
+    /// The stores of a class, what comes before all operations among them where the word is 0.
+    pub fn stores_of(&self, class: u32) -> &[Place] {
+        let (starts, next) = (&self.starts, class.saturating_add(1));
+        part(&self.stores, at(starts, class), at(starts, next))
+    }
+
+    /// The stores that can have given an operation the word that it read. A swap that stores what it reads is one of them, too.
+    pub fn candidates(&self, operation: &Operation) -> &[Place] {
+        operation.read().map_or(&[], |class| self.stores_of(class))
+    }
+
+    /// Those of them that are a core's.
+    pub fn candidates_of(
+        &self,
+        operation: &Operation,
+        operations: &Operations,
+        core: u32,
+    ) -> &[Place] {
+        let all = self.candidates(operation);
+        let from = all.partition_point(|store| operations.core(*store) < core);
+        let to = all.partition_point(|store| operations.core(*store) <= core);
+        all.get(from..to).unwrap_or(&[])
+    }
+
+    /// How many classes there are.
+    pub fn count(&self) -> usize {
+        self.starts.len().saturating_sub(1)
+    }
+
+    /// How many addresses there are.
+    pub fn addresses(&self) -> u32 {
+        u32::try_from(self.zeros.len()).unwrap_or(0)
+    }
+
+    /// Marks where the next class begins.
+    fn bound(&mut self) -> Tried<u32> {
+        let class = short(self.starts.len())?;
+        self.starts.push(short(self.stores.len())?)?;
+        Ok(class)
+    }
+
+    /// Enters what read or stored at the next address.
+    fn enter_address(&mut self, touches: &[Touch], operations: &mut Operations) -> Tried<()> {
+        let has_zero = touches.first().is_some_and(|touch| touch.word == 0);
+        self.zeros.push(short(self.starts.len())?)?;
+        if !has_zero {
+            self.bound()?;
+            self.stores.push(START)?;
+        }
+        for class in touches.chunk_by(|one, other| one.word == other.word) {
+            self.enter_class(class, operations)?;
+        }
+        Ok(())
+    }
+
+    /// Enters what read or stored the next word at the last address.
+    fn enter_class(&mut self, touches: &[Touch], operations: &mut Operations) -> Tried<()> {
+        let class = self.bound()?;
+        let address = self.addresses().saturating_sub(1);
+        if touches.first().is_some_and(|touch| touch.word == 0) {
+            self.stores.push(START)?;
+        }
+        for touch in touches {
+            let operation = operations.all.get_mut(touch.place as usize);
+            operation
+                .ok_or(Stop::GivenUp)?
+                .enter(address, class, touch.stores);
+            if touch.stores {
+                self.stores.push(touch.place)?;
+            }
+        }
+        Ok(())
+    }
+}

@@ -1,0 +1,143 @@
+//! The operations of all cores in one list.
+
+use super::stop::{NONE, Place, Stop, Tried, at, short};
+use mem_op::{CoreId, OpId, OpIndex};
+use std::alloc::Global;
+use std::ops::Range;
+use trace::Access;
+
+/// What a search knows of an operation. A class is an address with a word. It takes 16 bytes.
+#[derive(Clone, Copy)]
+pub struct Operation {
+    /// The number of its address among those of the trace.
+    pub address: u32,
+    read: u32,
+    stored: u32,
+    core: u8,
+}
+
+/// What comes before every operation.
+const BEGINNING: Operation = Operation {
+    address: NONE,
+    read: NONE,
+    stored: NONE,
+    core: 0,
+};
+
+impl Operation {
+    /// The class of what a load or a swap read.
+    pub fn read(&self) -> Option<u32> {
+        (self.read != NONE).then_some(self.read)
+    }
+
+    /// The class of what a store or a swap stored.
+    pub fn stored(&self) -> Option<u32> {
+        (self.stored != NONE).then_some(self.stored)
+    }
+
+    /// Whether it is a load or a swap.
+    pub fn reads(&self) -> bool {
+        self.read != NONE
+    }
+
+    /// Whether it is a store or a swap.
+    pub fn stores(&self) -> bool {
+        self.stored != NONE
+    }
+
+    /// Whether it leaves memory as it is, wherever it can be performed.
+    pub fn is_quiet(&self) -> bool {
+        self.stored == NONE || self.stored == self.read
+    }
+
+    /// Whether it can be performed where its address has a word of this class.
+    pub fn fits(&self, class: u32) -> bool {
+        self.read == NONE || self.read == class
+    }
+
+    /// The number of its core.
+    pub fn core(&self) -> u32 {
+        u32::from(self.core)
+    }
+
+    /// Enters that it read or stored a class at an address.
+    pub(crate) fn enter(&mut self, address: u32, class: u32, stores: bool) {
+        self.address = address;
+        if stores {
+            self.stored = class;
+        } else {
+            self.read = class;
+        }
+    }
+}
+
+/// The operations of all cores, behind what comes before them.
+#[derive(Drop)]
+pub struct Operations {
+    /// What comes before them all, and then each.
+    pub all: Vec<Operation>,
+    /// Where each core's begin.
+    pub starts: Vec<Place>,
+}
+
+impl Operations {
+    /// The operations of these cores, of which nothing but the core is told yet.
+    pub(crate) fn new(alloc: Global, cores: &[Vec<Access>]) -> Tried<Operations> {
+        let mut all = vec![in alloc; BEGINNING; 1]?;
+        let mut starts = Vec::new(alloc);
+        for (core, own) in (0..=u8::MAX).zip(cores) {
+            starts.push(short(all.len())?)?;
+            let end = all.len().saturating_add(own.len());
+            all.resize(end, Operation { core, ..BEGINNING })?;
+        }
+        Ok(Operations { all, starts })
+    }
+
+    /// The numbers of the cores.
+    pub fn cores(&self) -> Range<u32> {
+        0..u32::try_from(self.starts.len()).unwrap_or(0)
+    }
+
+    /// The operation at a place. Where none is, what comes before them all.
+    pub fn get(&self, place: Place) -> Operation {
+        self.all.get(place as usize).copied().unwrap_or(BEGINNING)
+    }
+
+    /// The operations from one place up to another; none where there aren't so many.
+    pub fn part(&self, from: Place, to: Place) -> &[Operation] {
+        self.all.get(from as usize..to as usize).unwrap_or(&[])
+    }
+
+    /// The core of the operation at a place.
+    pub fn core(&self, place: Place) -> u32 {
+        self.get(place).core()
+    }
+
+    /// The place behind a core's operations.
+    pub fn end(&self, core: u32) -> Place {
+        let next = self.starts.get((core as usize).saturating_add(1)).copied();
+        next.unwrap_or(u32::try_from(self.all.len()).unwrap_or(0))
+    }
+
+    /// The core of the operation at a place, and which of its core it is, from 0.
+    pub fn position(&self, place: Place) -> (u32, u32) {
+        let core = self.core(place);
+        (core, place.saturating_sub(at(&self.starts, core)))
+    }
+
+    /// The operation of a core that comes next where each core is at its place in a list, with this place.
+    pub fn next(&self, places: &[Place], core: u32) -> Option<(Place, Operation)> {
+        let place = at(places, core);
+        let operation = self.all.get(place as usize).copied()?;
+        (operation.core() == core).then_some((place, operation))
+    }
+}
+
+/// The id of the operation at a place.
+pub fn id(operations: &Operations, place: Place) -> Tried<OpId> {
+    let (core, index) = operations.position(place);
+    match (CoreId::new(u64::from(core)), OpIndex::new(u64::from(index))) {
+        (Ok(core), Ok(index)) => Ok(OpId { core, index }),
+        _ => Err(Stop::GivenUp),
+    }
+}

@@ -1,0 +1,56 @@
+//! Which stores do no harm.
+
+use super::state::State;
+use numbered_trace::{Operation, at};
+
+/// How many operations of a core are looked at for a touch of an address.
+const SOON: u32 = 32;
+
+impl State<'_> {
+    /// A core's next operations, at most so many.
+    pub(crate) fn ahead(&self, core: u32, count: u32) -> &[Operation] {
+        let from = at(&self.positions, core);
+        let to = self.operations.end(core).min(from.saturating_add(count));
+        self.operations.part(from, to)
+    }
+
+    /// Whether a core's next operation is a store that harms nobody: neither what it writes over nor what it stores is read any
+    /// more.
+    pub(crate) fn is_harmless(&self, core: u32, store: &Operation) -> bool {
+        let over = at(&self.memory, store.address);
+        let stored = store.stored().unwrap_or(over);
+        !self.is_read_after(core, over) && !self.is_read_after(core, stored)
+    }
+
+    /// Whether a class is read from here on, but by a core's next operation.
+    fn is_read_after(&self, core: u32, class: u32) -> bool {
+        let mut next = self.touches.first(class);
+        for _ in 0..self.positions.len() {
+            let Some(touched) = next else {
+                break;
+            };
+            let own = u32::from(touched.core == core);
+            let position = at(&self.positions, touched.core);
+            if touched.last_read >= position.saturating_add(own) {
+                return true;
+            }
+            next = self.touches.next(&touched);
+        }
+        false
+    }
+
+    /// Whether a core's next operation, a store, seems to harm nobody: no other core touches its address soon, but to read
+    /// another word than the one that is there.
+    pub(crate) fn seems_harmless(&self, core: u32, store: &Operation) -> bool {
+        let word = at(&self.memory, store.address);
+        let mut others = self.cores.iter();
+        !others.any(|other| *other != core && self.wants(*other, store.address, word))
+    }
+
+    /// Whether a core soon touches an address, and not to read another word than this one.
+    fn wants(&self, core: u32, address: u32, word: u32) -> bool {
+        let mut ahead = self.ahead(core, SOON).iter();
+        let touch = ahead.find(|next| next.address == address);
+        touch.is_some_and(|touch| touch.fits(word))
+    }
+}

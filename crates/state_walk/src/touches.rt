@@ -1,0 +1,86 @@
+//! Who touches which word.
+
+use numbered_trace::{NONE, Operations, Place, START, Stop, Tried, at, put, short};
+use std::alloc::Global;
+
+/// A class that a core touches: the places of its last read and of its last store of it, or the START.
+#[derive(Clone, Copy)]
+pub(crate) struct Touched {
+    pub(crate) core: u32,
+    pub(crate) last_read: Place,
+    pub(crate) last_store: Place,
+    /// The number of the touch of the same class by another core, or NONE.
+    next: u32,
+}
+
+/// The cores that touch each class.
+#[derive(Drop)]
+pub(crate) struct Touches {
+    all: Vec<Touched>,
+    /// Of each class the number of a touch of it, or NONE.
+    latest: Vec<u32>,
+}
+
+impl Touches {
+    /// Which of so many classes these cores touch.
+    pub(crate) fn new(
+        alloc: Global,
+        operations: &Operations,
+        cores: &[u32],
+        classes: usize,
+    ) -> Tried<Touches> {
+        let mut touches = Touches {
+            all: Vec::new(alloc),
+            latest: vec![in alloc; NONE; classes]?,
+        };
+        for core in cores {
+            touches.enter(operations, *core)?;
+        }
+        Ok(touches)
+    }
+
+    /// Enters what a core touches, after all others.
+    fn enter(&mut self, operations: &Operations, core: u32) -> Tried<()> {
+        for place in at(&operations.starts, core)..operations.end(core) {
+            let operation = operations.get(place);
+            if let Some(class) = operation.read() {
+                self.of_core(class, core)?.last_read = place;
+            }
+            if let Some(class) = operation.stored() {
+                self.of_core(class, core)?.last_store = place;
+            }
+        }
+        Ok(())
+    }
+
+    /// The last touch of a class, by a core that comes after all others that touch it.
+    fn of_core(&mut self, class: u32, core: u32) -> Tried<&mut Touched> {
+        let next = at(&self.latest, class);
+        if self.get(next).is_none_or(|last| last.core != core) {
+            put(&mut self.latest, class, short(self.all.len())?)?;
+            self.all.push(Touched {
+                core,
+                last_read: START,
+                last_store: START,
+                next,
+            })?;
+        }
+        let latest = at(&self.latest, class);
+        self.all.get_mut(latest as usize).ok_or(Stop::GivenUp)
+    }
+
+    /// The touch of a number.
+    fn get(&self, number: u32) -> Option<Touched> {
+        self.all.get(number as usize).copied()
+    }
+
+    /// One touch of a class.
+    pub(crate) fn first(&self, class: u32) -> Option<Touched> {
+        self.get(at(&self.latest, class))
+    }
+
+    /// The touch of a class that comes after another.
+    pub(crate) fn next(&self, touched: &Touched) -> Option<Touched> {
+        self.get(touched.next)
+    }
+}

@@ -1,0 +1,224 @@
+//! The walk.
+
+use super::outlook::EVEN;
+use super::state::State;
+use super::tree::{Node, Tree};
+use super::visited::Visited;
+use numbered_trace::{Budget, Classes, Operations, Place, SearchWatch, Tried, short};
+use std::alloc::Global;
+use std::mem::swap;
+
+/// How many nodes a tree has at most: so many, and so many more for each operation.
+const NODES: usize = 4_000_000;
+
+const NODES_EACH: usize = 4;
+
+/// What a walk came to.
+#[derive(Clone, Copy, PartialEq, Eq)]
+pub enum Walked {
+    /// An order.
+    Order,
+    /// Every state that can be reached was visited, and in none all operations were performed.
+    Closed,
+    /// It may make no more steps, or keep no more states.
+    GivenUp,
+}
+
+/// Which store is tried first from a state.
+#[derive(Clone, Copy, PartialEq, Eq)]
+enum First {
+    /// This core's harms nobody, so no other has to be tried.
+    Harmless(u32),
+    /// This core's seems to harm nobody.
+    Likely(u32),
+    /// None stands out.
+    Any,
+}
+
+/// A walk over the states of the operations of some cores.
+#[derive(Drop)]
+pub struct Walk<'a> {
+    state: State<'a>,
+    tree: Tree,
+    /// The node whose state it is.
+    at: u32,
+    visited: Visited,
+    /// The nodes on the way down to a node.
+    path: Vec<u32>,
+}
+
+impl<'a> Walk<'a> {
+    /// A walk over the states of the operations of these cores, which share no address with others.
+    pub fn new(
+        alloc: Global,
+        operations: &'a Operations,
+        classes: &'a Classes,
+        cores: Vec<u32>,
+    ) -> Tried<Walk<'a>> {
+        let mut state = State::new(alloc, operations, classes, cores)?;
+        state.settle()?;
+        let mut visited = Visited::new(alloc)?;
+        visited.insert(state.number)?;
+        Ok(Walk {
+            tree: Tree::new(alloc, short(state.order.len())?)?,
+            state,
+            at: 0,
+            visited,
+            path: Vec::new(alloc),
+        })
+    }
+
+    /// The operations that were performed in the order that was found.
+    pub fn order(&self) -> &[Place] {
+        &self.state.order
+    }
+
+    /// Exchanges what is known to be before each operation: of each, one after the other, a place for each core. No list is needed
+    /// where nothing is known.
+    pub fn exchange_clocks(&mut self, clocks: &mut Vec<Place>) {
+        swap(&mut self.state.clocks, clocks);
+    }
+
+    /// Walks until there is an order, or no state is left, or the budget is spent. It can go on where it stopped.
+    pub fn run<W: SearchWatch>(&mut self, budget: &mut Budget, watch: &W) -> Tried<Walked> {
+        if self.state.is_final() {
+            return Ok(Walked::Order);
+        }
+        let each = self.state.total.saturating_mul(NODES_EACH);
+        let most = each.saturating_add(NODES);
+        for _ in 0..u64::MAX {
+            if self.tree.nodes.len() >= most || budget.left() == 0 {
+                break;
+            }
+            budget.tell(watch)?;
+            let performed = self.state.performed;
+            let Some(number) = self.tree.take()? else {
+                return Ok(Walked::Closed);
+            };
+            self.go_to(number)?;
+            if self.expand(number)? {
+                return Ok(Walked::Order);
+            }
+            budget.use_up(
+                self.state
+                    .performed
+                    .saturating_sub(performed)
+                    .saturating_add(1),
+            );
+        }
+        Ok(Walked::GivenUp)
+    }
+
+    /// Goes to the state of a node: back to where the ways part, and on from there.
+    fn go_to(&mut self, number: u32) -> Tried<()> {
+        let parting = self.parting(number)?;
+        let parting = self.tree.node(parting)?;
+        self.state.undo(parting.length as usize)?;
+        for _ in 0..self.path.len() {
+            let Some(node) = self.path.pop() else {
+                break;
+            };
+            let node = self.tree.node(node)?;
+            self.step(u32::from(node.core))?;
+        }
+        self.at = number;
+        Ok(())
+    }
+
+    /// The node where the way to a node parts from the way to where the walk is. The path leads down from there, last node first.
+    fn parting(&mut self, number: u32) -> Tried<u32> {
+        let (mut from, mut to) = (self.at, number);
+        self.path.clear();
+        for _ in 0..u64::MAX {
+            if from == to {
+                break;
+            }
+            let (here, there) = (self.tree.node(from)?, self.tree.node(to)?);
+            if here.depth >= there.depth {
+                from = here.parent;
+            } else {
+                self.path.push(to)?;
+                to = there.parent;
+            }
+        }
+        Ok(from)
+    }
+
+    /// Performs a core's store, and what can be performed then without harm.
+    fn step(&mut self, core: u32) -> Tried<()> {
+        self.state.perform(core)?;
+        self.state.settle()
+    }
+
+    /// Adds the children of a node, at whose state the walk is. Says whether one of them is final.
+    fn expand(&mut self, number: u32) -> Tried<bool> {
+        let is_half = self.tree.node(number)?.is_half;
+        match self.first() {
+            First::Harmless(core) => self.visit(number, core, true),
+            First::Likely(core) if !is_half => {
+                self.tree.open_half(number)?;
+                self.visit(number, core, true)
+            }
+            First::Likely(_) | First::Any => self.expand_all(number),
+        }
+    }
+
+    /// Adds all children of a node.
+    fn expand_all(&mut self, number: u32) -> Tried<bool> {
+        for place in 0..self.state.cores.len() {
+            let core = self.state.cores.get(place).copied().unwrap_or(0);
+            if self.state.able(core).is_some() && self.visit(number, core, false)? {
+                return Ok(true);
+            }
+        }
+        Ok(false)
+    }
+
+    /// Which store is tried first.
+    fn first(&self) -> First {
+        let mut likely = First::Any;
+        for core in &self.state.cores {
+            if let Some(store) = self.state.able(*core) {
+                if self.state.is_harmless(*core, &store) {
+                    return First::Harmless(*core);
+                }
+                if likely == First::Any && self.state.seems_harmless(*core, &store) {
+                    likely = First::Likely(*core);
+                }
+            }
+        }
+        likely
+    }
+
+    /// Adds the state behind a core's store, unless it was visited. Says whether it is final. The walk stays there if it is the only
+    /// child.
+    fn visit(&mut self, parent: u32, core: u32, is_only: bool) -> Tried<bool> {
+        let Node { length, depth, .. } = self.tree.node(parent)?;
+        self.step(core)?;
+        if self.state.is_final() {
+            return Ok(true);
+        }
+        if self.visited.insert(self.state.number)? && !self.state.is_dead(length as usize) {
+            let outlook = if is_only { EVEN } else { self.state.outlook() };
+            let child = self.child(parent, core, depth)?;
+            let number = self.tree.add(child, outlook)?;
+            if is_only {
+                self.at = number;
+                return Ok(false);
+            }
+        }
+        self.state.undo(length as usize)?;
+        Ok(false)
+    }
+
+    /// The node of the state where the walk is, to which a core's store leads from its parent.
+    fn child(&self, parent: u32, core: u32, depth: u32) -> Tried<Node> {
+        Ok(Node {
+            parent,
+            depth: depth.saturating_add(1),
+            length: short(self.state.order.len())?,
+            core: u8::try_from(core).unwrap_or(u8::MAX),
+            is_half: false,
+        })
+    }
+}
