@@ -1,4 +1,5 @@
 pub mod Chains
+pub mod ClosedSound
 pub mod Completeness
 pub mod Covered
 pub mod Fronts
@@ -7,7 +8,9 @@ pub mod Lines
 pub mod OneText
 pub mod Parts
 pub mod Paths
+pub mod Settled
 pub mod Sound
+pub mod StateTexts
 pub mod StepLines
 pub mod Times
 pub mod Timings

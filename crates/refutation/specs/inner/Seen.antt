@@ -1,0 +1,13 @@
+-- The states of a set, as they are looked up.
+use Rattle.std.specs.Prelude.{ℕ, Bool, IsTrue, List}
+use Rattle.std.specs.Global.{Vec}
+use Rattle.std.specs.BTreeSet.{BTreeSet, contains_by}
+use Rattle.std.specs.Cmp.Lexicographic.{slice_cmp}
+use Rattle.std.specs.Ordering.{nat_cmp, ordering_then}
+
+-- the state of these indices and words is among them
+abbrev pub is_among : BTreeSet (Vec ℕ × Vec ℕ) → List ℕ → List ℕ → Bool
+is_among keys next words = contains_by (λ k. ordering_then (slice_cmp nat_cmp next k.0.items) (slice_cmp nat_cmp words k.1.items)) keys
+
+abbrev pub IsAmong : (List ℕ → List ℕ → Bool) → List ℕ → List ℕ → Type 0
+IsAmong seen next words = IsTrue (seen next words)
