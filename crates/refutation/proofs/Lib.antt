@@ -2,12 +2,14 @@ pub mod Chains
 pub mod ClosedSound
 pub mod Completeness
 pub mod Covered
+pub mod DeadStates
 pub mod Fronts
 pub mod Leaving
 pub mod Lines
 pub mod OneText
 pub mod Parts
 pub mod Paths
+pub mod SeenStates
 pub mod Settled
 pub mod Sound
 pub mod StateTexts

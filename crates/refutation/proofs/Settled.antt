@@ -1,8 +1,8 @@
 -- States: words put, and how far cores come by operations that pass.
-use Rattle.std.specs.Prelude.{◌≡◌, ◌≢◌, ℕ, zero, suc, ◌+◌, ◌<◌, ◌≤◌, ◌⊎◌, Bool, true, false, ◌==◌, List, [], ◌∷◌, refl, Option, None, Some, is_some, nat_eq, map, length, drop, slice_get, slice_index, slice_set, option_and_then}
+use Rattle.std.specs.Prelude.{◌≡◌, ◌≢◌, ℕ, zero, suc, ◌+◌, ◌<◌, ◌≤◌, ◌⊎◌, Bool, true, false, ◌==◌, List, [], ◌∷◌, ◌++◌, refl, if◌then◌else◌, Option, None, Some, nat_eq, map, length, take, drop, slice_get, slice_index, slice_set, option_and_then}
 use Rattle.std.specs.List.{prefix_len}
 use Rattle.std.specs.Option.{option_eq}
-use Rattle.std.proofs.Common.{sym, ◌∙◌, ap, subst, inl, inr, arith, get_or}
+use Rattle.std.proofs.Common.{sym, ◌∙◌, ap, subst, inl, inr, arith, get_or, append_assoc, length-append}
 use Rattle.std.proofs.lemmas.Bool.{cases_lt, and_parts, eqb-true, eq-eqb}
 use Rattle.std.proofs.lemmas.Bool.Decides.{nat_tests}
 use Rattle.std.proofs.lemmas.List.Sums.{prefix_len_passes, prefix_len_stops}
@@ -11,6 +11,7 @@ use Rattle.mem_op.specs.declared.id.OpId.{OpId}
 use Rattle.mem_op.specs.Consistency.{Operation, operation_at, word_left}
 use Rattle.flat_replay.specs.Accesses.{address_of, word_read}
 use Rattle.refutation.specs.States.{word_of, put_word, passes, settled, next_id}
+use Rattle.refutation.specs.inner.Slots.{slot_of}
 
 -- ---- words
 
@@ -117,3 +118,99 @@ settled-later addresses words [] next core = omega arith
 settled-later addresses words (ys ∷ cores) [] core = omega arith
 settled-later addresses words (ys ∷ cores) (n ∷ next) zero = omega arith
 settled-later addresses words (ys ∷ cores) (n ∷ next) (suc core) = settled-later addresses words cores next core
+
+-- ---- what the code keeps
+
+-- an address stands nowhere before the first place that is counted
+slot-above : (addresses : List ℕ) (k addr j : ℕ) → slot_of k addresses addr ≡ Some j → k ≤ j
+slot-above [] k addr j e = absurd cc
+slot-above (a ∷ addresses) k addr j e = let later = slot-above addresses (k + 1) addr j in grind (arith, nat_tests)
+
+abbrev pub word_at : List ℕ → Option ℕ → Option ℕ
+word_at words slot = option_and_then (λ j. slice_get words j) slot
+
+abbrev pub put_at : List ℕ → Option ℕ → ℕ → List ℕ
+put_at words None word = words
+put_at words (Some j) word = slice_set words j word
+
+-- past the words no slot has one
+word-none : (words : List ℕ) (k : ℕ) (slot : Option ℕ) → ((j : ℕ) → slot ≡ Some j → k ≤ j) → length words ≤ k → word_at words slot ≡ None
+word-none words k None above l = refl
+word-none words k (Some j) above l = let m = above j refl in slice_get_past words j (omega arith)
+  where
+    slice_get_past : (xs : List ℕ) (i : ℕ) → length xs ≤ i → slice_get xs i ≡ None
+    slice_get_past [] i l = refl
+    slice_get_past (x ∷ xs) zero l = absurd (omega arith)
+    slice_get_past (x ∷ xs) (suc i) l = slice_get_past xs i (omega arith)
+
+pub set_past : (xs : List ℕ) (i v : ℕ) → length xs ≤ i → slice_set xs i v ≡ xs
+set_past [] i v l = refl
+set_past (x ∷ xs) zero v l = absurd (omega arith)
+set_past (x ∷ xs) (suc i) v l = ap (λ ys. x ∷ ys) (set_past xs i v (omega arith))
+
+put-none : (words : List ℕ) (k word : ℕ) (slot : Option ℕ) → ((j : ℕ) → slot ≡ Some j → k ≤ j) → length words ≤ k → put_at words slot word ≡ words
+put-none words k word None above l = refl
+put-none words k word (Some j) above l = let m = above j refl in set_past words j word (omega arith)
+
+-- words at places behind others
+slot-word : (front words addresses : List ℕ) (addr : ℕ) → word_of addresses words addr ≡ word_at (front ++ words) (slot_of (length front) addresses addr)
+slot-word front words [] addr = refl
+slot-word front [] (a ∷ addresses) addr =
+    sym (word-none (front ++ []) (length front) (slot_of (length front) (a ∷ addresses) addr) (λ j e. slot-above (a ∷ addresses) (length front) addr j e) (omega (arith, length-append front [])))
+slot-word front (w ∷ words) (a ∷ addresses) addr = go (slot-word (front ++ w ∷ []) words addresses addr) (a == addr)
+  where
+    later : word_of addresses words addr ≡ word_at ((front ++ w ∷ []) ++ words) (slot_of (length (front ++ w ∷ [])) addresses addr) → word_of addresses words addr ≡ word_at (front ++ w ∷ words) (slot_of (length front + 1) addresses addr)
+    later is =
+        is
+        ∙ ap (λ (xs : List ℕ). word_at xs (slot_of (length (front ++ w ∷ [])) addresses addr)) (append_assoc front (w ∷ []) words)
+        ∙ ap (λ k. word_at (front ++ w ∷ words) (slot_of k addresses addr)) (length-append front (w ∷ []))
+
+    at-front : (xs : List ℕ) → Some w ≡ slice_get (xs ++ w ∷ words) (length xs)
+    at-front [] = refl
+    at-front (x ∷ xs) = at-front xs
+
+    go : word_of addresses words addr ≡ word_at ((front ++ w ∷ []) ++ words) (slot_of (length (front ++ w ∷ [])) addresses addr) → (b : Bool) → (if b then Some w else word_of addresses words addr) ≡ word_at (front ++ w ∷ words) (if b then Some (length front) else slot_of (length front + 1) addresses addr)
+    go is true = at-front front
+    go is false = later is
+
+slot-put : (front words addresses : List ℕ) (addr word : ℕ) → front ++ put_word addresses words addr word ≡ put_at (front ++ words) (slot_of (length front) addresses addr) word
+slot-put front words [] addr word = refl
+slot-put front [] (a ∷ addresses) addr word =
+    sym (put-none (front ++ []) (length front) word (slot_of (length front) (a ∷ addresses) addr) (λ j e. slot-above (a ∷ addresses) (length front) addr j e) (omega (arith, length-append front [])))
+slot-put front (w ∷ words) (a ∷ addresses) addr word = go (slot-put (front ++ w ∷ []) words addresses addr word) (a == addr)
+  where
+    later : (front ++ w ∷ []) ++ put_word addresses words addr word ≡ put_at ((front ++ w ∷ []) ++ words) (slot_of (length (front ++ w ∷ [])) addresses addr) word → front ++ w ∷ put_word addresses words addr word ≡ put_at (front ++ w ∷ words) (slot_of (length front + 1) addresses addr) word
+    later is =
+        sym (append_assoc front (w ∷ []) (put_word addresses words addr word))
+        ∙ is
+        ∙ ap (λ (xs : List ℕ). put_at xs (slot_of (length (front ++ w ∷ [])) addresses addr) word) (append_assoc front (w ∷ []) words)
+        ∙ ap (λ k. put_at (front ++ w ∷ words) (slot_of k addresses addr) word) (length-append front (w ∷ []))
+
+    at-front : (xs : List ℕ) → xs ++ word ∷ words ≡ slice_set (xs ++ w ∷ words) (length xs) word
+    at-front [] = refl
+    at-front (x ∷ xs) = ap (λ ys. x ∷ ys) (at-front xs)
+
+    go : (front ++ w ∷ []) ++ put_word addresses words addr word ≡ put_at ((front ++ w ∷ []) ++ words) (slot_of (length (front ++ w ∷ [])) addresses addr) word → (b : Bool) → front ++ (if b then word ∷ words else w ∷ put_word addresses words addr word) ≡ put_at (front ++ w ∷ words) (if b then Some (length front) else slot_of (length front + 1) addresses addr) word
+    go is true = at-front front
+    go is false = later is
+
+pub word_by_slot : (addresses words : List ℕ) (addr : ℕ) → word_of addresses words addr ≡ word_at words (slot_of 0 addresses addr)
+word_by_slot addresses words addr = slot-word [] words addresses addr
+
+pub put_by_slot : (addresses words : List ℕ) (addr word : ℕ) → put_word addresses words addr word ≡ put_at words (slot_of 0 addresses addr) word
+put_by_slot addresses words addr word = slot-put [] words addresses addr word
+
+-- one core more is settled
+more-settled : (addresses words : List ℕ) (cores : List (List Operation)) (next : List ℕ) (core : ℕ) (ys : List Operation) → slice_get cores core ≡ Some ys
+    → settled addresses words (take (suc core) cores) next ≡ slice_set (settled addresses words (take core cores) next) core (slice_index next core + prefix_len (passing addresses words) (drop (slice_index next core) ys))
+more-settled addresses words [] next core ys at = absurd cc
+more-settled addresses words (zs ∷ cores) [] zero ys at = refl
+more-settled addresses words (zs ∷ cores) [] (suc core) ys at = refl
+more-settled addresses words (zs ∷ cores) (n ∷ next) zero ys at = (let same : zs ≡ ys = cc in ap (λ (xs : List Operation). (n + prefix_len (passing addresses words) (drop n xs)) ∷ next) same)
+more-settled addresses words (zs ∷ cores) (n ∷ next) (suc core) ys at =
+    ap (λ rest. (n + prefix_len (passing addresses words) (drop n zs)) ∷ rest) (more-settled addresses words cores next core ys at)
+
+pub settled-more : (addresses words : List ℕ) (cores : List (List Operation)) (next : List ℕ) (core : ℕ) (ys : List Operation) → slice_get cores core ≡ Some ys
+    → settled addresses words (take (core + 1) cores) next ≡ slice_set (settled addresses words (take core cores) next) core (slice_index next core + prefix_len (passing addresses words) (drop (slice_index next core) ys))
+settled-more addresses words cores next core ys at =
+    ap (λ k. settled addresses words (take k cores) next) (let e : core + 1 ≡ suc core = omega arith in e) ∙ more-settled addresses words cores next core ys at

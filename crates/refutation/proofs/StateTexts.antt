@@ -13,7 +13,7 @@ use Rattle.refutation.specs.Grammar.{spaced, state_text, PathFits, StateFits}
 use Rattle.refutation.specs.inner.Reading.{ends_word, fact_at}
 use Rattle.refutation.specs.inner.StateLines.{NumbersInFront, BothInFront, NoneInFront, StateInFront, NoStateInFront}
 use Rattle.refutation.proofs.Parts.{facts_are_words}
-use Rattle.refutation.proofs.Words.{HasWords, spaced_no_lf, spaced_ends, each_push}
+use Rattle.refutation.proofs.Words.{HasWords, spaced_no_lf}
 
 -- ---- numbers in front
 
@@ -102,11 +102,11 @@ none-without-colon bytes n rest front none m w more b =
     none (spaced numeral w ++ more) (numbers-once n m rest y (as-front bytes n rest front) (stopped m y b.each_next (stops-colon (spaced numeral w ++ more))) (sym front.text ∙ b.text)).1
 
 pub none-where-a-word-goes-on : (bytes n fields v rest : List ℕ) → NumbersInFront bytes n (codes " :" ++ fields) → NumbersInFront fields v rest → (ends_word rest ≡ true → ⊥) → NoneInFront bytes
-none-where-a-word-goes-on bytes n fields v rest a c no m w more b =
+none-where-a-word-goes-on bytes n fields v rest a c stop m w more b =
     let y = codes " :" ++ (spaced numeral w ++ more) in
     let first = numbers-once n m (codes " :" ++ fields) y (as-front bytes n (codes " :" ++ fields) a) (stopped m y b.each_next (stops-colon (spaced numeral w ++ more))) (sym a.text ∙ b.text) in
     let second = numbers-once v w rest more (as-front fields v rest c) (stopped w more b.each_word (b.none, b.ends)) (sym c.text ∙ append_cancel_left (codes " :") fields (spaced numeral w ++ more) first.1) in
-    no (subst (λ (xs : List ℕ). ends_word xs ≡ true) (sym second.1) b.ends)
+    stop (subst (λ (xs : List ℕ). ends_word xs ≡ true) (sym second.1) b.ends)
 
 -- ---- a state in front
 
@@ -174,12 +174,12 @@ no-dead-without-colon fields n v behind both none (Dead next words limits) rest 
     none (spaced numeral limits ++ rest) (both-once fields n next v words behind (codes " :" ++ (spaced numeral limits ++ rest)) both (dead-both fields next words limits rest there)).after
 
 pub no-dead-where-a-word-goes-on : (fields n v behind l last : List ℕ) → BothInFront fields n v (codes " :" ++ behind) → NumbersInFront behind l last → (ends_word last ≡ true → ⊥) → NoStateInFront (codes " !" ++ fields)
-no-dead-where-a-word-goes-on fields n v behind l last both front no (Open next words) rest there = not-open fields next words rest there
-no-dead-where-a-word-goes-on fields n v behind l last both front no (Dead next words limits) rest there =
+no-dead-where-a-word-goes-on fields n v behind l last both front stop (Open next words) rest there = not-open fields next words rest there
+no-dead-where-a-word-goes-on fields n v behind l last both front stop (Dead next words limits) rest there =
     let same = (both-once fields n next v words (codes " :" ++ behind) (codes " :" ++ (spaced numeral limits ++ rest)) both (dead-both fields next words limits rest there)).after in
     let text = append_cancel_left (codes " :") behind (spaced numeral limits ++ rest) same in
     let more = numbers-once l limits last rest (as-front behind l last front) (stopped limits rest there.fits.2 (there.none, there.ends)) (sym front.text ∙ text) in
-    no (subst (λ (xs : List ℕ). ends_word xs ≡ true) (sym more.1) there.ends)
+    stop (subst (λ (xs : List ℕ). ends_word xs ≡ true) (sym more.1) there.ends)
 
 pub dead-in-front : (fields n v behind l rest : List ℕ) → BothInFront fields n v (codes " :" ++ behind) → NumbersInFront behind l rest → ends_word rest ≡ true → StateInFront (Dead n v l) (codes " !" ++ fields) rest
 dead-in-front fields n v behind l rest both front ends = record {
@@ -256,18 +256,18 @@ state_shorter state rest behind there = omega (arith, ap length there.text, leng
 -- where no state is in front, the states so far are those of a text of states, and the bytes are at their end
 states-once : (xs ys : List State) (rest : List ℕ) → AllByRecursion StateFits xs → AllByRecursion StateFits ys → (xs ≢ [] → ends_word rest ≡ true) → fact_at rest ≡ None → NoStateInFront rest
     → flat_map state_text xs ++ rest ≡ flat_map state_text ys → (xs ≡ ys) × (rest ≡ [])
-states-once [] [] rest p q ends none no e = (refl, e)
-states-once [] (y ∷ ys) rest p q ends none no e =
+states-once [] [] rest p q ends none last e = (refl, e)
+states-once [] (y ∷ ys) rest p q ends none last e =
     let stops = subst Stops (append-nil (flat_map state_text ys)) (stops-states ys [] stops-nil) in
-    absurd (no y (flat_map state_text ys) (record { fits = q.0; text = e; none = stops.0; ends = stops.1 }))
-states-once (x ∷ xs) [] rest p q ends none no e = absurd (let l = state-bytes x in let f = ap length e in omega (arith, l, f, length-append (state_text x ++ flat_map state_text xs) rest, length-append (state_text x) (flat_map state_text xs)))
-states-once (x ∷ xs) (y ∷ ys) rest p q ends none no e =
+    absurd (last y (flat_map state_text ys) (record { fits = q.0; text = e; none = stops.0; ends = stops.1 }))
+states-once (x ∷ xs) [] rest p q ends none last e = absurd (let l = state-bytes x in let f = ap length e in omega (arith, l, f, length-append (state_text x ++ flat_map state_text xs) rest, length-append (state_text x) (flat_map state_text xs)))
+states-once (x ∷ xs) (y ∷ ys) rest p q ends none last e =
     let stops-x = stops-states xs rest (none, ends (λ wrong. cc)) in
     let stops-y = subst Stops (append-nil (flat_map state_text ys)) (stops-states ys [] stops-nil) in
     let text = sym (append_assoc (state_text x) (flat_map state_text xs) rest) ∙ e in
     let same = state-once (state_text x ++ (flat_map state_text xs ++ rest)) x y (flat_map state_text xs ++ rest) (flat_map state_text ys) (record { fits = p.0; text = refl; none = stops-x.0; ends = stops-x.1 }) (record { fits = q.0; text = text; none = stops-y.0; ends = stops-y.1 }) in
     let x-is : x ≡ y = same.0 in
-    let later = states-once xs ys rest p.1 q.1 (λ some. ends (λ wrong. cc)) none no same.1 in
+    let later = states-once xs ys rest p.1 q.1 (λ some. ends (λ wrong. cc)) none last same.1 in
     let xs-is : xs ≡ ys = later.0 in
     (cc, later.1)
 
@@ -292,8 +292,8 @@ set-behind fields a rest b t front each is =
 
 -- the states were all read, where such fields are there
 pub set-whole : (fields a text b rest : List ℕ) (s t : List State) → NumbersInFront fields a text → StatesSoFar text s rest → NoStateInFront rest → PathFits b → AllByRecursion StateFits t → fields ≡ spaced numeral b ++ flat_map state_text t → rest ≡ []
-set-whole fields a text b rest s t front far no each fits is =
-    (states-once s t rest far.each fits far.ends far.none no (sym far.text_is ∙ (set-behind fields a text b t front each is).1)).1
+set-whole fields a text b rest s t front far last each fits is =
+    (states-once s t rest far.each fits far.ends far.none last (sym far.text_is ∙ (set-behind fields a text b t front each is).1)).1
 
 -- ---- no line feed
 

@@ -4,7 +4,7 @@ ghost use Rattle.std.specs.Prelude.{◌≡◌, ◌≤◌, ◌<◌, MatchBool, le
 ghost use Rattle.refutation.specs.States.{IsDead, NoneStores, Waits};
 ghost use Rattle.refutation.specs.inner.Dead.{NoneStoresOf};
 
-use super::moves::{next_operation, number_of, word_of};
+use super::moves::{access_at, next_operation, number_of, word_of};
 use mem_op::Word;
 use trace::{Access, Address, Trace};
 
@@ -14,7 +14,7 @@ fn none_stores_of(operations: &[Access], from: u64, to: u64, addr: Address, word
 {
     let mut index = from;
     while index < to {
-        let Some(access) = operations.get(index as usize) else {
+        let Some(access) = access_at(operations, index) else {
             return true;
         };
         if access.stores(addr, word) {

@@ -1,6 +1,6 @@
 //! What cores may do in a state.
 
-ghost use Rattle.std.specs.Prelude.{◌≡◌, ◌+◌, ◌<◌, ◌&&◌, ◌^◌, ℕ, IfOk, MatchOption, None, Some, drop, slice_index, slice_set};
+ghost use Rattle.std.specs.Prelude.{◌≡◌, ◌+◌, ◌<◌, ◌&&◌, ◌^◌, ℕ, IfOk, MatchOption, None, Some, drop, slice_get, slice_index, slice_set};
 ghost use Rattle.std.specs.List.{list_all, prefix_len};
 ghost use Rattle.mem_op.specs.Consistency.{operation_at};
 ghost use Rattle.flat_replay.specs.Accesses.{address_of};
@@ -27,11 +27,31 @@ fn slot_of(addresses: &[Address], addr: Address) -> Option<usize>
     None
 }
 
+/// The number at a place.
+fn number_at(numbers: &[u64], place: usize) -> Option<u64>
+    ensures { result ≡ slice_get numbers.now place }
+{
+    numbers.get(place).copied()
+}
+
+/// Puts a number at a place, where there is one.
+#[tactic(auto, using(crate::proofs::Settled::set_past))]
+fn set(numbers: &mut Vec<u64>, place: usize, number: u64)
+    ensures { numbers.new.items ≡ slice_set numbers.old.items place number }
+{
+    if place < numbers.len() {
+        numbers[place] = number;
+    }
+}
+
 /// The word at an address, where it is looked at.
 pub(crate) fn word_of(addresses: &[Address], words: &[Word], addr: Address) -> Option<Word>
     ensures { result ≡ word_of addresses.now words.now addr }
 {
-    words.get(slot_of(addresses, addr)?).copied()
+    match slot_of(addresses, addr) {
+        Some(slot) => number_at(words, slot),
+        None => None,
+    }
 }
 
 /// The words, after one is put at an address.
@@ -44,11 +64,11 @@ pub(crate) fn put_word(
 ) -> Result<Vec<Word>, AllocError>
     ensures { IfOk result (λ put. put.items ≡ put_word addresses.now words.now addr word) }
 {
-    let mut put = words.to_vec(alloc)?;
-    match slot_of(addresses, addr) {
-        Some(slot) if slot < put.len() => put[slot] = word,
-        _ => {}
-    }
+    let mut put = Vec::from_slice(alloc, words)?;
+    let Some(slot) = slot_of(addresses, addr) else {
+        return Ok(put);
+    };
+    set(&mut put, slot, word);
     Ok(put)
 }
 
@@ -74,6 +94,13 @@ fn passes(word: Option<Word>, access: &Access) -> bool
     }
 }
 
+/// The operation of a core at an index.
+pub(crate) fn access_at(operations: &[Access], index: u64) -> Option<Access>
+    ensures { result ≡ slice_get operations.now index }
+{
+    operations.get(index as usize).copied()
+}
+
 /// The index of the first of a core's operations, from this one on, that doesn't pass.
 fn settled_index(
     operations: &[Access],
@@ -83,9 +110,11 @@ fn settled_index(
 ) -> u64
     ensures { result ≡ from + prefix_len (λ y. passes (word_of addresses.now words.now (address_of y)) y) (drop from operations.now) }
 {
+    let count = operations.len() as u64;
     let mut index = from;
-    while let Some(access) = operations.get(index as usize) {
-        if !passes(word_of(addresses, words, access.addr()), access) {
+    while index < count {
+        let access = operations[index as usize];
+        if !passes(word_of(addresses, words, access.addr()), &access) {
             return index;
         }
         index += 1;
@@ -103,11 +132,10 @@ pub(crate) fn settle(
 ) -> Result<Vec<u64>, AllocError>
     ensures { IfOk result (λ far. far.items ≡ settled addresses.now words.now trace.now next.now) }
 {
-    let mut far = next.to_vec(alloc)?;
+    let mut far = Vec::from_slice(alloc, next)?;
     for (core, operations) in trace.cores().iter().enumerate() {
-        if core < next.len() {
-            far[core] = settled_index(operations, next[core], addresses, words);
-        }
+        let index = settled_index(operations, number_of(next, core), addresses, words);
+        set(&mut far, core, index);
     }
     Ok(far)
 }
@@ -181,10 +209,7 @@ pub(crate) fn may_go(
 pub(crate) fn step(alloc: Global, next: &[u64], id: &OpId) -> Result<Vec<u64>, AllocError>
     ensures { IfOk result (λ stepped. stepped.items ≡ slice_set next.now id.now.core (id.now.index + 1)) }
 {
-    let mut stepped = next.to_vec(alloc)?;
-    let core = id.core.get() as usize;
-    if core < stepped.len() {
-        stepped[core] = id.index.get() + 1;
-    }
+    let mut stepped = Vec::from_slice(alloc, next)?;
+    set(&mut stepped, id.core.get() as usize, id.index.get() + 1);
     Ok(stepped)
 }

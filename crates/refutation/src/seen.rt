@@ -7,7 +7,6 @@ ghost use Rattle.refutation.specs.inner.Seen.{is_among};
 use super::state::State;
 use std::alloc::{AllocError, Global};
 use std::collections::BTreeSet;
-use std::marker::Model;
 
 /// The indices and words of states.
 #[derive(Drop)]
@@ -15,31 +14,23 @@ pub(crate) struct Seen {
     keys: BTreeSet<(Vec<u64>, Vec<u64>)>,
 }
 
-impl Model for Seen {
-    ghost use Rattle.std.specs.Prelude.{List, ℕ, Bool};
-    ghost use Rattle.refutation.specs.inner.Seen.{is_among};
-
-    ghost Value = { List ℕ → List ℕ → Bool };
-
-    ghost view = { λ s. is_among s.keys };
-}
-
 impl Seen {
     /// The indices and words of these states.
     pub(crate) fn of(alloc: Global, states: &[State]) -> Result<Seen, AllocError>
-        ensures { IfOk result (λ seen. (next words : List ℕ) → IsTrue (seen next words) ↔ Has states.now next words) }
+        ensures { IfOk result (λ seen. (next words : List ℕ) → IsTrue (is_among seen.keys next words) ↔ Has states.now next words) }
     {
         let mut keys = BTreeSet::new(alloc);
         for state in states {
-            let key = (state.next().to_vec(alloc)?, state.words().to_vec(alloc)?);
-            keys.insert(key)?;
+            let next = Vec::from_slice(alloc, state.next())?;
+            let words = Vec::from_slice(alloc, state.words())?;
+            keys.insert((next, words))?;
         }
         Ok(Seen { keys })
     }
 
     /// Whether the state of these is among them.
     pub(crate) fn has(&self, next: Vec<u64>, words: Vec<u64>) -> bool
-        ensures { result ≡ self.now next.items words.items }
+        ensures { result ≡ is_among self.now.keys next.items words.items }
     {
         self.keys.contains(&(next, words))
     }

@@ -41,7 +41,10 @@ fn read_both<'a>(
         return Ok(None);
     };
     let rest = read_numbers(words, fields)?;
-    Ok(ends_word(rest).then_some(rest))
+    if !ends_word(rest) {
+        return Ok(None);
+    }
+    Ok(Some(rest))
 }
 
 /// Adds the state that is open whose fields are the first, and answers the bytes after them.

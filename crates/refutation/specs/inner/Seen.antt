@@ -9,5 +9,5 @@ use Rattle.std.specs.Ordering.{nat_cmp, ordering_then}
 abbrev pub is_among : BTreeSet (Vec ℕ × Vec ℕ) → List ℕ → List ℕ → Bool
 is_among keys next words = contains_by (λ k. ordering_then (slice_cmp nat_cmp next k.0.items) (slice_cmp nat_cmp words k.1.items)) keys
 
-abbrev pub IsAmong : (List ℕ → List ℕ → Bool) → List ℕ → List ℕ → Type 0
-IsAmong seen next words = IsTrue (seen next words)
+abbrev pub IsAmong : BTreeSet (Vec ℕ × Vec ℕ) → List ℕ → List ℕ → Type 0
+IsAmong keys next words = IsTrue (is_among keys next words)
