@@ -4,8 +4,10 @@ pub mod Completeness
 pub mod Covered
 pub mod DeadStates
 pub mod Fronts
+pub mod Leading
 pub mod Leaving
 pub mod Lines
+pub mod NextOnes
 pub mod OneText
 pub mod Parts
 pub mod Paths

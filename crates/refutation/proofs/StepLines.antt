@@ -1,17 +1,20 @@
 -- The lines of steps: whether a line is one, and of which.
 use Rattle.std.proofs.Common.{◌≡◌, ◌≢◌, ℕ, ◌<◌, ◌^◌, ◌==◌, List, [], ◌∷◌, ◌++◌, Option, Some, None, refl, sym, ap, ◌∙◌, arith, append-nil}
-use Rattle.std.specs.Prelude.{codes, option_map, if◌then◌else◌}
+use Rattle.std.specs.Prelude.{codes, flat_map, option_map, if◌then◌else◌}
 use Rattle.decimal_text.specs.Numbers.{numeral}
 use Rattle.decimal_text.proofs.Reading.{some_is}
 use Rattle.mem_op.specs.declared.id.OpId.{OpId}
 use Rattle.refutation.specs.declared.line.Reason.{Reason}
 use Rattle.refutation.specs.declared.step.Range.{Range}
+use Rattle.refutation.specs.declared.state.State.{State}
 use Rattle.refutation.specs.declared.step.Step.{Step}
 use Rattle.refutation.specs.declared.step.Step.TheVariants.{Read, Order, FromRead, WriteOrder, Cycle, States}
-use Rattle.refutation.specs.Grammar.{spaced, id_text, range_text, reason_text, name_text, fields_text, IdFits, RangeFits, Fits}
+use Rattle.refutation.specs.Grammar.{spaced, state_text, id_text, range_text, reason_text, name_text, fields_text, IdFits, RangeFits, Fits}
 use Rattle.refutation.specs.inner.Reading.{id_at, named_at, source_at}
+use Rattle.refutation.specs.inner.StateLines.{NumbersInFront, NoStateInFront}
 use Rattle.refutation.specs.inner.Telling.{TellsWords, TellsReason, TellsStep, TellsLine}
 use Rattle.refutation.proofs.Parts.{id_takes, id_again, named_takes, named_again, source_takes, source_again}
+use Rattle.refutation.proofs.StateTexts.{StatesSoFar, set-whole}
 
 -- ---- what is read once
 
@@ -181,3 +184,15 @@ order-told bytes rest behind end one other f none e g =
     let b = id_takes behind (other, end) g in
     let last : behind ≡ id_text other = b.1 ∙ ap (λ (x : List ℕ). id_text other ++ x) none ∙ append-nil (id_text other) in
     ((a.0, b.0), refl, a.1 ∙ ap (λ (x : List ℕ). id_text one ++ x) (f ∙ ap (λ (x : List ℕ). 32 ∷ x) last))
+
+-- ---- a set of states
+
+pub states-told : (fields a text rest : List ℕ) (s : List State) → NumbersInFront fields a text → StatesSoFar text s rest → rest ≡ [] → TellsStep (codes "states") fields (Some (States a s))
+unfolding fields_text
+states-told fields a text rest s front far none =
+    ((front.each, far.each), refl, front.text ∙ ap (λ (xs : List ℕ). spaced numeral a ++ xs) (far.text_is ∙ ap (λ (xs : List ℕ). flat_map state_text s ++ xs) none ∙ append-nil (flat_map state_text s)))
+
+pub states-none : (fields a text rest : List ℕ) (s : List State) → NumbersInFront fields a text → StatesSoFar text s rest → NoStateInFront rest → rest ≢ [] → TellsStep (codes "states") fields None
+unfolding fields_text
+states-none fields a text rest s front far last some (States b t) fits name is = some (set-whole fields a text b rest s t front far last fits.0 fits.1 is)
+states-none fields a text rest s front far last some step fits name is = absurd (let e = ap first_of name in omega (arith, e))

@@ -3,8 +3,8 @@
 ghost use Rattle.std.specs.Prelude.{◌≡◌, ◌↔◌, ◌+◌, ℕ, IsTrue, IfOk, MatchBool, replicate, slice_set, map};
 ghost use Rattle.mem_op.specs.Consistency.{word_left};
 ghost use Rattle.flat_replay.specs.Accesses.{address_of};
-ghost use Rattle.refutation.specs.States.{put_word, settled, next_of, words_of, LeadsBack, IsIn, IsRightState, IsClosedSet};
-ghost use Rattle.refutation.specs.inner.Seen.{is_among, IsAmong};
+ghost use Rattle.refutation.specs.States.{put_word, next_of, words_of, LeadsBack, IsRightState, IsClosedSet};
+ghost use Rattle.refutation.specs.inner.Seen.{is_among_settled, IsAmong};
 
 use super::dead::is_dead;
 use super::fact::Known;
@@ -24,7 +24,7 @@ fn is_in(
     next: &[u64],
     words: Vec<Word>,
 ) -> Result<bool, AllocError>
-    ensures { IfOk result (λ is. is ≡ is_among seen.now.keys (settled addresses.now words.items trace.now next.now) words.items) }
+    ensures { IfOk result (λ is. is ≡ is_among_settled trace.now addresses.now seen.now.keys next.now words.items) }
 {
     let far = settle(alloc, trace, addresses, &words, next)?;
     Ok(seen.has(far, words))
@@ -39,7 +39,7 @@ fn leads_into(
     state: &State,
     found: &(OpId, Access),
 ) -> Result<bool, AllocError>
-    ensures { IfOk result (λ is. IsTrue is ↔ IsIn trace.now addresses.now (IsAmong seen.now.keys)
+    ensures { IfOk result (λ is. is ≡ is_among_settled trace.now addresses.now seen.now.keys
         (slice_set (next_of state.now) found.now.0.core (found.now.0.index + 1))
         (put_word addresses.now (words_of state.now) (address_of found.now.1) (word_left found.now.1))) }
 {
@@ -125,7 +125,7 @@ fn has_first(
     addresses: &[Address],
     seen: &Seen,
 ) -> Result<bool, AllocError>
-    ensures { IfOk result (λ has. IsTrue has ↔ IsIn trace.now addresses.now (IsAmong seen.now.keys) (map (λ _. 0) trace.now) (map (λ _. 0) addresses.now)) }
+    ensures { IfOk result (λ has. has ≡ is_among_settled trace.now addresses.now seen.now.keys (map (λ _. 0) trace.now) (map (λ _. 0) addresses.now)) }
 {
     let next = zeros(alloc, trace.cores().len())?;
     let words = zeros(alloc, addresses.len())?;
