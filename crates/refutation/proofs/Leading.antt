@@ -1,11 +1,12 @@
 -- Moves that lead back, and dead states, by the next operations of cores.
-use Rattle.std.specs.Prelude.{◌≡◌, ℕ, ◌+◌, ◌<◌, ◌≤◌, Bool, true, false, MatchBool, IsTrue, List, [], ◌∷◌, refl, Some, length, map, replicate, slice_get, slice_index, slice_set}
+use Rattle.std.specs.Prelude.{◌≡◌, ℕ, ◌+◌, ◌<◌, ◌≤◌, Bool, true, false, ◌&&◌, MatchBool, IsTrue, List, [], ◌∷◌, refl, Some, length, map, replicate, slice_get, slice_index, slice_set}
 use Rattle.std.specs.List.{list_all}
 use Rattle.std.specs.Global.{Vec}
 use Rattle.std.specs.BTreeSet.{BTreeSet}
 use Rattle.std.proofs.Common.{sym, ◌∙◌, ap, subst, inl, inr, arith, get_or}
-use Rattle.std.proofs.lemmas.Bool.{cases_lt}
+use Rattle.std.proofs.lemmas.Bool.{cases_lt, and_from}
 use Rattle.std.proofs.lemmas.Option.{slice_get-get_or, slice_get_within}
+use Rattle.mem_op.specs.declared.id.OpId.{OpId}
 use Rattle.mem_op.specs.Consistency.{Operation, operation_at, word_left}
 use Rattle.flat_replay.specs.Accesses.{address_of}
 use Rattle.refutation.specs.declared.fact.Fact.{Fact}
@@ -13,7 +14,7 @@ use Rattle.refutation.specs.declared.state.State.{State}
 use Rattle.refutation.specs.declared.state.State.TheVariants.{Open, Dead}
 use Rattle.refutation.specs.States.{word_of, put_word, fits, allows, next_id, next_of, words_of, Has, IsIn, LeadsBack, Waits, IsDead, IsRightState, IsClosedSet}
 use Rattle.refutation.specs.inner.Seen.{IsAmong}
-use Rattle.refutation.proofs.NextOnes.{HasOne, Each, FirstOnes, ones-all}
+use Rattle.refutation.proofs.NextOnes.{HasOne, Each, FirstOnes, ones-more, ones-all}
 
 -- the move of a core leads into a set, where it may be performed
 abbrev pub LeadsInto : List (List Operation) → List Fact → List ℕ → (List ℕ → List ℕ → Type 0) → State → ℕ → Operation → Type 0
@@ -30,6 +31,17 @@ leads-told cores facts addresses InSet state is_left n l first = go is_left (one
         → MatchBool b (LeadsBack cores facts addresses InSet (next_of state) (words_of state)) (LeadsBack cores facts addresses InSet (next_of state) (words_of state) → ⊥)
     go true both = record { left = both.0; back = both.1 }
     go false none = λ leads. none (leads.left, leads.back)
+
+-- one core more, whose move leads into the set where it may be performed
+pub leads-more : (cores : List (List Operation)) (facts : List Fact) (addresses : List ℕ) (InSet : List ℕ → List ℕ → Type 0) (state : State) (is_left : Bool) (n : ℕ) (id : OpId) (y : Operation)
+    → FirstOnes cores (next_of state) (LeadsInto cores facts addresses InSet state) is_left n → id ≡ next_id (next_of state) n → operation_at cores (next_id (next_of state) n) ≡ Some y
+    → ((fits (word_of addresses (words_of state) (address_of y)) y && list_all (allows (next_of state) id) facts) ≡ true
+      → IsIn cores addresses InSet (slice_set (next_of state) id.core (id.index + 1)) (put_word addresses (words_of state) (address_of y) (word_left y)))
+    → FirstOnes cores (next_of state) (LeadsInto cores facts addresses InSet state) true (n + 1)
+leads-more cores facts addresses InSet state is_left n id y first is there leads =
+    ones-more cores (next_of state) (LeadsInto cores facts addresses InSet state) is_left n y first there (λ fit allowed.
+    subst (λ (i : OpId). IsIn cores addresses InSet (slice_set (next_of state) i.core (i.index + 1)) (put_word addresses (words_of state) (address_of y) (word_left y))) is
+    (leads (and_from _ _ fit (subst (λ (i : OpId). list_all (allows (next_of state) i) facts ≡ true) (sym is) allowed))))
 
 -- the limit of a core that has an operation there
 abbrev pub StopsAt : List (List Operation) → List ℕ → List ℕ → List ℕ → List ℕ → ℕ → Operation → Type 0
