@@ -1,10 +1,10 @@
 -- Where there is a sequential order in which the facts hold, no set of states is closed: the states that the order goes
 -- through, but for what passes early, would all be in it.
-use Rattle.std.specs.Prelude.{◌≡◌, ◌≢◌, ℕ, zero, suc, ◌+◌, ◌<◌, ◌≤◌, Bool, true, false, ◌==◌, ◌&&◌, ◌||◌, if◌then◌else◌, cond, List, [], ◌∷◌, refl, Option, None, Some, is_none, nat_eq, map, length, take, slice_get, slice_index, slice_set}
+use Rattle.std.specs.Prelude.{◌≡◌, ◌≢◌, ℕ, zero, suc, ◌+◌, ◌<◌, ◌≤◌, Bool, true, false, ◌==◌, ◌||◌, if◌then◌else◌, cond, List, [], ◌∷◌, refl, Option, None, Some, is_none, nat_eq, map, length, take, slice_get, slice_index, slice_set}
 use Rattle.std.specs.List.{filter_map, list_all}
 use Rattle.std.specs.Option.{option_eq}
 use Rattle.std.proofs.Common.{sym, ◌∙◌, ap, subst, inl, inr, arith, get_or}
-use Rattle.std.proofs.lemmas.Bool.{cases_lt, cases_eq, and_parts, and_from, eqb-true, eq-eqb, lt-ltb, le-leb}
+use Rattle.std.proofs.lemmas.Bool.{cases_lt, cases_eq, and_from, eq-eqb, lt-ltb, le-leb}
 use Rattle.std.proofs.lemmas.List.{get_or-set_same, get_or-set_other, length-set}
 use Rattle.std.proofs.lemmas.Option.{slice_get-get_or, slice_get_within}
 use Rattle.mem_op.specs.declared.id.OpId.{OpId}
@@ -17,8 +17,8 @@ use Rattle.refutation.specs.declared.state.State.TheVariants.{Open, Dead}
 use Rattle.refutation.specs.declared.fact.Fact.{Fact}
 use Rattle.refutation.specs.Facts.{earlier_of, later_of}
 use Rattle.refutation.specs.Grammar.{is_same_point}
-use Rattle.refutation.specs.States.{word_of, put_word, fits, passes, settled, next_of, words_of, Has, IsIn, next_id, was_performed, allows, LeadsBack, Waits, IsDead, IsRightState, IsClosedSet}
-use Rattle.refutation.proofs.Timings.{IsTiming, AllHold, order-of}
+use Rattle.refutation.specs.States.{word_of, put_word, fits, passes, settled, next_of, words_of, Has, next_id, was_performed, allows, LeadsBack, IsDead, IsRightState, IsClosedSet}
+use Rattle.refutation.proofs.Timings.{AllHold, order-of}
 use Rattle.refutation.proofs.Times.{place, at_place, placed, place-is, is_there, there_before, same_id, time_in, timing-in, last_value-next, operation-placed, flat_value}
 use Rattle.refutation.proofs.Settled.{word-put, word-zero, passes-is, core-of, length-settled, passed, stopped, looked-at, settled-later}
 

@@ -1,10 +1,9 @@
 -- What stores a word, core by core.
-use Rattle.std.specs.Prelude.{◌≡◌, ◌≢◌, ℕ, ◌+◌, ◌<◌, ◌≤◌, ◌==◌, ◌&&◌, true, false, IsTrue, List, Some, length, option_and_then, slice_get, slice_index}
+use Rattle.std.specs.Prelude.{◌≡◌, ℕ, ◌+◌, ◌<◌, ◌≤◌, ◌==◌, ◌&&◌, true, false, List, Some, length, option_and_then, slice_get, slice_index}
 use Rattle.std.proofs.Common.{sym, ◌∙◌, ap, subst, inl, inr, arith}
 use Rattle.std.proofs.lemmas.Bool.{cases_lt, and_parts, and_from, eqb-true, eq-eqb}
 use Rattle.std.proofs.lemmas.Option.{slice_get_within}
-use Rattle.mem_op.specs.declared.id.OpId.{OpId}
-use Rattle.mem_op.specs.Consistency.{Operation, operation_at, is_store_to, word_left}
+use Rattle.mem_op.specs.Consistency.{Operation, is_store_to, word_left}
 use Rattle.refutation.specs.States.{NoneStores}
 use Rattle.refutation.specs.inner.Dead.{NoneStoresOf}
 use Rattle.refutation.proofs.Settled.{core-of}

@@ -36,7 +36,7 @@ leads-told cores facts addresses InSet state is_left n l first = go is_left (one
 pub leads-more : (cores : List (List Operation)) (facts : List Fact) (addresses : List ℕ) (InSet : List ℕ → List ℕ → Type 0) (state : State) (is_left : Bool) (n : ℕ) (id : OpId) (y : Operation)
     → FirstOnes cores (next_of state) (LeadsInto cores facts addresses InSet state) is_left n → id ≡ next_id (next_of state) n → operation_at cores (next_id (next_of state) n) ≡ Some y
     → ((fits (word_of addresses (words_of state) (address_of y)) y && list_all (allows (next_of state) id) facts) ≡ true
-      → IsIn cores addresses InSet (slice_set (next_of state) id.core (id.index + 1)) (put_word addresses (words_of state) (address_of y) (word_left y)))
+    → IsIn cores addresses InSet (slice_set (next_of state) id.core (id.index + 1)) (put_word addresses (words_of state) (address_of y) (word_left y)))
     → FirstOnes cores (next_of state) (LeadsInto cores facts addresses InSet state) true (n + 1)
 leads-more cores facts addresses InSet state is_left n id y first is there leads =
     ones-more cores (next_of state) (LeadsInto cores facts addresses InSet state) is_left n y first there (λ fit allowed.

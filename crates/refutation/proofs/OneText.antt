@@ -19,7 +19,7 @@ use Rattle.refutation.specs.inner.Reading.{id_at, named_at, source_at, fact_at, 
 use Rattle.refutation.proofs.Lines.{line_once, step_no_lf, text_cons}
 use Rattle.refutation.proofs.Parts.{id_again, named_again, source_again, facts_are_words, ranges_are_words}
 use Rattle.refutation.proofs.StateTexts.{set-once}
-use Rattle.refutation.proofs.StepLines.{first_of, name_of, name_first, other_name}
+use Rattle.refutation.proofs.StepLines.{first_of, name_of, name_first}
 use Rattle.refutation.proofs.Words.{HasWords, all_words}
 
 -- ---- a step's line is that of one step

@@ -1,10 +1,10 @@
 -- The text of a set of states is that of no other.
-use Rattle.std.proofs.Common.{◌≡◌, ◌≢◌, ℕ, ◌<◌, ◌^◌, true, List, [], ◌∷◌, ◌++◌, length, Option, Some, None, refl, sym, ap, subst, ◌∙◌, arith, append_assoc, append-nil, length-append}
+use Rattle.std.proofs.Common.{◌≡◌, ◌≢◌, ℕ, ◌<◌, ◌^◌, true, List, [], ◌∷◌, ◌++◌, length, Some, None, refl, sym, ap, subst, ◌∙◌, arith, append_assoc, append-nil, length-append}
 use Rattle.std.specs.Prelude.{codes, flat_map}
 use Rattle.std.specs.List.{AllByRecursion}
 use Rattle.std.proofs.lemmas.List.{append_cancel_left}
 use Rattle.decimal_text.specs.Numbers.{numeral}
-use Rattle.decimal_text.specs.Reading.{after, number_at, is_digit}
+use Rattle.decimal_text.specs.Reading.{after, number_at}
 use Rattle.decimal_text.proofs.Lines.{NoLf, NoLf-append, numeral_no_lf, const_no_lf}
 use Rattle.decimal_text.proofs.Reading.{some_is}
 use Rattle.refutation.specs.declared.state.State.{State}
@@ -13,7 +13,7 @@ use Rattle.refutation.specs.Grammar.{spaced, state_text, PathFits, StateFits}
 use Rattle.refutation.specs.inner.Reading.{ends_word, fact_at}
 use Rattle.refutation.specs.inner.StateLines.{NumbersInFront, BothInFront, NoneInFront, StateInFront, NoStateInFront}
 use Rattle.refutation.proofs.Parts.{facts_are_words}
-use Rattle.refutation.proofs.Words.{HasWords, spaced_no_lf}
+use Rattle.refutation.proofs.Words.{spaced_no_lf}
 
 -- ---- numbers in front
 

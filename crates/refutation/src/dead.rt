@@ -49,8 +49,7 @@ fn waits(
 ) -> bool
     ensures { MatchBool result (Waits trace.now addresses.now next.now words.now limits.now access.now) (¬ Waits trace.now addresses.now next.now words.now limits.now access.now) }
 {
-    let (Some(value), Some(word)) = (access.read(), word_of(addresses, words, access.addr()))
-    else {
+    let (Some(value), Some(word)) = (access.read(), word_of(addresses, words, access.addr())) else {
         return false;
     };
     value != word && none_stores(trace, next, limits, access.addr(), value)

@@ -5,8 +5,8 @@ ghost use Rattle.decimal_text.specs.Numbers.{numeral};
 ghost use Rattle.refutation.specs.Grammar.{range_text, RangeFits};
 ghost use Rattle.refutation.specs.inner.Telling.{TellsWords, TellsReason, TellsStep, TellsLine};
 
-use super::state_line::read_states;
 use super::reading::{fact, id, named, range, source};
+use super::state_line::read_states;
 use super::step::{Path, Ranges, Step};
 use decimal_text::after_text;
 use mem_op::OpId;

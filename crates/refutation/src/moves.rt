@@ -102,12 +102,7 @@ pub(crate) fn access_at(operations: &[Access], index: u64) -> Option<Access>
 }
 
 /// The index of the first of a core's operations, from this one on, that doesn't pass.
-fn settled_index(
-    operations: &[Access],
-    from: u64,
-    addresses: &[Address],
-    words: &[Word],
-) -> u64
+fn settled_index(operations: &[Access], from: u64, addresses: &[Address], words: &[Word]) -> u64
     ensures { result ≡ from + prefix_len (λ y. passes (word_of addresses.now words.now (address_of y)) y) (drop from operations.now) }
 {
     let count = operations.len() as u64;
@@ -148,11 +143,7 @@ pub(crate) fn number_of(numbers: &[u64], core: usize) -> u64
 }
 
 /// The id and the operation of a core whose index is its number.
-pub(crate) fn next_operation(
-    trace: &Trace,
-    numbers: &[u64],
-    core: usize,
-) -> Option<(OpId, Access)>
+pub(crate) fn next_operation(trace: &Trace, numbers: &[u64], core: usize) -> Option<(OpId, Access)>
     ensures { MatchOption result
         (operation_at trace.now (next_id numbers.now core) ≡ None)
         (λ found. (found.0 ≡ next_id numbers.now core) × (operation_at trace.now (next_id numbers.now core) ≡ Some found.1)) }

@@ -12,8 +12,7 @@ returns-in_default-after_text c = (no-dead-without-colon c.args.fields.now _ _ c
 
 pub returns-then-not-ends_word : goal.returns-then-not-ends_word
 returns-then-not-ends_word c =
-    let both = subst (λ (r : List ℕ). BothInFront c.args.fields.now c.read_both.new.next.items c.read_both.new.words.items r) c.in-Some-after_text.ensures.found (rw c.in-Some.is at c.in_ok-rest.ensures) in
-    (
+    let both = subst (λ (r : List ℕ). BothInFront c.args.fields.now c.read_both.new.next.items c.read_both.new.words.items r) c.in-Some-after_text.ensures.found (rw c.in-Some.is at c.in_ok-rest.ensures) in (
       no-dead-where-a-word-goes-on c.args.fields.now c.read_both.new.next.items c.read_both.new.words.items c.in-Some-after_text.fields.now c.read_numbers.new.numbers.items c.in_ok-rest-2.rest.now both c.in_ok-rest-2.ensures
           (λ ends. (let a = c.if-not-ends_word.true in let b = c.ends_word.ensures in cc)),
       refl,
@@ -21,8 +20,7 @@ returns-then-not-ends_word c =
 
 pub returns : goal.returns
 returns c =
-    let both = subst (λ (r : List ℕ). BothInFront c.args.fields.now c.read_both.new.next.items c.read_both.new.words.items r) c.in-Some-after_text.ensures.found (rw c.in-Some.is at c.in_ok-rest.ensures) in
-    (
+    let both = subst (λ (r : List ℕ). BothInFront c.args.fields.now c.read_both.new.next.items c.read_both.new.words.items r) c.in-Some-after_text.ensures.found (rw c.in-Some.is at c.in_ok-rest.ensures) in (
       Dead c.new.result c.new-2.result c.new-3.result,
       rw (c.new.ensures, c.new-2.ensures, c.new-3.ensures)
           (dead-in-front c.args.fields.now c.read_both.new.next.items c.read_both.new.words.items c.in-Some-after_text.fields.now c.read_numbers.new.numbers.items c.in_ok-rest-2.rest.now both c.in_ok-rest-2.ensures (search rules)),

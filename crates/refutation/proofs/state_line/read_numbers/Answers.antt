@@ -1,4 +1,4 @@
-use Rattle.std.proofs.Common.{rules, ◌<◌, ◌^◌, sym}
+use Rattle.std.proofs.Common.{◌<◌, ◌^◌, sym}
 use Rattle.decimal_text.specs.Numbers.{numeral}
 use Rattle.refutation.specs.inner.Reading.{fact_at}
 use Rattle.refutation.proofs.Parts.{facts_are_words}

@@ -1,4 +1,4 @@
-use Rattle.std.proofs.Common.{◌≡◌, refl, arith, sym, ◌∙◌, ap, [], ◌==◌, true, false, length}
+use Rattle.std.proofs.Common.{◌≡◌, sym, ◌∙◌, ap, ◌==◌, true, false, length}
 use Rattle.std.proofs.lemmas.Bool.{eqb-true, eq-eqb}
 use Rattle.std.proofs.lemmas.List.{nil_from_length}
 use Rattle.refutation.proofs.StateTexts.{state_shorter}

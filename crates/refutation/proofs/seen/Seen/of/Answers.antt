@@ -1,4 +1,4 @@
-use Rattle.std.proofs.Common.{ℕ, List, ◌∙◌, ap, arith, sym, subst, ◌≡◌}
+use Rattle.std.proofs.Common.{List, ◌∙◌, arith, subst, ◌≡◌}
 use Rattle.std.specs.List.{list_any}
 use Rattle.std.proofs.lemmas.List.{take_all}
 use Rattle.refutation.specs.declared.state.State.{State}
