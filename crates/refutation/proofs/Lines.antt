@@ -1,6 +1,6 @@
 -- Lines of a text, one by one.
 use Rattle.std.proofs.Common.{◌≡◌, ◌≢◌, ℕ, suc, ◌<◌, ◌^◌, Bool, true, false, eqb, List, [], ◌∷◌, ◌++◌, length, Option, Some, None, refl, sym, ap, subst, ◌∙◌, arith, append_assoc, length-append}
-use Rattle.std.specs.Prelude.{codes, if◌then◌else◌}
+use Rattle.std.specs.Prelude.{codes, flat_map, if◌then◌else◌}
 use Rattle.std.proofs.lemmas.List.{append_cancel_left}
 use Rattle.decimal_text.specs.Numbers.{numeral, as_u64}
 use Rattle.decimal_text.specs.Reading.{field_at, front_map}
@@ -12,11 +12,12 @@ use Rattle.refutation.specs.declared.step.Point.{Point}
 use Rattle.refutation.specs.declared.step.Point.TheVariants.{Init, At}
 use Rattle.refutation.specs.declared.step.Range.{Range}
 use Rattle.refutation.specs.declared.step.Step.{Step}
-use Rattle.refutation.specs.declared.step.Step.TheVariants.{Read, Order, FromRead, WriteOrder, Cycle}
-use Rattle.refutation.specs.Grammar.{spaced, id_text, point_text, is_same_point, range_text, reason_text, fields_text, step_text, steps_text, header_line, end_line, Fits, EachFits}
+use Rattle.refutation.specs.declared.step.Step.TheVariants.{Read, Order, FromRead, WriteOrder, Cycle, States}
+use Rattle.refutation.specs.Grammar.{spaced, state_text, id_text, point_text, is_same_point, range_text, reason_text, fields_text, step_text, steps_text, header_line, end_line, Fits, EachFits}
 use Rattle.refutation.specs.Texts.{StepInFront, NoStepInFront}
 use Rattle.refutation.specs.inner.Lines.{IsOneLine}
 use Rattle.refutation.specs.inner.Telling.{TellsLine}
+use Rattle.refutation.proofs.StateTexts.{states_no_lf}
 use Rattle.refutation.proofs.Words.{spaced_no_lf}
 
 -- ---- no line feed
@@ -55,6 +56,7 @@ step_no_lf (Order one other) =
 step_no_lf (FromRead source write path) = NoLf-append (codes "from-read ") (reason_text source write path) (const_no_lf (codes "from-read ") refl) (reason_no_lf source write path)
 step_no_lf (WriteOrder source write path) = NoLf-append (codes "write-order ") (reason_text source write path) (const_no_lf (codes "write-order ") refl) (reason_no_lf source write path)
 step_no_lf (Cycle path) = NoLf-append (codes "cycle :") (spaced numeral path) (const_no_lf (codes "cycle :") refl) (spaced_no_lf numeral numeral_no_lf path)
+step_no_lf (States addresses set) = NoLf-append (codes "states") (fields_text (States addresses set)) (const_no_lf (codes "states") refl) (NoLf-append (spaced numeral addresses) (flat_map state_text set) (spaced_no_lf numeral numeral_no_lf addresses) (states_no_lf set))
 
 -- ---- the first line
 

@@ -11,14 +11,15 @@ use Rattle.refutation.specs.declared.fault.CertificateFault.{CertificateFault}
 use Rattle.refutation.specs.declared.fault.CertificateFault.TheVariants.{BadCertificate, OutOfMemory}
 use Rattle.refutation.specs.declared.step.Range.{Range}
 use Rattle.refutation.specs.declared.step.Step.{Step}
-use Rattle.refutation.specs.declared.step.Step.TheVariants.{Read, Order, FromRead, WriteOrder, Cycle}
+use Rattle.refutation.specs.declared.step.Step.TheVariants.{Read, Order, FromRead, WriteOrder, Cycle, States}
 use Rattle.refutation.specs.Grammar.{spaced, id_text, range_text, reason_text, name_text, fields_text, step_text, steps_text, header_line, end_line, IdFits, RangeFits, PathFits, Fits, EachFits}
 use Rattle.refutation.specs.Texts.{Spells, NoStepInFront, Begins, EndsBadly, IsFirstMisshapen, IsFault}
 use Rattle.refutation.specs.TextLaws.{SpelledIsRead, AtMostOneFault}
 use Rattle.refutation.specs.inner.Reading.{id_at, named_at, source_at, fact_at, range_at}
 use Rattle.refutation.proofs.Lines.{line_once, step_no_lf, text_cons}
 use Rattle.refutation.proofs.Parts.{id_again, named_again, source_again, facts_are_words, ranges_are_words}
-use Rattle.refutation.proofs.StepLines.{first_of, name_of, name_first, other_name}
+use Rattle.refutation.proofs.StateTexts.{set-once}
+use Rattle.refutation.proofs.StepLines.{first_of, name_of, name_first}
 use Rattle.refutation.proofs.Words.{HasWords, all_words}
 
 -- ---- a step's line is that of one step
@@ -69,36 +70,20 @@ fields-once (Read read ranges) (Read read2 ranges2) p q name e =
     let id : read ≡ read2 = same.0 in
     let rest : ranges ≡ ranges2 = ranges-once ranges ranges2 p.1 q.1 same.1 in
     λ i. Read (id i) (rest i)
-fields-once (Read read ranges) (Order one2 other2) p q name e = absurd (other_name (codes "read ") (codes "order ") (λ wrong. omega (arith, wrong)) name)
-fields-once (Read read ranges) (FromRead source2 write2 path2) p q name e = absurd (other_name (codes "read ") (codes "from-read ") (λ wrong. omega (arith, wrong)) name)
-fields-once (Read read ranges) (WriteOrder source2 write2 path2) p q name e = absurd (other_name (codes "read ") (codes "write-order ") (λ wrong. omega (arith, wrong)) name)
-fields-once (Read read ranges) (Cycle path2) p q name e = absurd (other_name (codes "read ") (codes "cycle :") (λ wrong. omega (arith, wrong)) name)
-fields-once (Order one other) (Read read2 ranges2) p q name e = absurd (other_name (codes "order ") (codes "read ") (λ wrong. omega (arith, wrong)) name)
 fields-once (Order one other) (Order one2 other2) p q name e =
     let same = order-once one other one2 other2 p.0 p.1 q.0 q.1 e in
     λ i. Order (same.0 i) (same.1 i)
-fields-once (Order one other) (FromRead source2 write2 path2) p q name e = absurd (other_name (codes "order ") (codes "from-read ") (λ wrong. omega (arith, wrong)) name)
-fields-once (Order one other) (WriteOrder source2 write2 path2) p q name e = absurd (other_name (codes "order ") (codes "write-order ") (λ wrong. omega (arith, wrong)) name)
-fields-once (Order one other) (Cycle path2) p q name e = absurd (other_name (codes "order ") (codes "cycle :") (λ wrong. omega (arith, wrong)) name)
-fields-once (FromRead source write path) (Read read2 ranges2) p q name e = absurd (other_name (codes "from-read ") (codes "read ") (λ wrong. omega (arith, wrong)) name)
-fields-once (FromRead source write path) (Order one2 other2) p q name e = absurd (other_name (codes "from-read ") (codes "order ") (λ wrong. omega (arith, wrong)) name)
 fields-once (FromRead source write path) (FromRead source2 write2 path2) p q name e =
     let same = reason-once source source2 write write2 path path2 p q e in
     λ i. FromRead (same.source i) (same.write i) (same.path i)
-fields-once (FromRead source write path) (WriteOrder source2 write2 path2) p q name e = absurd (other_name (codes "from-read ") (codes "write-order ") (λ wrong. omega (arith, wrong)) name)
-fields-once (FromRead source write path) (Cycle path2) p q name e = absurd (other_name (codes "from-read ") (codes "cycle :") (λ wrong. omega (arith, wrong)) name)
-fields-once (WriteOrder source write path) (Read read2 ranges2) p q name e = absurd (other_name (codes "write-order ") (codes "read ") (λ wrong. omega (arith, wrong)) name)
-fields-once (WriteOrder source write path) (Order one2 other2) p q name e = absurd (other_name (codes "write-order ") (codes "order ") (λ wrong. omega (arith, wrong)) name)
-fields-once (WriteOrder source write path) (FromRead source2 write2 path2) p q name e = absurd (other_name (codes "write-order ") (codes "from-read ") (λ wrong. omega (arith, wrong)) name)
 fields-once (WriteOrder source write path) (WriteOrder source2 write2 path2) p q name e =
     let same = reason-once source source2 write write2 path path2 p q e in
     λ i. WriteOrder (same.source i) (same.write i) (same.path i)
-fields-once (WriteOrder source write path) (Cycle path2) p q name e = absurd (other_name (codes "write-order ") (codes "cycle :") (λ wrong. omega (arith, wrong)) name)
-fields-once (Cycle path) (Read read2 ranges2) p q name e = absurd (other_name (codes "cycle :") (codes "read ") (λ wrong. omega (arith, wrong)) name)
-fields-once (Cycle path) (Order one2 other2) p q name e = absurd (other_name (codes "cycle :") (codes "order ") (λ wrong. omega (arith, wrong)) name)
-fields-once (Cycle path) (FromRead source2 write2 path2) p q name e = absurd (other_name (codes "cycle :") (codes "from-read ") (λ wrong. omega (arith, wrong)) name)
-fields-once (Cycle path) (WriteOrder source2 write2 path2) p q name e = absurd (other_name (codes "cycle :") (codes "write-order ") (λ wrong. omega (arith, wrong)) name)
 fields-once (Cycle path) (Cycle path2) p q name e = ap (λ (xs : List ℕ). Cycle xs) (path-once path path2 p q e)
+fields-once (States addresses set) (States addresses2 set2) p q name e =
+    let same = set-once addresses addresses2 set set2 p q e in
+    λ i. States (same.0 i) (same.1 i)
+fields-once a b p q name e = absurd (let w = ap first_of name in omega (arith, w))
 
 step-once : (a b : Step) → Fits a → Fits b → step_text a ≡ step_text b → a ≡ b
 step-once a b p q e =
@@ -128,6 +113,7 @@ end-no_step count more step rest there = other step (ap (λ (xs : List ℕ). fir
     other (FromRead source write path) e = omega arith
     other (WriteOrder source write path) e = omega arith
     other (Cycle path) e = omega arith
+    other (States addresses set) e = omega arith
 
 spelled-no_step : (steps : List Step) → NoStepInFront (end_line (length steps))
 spelled-no_step steps = subst NoStepInFront (append-nil (end_line (length steps))) (end-no_step (length steps) [])

@@ -11,15 +11,18 @@ use Rattle.flat_replay.specs.Accesses.{address_of}
 use Rattle.refutation.specs.declared.step.Point.{Point}
 use Rattle.refutation.specs.declared.step.Point.TheVariants.{Init, At}
 use Rattle.refutation.specs.declared.step.Range.{Range}
+use Rattle.refutation.specs.declared.state.State.{State}
 use Rattle.refutation.specs.declared.step.Step.{Step}
-use Rattle.refutation.specs.declared.step.Step.TheVariants.{Read, Order, FromRead, WriteOrder, Cycle}
+use Rattle.refutation.specs.declared.step.Step.TheVariants.{Read, Order, FromRead, WriteOrder, Cycle, States}
 use Rattle.refutation.specs.declared.fact.Fact.{Fact}
 use Rattle.refutation.specs.declared.fact.Fact.TheVariants.{Before, Source}
 use Rattle.refutation.specs.Facts.{is_up_to, earlier_of, later_of, Leads, IsCycle}
 use Rattle.refutation.specs.Rules.{is_in, LiesIn, HasItsSourceIn, AreTwo, IsOtherWrite, Gives}
+use Rattle.refutation.specs.States.{IsClosedSet}
 use Rattle.refutation.specs.Refuting.{split, Leave}
 use Rattle.refutation.specs.Laws.{RefutationsHold}
-use Rattle.refutation.proofs.Timings.{Gave, NoStoreBetween, IsTiming, SourceUntil, Holds, AllHold}
+use Rattle.refutation.proofs.ClosedSound.{no-closed}
+use Rattle.refutation.proofs.Timings.{Gave, NoStoreBetween, IsTiming, SourceUntil, Holds, AllHold, order-of}
 use Rattle.refutation.proofs.Times.{time_in, timing-in}
 use Rattle.refutation.proofs.Paths.{leads-uncons, leads-none}
 
@@ -52,12 +55,8 @@ some-other : (cores : List (List Operation)) (time : Point → ℕ) (cases other
 some-other cores time [] others some = some
 some-other cores time (facts ∷ cases) others some = inr (some-other cores time cases others some)
 
--- a fact's own order
-order-of : (cores : List (List Operation)) (time : Point → ℕ) (fact : Fact) → Holds cores time fact → time (earlier_of fact) < time (later_of fact)
-order-of cores time (Before earlier later) holds = holds
-order-of cores time (Source read range) holds = holds.0
-
-module _ (cores : List (List Operation)) (time : Point → ℕ) (timing : IsTiming cores time) where
+module _ (cores : List (List Operation)) (time : Point → ℕ) (timing : IsTiming cores time)
+    (none-closed : (facts : List Fact) → AllHold cores time facts → (addresses : List ℕ) (states : List State) → IsClosedSet cores facts addresses states → ⊥) where
   -- where a path leads is not before where it starts
   leads-later : (facts : List Fact) → AllHold cores time facts → (from : Point) (path : List ℕ) (to : Point) → Leads facts from path to → time from ≤ time to
   leads-later facts all from [] to leads = timing.program from to leads
@@ -161,6 +160,7 @@ module _ (cores : List (List Operation)) (time : Point → ℕ) (timing : IsTimi
       let before = leads-later facts all (At write) path (At gives.read) gives.leads in
       subst (OneHolds cores time) (sym gives.gives) (inl (write-first gives.read gives.range.last write gives.other known.1 before))
   gives-one facts all (Cycle path) given gives = absurd (no-cycle facts all path gives.0)
+  gives-one facts all (States addresses set) given gives = absurd (none-closed facts all addresses set gives.0)
 
   -- of the cases that steps leave one holds
   left-one : (cases : List (List Fact)) (steps : List Step) (left : List (List Fact)) → SomeCase cores time cases → Leave cores cases steps left → SomeCase cores time left
@@ -173,4 +173,5 @@ module _ (cores : List (List Operation)) (time : Point → ℕ) (timing : IsTimi
 
 pub refutations-hold : RefutationsHold
 refutations-hold cores steps is consistent =
-    left-one cores (time_in consistent.0) (timing-in cores consistent.0 consistent.1) ([] ∷ []) steps [] (inl (λ number fact at. absurd cc)) is
+    left-one cores (time_in consistent.0) (timing-in cores consistent.0 consistent.1)
+    (λ facts all addresses states closed. no-closed cores consistent.0 consistent.1 addresses facts all states closed) ([] ∷ []) steps [] (inl (λ number fact at. absurd cc)) is

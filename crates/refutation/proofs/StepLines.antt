@@ -1,17 +1,20 @@
 -- The lines of steps: whether a line is one, and of which.
 use Rattle.std.proofs.Common.{◌≡◌, ◌≢◌, ℕ, ◌<◌, ◌^◌, ◌==◌, List, [], ◌∷◌, ◌++◌, Option, Some, None, refl, sym, ap, ◌∙◌, arith, append-nil}
-use Rattle.std.specs.Prelude.{codes, option_map, if◌then◌else◌}
+use Rattle.std.specs.Prelude.{codes, flat_map, option_map, if◌then◌else◌}
 use Rattle.decimal_text.specs.Numbers.{numeral}
 use Rattle.decimal_text.proofs.Reading.{some_is}
 use Rattle.mem_op.specs.declared.id.OpId.{OpId}
 use Rattle.refutation.specs.declared.line.Reason.{Reason}
 use Rattle.refutation.specs.declared.step.Range.{Range}
+use Rattle.refutation.specs.declared.state.State.{State}
 use Rattle.refutation.specs.declared.step.Step.{Step}
-use Rattle.refutation.specs.declared.step.Step.TheVariants.{Read, Order, FromRead, WriteOrder, Cycle}
-use Rattle.refutation.specs.Grammar.{spaced, id_text, range_text, reason_text, name_text, fields_text, IdFits, RangeFits, Fits}
+use Rattle.refutation.specs.declared.step.Step.TheVariants.{Read, Order, FromRead, WriteOrder, Cycle, States}
+use Rattle.refutation.specs.Grammar.{spaced, state_text, id_text, range_text, reason_text, name_text, fields_text, IdFits, RangeFits, Fits}
 use Rattle.refutation.specs.inner.Reading.{id_at, named_at, source_at}
+use Rattle.refutation.specs.inner.StateLines.{NumbersInFront, NoStateInFront}
 use Rattle.refutation.specs.inner.Telling.{TellsWords, TellsReason, TellsStep, TellsLine}
 use Rattle.refutation.proofs.Parts.{id_takes, id_again, named_takes, named_again, source_takes, source_again}
+use Rattle.refutation.proofs.StateTexts.{StatesSoFar, set-whole}
 
 -- ---- what is read once
 
@@ -31,7 +34,7 @@ first_of (b ∷ bs) = b
 
 -- the name that begins with a letter
 abbrev pub name_of : ℕ → List ℕ
-name_of b = if b == 114 then codes "read " else (if b == 111 then codes "order " else (if b == 102 then codes "from-read " else (if b == 119 then codes "write-order " else codes "cycle :")))
+name_of b = if b == 114 then codes "read " else (if b == 111 then codes "order " else (if b == 102 then codes "from-read " else (if b == 119 then codes "write-order " else (if b == 115 then codes "states" else codes "cycle :"))))
 
 pub name_first : (step : Step) (rest : List ℕ) → name_of (first_of (name_text step ++ rest)) ≡ name_text step
 name_first (Read read ranges) rest = refl
@@ -39,15 +42,17 @@ name_first (Order one other) rest = refl
 name_first (FromRead source write path) rest = refl
 name_first (WriteOrder source write path) rest = refl
 name_first (Cycle path) rest = refl
+name_first (States addresses set) rest = refl
 
 -- a line that begins with none of the names is no step's
 pub line-none : (line : List ℕ) → ((rest : List ℕ) → line ≢ codes "read " ++ rest) → ((rest : List ℕ) → line ≢ codes "order " ++ rest) → ((rest : List ℕ) → line ≢ codes "from-read " ++ rest)
-    → ((rest : List ℕ) → line ≢ codes "write-order " ++ rest) → ((rest : List ℕ) → line ≢ codes "cycle :" ++ rest) → TellsLine line None
-line-none line a b c d e (Read read ranges) fits is = a (fields_text (Read read ranges)) is
-line-none line a b c d e (Order one other) fits is = b (fields_text (Order one other)) is
-line-none line a b c d e (FromRead source write path) fits is = c (fields_text (FromRead source write path)) is
-line-none line a b c d e (WriteOrder source write path) fits is = d (fields_text (WriteOrder source write path)) is
-line-none line a b c d e (Cycle path) fits is = e (fields_text (Cycle path)) is
+    → ((rest : List ℕ) → line ≢ codes "write-order " ++ rest) → ((rest : List ℕ) → line ≢ codes "cycle :" ++ rest) → ((rest : List ℕ) → line ≢ codes "states" ++ rest) → TellsLine line None
+line-none line a b c d e f (Read read ranges) fits is = a (fields_text (Read read ranges)) is
+line-none line a b c d e f (Order one other) fits is = b (fields_text (Order one other)) is
+line-none line a b c d e f (FromRead source write path) fits is = c (fields_text (FromRead source write path)) is
+line-none line a b c d e f (WriteOrder source write path) fits is = d (fields_text (WriteOrder source write path)) is
+line-none line a b c d e f (Cycle path) fits is = e (fields_text (Cycle path)) is
+line-none line a b c d e f (States addresses set) fits is = f (fields_text (States addresses set)) is
 
 -- ---- the steps of each name
 
@@ -57,17 +62,11 @@ other_name a b apart e = apart (ap (λ (x : List ℕ). first_of x) e)
 -- none, where no fields of the kind are there
 read-none : (bytes : List ℕ) → ((read : OpId) (ranges : List Range) → Fits (Read read ranges) → bytes ≢ fields_text (Read read ranges)) → TellsStep (codes "read ") bytes None
 read-none bytes none (Read read ranges) fits name is = none read ranges fits is
-read-none bytes none (Order one other) fits name is = other_name (codes "order ") (codes "read ") (λ e. omega (arith, e)) name
-read-none bytes none (FromRead source write path) fits name is = other_name (codes "from-read ") (codes "read ") (λ e. omega (arith, e)) name
-read-none bytes none (WriteOrder source write path) fits name is = other_name (codes "write-order ") (codes "read ") (λ e. omega (arith, e)) name
-read-none bytes none (Cycle path) fits name is = other_name (codes "cycle :") (codes "read ") (λ e. omega (arith, e)) name
+read-none bytes none step fits name is = absurd (let e = ap first_of name in omega (arith, e))
 
 order-none : (bytes : List ℕ) → ((one other : OpId) → Fits (Order one other) → bytes ≢ fields_text (Order one other)) → TellsStep (codes "order ") bytes None
 order-none bytes none (Order one other) fits name is = none one other fits is
-order-none bytes none (Read read ranges) fits name is = other_name (codes "read ") (codes "order ") (λ e. omega (arith, e)) name
-order-none bytes none (FromRead source write path) fits name is = other_name (codes "from-read ") (codes "order ") (λ e. omega (arith, e)) name
-order-none bytes none (WriteOrder source write path) fits name is = other_name (codes "write-order ") (codes "order ") (λ e. omega (arith, e)) name
-order-none bytes none (Cycle path) fits name is = other_name (codes "cycle :") (codes "order ") (λ e. omega (arith, e)) name
+order-none bytes none step fits name is = absurd (let e = ap first_of name in omega (arith, e))
 
 pub from_read-told : (bytes : List ℕ) (found : Option Reason) → TellsReason bytes found → TellsStep (codes "from-read ") bytes (option_map (λ x. FromRead x.source x.write x.path) found)
 unfolding fields_text
@@ -76,10 +75,7 @@ from_read-told bytes None told = none
   where
     none : TellsStep (codes "from-read ") bytes None
     none (FromRead source write path) fits name is = told source write path fits.0 fits.1 fits.2 is
-    none (Read read ranges) fits name is = other_name (codes "read ") (codes "from-read ") (λ e. omega (arith, e)) name
-    none (Order one other) fits name is = other_name (codes "order ") (codes "from-read ") (λ e. omega (arith, e)) name
-    none (WriteOrder source write path) fits name is = other_name (codes "write-order ") (codes "from-read ") (λ e. omega (arith, e)) name
-    none (Cycle path) fits name is = other_name (codes "cycle :") (codes "from-read ") (λ e. omega (arith, e)) name
+    none step fits name is = absurd (let e = ap first_of name in omega (arith, e))
 
 pub write_order-told : (bytes : List ℕ) (found : Option Reason) → TellsReason bytes found → TellsStep (codes "write-order ") bytes (option_map (λ x. WriteOrder x.source x.write x.path) found)
 unfolding fields_text
@@ -88,10 +84,7 @@ write_order-told bytes None told = none
   where
     none : TellsStep (codes "write-order ") bytes None
     none (WriteOrder source write path) fits name is = told source write path fits.0 fits.1 fits.2 is
-    none (Read read ranges) fits name is = other_name (codes "read ") (codes "write-order ") (λ e. omega (arith, e)) name
-    none (Order one other) fits name is = other_name (codes "order ") (codes "write-order ") (λ e. omega (arith, e)) name
-    none (FromRead source write path) fits name is = other_name (codes "from-read ") (codes "write-order ") (λ e. omega (arith, e)) name
-    none (Cycle path) fits name is = other_name (codes "cycle :") (codes "write-order ") (λ e. omega (arith, e)) name
+    none step fits name is = absurd (let e = ap first_of name in omega (arith, e))
 
 pub cycle-told : (bytes : List ℕ) (found : Option (List ℕ)) → TellsWords numeral (λ n. n < 2 ^ 64) bytes found → TellsStep (codes "cycle :") bytes (option_map (λ path. Cycle path) found)
 unfolding fields_text
@@ -100,10 +93,7 @@ cycle-told bytes None told = none
   where
     none : TellsStep (codes "cycle :") bytes None
     none (Cycle path) fits name is = told path fits is
-    none (Read read ranges) fits name is = other_name (codes "read ") (codes "cycle :") (λ e. omega (arith, e)) name
-    none (Order one other) fits name is = other_name (codes "order ") (codes "cycle :") (λ e. omega (arith, e)) name
-    none (FromRead source write path) fits name is = other_name (codes "from-read ") (codes "cycle :") (λ e. omega (arith, e)) name
-    none (WriteOrder source write path) fits name is = other_name (codes "write-order ") (codes "cycle :") (λ e. omega (arith, e)) name
+    none step fits name is = absurd (let e = ap first_of name in omega (arith, e))
 
 -- ---- a number, a write and a path
 
@@ -194,3 +184,15 @@ order-told bytes rest behind end one other f none e g =
     let b = id_takes behind (other, end) g in
     let last : behind ≡ id_text other = b.1 ∙ ap (λ (x : List ℕ). id_text other ++ x) none ∙ append-nil (id_text other) in
     ((a.0, b.0), refl, a.1 ∙ ap (λ (x : List ℕ). id_text one ++ x) (f ∙ ap (λ (x : List ℕ). 32 ∷ x) last))
+
+-- ---- a set of states
+
+pub states-told : (fields a text rest : List ℕ) (s : List State) → NumbersInFront fields a text → StatesSoFar text s rest → rest ≡ [] → TellsStep (codes "states") fields (Some (States a s))
+unfolding fields_text
+states-told fields a text rest s front far none =
+    ((front.each, far.each), refl, front.text ∙ ap (λ (xs : List ℕ). spaced numeral a ++ xs) (far.text_is ∙ ap (λ (xs : List ℕ). flat_map state_text s ++ xs) none ∙ append-nil (flat_map state_text s)))
+
+pub states-none : (fields a text rest : List ℕ) (s : List State) → NumbersInFront fields a text → StatesSoFar text s rest → NoStateInFront rest → rest ≢ [] → TellsStep (codes "states") fields None
+unfolding fields_text
+states-none fields a text rest s front far last some (States b t) fits name is = some (set-whole fields a text b rest s t front far last fits.0 fits.1 is)
+states-none fields a text rest s front far last some step fits name is = absurd (let e = ap first_of name in omega (arith, e))

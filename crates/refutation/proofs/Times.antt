@@ -128,6 +128,13 @@ pub record LastStore (addr : ℕ) (ops : List Operation) (k value : ℕ) : Type 
 abbrev pub NoneOrLast : ℕ → List Operation → ℕ → ℕ → Type 0
 NoneOrLast addr ops k value = ((value ≡ 0) × ((i : ℕ) (z : Operation) → i < k → slice_get ops i ≡ Some z → is_store_to addr z ≡ false)) ⊎ LastStore addr ops k value
 
+-- the last value after one operation more
+pub last_value-next : (addr : ℕ) (ops : List Operation) (k : ℕ) (y : Operation) → slice_get ops k ≡ Some y → last_value addr (take (suc k) ops) ≡ cond (is_store_to addr y) (word_left y) (last_value addr (take k ops))
+last_value-next addr ops k y here =
+    let is : get_or ops k y ≡ y = get_or_from_slice_get ops k y y here in
+    let within = slice_get_within ops k y here in
+    ap (λ n. last_value addr (take n ops)) (let e : suc k ≡ k + 1 = omega arith in e) ∙ ap (last_value addr) (take_more ops k y within ∙ ap (λ x. take k ops ++ x ∷ []) is) ∙ last_value-push addr (take k ops) y
+
 pub last_store : (addr : ℕ) (ops : List Operation) (k : ℕ) → k ≤ length ops → NoneOrLast addr ops k (last_value addr (take k ops))
 last_store addr ops zero l = inl (refl, λ i z below. absurd (omega arith))
 last_store addr ops (suc k) l = go (get_or ops k (Stored 0 0)) refl (last_store addr ops k (omega arith))
@@ -139,7 +146,7 @@ last_store addr ops (suc k) l = go (get_or ops k (Stored 0 0)) refl (last_store 
         here = slice_get-get_or ops k (Stored 0 0) (omega arith) ∙ ap Some e
 
         value : last_value addr (take (suc k) ops) ≡ cond (is_store_to addr y) (word_left y) (last_value addr (take k ops))
-        value = ap (λ n. last_value addr (take n ops)) (let e : suc k ≡ k + 1 = omega arith in e) ∙ ap (last_value addr) (take_more ops k (Stored 0 0) (omega arith) ∙ ap (λ x. take k ops ++ x ∷ []) e) ∙ last_value-push addr (take k ops) y
+        value = last_value-next addr ops k y here
 
         by_test : (b : Bool) → is_store_to addr y ≡ b → NoneOrLast addr ops (suc k) (last_value addr (take (suc k) ops))
         by_test true t = inr (record {
@@ -235,7 +242,7 @@ module _ (cores : List (List Operation)) (order : List OpId) (sequential : IsSeq
       ap At g
 
   -- the operation at an id's place
-  operation-placed : (a : OpId) (y : Operation) → operation_at cores a ≡ Some y → slice_get (filter_map (operation_at cores) order) (place order a) ≡ Some y
+  pub operation-placed : (a : OpId) (y : Operation) → operation_at cores a ≡ Some y → slice_get (filter_map (operation_at cores) order) (place order a) ≡ Some y
   operation-placed a y there =
       operations_in cores order (λ k id h. is_there cores order sequential.serial id k h) (place order a)
       ∙ ap (option_and_then (operation_at cores)) (at_place order a (placed cores order sequential.serial a y there)) ∙ there
@@ -248,7 +255,7 @@ module _ (cores : List (List Operation)) (order : List OpId) (sequential : IsSeq
       go None e h = absurd cc
       go (Some w) e h = (w, h, place-is order sequential.program w k e)
 
-  flat_value : (k : ℕ) (y : Operation) (value : ℕ) → slice_get (filter_map (operation_at cores) order) k ≡ Some y → word_read y ≡ Some value → value ≡ last_value (address_of y) (take k (filter_map (operation_at cores) order))
+  pub flat_value : (k : ℕ) (y : Operation) (value : ℕ) → slice_get (filter_map (operation_at cores) order) k ≡ Some y → word_read y ≡ Some value → value ≡ last_value (address_of y) (take k (filter_map (operation_at cores) order))
   flat_value k (Loaded a v) value here reads = let e : v ≡ value = cc in sym e ∙ sequential.flat.loads k a v here
   flat_value k (Stored a v) value here reads = absurd cc
   flat_value k (Swapped a r v) value here reads = let e : r ≡ value = cc in sym e ∙ sequential.flat.swaps k a r v here

@@ -7,7 +7,7 @@ use Rattle.refutation.specs.declared.step.Point.{Point}
 use Rattle.refutation.specs.declared.step.Point.TheVariants.{Init, At}
 use Rattle.refutation.specs.declared.fact.Fact.{Fact}
 use Rattle.refutation.specs.declared.fact.Fact.TheVariants.{Before, Source}
-use Rattle.refutation.specs.Facts.{is_up_to}
+use Rattle.refutation.specs.Facts.{is_up_to, earlier_of, later_of}
 
 -- the word comes from a point: the initial 0, or a store of it to the address
 abbrev pub Gave : List (List Operation) → ℕ → ℕ → Point → Type 0
@@ -44,3 +44,8 @@ Holds cores time (Source read range) = (time range.first < time (At read)) × So
 -- all of them do
 abbrev pub AllHold : List (List Operation) → (Point → ℕ) → List Fact → Type 0
 AllHold cores time facts = (number : ℕ) (fact : Fact) → slice_get facts number ≡ Some fact → Holds cores time fact
+
+-- a fact's own order
+pub order-of : (cores : List (List Operation)) (time : Point → ℕ) (fact : Fact) → Holds cores time fact → time (earlier_of fact) < time (later_of fact)
+order-of cores time (Before earlier later) holds = holds
+order-of cores time (Source read range) holds = holds.0

@@ -8,8 +8,10 @@ use Rattle.mem_op.specs.Limits.{operation_limit}
 use Rattle.refutation.specs.declared.step.Point.{Point}
 use Rattle.refutation.specs.declared.step.Point.TheVariants.{Init, At}
 use Rattle.refutation.specs.declared.step.Range.{Range}
+use Rattle.refutation.specs.declared.state.State.{State}
+use Rattle.refutation.specs.declared.state.State.TheVariants.{Open, Dead}
 use Rattle.refutation.specs.declared.step.Step.{Step}
-use Rattle.refutation.specs.declared.step.Step.TheVariants.{Read, Order, FromRead, WriteOrder, Cycle}
+use Rattle.refutation.specs.declared.step.Step.TheVariants.{Read, Order, FromRead, WriteOrder, Cycle, States}
 
 -- ---- the texts
 
@@ -43,10 +45,17 @@ name_text (Order one other) = codes "order "
 name_text (FromRead source write path) = codes "from-read "
 name_text (WriteOrder source write path) = codes "write-order "
 name_text (Cycle path) = codes "cycle :"
+name_text (States addresses set) = codes "states"
 
 -- the number of a fact, a write and a path
 unfoldable pub reason_text : ℕ → OpId → List ℕ → List ℕ
 reason_text source write path = numeral source ++ 32 ∷ (id_text write ++ (codes " :" ++ spaced numeral path))
+
+-- of a state the indices and the words, and the limits of one that is dead
+unfoldable pub state_text : State → List ℕ
+state_text (Open next words) = codes " |" ++ (spaced numeral next ++ (codes " :" ++ spaced numeral words))
+state_text (Dead next words limits) =
+    codes " !" ++ (spaced numeral next ++ (codes " :" ++ (spaced numeral words ++ (codes " :" ++ spaced numeral limits))))
 
 -- what its line goes on with
 unfoldable pub fields_text : Step → List ℕ
@@ -55,6 +64,7 @@ fields_text (Order one other) = id_text one ++ 32 ∷ id_text other
 fields_text (FromRead source write path) = reason_text source write path
 fields_text (WriteOrder source write path) = reason_text source write path
 fields_text (Cycle path) = spaced numeral path
+fields_text (States addresses set) = spaced numeral addresses ++ flat_map state_text set
 
 -- the line of a step, without its line feed
 abbrev pub step_text : Step → List ℕ
@@ -90,12 +100,17 @@ RangeFits range = PointFits range.first × PointFits range.last
 abbrev pub PathFits : List ℕ → Type 0
 PathFits path = AllByRecursion (λ number. number < 2 ^ 64) path
 
+abbrev pub StateFits : State → Type 0
+StateFits (Open next words) = PathFits next × PathFits words
+StateFits (Dead next words limits) = PathFits next × PathFits words × PathFits limits
+
 abbrev pub Fits : Step → Type 0
 Fits (Read read ranges) = IdFits read × AllByRecursion RangeFits ranges
 Fits (Order one other) = IdFits one × IdFits other
 Fits (FromRead source write path) = (source < 2 ^ 64) × IdFits write × PathFits path
 Fits (WriteOrder source write path) = (source < 2 ^ 64) × IdFits write × PathFits path
 Fits (Cycle path) = PathFits path
+Fits (States addresses set) = PathFits addresses × AllByRecursion StateFits set
 
 abbrev pub EachFits : List Step → Type 0
 EachFits steps = AllByRecursion Fits steps

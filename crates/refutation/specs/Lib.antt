@@ -5,6 +5,7 @@ pub mod Grammar
 pub mod Laws
 pub mod Refuting
 pub mod Rules
+pub mod States
 pub mod TextLaws
 pub mod Texts
 pub mod inner

@@ -8,10 +8,11 @@ use Rattle.refutation.specs.declared.step.Point.{Point}
 use Rattle.refutation.specs.declared.step.Point.TheVariants.{Init, At}
 use Rattle.refutation.specs.declared.step.Range.{Range}
 use Rattle.refutation.specs.declared.step.Step.{Step}
-use Rattle.refutation.specs.declared.step.Step.TheVariants.{Read, Order, FromRead, WriteOrder, Cycle}
+use Rattle.refutation.specs.declared.step.Step.TheVariants.{Read, Order, FromRead, WriteOrder, Cycle, States}
 use Rattle.refutation.specs.declared.fact.Fact.{Fact}
 use Rattle.refutation.specs.declared.fact.Fact.TheVariants.{Before, Source}
 use Rattle.refutation.specs.Facts.{is_up_to, Leads, IsCycle}
+use Rattle.refutation.specs.States.{IsClosedSet}
 
 -- a point lies in a range
 abbrev pub is_in : Range → Point → Bool
@@ -80,3 +81,4 @@ Gives cores facts (Order one other) given = AreTwo cores one other × (given ≡
 Gives cores facts (FromRead source write path) given = IsFromRead cores facts source write path given
 Gives cores facts (WriteOrder source write path) given = IsWriteOrder cores facts source write path given
 Gives cores facts (Cycle path) given = IsCycle facts path × (given ≡ [])
+Gives cores facts (States addresses set) given = IsClosedSet cores facts addresses set × (given ≡ [])

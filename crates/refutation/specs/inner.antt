@@ -1,7 +1,11 @@
 -- Definitions that serve private contracts alone.
 pub mod Answers
 pub mod Covering
+pub mod Dead
 pub mod Lines
 pub mod Reading
+pub mod Seen
+pub mod Slots
+pub mod StateLines
 pub mod Telling
 pub mod Waiting

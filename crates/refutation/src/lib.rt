@@ -3,16 +3,22 @@
 
 mod answer;
 mod cases;
+mod closed;
 mod covering;
+mod dead;
 mod fact;
 mod fault;
 mod laws;
 mod line;
+mod moves;
 mod path;
 mod print;
 mod reading;
 mod refuting;
 mod rules;
+mod seen;
+mod state;
+mod state_line;
 mod step;
 mod text;
 
@@ -20,5 +26,6 @@ pub use answer::{Answer, confirm};
 pub use fault::CertificateFault;
 pub use laws::{complete, one_fault, refutations_hold, spelled_is_read};
 pub use refuting::{first_wrong_step, refutes};
+pub use state::{Numbers, State, StateSet};
 pub use step::{Path, Point, Range, Ranges, Refutation, Step};
 pub use text::first_bad_line;

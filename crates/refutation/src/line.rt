@@ -6,6 +6,7 @@ ghost use Rattle.refutation.specs.Grammar.{range_text, RangeFits};
 ghost use Rattle.refutation.specs.inner.Telling.{TellsWords, TellsReason, TellsStep, TellsLine};
 
 use super::reading::{fact, id, named, range, source};
+use super::state_line::read_states;
 use super::step::{Path, Ranges, Step};
 use decimal_text::after_text;
 use mem_op::OpId;
@@ -155,6 +156,8 @@ pub(crate) fn read_step(alloc: Global, line: &[u8]) -> Result<Option<Step>, Allo
         read_write_order(alloc, fields)
     } else if let Some(fields) = after_text(b"cycle :", line) {
         read_cycle(alloc, fields)
+    } else if let Some(fields) = after_text(b"states", line) {
+        read_states(alloc, fields)
     } else {
         Ok(None)
     }

@@ -1,10 +1,11 @@
 //! The text of a refutation, printed.
 
-ghost use Rattle.std.specs.Prelude.{◌≡◌, ◌++◌, ◌∷◌, [], IfOk, OnOk, Some, length, string_bytes};
+ghost use Rattle.std.specs.Prelude.{◌≡◌, ◌++◌, ◌∷◌, [], IfOk, OnOk, Some, flat_map, length, string_bytes};
 ghost use Rattle.decimal_text.specs.Numbers.{numeral};
-ghost use Rattle.refutation.specs.Grammar.{end_line, point_text, range_text, reason_text, refutation_text, spaced, step_text};
+ghost use Rattle.refutation.specs.Grammar.{end_line, point_text, range_text, reason_text, refutation_text, spaced, state_text, step_text};
 
 use super::reading::is_same;
+use super::state::{Numbers, State};
 use super::step::{Path, Point, Range, Ranges, Refutation, Step};
 use mem_op::OpId;
 use std::alloc::{AllocError, Global};
@@ -56,17 +57,67 @@ fn push_path(text: &mut String, path: &[usize]) -> Result<(), AllocError>
     ensures { OnOk result (string_bytes text.new ≡ string_bytes text.old ++ spaced numeral path.now) }
 {
     for number in path {
-        push_number(text, *number)?;
+        push_number(text, *number as u64)?;
     }
     Ok(())
 }
 
 /// Puts a number behind a text.
 #[tactic(auto, using(decimal_text::proofs::Printing::numeral_decimal))]
-fn push_number(text: &mut String, number: usize) -> Result<(), AllocError>
+fn push_number(text: &mut String, number: u64) -> Result<(), AllocError>
     ensures { OnOk result (string_bytes text.new ≡ string_bytes text.old ++ 32 ∷ numeral number) }
 {
     write!(text, " {number}")
+}
+
+/// Puts a state behind a text.
+#[tactic(auto, unfolding(crate::specs::Grammar::state_text))]
+fn push_state(text: &mut String, state: &State) -> Result<(), AllocError>
+    ensures { OnOk result (string_bytes text.new ≡ string_bytes text.old ++ state_text state.now) }
+{
+    match state {
+        State::Open { next, words } => {
+            push_named(text, " |", next)?;
+            push_named(text, " :", words)
+        }
+        State::Dead {
+            next,
+            words,
+            limits,
+        } => {
+            push_named(text, " !", next)?;
+            push_named(text, " :", words)?;
+            push_named(text, " :", limits)
+        }
+    }
+}
+
+/// Puts a sign and numbers behind a text.
+fn push_named(text: &mut String, sign: &str, numbers: &Numbers) -> Result<(), AllocError>
+    ensures { OnOk result (string_bytes text.new ≡ string_bytes text.old ++ (sign.now ++ spaced numeral numbers.now)) }
+{
+    text.push_str(sign)?;
+    push_numbers(text, numbers.as_slice())
+}
+
+/// Puts numbers behind a text.
+fn push_numbers(text: &mut String, numbers: &[u64]) -> Result<(), AllocError>
+    ensures { OnOk result (string_bytes text.new ≡ string_bytes text.old ++ spaced numeral numbers.now) }
+{
+    for number in numbers {
+        push_number(text, *number)?;
+    }
+    Ok(())
+}
+
+/// Puts states behind a text.
+fn push_states(text: &mut String, states: &[State]) -> Result<(), AllocError>
+    ensures { OnOk result (string_bytes text.new ≡ string_bytes text.old ++ flat_map state_text states.now) }
+{
+    for state in states {
+        push_state(text, state)?;
+    }
+    Ok(())
 }
 
 /// Puts the number of a fact and a space behind a text.
@@ -133,6 +184,11 @@ fn push_step(text: &mut String, step: &Step) -> Result<(), AllocError>
         Step::Cycle { path } => {
             text.push_str("cycle :")?;
             push_path(text, path.as_slice())
+        }
+        Step::States { addresses, set } => {
+            text.push_str("states")?;
+            push_numbers(text, addresses.as_slice())?;
+            push_states(text, set.as_slice())
         }
     }
 }

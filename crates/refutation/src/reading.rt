@@ -10,7 +10,7 @@ use decimal_text::{after_text, read_field, read_number};
 use mem_op::{CoreId, OpId, OpIndex};
 
 /// Whether no word goes on with these bytes.
-fn ends_word(bytes: &[u8]) -> bool
+pub(crate) fn ends_word(bytes: &[u8]) -> bool
     ensures { result ≡ ends_word bytes.now }
 {
     matches!(bytes, [] | [b' ', ..])

@@ -4,15 +4,18 @@ ghost use Rattle.std.specs.Prelude.{◌≡◌, ◌↔◌, IsTrue, [], ◌∷◌,
 ghost use Rattle.refutation.specs.declared.fact.Fact.TheVariants.{Before, Source};
 ghost use Rattle.refutation.specs.declared.step.Point.TheVariants.{At};
 ghost use Rattle.refutation.specs.Rules.{Gives, AreTwo, HasItsSourceIn, IsOtherWrite, IsFromRead, IsWriteOrder};
+ghost use Rattle.refutation.specs.States.{IsClosedSet};
 ghost use Rattle.refutation.specs.inner.Answers.{TellsGiven, TellsOne, TellsReading, IsCaseOf};
 
+use super::closed::is_closed;
 use super::covering::{Reading, cover};
 use super::fact::{Fact, Known, fact_at};
 use super::path::{is_cycle, leads};
+use super::state::StateSet;
 use super::step::{Point, Range, Step};
 use mem_op::OpId;
 use std::alloc::{AllocError, Global};
-use trace::Trace;
+use trace::{Address, Trace};
 
 /// The load or swap of an id.
 fn reading(trace: &Trace, id: &OpId) -> Option<Reading>
@@ -137,6 +140,19 @@ fn one_case(alloc: Global, fact: Option<Known>) -> Result<Option<Vec<Known>>, Al
     Ok(Some(vec![in alloc; fact]?))
 }
 
+/// No case, where a set of states shows that there is no order.
+fn by_states(
+    alloc: Global,
+    trace: &Trace,
+    facts: &[Known],
+    addresses: &[Address],
+    set: &StateSet,
+) -> Result<Option<Vec<Known>>, AllocError>
+    ensures { IfOk result (TellsGiven (λ given. IsClosedSet trace.now facts.now addresses.now set.now × (given ≡ []))) }
+{
+    Ok(is_closed(alloc, trace, facts, addresses, set)?.then_some(Vec::new(alloc)))
+}
+
 /// The facts of the cases that a step gives, where these are in force. None where the step isn't right.
 pub(crate) fn given(
     alloc: Global,
@@ -166,5 +182,12 @@ pub(crate) fn given(
             write_order(trace, facts, *source, write, path.as_slice()),
         ),
         Step::Cycle { path } => { Ok(is_cycle(facts, path.as_slice()).then_some(Vec::new(alloc))) }
+        Step::States { addresses, set } => by_states(
+            alloc,
+            trace,
+            facts,
+            addresses.as_slice(),
+            set,
+        ),
     }
 }

@@ -2,6 +2,7 @@
 
 ghost use Rattle.std.specs.Prelude.{◌≡◌};
 
+use super::state::{Numbers, StateSet};
 use mem_op::OpId;
 use std::marker::Model;
 
@@ -123,6 +124,13 @@ pub enum Step {
     Cycle {
         /// From the point back to it, by one fact or more.
         path: Path,
+    },
+    /// No state of a set leads to an end, and the first state is one of it, so this case can't be: it is closed.
+    States {
+        /// The addresses that are looked at.
+        addresses: Numbers,
+        /// The set.
+        set: StateSet,
     },
 }
 

@@ -59,7 +59,7 @@ impl Known {
 /// Whether a step closes the case that is looked at.
 pub fn closes(step: &Step) -> bool {
     match step {
-        Step::Cycle { .. } => true,
+        Step::Cycle { .. } | Step::States { .. } => true,
         Step::Read { ranges, .. } => ranges.as_slice().is_empty(),
         _ => false,
     }
@@ -91,7 +91,7 @@ pub(crate) fn given(
             let last = known_at(facts, *source).last;
             follows(alloc, Rule::WriteOrder, &Point::At(*write), &last, place)
         }
-        Step::Cycle { .. } => Ok(Vec::new(alloc)),
+        Step::Cycle { .. } | Step::States { .. } => Ok(Vec::new(alloc)),
     }
 }
 

@@ -4,9 +4,9 @@ use super::known::{Known, Rule};
 use super::path::Hop;
 use super::shown::{Deed, Joined, OneOf, Pairs, Shown, Stored, Way, Within};
 use mem_op::OpId;
-use refutation::{Point, Range};
+use refutation::{Point, Range, State};
 use std::alloc::{AllocError, Global};
-use trace::Trace;
+use trace::{Address, Trace};
 
 /// Adds a read that is looked at, and what may give its word.
 pub(crate) fn push_read(
@@ -144,4 +144,17 @@ fn by_program(alloc: Global, round: &[Hop]) -> Result<Vec<Hop>, AllocError> {
         }
     }
     Ok(pairs)
+}
+
+/// Adds how many states of which addresses are all that can be reached.
+pub(crate) fn push_states(
+    text: &mut String,
+    addresses: &[Address],
+    states: &[State],
+) -> Result<(), AllocError> {
+    write!(text, "but {} states of", states.len())?;
+    for address in addresses {
+        write!(text, " M[{address}]")?;
+    }
+    text.push_str(" are all that can be reached, and none of them is an end")
 }

@@ -9,7 +9,7 @@ use super::known::{closes, known_at};
 use super::path::{hops, round};
 use super::sentence::{
     push_after, push_case, push_from_read, push_order, push_read, push_round, push_source,
-    push_write_order,
+    push_states, push_write_order,
 };
 use mem_op::OpId;
 use refutation::{Point, Range, Refutation, Step};
@@ -144,6 +144,10 @@ impl<'a> Telling<'a> {
                 path,
             } => self.write_order(*source, write, path.as_slice()),
             Step::Cycle { path } => self.cycle(path.as_slice()),
+            Step::States { addresses, set } => {
+                self.new_line()?;
+                push_states(&mut self.text, addresses.as_slice(), set.as_slice())
+            }
         }
     }
 

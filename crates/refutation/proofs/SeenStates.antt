@@ -1,0 +1,121 @@
+-- The states of a set, looked up.
+use Rattle.std.specs.Prelude.{◌≡◌, ℕ, suc, ◌+◌, ◌<◌, Bool, true, false, ◌||◌, List, [], ◌∷◌, refl, IsTrue, length, take}
+use Rattle.std.specs.List.{list_any}
+use Rattle.std.specs.Global.{Vec}
+use Rattle.std.specs.BTreeSet.{BTreeSet, insert_key}
+use Rattle.std.specs.Cmp.Lexicographic.{nat_list_cmp_total, slice_cmp}
+use Rattle.std.specs.Ordering.{is_eq, match_ordering, nat_cmp, ordering_reverse, ordering_then}
+use Rattle.std.specs.declared.cmp.Ordering.{Ordering}
+use Rattle.std.specs.declared.cmp.Ordering.TheVariants.{Less, Equal, Greater}
+use Rattle.std.proofs.Common.{sym, ◌∙◌, ap, inl, inr, get_or}
+use Rattle.std.proofs.lemmas.Bool.{or_cases}
+use Rattle.std.proofs.lemmas.List.Folds.{list_any_at, list_any_more}
+use Rattle.std.proofs.lemmas.Map.Lookups.{exact_bytes}
+use Rattle.std.proofs.lemmas.Option.{get_or_from_slice_get, slice_get_within}
+use Rattle.refutation.specs.declared.state.State.{State}
+use Rattle.refutation.specs.States.{next_of, words_of, Has}
+use Rattle.refutation.specs.inner.Seen.{is_among}
+
+-- ---- indices and words that are the same
+
+abbrev pub by_lists : List ℕ → List ℕ → Ordering
+by_lists = slice_cmp nat_cmp
+
+abbrev pub same_as : List ℕ → List ℕ → List ℕ → List ℕ → Bool
+same_as next words n v = is_eq (ordering_then (by_lists next n) (by_lists words v))
+
+reflexive : (v : List ℕ) → by_lists v v ≡ Equal
+reflexive v = go (by_lists v v) (nat_list_cmp_total.antisymm v v)
+  where
+    go : (o : Ordering) → o ≡ ordering_reverse o → o ≡ Equal
+    go Less e = absurd cc
+    go Equal e = refl
+    go Greater e = absurd cc
+
+same-is : (next words n v : List ℕ) → same_as next words n v ≡ true → (next ≡ n) × (words ≡ v)
+same-is next words n v e = go (by_lists next n) refl (by_lists words v) refl e
+  where
+    go : (o : Ordering) → by_lists next n ≡ o → (p : Ordering) → by_lists words v ≡ p → is_eq (ordering_then o p) ≡ true → (next ≡ n) × (words ≡ v)
+    go Less a p b same = absurd cc
+    go Greater a p b same = absurd cc
+    go Equal a Less b same = absurd cc
+    go Equal a Greater b same = absurd cc
+    go Equal a Equal b same = (exact_bytes next n a, exact_bytes words v b)
+
+same-self : (next words : List ℕ) → same_as next words next words ≡ true
+same-self next words = ap (λ o. is_eq (ordering_then o (by_lists words words))) (reflexive next) ∙ ap is_eq (reflexive words)
+
+-- ---- one key more
+
+abbrev pub Key : Type 0
+Key = Vec ℕ × Vec ℕ
+
+abbrev pub by_keys : Key → Key → Ordering
+by_keys j k = ordering_then (by_lists j.0.items k.0.items) (by_lists j.1.items k.1.items)
+
+abbrev is_key : List ℕ → List ℕ → Key → Bool
+is_key next words k = same_as next words k.0.items k.1.items
+
+tied : (next words : List ℕ) (j k : Key) → by_keys j k ≡ Equal → is_key next words j ≡ is_key next words k
+tied next words j k e =
+    let same = same-is j.0.items j.1.items k.0.items k.1.items (ap is_eq e) in
+    ap (λ (n : List ℕ). same_as next words n j.1.items) same.0 ∙ ap (λ (v : List ℕ). same_as next words k.0.items v) same.1
+
+any-insert : (test : Key → Bool) → ((j k : Key) → by_keys j k ≡ Equal → test j ≡ test k) → (key : Key) (keys : List Key) → list_any test (insert_key by_keys keys key) ≡ (test key || list_any test keys)
+any-insert test tie key [] = refl
+any-insert test tie key (k ∷ keys) = go (by_keys key k) refl (any-insert test tie key keys)
+  where
+    swapped : (a b c : Bool) → (a || (b || c)) ≡ (b || (a || c))
+    swapped true true c = refl
+    swapped true false c = refl
+    swapped false true c = refl
+    swapped false false c = refl
+
+    twice : (a b : Bool) → (a || b) ≡ (a || (a || b))
+    twice true b = refl
+    twice false b = refl
+
+    go : (o : Ordering) → by_keys key k ≡ o → list_any test (insert_key by_keys keys key) ≡ (test key || list_any test keys)
+        → list_any test (match_ordering o (key ∷ k ∷ keys) (k ∷ keys) (k ∷ insert_key by_keys keys key)) ≡ (test key || (test k || list_any test keys))
+    go Less e later = refl
+    go Equal e later = twice (test k) (list_any test keys) ∙ ap (λ b. b || (test k || list_any test keys)) (sym (tie key k e))
+    go Greater e later = ap (λ b. test k || b) later ∙ swapped (test k) (test key) (list_any test keys)
+
+-- the states so far
+abbrev pub is_state : List ℕ → List ℕ → State → Bool
+is_state next words state = same_as next words (next_of state) (words_of state)
+
+pub among-more : (keys more : BTreeSet Key) (key : Key) (states : List State) (k : ℕ) (state : State) → more.keys ≡ insert_key by_keys keys.keys key → k < length states → state ≡ get_or states k state
+    → key.0.items ≡ next_of state → key.1.items ≡ words_of state
+    → ((next words : List ℕ) → is_among keys next words ≡ list_any (is_state next words) (take k states)) → (next words : List ℕ) → is_among more next words ≡ list_any (is_state next words) (take (k + 1) states)
+among-more keys more key states k state inserted l is next_is words_is so_far next words =
+    ap (list_any (is_key next words)) inserted ∙ any-insert (is_key next words) (tied next words) key keys.keys
+    ∙ ap (λ b. is_key next words key || b) (so_far next words)
+    ∙ ap (λ b. b || list_any (is_state next words) (take k states)) (ap (λ (n : List ℕ). same_as next words n key.1.items) next_is ∙ ap (λ (v : List ℕ). same_as next words (next_of state) v) words_is ∙ ap (is_state next words) is)
+    ∙ either (is_state next words (get_or states k state)) (list_any (is_state next words) (take k states))
+    ∙ sym (list_any_more (is_state next words) states k state l)
+  where
+    either : (a b : Bool) → (a || b) ≡ (b || a)
+    either true true = refl
+    either true false = refl
+    either false true = refl
+    either false false = refl
+
+-- ---- all states
+
+any-has : (next words : List ℕ) (states : List State) → list_any (is_state next words) states ≡ true → Has states next words
+any-has next words [] e = absurd cc
+any-has next words (state ∷ states) e = elim (or_cases (is_state next words state) (list_any (is_state next words) states) e) [
+  | inl here ↦ (let same = same-is next words (next_of state) (words_of state) here in record { number = 0; state = state; there = refl; next_is = sym same.0; words_is = sym same.1 })
+  | inr later ↦ (let has = any-has next words states later in record { number = suc has.number; state = has.state; there = has.there; next_is = has.next_is; words_is = has.words_is })
+]
+
+has-any : (next words : List ℕ) (states : List State) → Has states next words → list_any (is_state next words) states ≡ true
+has-any next words states has =
+    list_any_at (is_state next words) states has.number has.state (slice_get_within states has.number has.state has.there)
+    (ap (is_state next words) (get_or_from_slice_get states has.number has.state has.state has.there)
+    ∙ ap (λ (n : List ℕ). same_as next words n (words_of has.state)) has.next_is ∙ ap (λ (v : List ℕ). same_as next words next v) has.words_is ∙ same-self next words)
+
+pub all-among : (keys : BTreeSet Key) (states : List State) → ((next words : List ℕ) → is_among keys next words ≡ list_any (is_state next words) states)
+    → (next words : List ℕ) → (IsTrue (is_among keys next words) → Has states next words) × (Has states next words → IsTrue (is_among keys next words))
+all-among keys states all next words = (λ t. any-has next words states (sym (all next words) ∙ t), λ has. all next words ∙ has-any next words states has)
