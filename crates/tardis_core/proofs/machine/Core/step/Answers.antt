@@ -1,3 +1,4 @@
+use Rattle.std.proofs.Common.{rules}
 use Rattle.tardis_core.proofs.Judged.{ended_after, yes_before, yes_after, passes}
 use Rattle.tardis_core.proofs.machine.Core.step.Goals as goal
 
@@ -12,3 +13,9 @@ returns-clause-ended c = ended_after c.ended_runs_get_yes.ensures.yes c.args.eve
 
 pub returns-clause-passes : goal.returns-clause-passes
 returns-clause-passes c = passes c.never_refused.ensures.passes c.args.event c.args.self.now c.apply.result c.apply.new.self c.keeps.ensures c.apply.ensures.outcome
+
+pub returns-clause-leads : goal.returns-clause-leads
+returns-clause-leads c = search rules
+
+pub returns-clause-outcome : goal.returns-clause-outcome
+returns-clause-outcome c = search rules
