@@ -14,18 +14,18 @@ use std::test::Fail;
 
 /// The reads that two slices serve, in their order: the core and the address of each.
 #[derive(Clone, Copy)]
-struct Reads {
-    zero: &'static [(u64, u16)],
-    one: &'static [(u64, u16)],
+pub(super) struct Reads {
+    pub(super) zero: &'static [(u64, u16)],
+    pub(super) one: &'static [(u64, u16)],
 }
 
 /// A core that loads two words. It takes replies of slices, each by the slice and the place in its history.
 #[derive(Clone, Copy)]
-struct Reader {
-    program: &'static [u8],
-    taken: &'static [(usize, usize)],
-    // The second word is another than the slice told.
-    misled: bool,
+pub(super) struct Reader {
+    pub(super) program: &'static [u8],
+    pub(super) taken: &'static [(usize, usize)],
+    /// The second word is another than the slice told.
+    pub(super) misled: bool,
 }
 
 /// Slices, what readers took from slices that served other reads, and the place of the fault if there is one.
@@ -43,7 +43,7 @@ const CROSSED: Reads = Reads {
 };
 
 /// Core 0 is served before core 1.
-const IN_ORDER: Reads = Reads {
+pub(super) const IN_ORDER: Reads = Reads {
     zero: &[(0, 0), (1, 0)],
     one: &[(0, 1), (1, 1)],
 };
@@ -60,7 +60,7 @@ const NOTHING: Reads = Reads {
 };
 
 /// Two cores that load addresses 0 and 1, one after the other.
-const ONE_AFTER_THE_OTHER: &[Reader] = &[
+pub(super) const ONE_AFTER_THE_OTHER: &[Reader] = &[
     Reader {
         program: b"ld r0 0\nld r1 1\n",
         taken: &[(0, 0), (1, 0)],
@@ -149,14 +149,19 @@ const CASES: &[Case] = &[
     },
 ];
 
-// Two slices, with a lease of 10.
-fn two_slices() -> Result<Config, Fail> {
+/// Two slices, with a lease of 10.
+pub(super) fn two_slices() -> Result<Config, Fail> {
     Ok(Config::new(2, 10, 1_000, 8, 64, 8, 1_000)?)
 }
 
-// A slice that served first reads of addresses.
-fn served(alloc: Global, number: usize, reads: &[(u64, u16)]) -> Result<ManagerSlice, Fail> {
-    let mut slice = ManagerSlice::new(alloc, number, &two_slices()?)?;
+// A slice of this configuration that served first reads of addresses.
+fn served(
+    alloc: Global,
+    config: &Config,
+    number: usize,
+    reads: &[(u64, u16)],
+) -> Result<ManagerSlice, Fail> {
+    let mut slice = ManagerSlice::new(alloc, number, config)?;
     for (from, number) in reads {
         let message = read(*number, None, 0);
         let _reply = slice.handle(CoreId::new(*from)?, &message)?;
@@ -164,10 +169,14 @@ fn served(alloc: Global, number: usize, reads: &[(u64, u16)]) -> Result<ManagerS
     Ok(slice)
 }
 
-// The slices that served these reads.
-fn slices_of(alloc: Global, reads: Reads) -> Result<[ManagerSlice; 2], Fail> {
-    let zero = served(alloc, 0, reads.zero)?;
-    Ok([zero, served(alloc, 1, reads.one)?])
+/// The slices of this configuration that served these reads.
+pub(super) fn slices_of(
+    alloc: Global,
+    config: &Config,
+    reads: Reads,
+) -> Result<[ManagerSlice; 2], Fail> {
+    let zero = served(alloc, config, 0, reads.zero)?;
+    Ok([zero, served(alloc, config, 1, reads.one)?])
 }
 
 // The reply at a place of a slice's history.
@@ -218,14 +227,14 @@ fn unit_of(
     Ok(unit)
 }
 
-// The units of readers that took replies of these slices.
-fn units_of(
+/// The units of readers that took replies of these slices.
+pub(super) fn units_of(
     rt: &impl Abort,
     alloc: Global,
     readers: &[Reader],
     told: Reads,
 ) -> Result<Vec<CoreUnit>, Fail> {
-    let slices = slices_of(alloc, told)?;
+    let slices = slices_of(alloc, &two_slices()?, told)?;
     let mut units = Vec::new(alloc);
     for (number, reader) in readers.iter().enumerate() {
         units.push(unit_of(rt, alloc, number, reader, &slices)?)?;
@@ -237,7 +246,7 @@ fn units_of(
 fn lists_are_audited(rt: HostRuntime) -> Result<(), Fail> {
     for case in CASES {
         let units = units_of(&rt, rt.alloc(), case.readers, case.told)?;
-        let slices = slices_of(rt.alloc(), case.served)?;
+        let slices = slices_of(rt.alloc(), &two_slices()?, case.served)?;
         assert!(rt; units.len() <= 64);
         let place = match audit(units.as_slice(), &slices) {
             Ok(()) => None,

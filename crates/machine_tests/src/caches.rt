@@ -4,7 +4,7 @@ use super::values::*;
 use lease_rule::Config;
 use line_stamps::{Line, LineStamps, RecallKind, Reply};
 use mem_op::Source;
-use private_cache::{FillFault, PrivateCache, Store};
+use private_cache::{FillFault, Load, PrivateCache, Store};
 use std::process::Abort;
 use std::test::Fail;
 
@@ -40,11 +40,30 @@ fn goes_back(rt: &impl Abort, cache: &mut PrivateCache) {
     assert_eq!(rt; cache.recall(recall, 10), Ok(None));
 }
 
-// Its lease is renewed, though to no end before its write, and it is upgraded and stored to.
-fn is_upgraded(rt: &impl Abort, cache: &mut PrivateCache) {
+// Its lease has ended.
+fn misses(rt: &impl Abort, cache: &mut PrivateCache) {
+    let asked = Load::Miss(read(0, Some(stamp(1)), 23));
+    assert_eq!(rt; cache.load(addr(0), stamp(23), rank(0)), Ok(asked));
+}
+
+// It is renewed, though to no end before its write.
+fn is_renewed(rt: &impl Abort, cache: &mut PrivateCache) {
+    misses(rt, cache);
     let early = cache.fill(addr(0), &Reply::RenewRep(stamp(0)));
     assert_eq!(rt; early, Err(FillFault::BadReply));
+    misses(rt, cache);
     assert_eq!(rt; cache.fill(addr(0), &Reply::RenewRep(stamp(33))), Ok(()));
+    let second = Load::Hit {
+        value: 2,
+        source: Source::Store(id(0, 1)),
+        stamp: stamp(23),
+        rank: rank(0),
+    };
+    assert_eq!(rt; cache.load(addr(0), stamp(23), rank(0)), Ok(second));
+}
+
+// It is upgraded and stored to.
+fn is_upgraded(rt: &impl Abort, cache: &mut PrivateCache) {
     let third = cache.store(addr(0), 3, id(0, 2), stamp(23), rank(0));
     assert_eq!(rt; third, Ok(Store::Miss(write(0, Some(stamp(1))))));
     assert_eq!(rt; cache.fill(addr(0), &Reply::UpgradeRep(stamp(33))), Ok(()));
@@ -58,6 +77,7 @@ fn a_line_in_a_cache_of_one(rt: HostRuntime) -> Result<(), Fail> {
     let mut cache = PrivateCache::new(rt.alloc(), &config)?;
     is_stored(&rt, &mut cache);
     goes_back(&rt, &mut cache);
+    is_renewed(&rt, &mut cache);
     is_upgraded(&rt, &mut cache);
     Ok(())
 }

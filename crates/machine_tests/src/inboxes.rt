@@ -25,6 +25,21 @@ fn an_inbox_for_two_recalls(rt: HostRuntime) -> Result<(), Fail> {
     Ok(())
 }
 
+// A capacity of 0 counts as 1.
+#[test]
+fn an_inbox_for_one_recall(rt: HostRuntime) -> Result<(), Fail> {
+    for capacity in [0, 1] {
+        let inbox = Inbox::new(rt.alloc(), capacity)?;
+        let first = recall(1, 0, RecallKind::Flush, 0);
+        let second = recall(1, 5, RecallKind::WriteBack, 17);
+        assert_eq!(rt; inbox.offer(&rt, first), Ok(()));
+        assert_eq!(rt; inbox.offer(&rt, second), Err(second));
+        assert_eq!(rt; inbox.poll(&rt), Some(first));
+        assert_eq!(rt; inbox.poll(&rt), None);
+    }
+    Ok(())
+}
+
 // Two slices, with a lease of 10.
 fn two_slices() -> Result<Config, Fail> {
     Ok(Config::new(2, 10, 1_000, 64, 64, 64, 1_000)?)
