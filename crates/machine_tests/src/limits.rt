@@ -5,6 +5,7 @@ use core_program::ProgramSet;
 use lease_rule::Config;
 use line_stamps::{Message, Reply, Stamp};
 use manager_slice::{HistoryEntry, ManagedLine, ManagerSlice, SliceFault};
+use simulation::SimulationFault;
 use std::alloc::Global;
 use std::test::Fail;
 use tardis_core::{Core, CoreFault, Event, RunFault, UnitFault, run};
@@ -57,6 +58,20 @@ fn a_history_with_room_for_one_entry(rt: HostRuntime) -> Result<(), Fail> {
     assert_eq!(rt; full.entries, MOST);
     assert_eq!(rt; slice.handle(core(0), &zero), Err(SliceFault::HistoryFull));
     assert_eq!(rt; shown(&slice), full);
+    Ok(())
+}
+
+// A schedule that fills a history has more than a million lines, so this is no row.
+#[test]
+fn a_spill_that_is_refused(rt: HostRuntime) -> Result<(), Fail> {
+    let fault = SimulationFault::Slice {
+        number: 3,
+        fault: SliceFault::HistoryFull,
+    };
+    assert_eq!(rt;
+        fault.to_string(rt.alloc())?.as_str(),
+        "slice 3: 12 HistoryFull"
+    );
     Ok(())
 }
 

@@ -68,14 +68,15 @@ fn as_many_cores_and_slices_as_there_may_be(rt: HostRuntime) -> Result<(), Fail>
     Ok(())
 }
 
-// The fault of a run of two cores with a thousand turns for an operation.
+// The fault of a run of two cores with so many turns for an operation.
 fn fault_of<P: Pace + Sync, R: Threads + Wait + Sync>(
     rt: &R,
     alloc: Global,
     text: &[u8],
+    turns: u64,
     pace: &P,
 ) -> Result<MachineFault, Fail> {
-    let config = Config::new(1, 10, 100, 64, 64, 8, 1_000)?;
+    let config = Config::new(1, 10, 100, 64, 64, 8, turns)?;
     match ran(rt, alloc, text, &config, pace)? {
         Ok(_) => Err(Fail::from("the run doesn't come to its end")),
         Err(fault) => Ok(fault),
@@ -85,7 +86,7 @@ fn fault_of<P: Pace + Sync, R: Threads + Wait + Sync>(
 // Core 0 stops after its first operation. Core 1 goes on to its end, and what both did is consistent.
 #[test]
 fn a_core_that_is_stopped(rt: HostRuntime) -> Result<(), Fail> {
-    let fault = fault_of(&rt, rt.alloc(), CROSSING, &StopsCore0)?;
+    let fault = fault_of(&rt, rt.alloc(), CROSSING, 10_000_000, &StopsCore0)?;
     assert_eq!(rt; (fault.core, fault.cause), (0, Cause::Stopped));
     assert_eq!(rt;
         (fault.log(core(0)).len(), fault.log(core(1)).len()),
@@ -105,7 +106,7 @@ const WAITING: &[u8] =
 
 #[test]
 fn a_core_that_gives_up(rt: HostRuntime) -> Result<(), Fail> {
-    let fault = fault_of(&rt, rt.alloc(), WAITING, &Kept::new())?;
+    let fault = fault_of(&rt, rt.alloc(), WAITING, 1_000, &Kept::new())?;
     assert_eq!(rt; (fault.core, fault.cause), (1, Cause::GaveUp));
     assert_eq!(rt;
         (fault.log(core(0)).len(), fault.log(core(1)).len()),
