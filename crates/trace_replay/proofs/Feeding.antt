@@ -133,7 +133,7 @@ stop_of l begun bytes all line later stop w are at = go stop at
     go (Wrong wrong) at = stops _ at
     go (Refused (BadTraceLine number)) at = stops _ at
     go (Refused OutOfMemory) at = tt
-    go (Refused Read) at = tt
+    go (Refused Read) at = at
 
 -- that of a whole line stays
 pub settled : (l : LineReplay) (begun part bytes : List ℕ) (stop : Stop) (w : WasFed l begun bytes) → IsOneLine part
@@ -201,7 +201,7 @@ stop_by said line Nothing stop is by = absurd by
 stop_by said line (Performs core operation) (Wrong wrong) is by = (core, operation, is, by)
 stop_by said line (Performs core operation) (Refused (BadTraceLine number)) is by = absurd cc
 stop_by said line (Performs core operation) (Refused OutOfMemory) is by = tt
-stop_by said line (Performs core operation) (Refused Read) is by = tt
+stop_by said line (Performs core operation) (Refused Read) is by = absurd cc
 
 -- a line that stands whole in a piece
 pub whole_line : (r : Result (Unit {0}) Stop) (l : LineReplay) (said : List TraceLine) (line begun part : List ℕ) → begun ≡ [] → line ≡ strip_carriage_return part

@@ -84,7 +84,7 @@ in_turn_after core before (step ∷ later) are =
     go true is rest =
         ap (λ js. step.id.index ∷ js) rest
         ∙ ap (λ i. i ∷ range_with_len (count_by (is_of_core core) (before ++ step ∷ [])) (count_by (is_of_core core) later))
-            (are.0 ∙ ap (λ c. count_by (is_of_core c) before) (eqb-true step.id.core core is))
+        (are.0 ∙ ap (λ c. count_by (is_of_core c) before) (eqb-true step.id.core core is))
         ∙ ap (λ from. count_by (is_of_core core) before ∷ range_with_len from (count_by (is_of_core core) later)) (count_push core before step true is)
         ∙ ap (range_with_len (count_by (is_of_core core) before)) (let all = count_cons core step later true is in let n : suc (count_by (is_of_core core) later) ≡ count_by (is_of_core core) (step ∷ later) = omega arith in n)
     go false is rest =
@@ -123,7 +123,7 @@ at_ids cores before (step ∷ later) are own =
 pub in_order : (steps : List Step) → AreCountedAfter [] steps → GivesFlatAnswers (operations steps) → AreInOrder steps
 in_order steps are flat =
     let turn = from_turn (cores_of steps) (order_of steps) (λ core.
-        in_turn_after core [] steps are ∙ ap (range_with_len 0) (sym (number-own core steps) ∙ ap length (sym (own_is steps core)))) in
+    in_turn_after core [] steps are ∙ ap (range_with_len 0) (sym (number-own core steps) ∙ ap length (sym (own_is steps core)))) in
     record {
       serial = turn.0;
       program = turn.1;

@@ -122,10 +122,10 @@ pub wrong_next : (r : Replayer) (steps : List Step) (core : ℕ) (operation : Op
     → id ≡ counted_id (next_step steps core operation).id → IsWrongIn r.memory id operation wrong → IsWrong steps core operation wrong
 wrong_next r steps core operation id wrong stands is in_memory = record {
   isnt = λ order. in_memory.differs (
-    reads operation (λ addr. last_value addr (operations steps)) wrong.read in_memory.read (answered_last steps core operation stands.counted_ids order)
-    ∙ sym (words_are r steps stands (address_of operation))
-    ∙ sym (ap word_after in_memory.last ∙ ap (words_in r.memory) in_memory.addr)
-  );
+      reads operation (λ addr. last_value addr (operations steps)) wrong.read in_memory.read (answered_last steps core operation stands.counted_ids order)
+      ∙ sym (words_are r steps stands (address_of operation))
+      ∙ sym (ap word_after in_memory.last ∙ ap (words_in r.memory) in_memory.addr)
+      );
   id = in_memory.id_is ∙ is;
   addr = in_memory.addr;
   read = in_memory.read;

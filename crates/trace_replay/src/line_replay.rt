@@ -57,9 +57,7 @@ impl LineReplay {
     {
         self.number = self.number.saturating_add(1);
         let Some(said) = parse_line(line) else {
-            return Err(Stop::Refused(ReplayFault::BadTraceLine {
-                line: self.number,
-            }));
+            return Err(Stop::Refused(ReplayFault::BadTraceLine { line: self.number }));
         };
         perform(&mut self.replayer, said)
     }

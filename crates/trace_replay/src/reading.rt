@@ -4,7 +4,7 @@ ghost use Rattle.std.specs.Prelude.{◌≡◌, ℕ, List, IsErrOf, MatchResult, 
 ghost use Rattle.log_file.specs.Devices.{Failed, Tells};
 ghost use Rattle.trace_replay.specs.Answers.{IsFault, IsReplayed, IsVerdict};
 ghost use Rattle.trace_replay.specs.Reading.{ReadsOn};
-ghost use Rattle.trace_replay.specs.inner.Feeding.{IsStopOf};
+ghost use Rattle.trace_replay.specs.inner.Feeding.{IsAnswerOf, answer_to};
 ghost use Rattle.trace_replay.specs.declared.stop.Stop.TheVariants.{Refused};
 
 use super::fault::ReplayFault;
@@ -20,7 +20,7 @@ const PIECE: usize = 65_536;
 /// Replays the lines of a source, piece by piece, and answers how many operations they have.
 fn replay_pieces<S: ByteSource>(alloc: Global, source: &mut S) -> Result<u64, Stop>
     ensures answer { (bytes : List ℕ) × Tells (S.remaining source.old) bytes
-        × MatchResult result (IsReplayed bytes) (IsStopOf bytes) }
+        × MatchResult result (IsReplayed bytes) (λ stop. IsAnswerOf bytes (answer_to stop)) }
     ensures far { ReadsOn (S.remaining source.old) (S.remaining source.new) }
     ensures read { IsErrOf result (Stop.Refused ReplayFault.Read) →
         Failed (S.failed source.old) (S.failed source.new) }
@@ -41,6 +41,16 @@ fn replay_pieces<S: ByteSource>(alloc: Global, source: &mut S) -> Result<u64, St
     Err(Stop::Refused(ReplayFault::OutOfMemory))
 }
 
+/// What a stop is answered as.
+fn answer_to(stop: Stop) -> Result<ReplayVerdict, ReplayFault>
+    ensures { result ≡ answer_to stop }
+{
+    match stop {
+        Stop::Wrong(wrong) => Ok(ReplayVerdict::No(wrong)),
+        Stop::Refused(fault) => Err(fault),
+    }
+}
+
 /// Judges a trace in the order in which its lines stand: Yes where that is a sequential order of it, and No with the first
 /// operation at which it isn't. It reads no further than a piece of 65,536 bytes beyond. 42 comes with the first line that
 /// isn't a line of a trace, 10 where a growth was refused, and 28 where a read failed.
@@ -55,7 +65,6 @@ pub fn replay<S: ByteSource>(alloc: Global, source: &mut S) -> Result<ReplayVerd
 {
     match replay_pieces(alloc, source) {
         Ok(count) => Ok(ReplayVerdict::Yes(count)),
-        Err(Stop::Wrong(wrong)) => Ok(ReplayVerdict::No(wrong)),
-        Err(Stop::Refused(fault)) => Err(fault),
+        Err(stop) => answer_to(stop),
     }
 }

@@ -27,9 +27,9 @@ returns c = λ bytes fed. elim c.if-not-is_empty.branch [
   | then-not-is_empty+in_ok-take w ↦ (
       let some = some_if c.is_empty.result (length c.args.begun.now) c.is_empty.ensures w.if-not-is_empty.true in
       ended_with c.args.self w.take.new.self c.args.begun.now bytes c.count.result fed (some_bytes c.args.begun.now some) (w.in_ok-take.ensures fed.said fed.stands)
-          (subst (λ (l : LineReplay). Counts l.replayer c.count.result) w.self-is c.count.ensures))
+      (subst (λ (l : LineReplay). Counts l.replayer c.count.result) w.self-is c.count.ensures))
   | else-not-is_empty w ↦ (
       let zero = none_if c.is_empty.result (length c.args.begun.now) c.is_empty.ensures w.if-not-is_empty.false in
       ended c.args.self c.args.begun.now bytes c.count.result fed (nil_from_length c.args.begun.now zero)
-          (subst (λ (l : LineReplay). Counts l.replayer c.count.result) w.self-is c.count.ensures))
+      (subst (λ (l : LineReplay). Counts l.replayer c.count.result) w.self-is c.count.ensures))
 ]

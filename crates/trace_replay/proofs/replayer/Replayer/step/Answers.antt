@@ -22,19 +22,19 @@ returns c = λ steps stands.
     elim c.if-is_store_to.branch [
       | then-is_store_to+in_ok-insert w ↦
           stands_next r _ steps c.args.core c.args.access.now stands low c.in_default.ensures
-              (with_word w.word_left-word.result (with_index c.args.core (slice_index r.counts c.get-place.result)))
-              (kept_store r steps c.args.core c.get-place.result w.word_left-word.result c.args.access.now stands low at w.word_left-word.ensures)
-              (λ addr. ap (λ (q : Replayer). get nat_cmp q.memory addr) w.self-is
-                  ∙ memory_stored c.args.access.now r.memory w.insert.new.self _ c.addr-addr.result c.addr-addr.ensures (sym c.is_store_to.ensures ∙ w.if-is_store_to.true) w.in_ok-insert.ensures.updates addr)
-              c.get-place.result c.saturating_add.result at c.saturating_add.ensures
-              (ap (λ (q : Replayer). slice_set q.counts c.get-place.result c.saturating_add.result) w.self-is)
-              (c.saturating_add-self.ensures ∙ ap (λ (q : Replayer). min (q.count + 1) (2 ^ 64 - 1)) w.self-is)
+          (with_word w.word_left-word.result (with_index c.args.core (slice_index r.counts c.get-place.result)))
+          (kept_store r steps c.args.core c.get-place.result w.word_left-word.result c.args.access.now stands low at w.word_left-word.ensures)
+          (λ addr. ap (λ (q : Replayer). get nat_cmp q.memory addr) w.self-is
+          ∙ memory_stored c.args.access.now r.memory w.insert.new.self _ c.addr-addr.result c.addr-addr.ensures (sym c.is_store_to.ensures ∙ w.if-is_store_to.true) w.in_ok-insert.ensures.updates addr)
+          c.get-place.result c.saturating_add.result at c.saturating_add.ensures
+          (ap (λ (q : Replayer). slice_set q.counts c.get-place.result c.saturating_add.result) w.self-is)
+          (c.saturating_add-self.ensures ∙ ap (λ (q : Replayer). min (q.count + 1) (2 ^ 64 - 1)) w.self-is)
       | else-is_store_to w ↦
           stands_next r _ steps c.args.core c.args.access.now stands low c.in_default.ensures
-              (stored_by (next_step steps c.args.core c.args.access.now)) refl
-              (λ addr. ap (λ (q : Replayer). get nat_cmp q.memory addr) w.self-is
-                  ∙ memory_loaded c.args.access.now r.memory _ c.addr-addr.result c.addr-addr.ensures (sym c.is_store_to.ensures ∙ w.if-is_store_to.false) addr)
-              c.get-place.result c.saturating_add.result at c.saturating_add.ensures
-              (ap (λ (q : Replayer). slice_set q.counts c.get-place.result c.saturating_add.result) w.self-is)
-              (c.saturating_add-self.ensures ∙ ap (λ (q : Replayer). min (q.count + 1) (2 ^ 64 - 1)) w.self-is)
+          (stored_by (next_step steps c.args.core c.args.access.now)) refl
+          (λ addr. ap (λ (q : Replayer). get nat_cmp q.memory addr) w.self-is
+          ∙ memory_loaded c.args.access.now r.memory _ c.addr-addr.result c.addr-addr.ensures (sym c.is_store_to.ensures ∙ w.if-is_store_to.false) addr)
+          c.get-place.result c.saturating_add.result at c.saturating_add.ensures
+          (ap (λ (q : Replayer). slice_set q.counts c.get-place.result c.saturating_add.result) w.self-is)
+          (c.saturating_add-self.ensures ∙ ap (λ (q : Replayer). min (q.count + 1) (2 ^ 64 - 1)) w.self-is)
     ]
