@@ -1,5 +1,5 @@
 -- Lines that are replayed as they are fed.
-use Rattle.std.specs.Prelude.{◌≡◌, ◌≢◌, ⊤, ℕ, ◌+◌, ◌-◌, ◌^◌, ◌<◌, ◌==◌, false, min, List, [], ◌∷◌, ◌++◌, refl, Result, Ok, Err, MatchResult, length, fold, map}
+use Rattle.std.specs.Prelude.{◌≡◌, ◌≢◌, ℕ, ◌+◌, ◌-◌, ◌^◌, ◌==◌, false, min, List, [], ◌∷◌, ◌++◌, refl, Result, Ok, Err, MatchResult, length, fold}
 use Rattle.std.specs.List.{AllZip}
 use Rattle.std.specs.Str.Lines.{lines, strip_carriage_return}
 use Rattle.std.proofs.Common.{sym, ◌∙◌, ap, subst, arith, append_assoc, append-nil, length-append}
@@ -8,7 +8,7 @@ use Rattle.std.proofs.lemmas.List.Sums.{fold_push}
 use Rattle.mem_op.specs.Consistency.{Operation, IsSequentialOrder}
 use Rattle.trace.specs.Grammar.{IsLine}
 use Rattle.trace.specs.Reading.{IsOneLine}
-use Rattle.trace.specs.Texts.{line_number, with_line, trace_of}
+use Rattle.trace.specs.Texts.{line_number, with_line}
 use Rattle.trace.specs.declared.line.TraceLine.{TraceLine}
 use Rattle.trace.specs.declared.line.TraceLine.TheVariants.{Nothing, Performs}
 use Rattle.trace.proofs.Feeding.{first_line, last_line, says_push}

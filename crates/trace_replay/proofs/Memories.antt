@@ -1,11 +1,9 @@
 -- The memory after steps, as a map of last stores.
-use Rattle.std.specs.Prelude.{◌≡◌, ℕ, Bool, true, false, cond, List, [], ◌∷◌, ◌++◌, refl, Option, None, Some, find, map, reverse}
+use Rattle.std.specs.Prelude.{◌≡◌, ℕ, Bool, true, false, cond, List, [], ◌∷◌, ◌++◌, refl, Some, find, reverse}
 use Rattle.std.specs.Option.{option_map}
-use Rattle.std.proofs.Common.{sym, ◌∙◌, ap, arith}
-use Rattle.std.proofs.lemmas.Bool.{cases_Bool}
-use Rattle.std.proofs.lemmas.Bool.Decides.{nat_tests}
+use Rattle.std.proofs.Common.{sym, ◌∙◌, ap}
 use Rattle.std.proofs.lemmas.List.{map-append, reverse-append}
-use Rattle.mem_op.specs.Consistency.{Operation, Loaded, Stored, Swapped, is_store_to, value_or_zero, last_value}
+use Rattle.mem_op.specs.Consistency.{Operation, is_store_to, value_or_zero, last_value}
 use Rattle.trace_replay.specs.States.{last_store, stored_by, word_after}
 use Rattle.trace_replay.specs.Steps.{Step, operations}
 

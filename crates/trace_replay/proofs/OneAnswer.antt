@@ -1,5 +1,5 @@
 -- Bytes have one verdict at most, and none where they have a bad line.
-use Rattle.std.specs.Prelude.{◌≡◌, ◌≢◌, ◌⊎◌, ℕ, ◌<◌, List, [], ◌∷◌, ◌++◌, refl, Option, Some, length, fold, slice_get, take}
+use Rattle.std.specs.Prelude.{◌≡◌, ℕ, List, [], ◌∷◌, ◌++◌, Option, Some, length, fold, slice_get, take}
 use Rattle.std.specs.List.{AllZip}
 use Rattle.std.proofs.Common.{sym, ◌∙◌, ap, subst, inl, inr, arith, append_assoc, append-nil}
 use Rattle.std.proofs.lemmas.Grind.{common_steps}
@@ -8,12 +8,11 @@ use Rattle.std.proofs.lemmas.List.Sums.{fold-append}
 use Rattle.std.proofs.lemmas.Option.{gets}
 use Rattle.mem_op.specs.Consistency.{Operation, Loaded, Swapped, last_value, IsSequentialOrder, GivesFlatAnswers}
 use Rattle.mem_op.specs.Parts.{IdParts}
-use Rattle.flat_replay.specs.Accesses.{word_read}
 use Rattle.trace.specs.Grammar.{IsLine}
 use Rattle.trace.specs.declared.line.TraceLine.{TraceLine}
 use Rattle.trace.specs.declared.line.TraceLine.TheVariants.{Nothing, Performs}
 use Rattle.trace.proofs.LineTexts.{line_once}
-use Rattle.trace.proofs.OneFault.{SaysThere, says_there, AreOneOr, one_or}
+use Rattle.trace.proofs.OneFault.{says_there, AreOneOr, one_or}
 use Rattle.trace.proofs.OneTrace.{says_once}
 use Rattle.trace_replay.specs.Answers.{StandInOrder, IsReplayed, StopsAt, IsWrongAt, IsBadAt, IsVerdict, IsFault}
 use Rattle.trace_replay.specs.Laws.{AtMostOneAnswer}

@@ -1,19 +1,17 @@
 -- Steps whose ids are counted are in a sequential order exactly where they have their flat answers.
-use Rattle.std.specs.Prelude.{◌≡◌, ⊤, ℕ, zero, suc, ◌+◌, Bool, true, false, ◌==◌, if◌then◌else◌, List, [], ◌∷◌, ◌++◌, refl, Option, Some, None, length, map, count_by, fold, slice_get, nat_le, nat_lt}
+use Rattle.std.specs.Prelude.{◌≡◌, ℕ, zero, suc, ◌+◌, Bool, true, false, ◌==◌, if◌then◌else◌, List, [], ◌∷◌, ◌++◌, refl, Some, None, length, count_by, fold, slice_get}
 use Rattle.std.specs.List.{filter_map, cons_option, range_with_len}
-use Rattle.std.proofs.Common.{sym, ◌∙◌, ap, subst, inl, inr, arith, append_assoc, append-nil, length-append}
-use Rattle.std.proofs.lemmas.Bool.{cases_Bool, eqb-true, eq-eqb}
+use Rattle.std.proofs.Common.{sym, ◌∙◌, ap, subst, arith, append_assoc, append-nil}
+use Rattle.std.proofs.lemmas.Bool.{eqb-true, eq-eqb}
 use Rattle.std.proofs.lemmas.Bool.Decides.{nat_tests}
 use Rattle.std.proofs.lemmas.List.{map-append}
 use Rattle.std.proofs.lemmas.List.Elements.{filter_map-append}
 use Rattle.std.proofs.lemmas.List.Sums.{sum_by-cons, sum_by_push}
-use Rattle.std.proofs.lemmas.Option.{gets}
-use Rattle.mem_op.specs.declared.id.OpId.{OpId}
-use Rattle.mem_op.specs.Consistency.{Operation, operation_at, GivesFlatAnswers, IsSequentialOrder}
+use Rattle.mem_op.specs.Consistency.{Operation, operation_at, GivesFlatAnswers}
 use Rattle.trace.specs.Growing.{with_operation}
 use Rattle.flat_replay.specs.Accesses.{own_operations}
 use Rattle.flat_replay.proofs.Flat.{IsAnsweredBehind, flat_push, flat_at_middle}
-use Rattle.flat_replay.proofs.Turns.{indices, number_of, at_core, from_turn}
+use Rattle.flat_replay.proofs.Turns.{indices, at_core, from_turn}
 use Rattle.trace_replay.specs.Steps.{Step, is_of_core, next_step, AreCountedAfter, operations, order_of, with_step, cores_of, AreInOrder}
 
 -- ---- the operations of each core

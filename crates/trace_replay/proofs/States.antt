@@ -1,10 +1,10 @@
 -- A state of a replay, one step after another.
-use Rattle.std.specs.Prelude.{◌≡◌, ◌≢◌, ⊤, ℕ, ◌+◌, ◌-◌, ◌^◌, ◌<◌, ◌==◌, min, Bool, true, false, cond, if◌then◌else◌, List, [], ◌∷◌, ◌++◌, refl, Some, length, count_by, slice_index, slice_set}
+use Rattle.std.specs.Prelude.{◌≡◌, ◌≢◌, ℕ, ◌+◌, ◌-◌, ◌^◌, ◌<◌, ◌==◌, min, Bool, true, false, cond, List, [], ◌∷◌, ◌++◌, refl, Some, length, count_by, slice_index, slice_set}
 use Rattle.std.specs.Ordering.{nat_cmp}
 use Rattle.std.specs.BTreeMap.{BTreeMap, IsEmpty, Updates, get, is_at}
 use Rattle.std.specs.Map.{lookup}
 use lib.ListN.{replicate}
-use Rattle.std.proofs.Common.{sym, ◌∙◌, ap, subst, arith, get_or-set_same, get_or-set_other, length-append}
+use Rattle.std.proofs.Common.{sym, ◌∙◌, ap, arith, get_or-set_same, get_or-set_other, length-append}
 use Rattle.std.proofs.lemmas.Bool.{eq-eqb, eqb-true, false≢true}
 use Rattle.std.proofs.lemmas.List.{get_or-replicate, length-set}
 use Rattle.std.proofs.lemmas.Bool.Decides.{nat_tests}
@@ -13,10 +13,9 @@ use Rattle.mem_op.specs.Consistency.{Operation, Loaded, Stored, Swapped, is_stor
 use Rattle.mem_op.specs.Parts.{IdParts}
 use Rattle.flat_replay.specs.Accesses.{address_of, word_read}
 use Rattle.flat_replay.specs.Memory.{IsAnsweredBy}
-use Rattle.flat_replay.proofs.Flat.{IsAnsweredBehind}
 use Rattle.trace_replay.specs.Parts.{StoredParts, WrongParts}
 use Rattle.trace_replay.specs.Steps.{Step, is_of_core, next_step, operations}
-use Rattle.trace_replay.specs.States.{counted, counted_id, last_store, stored_by, word_after, StandsFor, IsWrong}
+use Rattle.trace_replay.specs.States.{counted, counted_id, stored_by, word_after, StandsFor, IsWrong}
 use Rattle.trace_replay.specs.inner.Words.{words_in, IsWrongIn}
 use Rattle.trace_replay.specs.declared.replayer.Replayer.{Replayer}
 use Rattle.trace_replay.proofs.Memories.{last_store-push, last_word}

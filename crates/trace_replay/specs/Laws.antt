@@ -1,10 +1,9 @@
 -- Laws of replays.
-use Rattle.std.specs.Prelude.{◌≡◌, ◌≢◌, ℕ, List, Result}
+use Rattle.std.specs.Prelude.{◌≡◌, ℕ, List}
 use Rattle.trace.specs.Texts.{trace_of}
 use Rattle.trace.specs.declared.line.TraceLine.{TraceLine}
 use Rattle.trace_replay.specs.Answers.{IsVerdict, IsFault}
 use Rattle.trace_replay.specs.Steps.{cores_of, steps_of}
-use Rattle.trace_replay.specs.declared.fault.ReplayFault.{ReplayFault}
 use Rattle.trace_replay.specs.declared.fault.ReplayFault.TheVariants.{BadTraceLine}
 use Rattle.trace_replay.specs.declared.verdict.ReplayVerdict.{ReplayVerdict}
 
