@@ -28,6 +28,8 @@ mod refutation_texts;
 #[cfg(test)]
 mod refuted;
 #[cfg(test)]
+mod replayed;
+#[cfg(test)]
 mod rows;
 #[cfg(test)]
 mod search_growths;

@@ -30,10 +30,10 @@ some_parts line bytes = go (slice_split is_lf bytes) (count_by is_lf bytes) (len
     go [] n e = absurd (omega arith)
     go (part ∷ parts) n e = refl
 
-first_line : (line more : List ℕ) → IsOneLine line → lines (line ++ 10 ∷ more) ≡ strip_carriage_return line ∷ lines more
+pub first_line : (line more : List ℕ) → IsOneLine line → lines (line ++ 10 ∷ more) ≡ strip_carriage_return line ∷ lines more
 first_line line more one = ap lines_of_parts (slice_split_at is_lf line 10 more one refl) ∙ some_parts line more
 
-last_line : (b : ℕ) (bs : List ℕ) → IsOneLine (b ∷ bs) → lines (b ∷ bs) ≡ (b ∷ bs) ∷ []
+pub last_line : (b : ℕ) (bs : List ℕ) → IsOneLine (b ∷ bs) → lines (b ∷ bs) ≡ (b ∷ bs) ∷ []
 last_line b bs one =
     ap lines_of_parts (slice_split_none is_lf (b ∷ bs) one)
     ∙ ap (λ t. cond t [] ((b ∷ bs) ∷ [])) (ne_eqb (length (b ∷ bs)) 0 (λ e. omega arith))
@@ -53,7 +53,7 @@ each_push : (whole : List (List ℕ)) (line : List ℕ) → AllByRecursion IsOne
 each_push [] line each one = (one, tt)
 each_push (first ∷ whole) line each one = (each.0, each_push whole line each.1 one)
 
-says_push : (ls : List (List ℕ)) (said : List TraceLine) (line : List ℕ) (last : TraceLine) → AllZip IsLine ls said → IsLine line last
+pub says_push : (ls : List (List ℕ)) (said : List TraceLine) (line : List ℕ) (last : TraceLine) → AllZip IsLine ls said → IsLine line last
     → AllZip IsLine (ls ++ line ∷ []) (said ++ last ∷ [])
 says_push [] [] line last says is = (is, tt)
 says_push [] (s ∷ said) line last says is = absurd says

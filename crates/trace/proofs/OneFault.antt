@@ -63,11 +63,11 @@ no_fault_there before after line here OutOfMemory is size at = refl
 -- ---- where a line stands among those that say something
 
 -- a line says something, after lines that said these
-record SaysThere (line : List ℕ) (before said : List TraceLine) : Type 0 where
-  here : TraceLine
-  is_line : IsLine line here
-  after : List TraceLine
-  said_are : said ≡ before ++ here ∷ after
+pub record SaysThere (line : List ℕ) (before said : List TraceLine) : Type 0 where
+  pub here : TraceLine
+  pub is_line : IsLine line here
+  pub after : List TraceLine
+  pub said_are : said ≡ before ++ here ∷ after
 
 says_longer : (x y : TraceLine) (line : List ℕ) (before said : List TraceLine) → x ≡ y → SaysThere line before said
     → SaysThere line (x ∷ before) (y ∷ said)
@@ -78,7 +78,7 @@ says_longer x y line before said first there = record {
   said_are = ap (λ z. z ∷ said) (sym first) ∙ ap (λ zs. x ∷ zs) there.said_are;
 }
 
-says_there : (earlier later : List (List ℕ)) (line : List ℕ) (before said : List TraceLine) → AllZip IsLine earlier before
+pub says_there : (earlier later : List (List ℕ)) (line : List ℕ) (before said : List TraceLine) → AllZip IsLine earlier before
     → AllZip IsLine (earlier ++ line ∷ later) said → SaysThere line before said
 says_there [] later line [] [] says all = absurd all
 says_there [] later line [] (y ∷ said) says all = record { here = y; is_line = all.0; after = said; said_are = refl }
@@ -104,7 +104,7 @@ spelled bytes cores OutOfMemory spells bad = refl
 -- ---- the lines of two faults
 
 -- two lines are the same one, or one of them says something before the other
-abbrev AreOneOr : List ℕ → List ℕ → List TraceLine → List TraceLine → Type 0
+abbrev pub AreOneOr : List ℕ → List ℕ → List TraceLine → List TraceLine → Type 0
 AreOneOr l m p q = ((p ≡ q) × (l ≡ m)) ⊎ (SaysThere l p q ⊎ SaysThere m q p)
 
 one_longer : (x y : TraceLine) (l m : List ℕ) (p q : List TraceLine) → x ≡ y → AreOneOr l m p q → AreOneOr l m (x ∷ p) (y ∷ q)
@@ -112,7 +112,7 @@ one_longer x y l m p q first (inl same) = inl (ap (λ z. z ∷ p) first ∙ ap (
 one_longer x y l m p q first (inr (inl there)) = inr (inl (says_longer x y l p q first there))
 one_longer x y l m p q first (inr (inr there)) = inr (inr (says_longer y x m q p (sym first) there))
 
-one_or : (e f ls ms : List (List ℕ)) (l m : List ℕ) (p q : List TraceLine) → e ++ l ∷ ls ≡ f ++ m ∷ ms → AllZip IsLine e p → AllZip IsLine f q
+pub one_or : (e f ls ms : List (List ℕ)) (l m : List ℕ) (p q : List TraceLine) → e ++ l ∷ ls ≡ f ++ m ∷ ms → AllZip IsLine e p → AllZip IsLine f q
     → AreOneOr l m p q
 one_or [] [] ls ms l m [] [] same a b = inl (refl, cc)
 one_or [] [] ls ms l m [] (y ∷ q) same a b = absurd b

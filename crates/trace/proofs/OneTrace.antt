@@ -7,7 +7,7 @@ use Rattle.trace.specs.Laws.{SpellsOne}
 use Rattle.trace.specs.Texts.{trace_of}
 use Rattle.trace.proofs.LineTexts.{line_once}
 
-says_once : (ls : List (List ℕ)) (a b : List TraceLine) → AllZip IsLine ls a → AllZip IsLine ls b → a ≡ b
+pub says_once : (ls : List (List ℕ)) (a b : List TraceLine) → AllZip IsLine ls a → AllZip IsLine ls b → a ≡ b
 says_once [] [] [] p q = refl
 says_once [] [] (y ∷ b) p q = absurd q
 says_once [] (x ∷ a) b p q = absurd p

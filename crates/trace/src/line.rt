@@ -13,7 +13,7 @@ use memchr::memchr;
 
 /// What a line of a trace says.
 #[derive(Clone, Copy, Debug, PartialEq, Eq)]
-pub(crate) enum TraceLine {
+pub enum TraceLine {
     /// Nothing: it has blanks and a comment at most, or is a fence of a core.
     Nothing,
     /// An operation of a core.

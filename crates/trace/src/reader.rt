@@ -16,7 +16,7 @@ use std::alloc::Global;
 use std::marker::Model;
 
 /// A line without the carriage return at its end.
-fn without_return(line: &[u8]) -> &[u8]
+pub fn without_return(line: &[u8]) -> &[u8]
     ensures { result.now ≡ strip_carriage_return line.now }
 {
     match line {
@@ -44,7 +44,7 @@ fn take_line(trace: &mut Trace, count: &mut u64, line: &[u8]) -> Result<(), Trac
 }
 
 /// The first line, without its line feed, and the bytes after it; None where no line feed is there.
-fn next_line(text: &[u8]) -> Option<(&[u8], &[u8])>
+pub fn next_line(text: &[u8]) -> Option<(&[u8], &[u8])>
     ensures found { IfSome result (λ split.
         IsOneLine split.0.now × (text.now ≡ split.0.now ++ 10 ∷ split.1.now)) }
     ensures none { IsNone result → IsOneLine text.now }

@@ -1,0 +1,50 @@
+-- What a state of a replay stands for, and what is told of a load that may not come next.
+use Rattle.std.specs.Prelude.{◌≡◌, ◌≢◌, ℕ, ◌-◌, ◌<◌, ◌^◌, min, List, [], ◌∷◌, ◌++◌, Option, None, Some, length, count_by, find, reverse, slice_index}
+use Rattle.std.specs.Option.{option_map}
+use Rattle.std.specs.Ordering.{nat_cmp}
+use Rattle.std.specs.BTreeMap.{get}
+use Rattle.mem_op.specs.Consistency.{Operation, is_store_to, word_left}
+use Rattle.mem_op.specs.Parts.{IdParts}
+use Rattle.mem_op.specs.declared.id.OpId.{OpId}
+use Rattle.flat_replay.specs.Accesses.{address_of, word_read}
+use Rattle.trace_replay.specs.Parts.{StoredParts, WrongParts}
+use Rattle.trace_replay.specs.Steps.{Step, is_of_core, next_step, AreCountedAfter, AreInOrder}
+use Rattle.trace_replay.specs.declared.replayer.Replayer.{Replayer}
+
+-- as far as 64 bits count
+abbrev pub counted : ℕ → ℕ
+counted n = min n (2 ^ 64 - 1)
+
+abbrev pub counted_id : OpId → IdParts
+counted_id id = record { core = id.core; index = counted id.index }
+
+-- the store that a step is
+abbrev pub stored_by : Step → StoredParts
+stored_by step = record { word = word_left step.operation; id = counted_id step.id }
+
+-- the last store to an address
+abbrev pub last_store : ℕ → List Step → Option StoredParts
+last_store addr steps = option_map stored_by (find (λ step. is_store_to addr step.operation) (reverse steps))
+
+-- the word that stands at an address after its last store
+abbrev pub word_after : Option StoredParts → ℕ
+word_after None = 0
+word_after (Some stored) = stored.word
+
+-- the steps were performed, in a sequential order of theirs, and the memory and the numbers are those after them
+pub record StandsFor (replayer : Replayer) (steps : List Step) : Type 0 where
+  pub counted_ids : AreCountedAfter [] steps
+  pub order : AreInOrder steps
+  pub cores : length replayer.counts ≡ 64
+  pub counts : (core : ℕ) → core < 64 → slice_index replayer.counts core ≡ counted (count_by (is_of_core core) steps)
+  pub memory : (addr : ℕ) → get nat_cmp replayer.memory addr ≡ last_store addr steps
+  pub count : replayer.count ≡ counted (length steps)
+
+-- after these steps an operation of a core isn't in a sequential order: what is told of it
+pub record IsWrong (steps : List Step) (core : ℕ) (operation : Operation) (wrong : WrongParts) : Type 0 where
+  pub isnt : ¬ AreInOrder (steps ++ next_step steps core operation ∷ [])
+  pub id : wrong.id ≡ counted_id (next_step steps core operation).id
+  pub addr : wrong.addr ≡ address_of operation
+  pub read : word_read operation ≡ Some wrong.read
+  pub last : wrong.last ≡ last_store wrong.addr steps
+  pub differs : wrong.read ≢ word_after wrong.last

@@ -1,0 +1,107 @@
+//! The lines of a trace, replayed as they come.
+
+ghost use Rattle.std.specs.Prelude.{◌≡◌, ◌++◌, [], ℕ, List, MatchResult};
+ghost use Rattle.std.specs.Str.Lines.{strip_carriage_return};
+ghost use Rattle.trace.specs.declared.line.TraceLine.{TraceLine};
+ghost use Rattle.trace_replay.specs.Answers.{IsReplayed};
+ghost use Rattle.trace_replay.specs.States.{StandsFor};
+ghost use Rattle.trace_replay.specs.Steps.{Step, with_said};
+ghost use Rattle.trace_replay.specs.inner.Feeding.{IsSettled, IsStopAt, IsStopBy, IsStopOf, Stands, TakesLine, WasFed};
+
+use super::fault::ReplayFault;
+use super::replayer::Replayer;
+use super::stop::Stop;
+use std::alloc::Global;
+use trace::{TraceLine, next_line, parse_line, without_return};
+
+/// Lines that were replayed.
+#[derive(Drop)]
+pub(crate) struct LineReplay {
+    /// Their operations.
+    replayer: Replayer,
+    /// How many there were.
+    number: u64,
+}
+
+/// Performs the operation that a line says, if it says one.
+fn perform(replayer: &mut Replayer, said: TraceLine) -> Result<(), Stop>
+    ensures { (steps : List Step) → StandsFor replayer.old steps → MatchResult result
+        (λ _. StandsFor replayer.new (with_said steps said))
+        (IsStopBy steps said) }
+{
+    match said {
+        TraceLine::Nothing => Ok(()),
+        TraceLine::Performs(core, access) => match replayer.step(core, &access)? {
+            None => Ok(()),
+            Some(wrong) => Err(Stop::Wrong(wrong)),
+        },
+    }
+}
+
+impl LineReplay {
+    /// No line was replayed.
+    pub(crate) fn new(alloc: Global) -> LineReplay
+        ensures { WasFed result [] [] }
+    {
+        LineReplay {
+            replayer: Replayer::new(alloc),
+            number: 0,
+        }
+    }
+
+    /// Replays one more line.
+    fn take(&mut self, line: &[u8]) -> Result<(), Stop>
+        ensures { (said : List TraceLine) → Stands self.old said → MatchResult result
+            (λ _. TakesLine said line.now self.new)
+            (IsStopAt said line.now) }
+    {
+        self.number = self.number.saturating_add(1);
+        let Some(said) = parse_line(line) else {
+            return Err(Stop::Refused(ReplayFault::BadTraceLine { line: self.number }));
+        };
+        perform(&mut self.replayer, said)
+    }
+
+    /// Replays the line that ends with this part, where `begun` has the bytes before it.
+    fn end(&mut self, begun: &mut Vec<u8>, part: &[u8]) -> Result<(), Stop>
+        ensures { (said : List TraceLine) → Stands self.old said → MatchResult result
+            (λ _. TakesLine said (strip_carriage_return (begun.old.items ++ part.now)) self.new
+            × (begun.new.items ≡ []))
+            (IsStopAt said (strip_carriage_return (begun.old.items ++ part.now))) }
+    {
+        if begun.is_empty() {
+            return self.take(without_return(part));
+        }
+        begun.extend_from_slice(part)?;
+        self.take(without_return(begun))?;
+        begun.clear();
+        Ok(())
+    }
+
+    /// Replays the lines that end in a piece, where `begun` has the bytes before it, and keeps the beginning of one more there.
+    pub(crate) fn feed(&mut self, begun: &mut Vec<u8>, piece: &[u8]) -> Result<(), Stop>
+        ensures { (bytes : List ℕ) → WasFed self.old begun.old.items bytes → MatchResult result
+            (λ _. WasFed self.new begun.new.items (bytes ++ piece.now))
+            (IsSettled (bytes ++ piece.now)) }
+    {
+        let mut rest = piece;
+        while let Some((part, behind)) = next_line(rest) {
+            self.end(begun, part)?;
+            rest = behind;
+        }
+        begun.extend_from_slice(rest)?;
+        Ok(())
+    }
+
+    /// Replays the last line, which lacks its line feed, and answers how many operations there were.
+    pub(crate) fn finish(mut self, begun: &[u8]) -> Result<u64, Stop>
+        ensures { (bytes : List ℕ) → WasFed self begun.now bytes → MatchResult result
+            (IsReplayed bytes)
+            (IsStopOf bytes) }
+    {
+        if !begun.is_empty() {
+            self.take(begun)?;
+        }
+        Ok(self.replayer.count())
+    }
+}

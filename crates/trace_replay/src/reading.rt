@@ -1,0 +1,70 @@
+//! A trace read from a source and replayed.
+
+ghost use Rattle.std.specs.Prelude.{◌≡◌, ℕ, List, IsErrOf, MatchResult, OnOk};
+ghost use Rattle.log_file.specs.Devices.{Failed, Tells};
+ghost use Rattle.trace_replay.specs.Answers.{IsFault, IsReplayed, IsVerdict};
+ghost use Rattle.trace_replay.specs.Reading.{ReadsOn};
+ghost use Rattle.trace_replay.specs.inner.Feeding.{IsAnswerOf, answer_to};
+ghost use Rattle.trace_replay.specs.declared.stop.Stop.TheVariants.{Refused};
+
+use super::fault::ReplayFault;
+use super::line_replay::LineReplay;
+use super::stop::Stop;
+use super::verdict::ReplayVerdict;
+use log_file::ByteSource;
+use std::alloc::Global;
+
+/// How many bytes are read at once.
+const PIECE: usize = 65_536;
+
+/// Replays the lines of a source, piece by piece, and answers how many operations they have.
+fn replay_pieces<S: ByteSource>(alloc: Global, source: &mut S) -> Result<u64, Stop>
+    ensures answer { (bytes : List ℕ) × Tells (S.remaining source.old) bytes
+        × MatchResult result (IsReplayed bytes) (λ stop. IsAnswerOf bytes (answer_to stop)) }
+    ensures far { ReadsOn (S.remaining source.old) (S.remaining source.new) }
+    ensures read { IsErrOf result (Stop.Refused ReplayFault.Read) →
+        Failed (S.failed source.old) (S.failed source.new) }
+    ensures quiet { ¬ IsErrOf result (Stop.Refused ReplayFault.Read) →
+        S.failed source.new ≡ S.failed source.old }
+{
+    let mut lines = LineReplay::new(alloc);
+    let mut begun = Vec::new(alloc);
+    let mut buffer = vec![in alloc; 0u8; PIECE]?;
+    'pieces: for _ in 0..u64::MAX {
+        let room = buffer.as_mut_slice();
+        let count = source.read(room)?;
+        if count == 0 {
+            return lines.finish(begun.as_slice());
+        }
+        lines.feed(&mut begun, &room[..count])?;
+    }
+    Err(Stop::Refused(ReplayFault::OutOfMemory))
+}
+
+/// What a stop is answered as.
+fn answer_to(stop: Stop) -> Result<ReplayVerdict, ReplayFault>
+    ensures { result ≡ answer_to stop }
+{
+    match stop {
+        Stop::Wrong(wrong) => Ok(ReplayVerdict::No(wrong)),
+        Stop::Refused(fault) => Err(fault),
+    }
+}
+
+/// Judges a trace in the order in which its lines stand: Yes where that is a sequential order of it, and No with the first
+/// operation at which it isn't. It reads no further than a piece of 65,536 bytes beyond. 42 comes with the first line that
+/// isn't a line of a trace, 10 where a growth was refused, and 28 where a read failed.
+pub fn replay<S: ByteSource>(alloc: Global, source: &mut S) -> Result<ReplayVerdict, ReplayFault>
+    ensures answer { (bytes : List ℕ) × Tells (S.remaining source.old) bytes
+        × MatchResult result (IsVerdict bytes) (IsFault bytes) }
+    ensures far { ReadsOn (S.remaining source.old) (S.remaining source.new) }
+    // A failed read is answered only where the source failed in this call, and none is passed over.
+    ensures read { IsErrOf result ReplayFault.Read →
+        Failed (S.failed source.old) (S.failed source.new) }
+    ensures quiet { ¬ IsErrOf result ReplayFault.Read → S.failed source.new ≡ S.failed source.old }
+{
+    match replay_pieces(alloc, source) {
+        Ok(count) => Ok(ReplayVerdict::Yes(count)),
+        Err(stop) => answer_to(stop),
+    }
+}
