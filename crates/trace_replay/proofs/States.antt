@@ -1,7 +1,7 @@
 -- A state of a replay, one step after another.
 use Rattle.std.specs.Prelude.{◌≡◌, ◌≢◌, ℕ, ◌+◌, ◌-◌, ◌^◌, ◌<◌, ◌==◌, min, Bool, true, false, cond, List, [], ◌∷◌, ◌++◌, refl, Some, length, count_by, slice_index, slice_set}
 use Rattle.std.specs.Ordering.{nat_cmp}
-use Rattle.std.specs.BTreeMap.{BTreeMap, IsEmpty, Updates, get, is_at}
+use Rattle.std.specs.BTreeMap.{BTreeMap, IsEmpty, IsUnchanged, Updates, get, is_at}
 use Rattle.std.specs.Map.{lookup}
 use lib.ListN.{replicate}
 use Rattle.std.proofs.Common.{sym, ◌∙◌, ap, arith, get_or-set_same, get_or-set_other, length-append}
@@ -43,6 +43,18 @@ nothing_performed r counts empty count = record {
 }
 
 -- ---- one step
+
+-- a memory whose entries stay
+pub stands_kept : (r s : Replayer) (steps : List Step) → StandsFor r steps → s.counts ≡ r.counts → IsUnchanged r.memory s.memory → s.count ≡ r.count
+    → StandsFor s steps
+stands_kept r s steps stands counts same count = record {
+  counted_ids = stands.counted_ids;
+  order = stands.order;
+  cores = ap length counts ∙ stands.cores;
+  counts = λ core low. ap (λ (ns : List ℕ). slice_index ns core) counts ∙ stands.counts core low;
+  memory = λ addr. ap (λ es. lookup (is_at (nat_cmp addr)) es) same ∙ stands.memory addr;
+  count = count ∙ stands.count;
+}
 
 abbrev pub with_index : ℕ → ℕ → IdParts
 with_index core n = record { core = core; index = n }

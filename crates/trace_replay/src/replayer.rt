@@ -1,6 +1,6 @@
 //! Operations performed one after another on one memory.
 
-ghost use Rattle.std.specs.Prelude.{◌≡◌, ◌≢◌, ◌<◌, ◌++◌, ◌∷◌, [], List, Some, IfOk, MatchOption, length};
+ghost use Rattle.std.specs.Prelude.{◌≡◌, ◌≢◌, ◌<◌, ◌++◌, ◌∷◌, [], List, Some, IfOk, IfSome, MatchOption, MatchResult, length};
 ghost use Rattle.std.specs.Ordering.{nat_cmp};
 ghost use Rattle.std.specs.BTreeMap.{get};
 ghost use Rattle.flat_replay.specs.Memory.{IsAnsweredBy};
@@ -79,9 +79,13 @@ impl Replayer {
     /// Performs the next operation of a core. A load or a swap that didn't read the word of its address is told, and isn't
     /// performed.
     pub fn step(&mut self, core: CoreId, access: &Access) -> Result<Option<WrongLoad>, AllocError>
-        ensures { (steps : List Step) → StandsFor self.old steps → IfOk result (λ wrong. MatchOption wrong
+        ensures performed { (steps : List Step) → StandsFor self.old steps → IfOk result (λ wrong. MatchOption wrong
             (StandsFor self.new (steps ++ next_step steps core access.now ∷ []))
             (IsWrong steps core access.now)) }
+        // What isn't performed leaves the state as it was.
+        ensures kept { (steps : List Step) → StandsFor self.old steps → MatchResult result
+            (λ wrong. IfSome wrong (λ _. StandsFor self.new steps))
+            (λ _. StandsFor self.new steps) }
     {
         let place = core.get() as usize;
         let index = self.counts[place];
