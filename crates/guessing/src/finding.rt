@@ -3,10 +3,11 @@
 use super::numbering::refutation;
 use super::shrinking::shrink;
 use super::splits::Search;
+use super::walks::Walks;
 use mem_op::OpId;
 use numbered_trace::{Budget, Classes, Operations, Place, SearchWatch, Stop, Tried, id, number};
 use refutation::Answer;
-use state_walk::{Walk, Walked, groups_of};
+use state_walk::Walked;
 use std::alloc::{AllocError, Global};
 use trace::Trace;
 
@@ -40,14 +41,13 @@ fn find_numbered<W: SearchWatch>(
     mut budget: Budget,
     watch: &W,
 ) -> Tried<Answer> {
-    let mut walks = Vec::new(alloc);
+    let mut walks = Walks::new(alloc, operations, classes)?;
     let mut walked = Walked::GivenUp;
     if words_repeat(operations, classes) {
-        walks = walks_of(alloc, operations, classes)?;
         budget.allow(budget.left() / 4);
-        walked = walk(&mut walks, &mut budget, watch)?;
+        walked = walks.run(&mut Vec::new(alloc), &mut budget, watch)?;
         if walked == Walked::Order {
-            return order_of_walks(alloc, operations, &walks);
+            return Ok(Answer::Order(ids(alloc, operations, &walks.order)?));
         }
         budget.allow(u64::MAX);
     }
@@ -58,16 +58,13 @@ fn find_numbered<W: SearchWatch>(
     if let Some(answer) = by_cases(&mut search, trace, watch)? {
         return Ok(answer);
     }
-    if walked == Walked::Closed {
-        return Err(Stop::GivenUp);
-    }
-    if walks.is_empty() {
-        walks = walks_of(alloc, operations, classes)?;
-    }
     budget = search.known.budget;
     budget.allow(u64::MAX);
-    walk_on(&mut walks, search.into_clocks()?, &mut budget, watch)?;
-    order_of_walks(alloc, operations, &walks)
+    let mut clocks = search.into_clocks()?;
+    if walked == Walked::Closed || walks.run(&mut clocks, &mut budget, watch)? != Walked::Order {
+        return Err(Stop::GivenUp);
+    }
+    Ok(Answer::Order(ids(alloc, operations, &walks.order)?))
 }
 
 /// What a search by cases finds. None where it gives up.
@@ -89,19 +86,6 @@ fn by_cases<W: SearchWatch>(
     }
 }
 
-/// A walk over the states of each group of cores that share no address with others.
-fn walks_of<'a>(
-    alloc: Global,
-    operations: &'a Operations,
-    classes: &'a Classes,
-) -> Tried<Vec<Walk<'a>>> {
-    let mut walks = Vec::new(alloc);
-    for group in groups_of(alloc, operations, classes.addresses())? {
-        walks.push(Walk::new(alloc, operations, classes, group)?)?;
-    }
-    Ok(walks)
-}
-
 /// Whether many reads have more than one candidate: one of eight.
 fn words_repeat(operations: &Operations, classes: &Classes) -> bool {
     let (mut reads, mut open) = (0usize, 0usize);
@@ -112,46 +96,6 @@ fn words_repeat(operations: &Operations, classes: &Classes) -> bool {
         }
     }
     open > reads / 8
-}
-
-/// What these walks come to: an order where each does.
-fn walk<W: SearchWatch>(walks: &mut [Walk], budget: &mut Budget, watch: &W) -> Tried<Walked> {
-    for walk in walks {
-        let walked = walk.run(budget, watch)?;
-        if walked != Walked::Order {
-            return Ok(walked);
-        }
-    }
-    Ok(Walked::Order)
-}
-
-/// Walks on to an order in which each operation comes after what these clocks tell. The search gives up where there is none.
-fn walk_on<W: SearchWatch>(
-    walks: &mut [Walk],
-    mut clocks: Vec<Place>,
-    budget: &mut Budget,
-    watch: &W,
-) -> Tried<()> {
-    for walk in walks {
-        walk.exchange_clocks(&mut clocks);
-        let walked = walk.run(budget, watch)?;
-        walk.exchange_clocks(&mut clocks);
-        if walked != Walked::Order {
-            return Err(Stop::GivenUp);
-        }
-    }
-    Ok(())
-}
-
-/// The orders of walks, one after the other.
-fn order_of_walks(alloc: Global, operations: &Operations, walks: &[Walk]) -> Tried<Answer> {
-    let mut order = Vec::new(alloc);
-    for walk in walks {
-        for place in walk.order() {
-            order.push(id(operations, *place)?)?;
-        }
-    }
-    Ok(Answer::Order(order))
 }
 
 /// The operations at these places.

@@ -15,6 +15,7 @@ mod schedule;
 mod shrinking;
 mod splits;
 mod stores;
+mod walks;
 
 pub use finding::guess;
 pub use numbered_trace::{SearchWatch, Unwatched};

@@ -28,7 +28,7 @@ impl Knowledge<'_> {
                 break;
             }
         }
-        self.settle_sources()?;
+        self.settle_sources(watch)?;
         let facts = &self.facts;
         self.open.retain(|read| at(&facts.sources, *read) == NONE);
         Ok(())
@@ -121,7 +121,7 @@ impl Knowledge<'_> {
     }
 
     /// Gives each open read its source of which all candidates but one are excluded, until there is none.
-    pub(crate) fn settle_sources(&mut self) -> Tried<()> {
+    pub(crate) fn settle_sources<W: SearchWatch>(&mut self, watch: &W) -> Tried<()> {
         let count = self.open.len().max(1);
         let mut idle = 0usize;
         for turn in 0..count.saturating_mul(count) {
@@ -130,6 +130,7 @@ impl Knowledge<'_> {
             };
             idle = idle.saturating_add(1);
             self.budget.spend(1)?;
+            self.budget.tell(watch)?;
             if self.settle(read)? {
                 idle = 0;
             } else if idle >= count {

@@ -69,10 +69,10 @@ impl<'a> Search<'a> {
             self.known.budget.tell(watch)?;
             step = match step {
                 Ok(()) if self.schedule.run(&mut self.known, watch)? => return Ok(None),
-                Ok(()) => self.split(),
+                Ok(()) => self.split(watch),
                 Err(Stop::Closed(conflict)) => match self.close(conflict)? {
                     Some(proof) => return Ok(Some(proof.reversed)),
-                    None => self.take_case(),
+                    None => self.take_case(watch),
                 },
                 Err(stop) => return Err(stop),
             };
@@ -94,7 +94,7 @@ impl<'a> Search<'a> {
     /// Splits where the schedule is stuck, and takes up the first case: by the order of a store that would write over a word
     /// that others are known to read still and of the store of that word, or else by the source of a read whose address
     /// has another word.
-    fn split(&mut self) -> Tried<()> {
+    fn split<W: SearchWatch>(&mut self, watch: &W) -> Tried<()> {
         let known = &self.known;
         let held = self.schedule.stuck(known, Move::Held);
         let cases = match held {
@@ -113,7 +113,7 @@ impl<'a> Search<'a> {
             current: 0,
             closed: Proof::new(self.known.alloc),
         })?;
-        self.take_case()
+        self.take_case(watch)
     }
 
     /// The candidates of a read whose address has another word, each with the read, those first that are the least far from
@@ -142,7 +142,7 @@ impl<'a> Search<'a> {
     }
 
     /// Concludes what follows in the current case of the last split.
-    fn take_case(&mut self) -> Tried<()> {
+    fn take_case<W: SearchWatch>(&mut self, watch: &W) -> Tried<()> {
         let split = self.splits.last().ok_or(Stop::GivenUp)?;
         let (is_of_source, mark) = (split.is_of_source, split.mark);
         let (earlier, later) = *split.cases.get(split.current).ok_or(Stop::GivenUp)?;
@@ -153,7 +153,7 @@ impl<'a> Search<'a> {
         }
         self.known.conclude()?;
         if self.known.operations.all.len() <= SMALL {
-            self.known.settle_sources()?;
+            self.known.settle_sources(watch)?;
         }
         self.schedule.repair(&self.known, mark)
     }

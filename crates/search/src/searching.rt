@@ -9,7 +9,8 @@ use std::alloc::{AllocError, Global};
 use trace::Trace;
 
 /// Whether a trace is consistent, with what shows it: an order, or a refutation. Undecided where neither was found in
-/// so many steps. The answer depends on the trace and the budget alone. Err where memory was refused.
+/// so many steps. The order as written is tried first, which takes no step. The answer depends on the trace, on how it was
+/// written, and on the budget alone. Err where memory was refused.
 pub fn search(alloc: Global, trace: &Trace, budget: u64) -> Result<Answer, AllocError>
     ensures right { IfOk result (IsRight trace.now) }
     ensures shown { IfOk result (IsShown trace.now) }
@@ -17,7 +18,7 @@ pub fn search(alloc: Global, trace: &Trace, budget: u64) -> Result<Answer, Alloc
     search_watched(alloc, trace, budget, &Unwatched)
 }
 
-/// The same. A watch is told how far the search is.
+/// The same. A watch is told how far the search is, and may stop it.
 pub fn search_watched<W: SearchWatch>(
     alloc: Global,
     trace: &Trace,
