@@ -4,6 +4,8 @@
 #[cfg(test)]
 mod addresses;
 #[cfg(test)]
+mod closed_states;
+#[cfg(test)]
 mod drawn;
 #[cfg(test)]
 mod failing_reads;
