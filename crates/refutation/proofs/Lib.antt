@@ -1,6 +1,4 @@
-pub mod Chains
 pub mod ClosedSound
-pub mod Completeness
 pub mod Covered
 pub mod DeadStates
 pub mod Fronts
@@ -11,6 +9,8 @@ pub mod NextOnes
 pub mod OneText
 pub mod Parts
 pub mod Paths
+pub mod Reached
+pub mod ReachedSets
 pub mod SeenStates
 pub mod Settled
 pub mod Sound

@@ -201,7 +201,7 @@ pub put_by_slot : (addresses words : List ℕ) (addr word : ℕ) → put_word ad
 put_by_slot addresses words addr word = slot-put [] words addresses addr word
 
 -- one core more is settled
-more-settled : (addresses words : List ℕ) (cores : List (List Operation)) (next : List ℕ) (core : ℕ) (ys : List Operation) → slice_get cores core ≡ Some ys
+pub more-settled : (addresses words : List ℕ) (cores : List (List Operation)) (next : List ℕ) (core : ℕ) (ys : List Operation) → slice_get cores core ≡ Some ys
     → settled addresses words (take (suc core) cores) next ≡ slice_set (settled addresses words (take core cores) next) core (slice_index next core + prefix_len (passing addresses words) (drop (slice_index next core) ys))
 more-settled addresses words [] next core ys at = absurd cc
 more-settled addresses words (zs ∷ cores) [] zero ys at = refl

@@ -1,4 +1,4 @@
-use Rattle.refutation.proofs.Completeness.{is-complete}
+use Rattle.refutation.proofs.ReachedSets.{is-complete}
 use Rattle.refutation.proofs.laws.complete.Goals as goal
 
 pub returns : goal.returns
