@@ -3,7 +3,7 @@ use Rattle.std.proofs.Common.{◌≡◌, ℕ, List, ap, subst, sym, inl, inr, ar
 use Rattle.std.specs.Prelude.{◌+◌, ◌-◌, ◌^◌, min, Option}
 use Rattle.std.proofs.lemmas.Bool.{cases_lt}
 use Rattle.log_file.specs.Devices.{Failed}
-use Rattle.call_devices.specs.Files.{Files, IsOnlyRead, KeepsFiles, one_more_unopened}
+use Rattle.host_files.specs.Files.{Files, IsOnlyRead, KeepsFiles, one_more_unopened}
 
 -- a count that rose by one, but for the largest, tells a failure
 risen : (n : ℕ) → Failed n (min (n + 1) (2 ^ 64 - 1))

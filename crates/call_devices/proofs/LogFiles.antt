@@ -13,7 +13,7 @@ use Rattle.verdict.specs.SetFaults.{from_set}
 use Rattle.verdict.specs.declared.judge_fault.Count.TheVariants.{Files as FileCount, Workers, Programs as ProgramCount}
 use Rattle.verdict.specs.declared.judge_fault.JudgeFault.{JudgeFault}
 use Rattle.verdict.specs.declared.judge_fault.JudgeFault.TheVariants.{BadConfig, Log, Read, OutOfMemory}
-use Rattle.call_devices.specs.Files.{Files, IsOnlyRead, IsUnread, one_more_unopened}
+use Rattle.host_files.specs.Files.{Files, IsOnlyRead, IsUnread, one_more_unopened}
 use Rattle.call_devices.specs.LogFiles.{AreSourcesOf, AreTextsOf, IsOpenFault, IsUnreadAt, IsUnspelled}
 use Rattle.call_devices.proofs.Files.{unopened}
 

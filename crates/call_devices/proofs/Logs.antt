@@ -9,7 +9,7 @@ use Rattle.log_file.specs.Devices.{Failed, Tells}
 use Rattle.log_file.specs.Log.{SpellsIn}
 use Rattle.log_record.specs.declared.format.Format.{Format}
 use Rattle.log_record.specs.declared.record.Record.{Record}
-use Rattle.call_devices.specs.Files.{Files}
+use Rattle.host_files.specs.Files.{Files}
 use Rattle.call_devices.specs.inner.Putting.{IsUnput}
 use Rattle.call_devices.specs.Logs.{ArePutAsFar, ArePutBefore, ArePutFirst, ArePutUpTo, IsUnwritten, KeepsOthers, log_name, TellsLog, TellsFirst}
 use Rattle.call_devices.specs.declared.call_fault.CallFault.{CallFault}

@@ -1,5 +1,4 @@
 pub mod CallFaults
-pub mod Files
 pub mod LogFiles
 pub mod Logs
 pub mod Outputs

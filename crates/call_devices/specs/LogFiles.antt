@@ -7,7 +7,7 @@ use Rattle.log_file.specs.Sets.{IsFirstOfSet, SpellSet}
 use Rattle.log_record.specs.declared.record.Record.{Record}
 use Rattle.verdict.specs.declared.judge_fault.JudgeFault.{JudgeFault}
 use Rattle.verdict.specs.declared.judge_fault.JudgeFault.TheVariants.{Log, Read, OutOfMemory}
-use Rattle.call_devices.specs.Files.{Files, IsOnlyRead, one_more_unopened}
+use Rattle.host_files.specs.Files.{Files, IsOnlyRead, one_more_unopened}
 
 -- these are sources of the files of these names: each tells the bytes that the folder tells
 abbrev pub AreSourcesOf : {S : Type 0} → (List ℕ → Option (List ℕ)) → (S → Option (List ℕ)) → List S → List (Bor (List ℕ)) → Type 0

@@ -4,7 +4,7 @@ use Rattle.log_file.specs.Devices.{Failed, Tells}
 use Rattle.log_file.specs.Log.{SpellsIn}
 use Rattle.log_record.specs.declared.format.Format.{Format}
 use Rattle.log_record.specs.declared.record.Record.{Record}
-use Rattle.call_devices.specs.Files.{Files}
+use Rattle.host_files.specs.Files.{Files}
 use Rattle.call_devices.specs.declared.call_fault.CallFault.{CallFault}
 use Rattle.call_devices.specs.declared.call_fault.CallFault.TheVariants.{LogUnwritten, OutOfMemory}
 pub use Rattle.command_line.specs.RunFiles.{log_name}

@@ -2,7 +2,7 @@
 use Rattle.std.specs.Prelude.{◌≡◌, ℕ, List, Option, None, Some}
 use Rattle.std.specs.Borrow.{Bor}
 use Rattle.log_file.specs.Devices.{Failed, Tells}
-use Rattle.call_devices.specs.Files.{Files, KeepsFiles}
+use Rattle.host_files.specs.Files.{Files, KeepsFiles}
 
 -- the name that the file goes to, where one was given
 abbrev pub IsNameOf : Option (Bor (List ℕ)) → List ℕ → Type 0

@@ -2,14 +2,13 @@
 #![tactic(auto)]
 
 mod call_fault;
-mod folder;
 mod log_files;
 mod putting;
 mod text;
 mod writing;
 
 pub use call_fault::CallFault;
-pub use folder::Folder;
+
 pub use log_files::{open_all, read_log_files, trace_of};
 pub use putting::put_under;
 pub use text::{read_programs, read_text};

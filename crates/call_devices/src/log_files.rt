@@ -3,10 +3,10 @@
 ghost use Rattle.std.specs.Prelude.{◌≡◌, ◌≤◌, All, IfErr, IfOk, OnOk, length, vec_len};
 ghost use Rattle.mem_op.specs.Limits.{operation_limit};
 ghost use Rattle.log_record.specs.Entries.{operations_of, record_lists};
-ghost use Rattle.call_devices.specs.Files.{IsUnread};
+ghost use Rattle.host_files.specs.Files.{IsUnread};
 ghost use Rattle.call_devices.specs.LogFiles.{AreSourcesOf, IsOpenFault, IsUnspelled, Spelled};
 
-use super::folder::Folder;
+use host_files::Folder;
 use log_file::LogSet;
 use log_record::Record;
 use std::alloc::{AllocError, Global};

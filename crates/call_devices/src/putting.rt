@@ -1,10 +1,10 @@
 //! A file that is put where a name is given for it.
 
 ghost use Rattle.std.specs.Prelude.{OnErr, OnOk};
-ghost use Rattle.call_devices.specs.Files.{KeepsFiles};
+ghost use Rattle.host_files.specs.Files.{KeepsFiles};
 ghost use Rattle.call_devices.specs.Outputs.{FailsPutAt, IsNameOf, PutsAt};
 
-use super::folder::Folder;
+use host_files::Folder;
 use log_file::WriteFailed;
 
 /// Puts a file of these bytes under a name, where one is given: 29 where that fails.

@@ -2,12 +2,12 @@
 
 ghost use Rattle.std.specs.Prelude.{◌≡◌, IfErr, IfOk, OnOk};
 ghost use Rattle.log_file.specs.Devices.{Tells};
-ghost use Rattle.call_devices.specs.Files.{IsOnlyRead, IsUnread};
+ghost use Rattle.host_files.specs.Files.{IsOnlyRead, IsUnread};
 ghost use Rattle.call_devices.specs.Programs.{AreProgramsIn, IsUnprogrammed};
 ghost use Rattle.call_devices.specs.inner.Texts.{IsNoText};
 
 use super::call_fault::CallFault;
-use super::folder::Folder;
+use host_files::Folder;
 use core_program::ProgramSet;
 use log_file::{ReadFault, read_all};
 use std::alloc::Global;

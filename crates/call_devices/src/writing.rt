@@ -9,7 +9,7 @@ ghost use Rattle.call_devices.specs.Logs as logs;
 ghost use Rattle.call_devices.specs.inner.Putting.{IsUnput};
 
 use super::call_fault::CallFault;
-use super::folder::Folder;
+use host_files::Folder;
 use log_file::{MemSink, write_log};
 use log_record::{Format, Record};
 use mem_op::CoreId;

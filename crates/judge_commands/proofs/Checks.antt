@@ -5,7 +5,7 @@ use Rattle.std.specs.Borrow.{Bor}
 use Rattle.command_line.specs.declared.request.Check.{Check}
 use Rattle.log_record.specs.declared.record.Record.{Record}
 use Rattle.core_program.specs.declared.instruction.Instruction.{Instruction}
-use Rattle.call_devices.specs.Files.{Files, IsUnread}
+use Rattle.host_files.specs.Files.{Files, IsUnread}
 use Rattle.call_devices.specs.LogFiles.{AreTextsOf, IsOpenFault, IsUnreadAt}
 use Rattle.call_devices.proofs.LogFiles.{unopened_at}
 use Rattle.verdict.specs.Counts.{IsInRange, IsOutOfRange}

@@ -17,7 +17,7 @@ use Rattle.verdict.specs.declared.answer.Verdict.TheVariants.{Yes, No}
 use Rattle.verdict.specs.declared.judge_fault.Count.TheVariants.{Files as FileCount, Workers, Programs as ProgramCount}
 use Rattle.verdict.specs.declared.judge_fault.JudgeFault.{JudgeFault}
 use Rattle.verdict.specs.declared.judge_fault.JudgeFault.TheVariants.{BadConfig, Log, Read, OutOfMemory}
-use Rattle.call_devices.specs.Files.{Files, IsUnread}
+use Rattle.host_files.specs.Files.{Files, IsUnread}
 use Rattle.call_devices.specs.LogFiles.{AreSourcesOf, AreTextsOf, IsOpenFault, IsUnreadAt}
 use Rattle.call_devices.proofs.LogFiles.{unopened_at, unread_at}
 use Rattle.judge_commands.specs.Checking.{TextsAreConsistent}

@@ -14,7 +14,7 @@ use Rattle.verdict.specs.declared.judge_fault.JudgeFault.{JudgeFault}
 use Rattle.verdict.specs.declared.judge_fault.JudgeFault.TheVariants.{BadConfig, Log, Read, OutOfMemory}
 use Rattle.call_devices.specs.declared.call_fault.CallFault.{CallFault}
 use Rattle.judge_commands.specs.Faults.{from_judge}
-use Rattle.call_devices.specs.Files.{Files}
+use Rattle.host_files.specs.Files.{Files}
 use Rattle.call_devices.specs.LogFiles.{IsUnspelled, Spelled}
 use Rattle.call_devices.specs.Logs.{ArePut, ArePutUpTo, IsUnwritten, performed_below}
 use Rattle.judge_commands.specs.Upgrading.{IsUpgraded, log_in}

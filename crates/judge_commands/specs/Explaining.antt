@@ -14,7 +14,7 @@ use Rattle.call_devices.specs.Sinks.{line}
 use Rattle.judge_commands.specs.Checking.{IsChecked}
 use Rattle.judge_commands.specs.OtherOrders.{TellsOther}
 use Rattle.call_devices.specs.declared.call_fault.CallFault.TheVariants.{Output, OutOfMemory}
-use Rattle.call_devices.specs.Files.{Files}
+use Rattle.host_files.specs.Files.{Files}
 use Rattle.call_devices.specs.LogFiles.{Spelled}
 use Rattle.call_devices.specs.Outputs.{FailsPutAt, PutsSuchAt}
 use Rattle.call_devices.specs.Sinks.{HasFailed, Sink, TakesBeginning}

@@ -7,7 +7,7 @@ use Rattle.log_record.specs.declared.record.Record.{Record}
 use Rattle.verdict.specs.Counts.{IsInRange, IsOutOfRange}
 use Rattle.verdict.specs.declared.judge_fault.Count.TheVariants.{Files as FileCount}
 use Rattle.verdict.specs.declared.judge_fault.JudgeFault.TheVariants.{BadConfig, Log, Read}
-use Rattle.call_devices.specs.Files.{Files}
+use Rattle.host_files.specs.Files.{Files}
 use Rattle.call_devices.specs.LogFiles.{IsUnspelled, Spelled}
 use Rattle.call_devices.specs.Logs.{ArePut, ArePutUpTo, IsUnwritten, performed_below}
 use Rattle.call_devices.specs.declared.call_fault.CallFault.TheVariants.{OutOfMemory as NoMemory}

@@ -1,7 +1,7 @@
 //! The check of the logs of a set.
 
 ghost use Rattle.std.specs.Prelude.{◌≡◌, IfErr, IfOk, OnOk, MatchResult, option_map};
-ghost use Rattle.call_devices.specs.Files.{IsOnlyRead, IsUnread};
+ghost use Rattle.host_files.specs.Files.{IsOnlyRead, IsUnread};
 ghost use Rattle.call_devices.specs.LogFiles.{Spelled};
 ghost use Rattle.verdict.specs.Bases.{IsExaminationOf, verdict_in};
 ghost use Rattle.verdict.specs.CoreFaultsOf.{given};
@@ -9,7 +9,8 @@ ghost use Rattle.verdict.specs.Judgement.{IsYes};
 ghost use Rattle.judge_commands.specs.Checking as checking;
 
 use super::fault::JudgingFault;
-use call_devices::{CallFault, Folder, open_all, read_programs};
+use call_devices::{CallFault, open_all, read_programs};
+use host_files::Folder;
 use command_line::Check;
 use core_program::ProgramSet;
 use std::alloc::Global;

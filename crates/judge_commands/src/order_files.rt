@@ -1,14 +1,15 @@
 //! The order of the logs of a set.
 
 ghost use Rattle.std.specs.Prelude.{IfOk};
-ghost use Rattle.call_devices.specs.Files.{IsOnlyRead, IsUnread};
+ghost use Rattle.host_files.specs.Files.{IsOnlyRead, IsUnread};
 ghost use Rattle.verdict.specs.Judgement.{IsYes};
 ghost use Rattle.judge_commands.specs.Checking as checking;
 ghost use Rattle.judge_commands.specs.Ordering as ordering;
 ghost use Rattle.call_devices.specs.Sinks.{sink_of};
 
 use super::fault::JudgingFault;
-use call_devices::{Folder, open_all};
+use call_devices::open_all;
+use host_files::Folder;
 use command_line::Order;
 use log_file::ByteSink;
 use merge_judge::merge_judge;

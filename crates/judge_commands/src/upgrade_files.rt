@@ -2,13 +2,14 @@
 
 ghost use Rattle.std.specs.Prelude.{◌≤◌, All, vec_len};
 ghost use Rattle.mem_op.specs.Limits.{operation_limit};
-ghost use Rattle.call_devices.specs.Files.{IsUnread};
+ghost use Rattle.host_files.specs.Files.{IsUnread};
 ghost use Rattle.call_devices.specs.Logs as logs;
 ghost use Rattle.judge_commands.specs.Upgrading as upgrading;
 ghost use Rattle.judge_commands.specs.inner.Reading.{read_log_of};
 
 use super::fault::JudgingFault;
-use call_devices::{Folder, LogsOfCores, read_log_files, write_logs};
+use call_devices::{LogsOfCores, read_log_files, write_logs};
+use host_files::Folder;
 use command_line::Upgrade;
 use log_record::{Format, Record};
 use mem_op::CoreId;

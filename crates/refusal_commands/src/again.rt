@@ -1,10 +1,11 @@
 //! Files that were refused, read again.
 
 ghost use Rattle.std.specs.Prelude.{◌≡◌, IsSome};
-ghost use Rattle.call_devices.specs.Files.{IsOnlyRead};
+ghost use Rattle.host_files.specs.Files.{IsOnlyRead};
 
 use super::refused::RefusedLog;
-use call_devices::{Folder, read_text};
+use call_devices::read_text;
+use host_files::Folder;
 use core_program::{ProgramFault, ProgramSet};
 use cut_logs::log_in_text;
 use litmus_test::{Litmus, LitmusFault};

@@ -1,12 +1,13 @@
 //! What the first operations of logs that are cut off get alone.
 
 ghost use Rattle.std.specs.Prelude.{◌≡◌, ℕ, IfOk, MatchOption, string_bytes};
-ghost use Rattle.call_devices.specs.Files.{IsOnlyRead, IsUnread};
+ghost use Rattle.host_files.specs.Files.{IsOnlyRead, IsUnread};
 ghost use Rattle.call_devices.specs.LogFiles.{AreTextsOf, IsUnreadAt};
 ghost use Rattle.cut_logs.specs.Beginnings.{texts_of};
 ghost use Rattle.refusal_commands.specs.First.{TellsFirst, first_words};
 
-use call_devices::{Folder, read_text};
+use call_devices::read_text;
+use host_files::Folder;
 use cut_logs::{FirstVerdict, first_verdict};
 use log_file::ReadFault;
 use std::alloc::{AllocError, Global};

@@ -1,14 +1,14 @@
 //! What is told of a file that was refused.
 
 ghost use Rattle.std.specs.Prelude.{◌≡◌, ◌⊎◌, ◌++◌, IfOk, OnErr, OnOk, string_bytes};
-ghost use Rattle.call_devices.specs.Files.{IsOnlyRead};
+ghost use Rattle.host_files.specs.Files.{IsOnlyRead};
 ghost use Rattle.call_devices.specs.Sinks.{sink_of};
 ghost use Rattle.refusal_commands.specs.Telling as telling;
 
 use super::again::{log_again, programs_again, test_again};
 use super::first::first_text;
 use super::refused::{RefusedFile, RefusedLog};
-use call_devices::Folder;
+use host_files::Folder;
 use fault_telling::{Kind, Place, Refused, Telling};
 use litmus_test::LitmusFault;
 use log_file::{ByteSink, FormatFault, write_all};

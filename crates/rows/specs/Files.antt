@@ -2,7 +2,7 @@
 use Rattle.std.specs.Prelude.{ℕ, List, [], ◌∷◌, Option, None, Some, if◌then◌else◌, string_bytes}
 use Rattle.std.specs.Option.{option_or}
 use Rattle.std.specs.Str.{bytes_eq}
-use Rattle.call_devices.specs.Files.{Files}
+use Rattle.host_files.specs.Files.{Files}
 use Rattle.rows.specs.declared.file.File.{File}
 
 -- the bytes of a file, where it has this name

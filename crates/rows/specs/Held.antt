@@ -1,5 +1,5 @@
 -- What is known of a folder in memory.
-use Rattle.call_devices.specs.Files.{Files}
+use Rattle.host_files.specs.Files.{Files}
 use Rattle.rows.specs.Files.{files_in}
 use Rattle.rows.specs.declared.folder.MemoryFolder.{MemoryFolder}
 

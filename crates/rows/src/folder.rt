@@ -8,7 +8,7 @@ ghost use Rattle.rows.specs.declared.file.File.{File};
 
 use super::file::{File, find};
 use super::source::FileSource;
-use call_devices::Folder;
+use host_files::Folder;
 use log_file::{ReadFailed, Step, WriteFailed};
 use std::alloc::Global;
 

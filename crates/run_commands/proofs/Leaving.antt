@@ -35,7 +35,7 @@ use Rattle.command_line.specs.declared.request.Request.TheVariants as request
 use Rattle.command_line.specs.declared.request.Run.{Run as AskedRun}
 use Rattle.command_line.specs.declared.request.Sim.{Sim as AskedSim}
 use Rattle.litmus.proofs.JudgedOutcome.{spell_push}
-use Rattle.call_devices.specs.Files.{Files}
+use Rattle.host_files.specs.Files.{Files}
 use Rattle.call_devices.specs.Outputs.{PutsAt}
 use Rattle.run_commands.specs.Leaving.{AreLogTexts, LeavesYes}
 use Rattle.call_devices.specs.Logs.{TellsFirst, log_name}

@@ -3,7 +3,7 @@ use Rattle.std.proofs.Common.{ℕ, List, sym, subst, ◌∙◌, inl, inr, Bor}
 use Rattle.std.specs.Prelude.{Option}
 use Rattle.log_record.specs.declared.format.Format.{Format}
 use Rattle.log_record.specs.declared.record.Record.{Record}
-use Rattle.call_devices.specs.Files.{Files, KeepsFiles}
+use Rattle.host_files.specs.Files.{Files, KeepsFiles}
 use Rattle.call_devices.specs.Logs.{ArePut, ArePutUpTo, IsUnwritten, KeepsOthers}
 use Rattle.call_devices.specs.Outputs.{IsNameOf}
 use Rattle.call_devices.specs.declared.call_fault.CallFault.{CallFault}

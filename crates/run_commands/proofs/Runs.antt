@@ -10,7 +10,7 @@ use Rattle.simulation.specs.declared.fault.SimulationFault.{SimulationFault}
 use Rattle.core_machine.specs.Opening.{opening_parts}
 use Rattle.core_machine.specs.Parts.{CoreParts, world}
 use Rattle.core_machine.specs.Works.{log_at}
-use Rattle.call_devices.specs.Files.{Files, IsUnread}
+use Rattle.host_files.specs.Files.{Files, IsUnread}
 use Rattle.call_devices.specs.Logs.{performed_below}
 use Rattle.call_devices.specs.Programs.{AreProgramsIn}
 use Rattle.run_commands.specs.Numbers.{AreLeft, AreLeftAsFar, IsUnleft}

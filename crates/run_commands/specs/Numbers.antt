@@ -7,7 +7,7 @@ use Rattle.manager_slice.specs.Parts.{SliceParts}
 use Rattle.core_unit.specs.Parts.{UnitParts}
 use Rattle.statistics.specs.Columns.{core_counts, slice_counts}
 use Rattle.statistics.specs.TableText.{statistics_text}
-use Rattle.call_devices.specs.Files.{Files}
+use Rattle.host_files.specs.Files.{Files}
 use Rattle.call_devices.specs.declared.call_fault.CallFault.TheVariants.{OutOfMemory}
 use Rattle.call_devices.specs.Logs.{ArePut, ArePutAsFar, ArePutUpTo, IsUnwritten}
 use Rattle.call_devices.specs.Outputs.{FailsPutAt, IsNameOf, PutsAt}

@@ -10,7 +10,7 @@ use Rattle.audit.specs.declared.machine_fault.Cause.TheVariants.{GaveUp, Stopped
 use Rattle.machine.specs.Runs.{AreSlicesLeft, IsMachineRun}
 use Rattle.audit.specs.declared.threads_fault.ThreadsFault.{ThreadsFault}
 use Rattle.call_devices.specs.Programs.{IsUnprogrammed}
-use Rattle.call_devices.specs.Files.{Files}
+use Rattle.host_files.specs.Files.{Files}
 use Rattle.call_devices.specs.declared.call_fault.CallFault.TheVariants.{OutOfMemory}
 use Rattle.call_devices.specs.Logs.{ArePutUpTo, IsUnwritten, performed_below}
 use Rattle.run_commands.specs.Numbers.{AreLeft, AreLeftAsFar, IsUnleft, numbers_of}

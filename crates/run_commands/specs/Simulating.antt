@@ -14,7 +14,7 @@ use Rattle.core_machine.specs.Parts.{CoreParts, world}
 use Rattle.core_machine.specs.Works.{log_at}
 use Rattle.simulation.specs.Simulating.{IsSimulated, IsSimulationFault}
 use Rattle.call_devices.specs.Programs.{IsUnprogrammed}
-use Rattle.call_devices.specs.Files.{Files}
+use Rattle.host_files.specs.Files.{Files}
 use Rattle.call_devices.specs.declared.call_fault.CallFault.TheVariants.{OutOfMemory}
 use Rattle.call_devices.specs.Logs.{ArePutUpTo, IsUnwritten, performed_below}
 use Rattle.run_commands.specs.Numbers.{AreLeft, AreLeftAsFar, IsUnleft, numbers_of}

@@ -19,7 +19,7 @@ use Rattle.litmus.specs.declared.run_fault.CollectFault.TheVariants.{BadRuns, Ru
 use Rattle.log_file.specs.Devices.{Tells}
 use Rattle.run_commands.specs.Programmed.{config_of}
 use Rattle.statistics.specs.TableText.{totals_text}
-use Rattle.call_devices.specs.Files.{Files, IsOnlyRead}
+use Rattle.host_files.specs.Files.{Files, IsOnlyRead}
 use Rattle.call_devices.specs.Outputs.{FailsPutAt, PutsAt}
 use Rattle.call_devices.specs.declared.call_fault.CallFault.TheVariants.{Output, OutOfMemory}
 use Rattle.call_devices.specs.Sinks.{HasFailed, Sink, TakesBeginning}

@@ -1,13 +1,14 @@
 //! A look at a file of a litmus test, or of programs.
 
 ghost use Rattle.std.specs.Prelude.{MatchResult};
-ghost use Rattle.call_devices.specs.Files.{IsOnlyRead, IsUnread};
+ghost use Rattle.host_files.specs.Files.{IsOnlyRead, IsUnread};
 ghost use Rattle.command_line.specs.declared.request.FileKind.TheVariants as of_file;
 ghost use Rattle.run_commands.specs.Inspecting as inspecting;
 
 use super::fault::RunningFault;
 use super::table::read_test;
-use call_devices::{Folder, read_programs};
+use call_devices::read_programs;
+use host_files::Folder;
 use command_line::{FileKind, Inspect};
 use std::alloc::Global;
 

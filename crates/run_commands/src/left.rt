@@ -1,13 +1,14 @@
 //! What a run leaves in the folder: its logs, and then its numbers.
 
 ghost use Rattle.std.specs.Prelude.{◌≡◌, ◌≤◌, IfErr, IfOk, OnOk};
-ghost use Rattle.call_devices.specs.Files.{KeepsFiles};
+ghost use Rattle.host_files.specs.Files.{KeepsFiles};
 ghost use Rattle.call_devices.specs.Logs as logs;
 ghost use Rattle.call_devices.specs.Outputs.{IsNameOf, PutsAt};
 ghost use Rattle.run_commands.specs.Numbers as numbers;
 
 use super::fault::RunningFault;
-use call_devices::{CallFault, Folder, LogsOfCores, put_under, write_logs};
+use call_devices::{CallFault, LogsOfCores, put_under, write_logs};
+use host_files::Folder;
 use log_record::Format;
 use statistics::{RunParts, counts_of_cores, counts_of_slices, print_statistics};
 use std::alloc::{AllocError, Global};

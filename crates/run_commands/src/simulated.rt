@@ -1,7 +1,7 @@
 //! Programs run on the core machine, one event after the other.
 
 ghost use Rattle.std.specs.Prelude.{◌≡◌, ◌≤◌, IfErr, IfOk, OnOk};
-ghost use Rattle.call_devices.specs.Files.{IsOnlyRead, IsUnread, KeepsFiles};
+ghost use Rattle.host_files.specs.Files.{IsOnlyRead, IsUnread, KeepsFiles};
 ghost use Rattle.run_commands.specs.Numbers.{IsLeftName};
 ghost use Rattle.run_commands.specs.Simulating as simulating;
 
@@ -9,7 +9,8 @@ use super::config::config_of;
 use super::fault::RunningFault;
 use super::left::{Leaving, leave};
 use super::logs::{MachineLogs, log_format};
-use call_devices::{CallFault, Folder, read_programs, read_text};
+use call_devices::{CallFault, read_programs, read_text};
+use host_files::Folder;
 use command_line::Sim;
 use log_file::ReadFault;
 use schedule::{Command, parse};

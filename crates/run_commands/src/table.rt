@@ -1,7 +1,7 @@
 //! The outcomes of a litmus test.
 
 ghost use Rattle.std.specs.Prelude.{◌≡◌, IfErr, IfOk, IfSome, MatchResult, OnOk};
-ghost use Rattle.call_devices.specs.Files.{IsOnlyRead, IsUnread, KeepsFiles};
+ghost use Rattle.host_files.specs.Files.{IsOnlyRead, IsUnread, KeepsFiles};
 ghost use Rattle.call_devices.specs.Outputs.{FailsPutAt, IsNameOf, PutsAt};
 ghost use Rattle.call_devices.specs.Sinks.{sink_of};
 ghost use Rattle.run_commands.specs.Tabling as tabling;
@@ -9,7 +9,8 @@ ghost use Rattle.statistics.specs.TableText.{totals_text};
 
 use super::config::config_of;
 use super::fault::RunningFault;
-use call_devices::{CallFault, Folder, put_under, read_text};
+use call_devices::{CallFault, put_under, read_text};
+use host_files::Folder;
 use command_line::Litmus as Asked;
 use lease_rule::Config;
 use litmus::{

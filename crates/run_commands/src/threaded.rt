@@ -1,6 +1,6 @@
 //! Programs run in threads.
 
-ghost use Rattle.call_devices.specs.Files.{IsUnread, KeepsFiles};
+ghost use Rattle.host_files.specs.Files.{IsUnread, KeepsFiles};
 ghost use Rattle.run_commands.specs.Numbers.{IsLeftName};
 ghost use Rattle.run_commands.specs.Running as running;
 
@@ -9,7 +9,8 @@ use super::fault::RunningFault;
 use super::left::{Leaving, leave};
 use super::logs::{UnitLogs, log_format};
 use super::watch::{Watch, Watched};
-use call_devices::{Folder, read_programs};
+use call_devices::read_programs;
+use host_files::Folder;
 use command_line::Run;
 use machine::{ThreadsFault, run_threads};
 use std::alloc::Global;

@@ -2,7 +2,7 @@
 use Rattle.std.proofs.Common.{◌≡◌, ◌∙◌, ap, subst, sym, ℕ, List, Option, length}
 use Rattle.std.specs.Borrow.{Bor}
 use Rattle.std.specs.Global.{Vec}
-use Rattle.call_devices.specs.Files.{Files}
+use Rattle.host_files.specs.Files.{Files}
 use Rattle.call_devices.specs.LogFiles.{IsUnspelled, Spelled}
 use Rattle.log_record.specs.Entries.{operations_of, record_lists}
 use Rattle.log_record.specs.declared.record.Record.{Record}

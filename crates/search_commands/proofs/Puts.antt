@@ -1,6 +1,6 @@
 -- A refutation and its picture that are put, one after the other.
 use Rattle.std.proofs.Common.{◌∙◌, inl, inr}
-use Rattle.call_devices.specs.Files.{Files, KeepsFiles}
+use Rattle.host_files.specs.Files.{Files, KeepsFiles}
 use Rattle.call_devices.specs.Outputs.{IsNameOf}
 use Rattle.command_line.specs.declared.request.Search.{Search}
 use Rattle.search_commands.specs.Searching.{IsOutputName}

@@ -2,7 +2,7 @@
 use Rattle.std.proofs.Common.{◌≡◌, subst, sym, inl, inr, ℕ, Bor, List, Option, Result, Ok, Err}
 use Rattle.std.specs.Prelude.{IfOk}
 use Rattle.std.specs.Io.KnownBytes.{Keeps}
-use Rattle.call_devices.specs.Files.{Files, IsOnlyRead}
+use Rattle.host_files.specs.Files.{Files, IsOnlyRead}
 use Rattle.call_devices.specs.declared.call_fault.CallFault.TheVariants.{OutOfMemory}
 use Rattle.call_devices.specs.Outputs.{FailsPutAt}
 use Rattle.call_devices.specs.Sinks.{Sink}

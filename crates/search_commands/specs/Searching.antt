@@ -2,7 +2,7 @@
 -- and are `new` after.
 use Rattle.std.specs.Prelude.{◌≡◌, ◌⊎◌, ⊤, ℕ, ◌*◌, ◌+◌, List, Option, Result, Ok, Err, unwrap_or}
 use Rattle.std.specs.Io.KnownBytes.{Appends, Keeps}
-use Rattle.call_devices.specs.Files.{Files, IsOnlyRead}
+use Rattle.host_files.specs.Files.{Files, IsOnlyRead}
 use Rattle.call_devices.specs.Outputs.{FailsPutAt, IsNameOf, PutsAt, PutsSuchAt}
 use Rattle.call_devices.specs.declared.call_fault.CallFault.TheVariants.{Output, OutOfMemory}
 use Rattle.call_devices.specs.Sinks.{HasFailed, Sink, TakesBeginning, line}

@@ -1,7 +1,7 @@
 //! The look at a certificate.
 
 ghost use Rattle.std.specs.Prelude.{◌≡◌, ◌≢◌, ◌++◌, ℕ, List, IfErr, IfOk, OnOk};
-ghost use Rattle.call_devices.specs.Files.{IsOnlyRead, IsUnread};
+ghost use Rattle.host_files.specs.Files.{IsOnlyRead, IsUnread};
 ghost use Rattle.call_devices.specs.Sinks.{sink_of};
 ghost use Rattle.log_file.specs.Devices.{Tells};
 ghost use Rattle.refutation.specs.Grammar.{header_line};
@@ -17,7 +17,8 @@ use super::fault::SearchingFault;
 use super::order_certificate::first_bad_line_of_order;
 use super::printing::answer_line;
 use super::reading::read_files;
-use call_devices::{CallFault, Folder, read_text};
+use call_devices::{CallFault, read_text};
+use host_files::Folder;
 use command_line::Confirm;
 use decimal_text::after_text;
 use log_file::{ByteSink, ReadFault, write_all};

@@ -1,13 +1,14 @@
 //! The trace of the logs of a set.
 
 ghost use Rattle.std.specs.Prelude.{◌≡◌, IfErr, IfOk, OnOk, length};
-ghost use Rattle.call_devices.specs.Files.{IsOnlyRead, IsUnread};
+ghost use Rattle.host_files.specs.Files.{IsOnlyRead, IsUnread};
 ghost use Rattle.verdict.specs.Counts.{IsInRange};
 ghost use Rattle.search_commands.specs.Traces as traces;
 ghost use Rattle.search_commands.specs.inner.Reading.{AreLogless};
 
 use super::fault::SearchingFault;
-use call_devices::{Folder, read_log_files, trace_of};
+use call_devices::{read_log_files, trace_of};
+use host_files::Folder;
 use std::alloc::Global;
 use std::thread::Threads;
 use trace::Trace;

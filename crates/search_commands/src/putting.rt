@@ -1,7 +1,7 @@
 //! Puts what was found where it was asked for.
 
 ghost use Rattle.std.specs.Prelude.{IfErr, OnOk};
-ghost use Rattle.call_devices.specs.Files.{KeepsFiles};
+ghost use Rattle.host_files.specs.Files.{KeepsFiles};
 ghost use Rattle.call_devices.specs.Outputs.{IsNameOf, PutsAt, PutsSuchAt};
 ghost use Rattle.merge_judge.specs.OrderText.{order_text};
 ghost use Rattle.refutation.specs.Grammar.{refutation_text};
@@ -11,7 +11,8 @@ ghost use Rattle.search_commands.specs.inner.Finding.{IsBothUnput, IsUnput, IsUn
 ghost use Rattle.search_commands.specs.declared.fault.SearchingFault.TheVariants.{OrderUnwritten, PictureUnwritten, RefutationUnwritten};
 
 use super::fault::SearchingFault;
-use call_devices::{Folder, put_under};
+use call_devices::put_under;
+use host_files::Folder;
 use command_line::Search;
 use mem_op::OpId;
 use merge_judge::print_order;

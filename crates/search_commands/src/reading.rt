@@ -1,13 +1,13 @@
 //! The trace that was asked about.
 
 ghost use Rattle.std.specs.Prelude.{◌≡◌, IfErr, IfOk, OnOk};
-ghost use Rattle.call_devices.specs.Files.{IsOnlyRead, IsUnread};
+ghost use Rattle.host_files.specs.Files.{IsOnlyRead, IsUnread};
 ghost use Rattle.search_commands.specs.Traces.{AreTraceless, IsTraceIn};
 
 use super::fault::SearchingFault;
 use super::log_files::read_logs;
 use super::trace_file::read_trace;
-use call_devices::Folder;
+use host_files::Folder;
 use command_line::TraceFiles;
 use std::alloc::Global;
 use std::thread::Threads;

@@ -1,7 +1,7 @@
 //! The search of a trace.
 
 ghost use Rattle.std.specs.Prelude.{IfOk};
-ghost use Rattle.call_devices.specs.Files.{IsUnread, KeepsFiles};
+ghost use Rattle.host_files.specs.Files.{IsUnread, KeepsFiles};
 ghost use Rattle.call_devices.specs.Sinks.{sink_of};
 ghost use Rattle.search_commands.specs.Answers.{IsRightOf};
 ghost use Rattle.search_commands.specs.Searching as searching;
@@ -13,7 +13,7 @@ use super::finding::{answer, find};
 use super::printing::print_proof;
 use super::putting::put_proof;
 use super::reading::read_files;
-use call_devices::Folder;
+use host_files::Folder;
 use command_line::Search;
 use log_file::{ByteSink, write_all};
 use search::SearchWatch;

@@ -1,13 +1,14 @@
 //! The trace in a file.
 
 ghost use Rattle.std.specs.Prelude.{◌≡◌, ◌<◌, ℕ, List, IfErr, IfOk, IsErrOf, OnOk};
-ghost use Rattle.call_devices.specs.Files.{IsOnlyRead, IsUnread};
+ghost use Rattle.host_files.specs.Files.{IsOnlyRead, IsUnread};
 ghost use Rattle.log_file.specs.Devices.{Failed, Tells};
 ghost use Rattle.search_commands.specs.Traces.{SpellsTraceAt};
 ghost use Rattle.search_commands.specs.inner.Reading.{IsNoTrace, IsReadOf};
 
 use super::fault::SearchingFault;
-use call_devices::{CallFault, Folder};
+use call_devices::CallFault;
+use host_files::Folder;
 use log_file::ByteSource;
 use std::alloc::Global;
 use trace::{Trace, TraceReader};

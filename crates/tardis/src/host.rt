@@ -1,64 +1,33 @@
-//! The host's files, and its standard input under the name `/dev/stdin`.
-
-ghost use Rattle.std.specs.Prelude.{◌≡◌};
-ghost use Rattle.tardis.specs.Host.{host_files};
+//! A folder whose files are seen as they are read.
 
 use super::progress::Progress;
 use super::shown::Shown;
-use call_devices::Folder;
-use host_source::{HostSource, open, put};
+use host_files::Folder;
 use log_file::{ReadFailed, WriteFailed};
-use std::fs::File;
-use std::io::Stdin;
 
-/// The host's files by their paths.
-#[derive(Clone, Copy)]
-pub(crate) struct HostFolder<'a> {
-    rt: &'a HostRuntime,
-    progress: &'a Progress<'a>,
-    failures: u64,
-    unopened: u64,
+/// A folder that does what the one in it does. Of its files the lines are counted.
+#[derive(Drop)]
+pub(crate) struct ShownFolder<'a, F> {
+    pub(crate) folder: F,
+    pub(crate) progress: &'a Progress<'a>,
 }
 
-impl<'a> HostFolder<'a> {
-    /// The files of the host, whose lines are counted.
-    pub(crate) fn new(rt: &'a HostRuntime, progress: &'a Progress<'a>) -> HostFolder<'a>
-        ensures host { result.rt ≡ rt.entry }
-        ensures failed { result.failures ≡ 0 }
-        ensures unopened { result.unopened ≡ 0 }
-    {
-        HostFolder {
-            rt,
-            progress,
-            failures: 0,
-            unopened: 0,
-        }
-    }
-}
+impl<'a, F: Folder> Folder for ShownFolder<'a, F> {
+    ghost files = { λ shown. F.files shown.folder };
 
-impl<'a> Folder for HostFolder<'a> {
-    ghost files = { λ folder. host_files folder.failures folder.unopened };
+    type Source = Shown<'a, F::Source>;
 
-    type Source = Shown<'a, HostSource<File, Stdin>>;
-
-    fn open_file(&mut self, name: &str) -> Result<Self::Source, ReadFailed> {
-        match open(self.rt, name) {
+    fn open_file(&mut self, name: &str) -> Result<Shown<'a, F::Source>, ReadFailed> {
+        match self.folder.open_file(name) {
             Ok(device) => Ok(Shown {
                 device,
                 progress: self.progress,
             }),
-            Err(failed) => {
-                self.unopened = self.unopened.saturating_add(1);
-                Err(failed)
-            }
+            Err(failed) => Err(failed),
         }
     }
 
     fn put(&mut self, name: &str, bytes: &[u8]) -> Result<(), WriteFailed> {
-        let is_put = put(self.rt, name, bytes);
-        if is_put.is_err() {
-            self.failures = self.failures.saturating_add(1);
-        }
-        is_put
+        self.folder.put(name, bytes)
     }
 }

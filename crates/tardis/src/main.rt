@@ -8,7 +8,8 @@ mod shown;
 mod words;
 
 use hint::{Noted, tell_after};
-use host::HostFolder;
+use host::ShownFolder;
+use host_files::HostFolder;
 use log_file::{FromWrite, write_all};
 use progress::Progress;
 use shown::Shown;
@@ -42,7 +43,10 @@ fn main(rt: HostRuntime) -> ExitCode {
         device: FromWrite::new(rt.stderr()),
         progress,
     });
-    let folder = &mut HostFolder::new(&rt, progress);
+    let folder = &mut ShownFolder {
+        folder: HostFolder::new(&rt),
+        progress,
+    };
     let status = serve(
         &rt,
         rt.alloc(),

@@ -1,7 +1,7 @@
 //! `check` and nothing else: the least that one has to read for a yes.
 #![tactic(auto)]
 
-use host_source::{HostSource, open};
+use host_files::{HostSource, open};
 use log_file::{FromWrite, write_all};
 use std::alloc::AllocError;
 use std::fs::File;

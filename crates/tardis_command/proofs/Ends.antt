@@ -19,7 +19,7 @@ use Rattle.tardis_command.specs.Endings.{Answered, Ending, EndsBy, IsAnswered, I
 use Rattle.tardis_command.specs.More.{IsOfFileOf, IsOfLogs, IsOfLook, IsToldMore, TellsMore}
 use Rattle.judge_commands.specs.Checking.{IsChecked, IsUnprogrammedBy}
 use Rattle.judge_commands.specs.Explaining.{IsExplained}
-use Rattle.call_devices.specs.Files.{Files}
+use Rattle.host_files.specs.Files.{Files}
 use Rattle.command_line.specs.declared.request.TraceFiles.{TraceFiles}
 use Rattle.mem_op.specs.Consistency.{IsConsistent}
 use Rattle.search_commands.specs.Answers.{IsRightOf, search_status}

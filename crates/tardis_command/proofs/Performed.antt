@@ -1,7 +1,7 @@
 -- What a request came to, from what its command answered and what of that was printed.
 use Rattle.std.proofs.Common.{◌≡◌, ◌∙◌, ap, subst, sym, refl, ℕ, List, Result, Ok, Err}
 use Rattle.std.specs.Prelude.{IfOk}
-use Rattle.call_devices.specs.Files.{Files, KeepsFiles}
+use Rattle.host_files.specs.Files.{Files, KeepsFiles}
 use Rattle.command_line.specs.Files.{IsApart}
 use Rattle.command_line.specs.declared.request.Request.{Request}
 use Rattle.tardis_command.specs.Answers.{answer_status}

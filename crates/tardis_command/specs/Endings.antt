@@ -9,7 +9,7 @@ use Rattle.command_line.specs.declared.request.Request.TheVariants.{Check, Order
 use Rattle.tardis_command.specs.Answers.{answer_status, answer_text, told_text}
 use Rattle.judge_commands.specs.Checking.{FilesAreConsistent, FilesRunFlat, IsChecked, TextsAreConsistent}
 use Rattle.judge_commands.specs.Explaining.{IsExplained}
-use Rattle.call_devices.specs.Files.{Files}
+use Rattle.host_files.specs.Files.{Files}
 use Rattle.call_devices.specs.Outputs.{IsNameOf}
 use Rattle.tardis_command.specs.Faults.{command_fault_text, fault_status, from_judging, from_running, from_searching}
 use Rattle.mem_op.specs.Consistency.{IsConsistent}
@@ -31,7 +31,7 @@ use Rattle.tardis_command.specs.declared.fault.CommandFault.{CommandFault}
 use Rattle.tardis_command.specs.declared.fault.CommandFault.TheVariants.{Call}
 use Rattle.call_devices.specs.declared.call_fault.CallFault.{CallFault}
 use Rattle.call_devices.specs.declared.call_fault.CallFault.TheVariants.{Output, OutOfMemory}
-pub use Rattle.call_devices.specs.Files.{KeepsFiles}
+pub use Rattle.host_files.specs.Files.{KeepsFiles}
 pub use Rattle.call_devices.specs.Sinks.{HasFailed, Sink, Takes, TakesBeginning, line, sink_of}
 
 -- by an answer, by one that couldn't be printed, by a refusal, by one that there was no memory to tell, without the memory to read the words,

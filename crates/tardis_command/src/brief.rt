@@ -5,7 +5,7 @@ ghost use Rattle.command_line.specs.Asking.{texts};
 ghost use Rattle.tardis_command.specs.Endings.{AreConsistent, AskFor};
 
 use super::call::command;
-use call_devices::Folder;
+use host_files::Folder;
 use log_file::ByteSink;
 use run_commands::Watch;
 use search_commands::SearchWatch;

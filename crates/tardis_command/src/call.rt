@@ -1,7 +1,7 @@
 //! One call of the program.
 
 ghost use Rattle.std.specs.Prelude.{◌≡◌};
-ghost use Rattle.call_devices.specs.Files.{IsUnread};
+ghost use Rattle.host_files.specs.Files.{IsUnread};
 ghost use Rattle.command_line.specs.Asking.{texts};
 ghost use Rattle.tardis_command.specs.Endings as endings;
 ghost use Rattle.tardis_command.specs.inner.Performing.{IsPerformed};
@@ -10,7 +10,8 @@ use super::answer::Answer;
 use super::fault::CommandFault;
 use super::more::tell_more;
 use super::output::{print_answer, refuse, tell, tell_answer};
-use call_devices::{CallFault, Folder};
+use call_devices::CallFault;
+use host_files::Folder;
 use command_line::{Refusal, Request, read};
 use judge_commands::{check, explain, order, upgrade};
 use log_file::ByteSink;

@@ -1,12 +1,13 @@
 //! What is told more of a refusal, below its line.
 
 ghost use Rattle.std.specs.Prelude.{◌≡◌, ◌⊎◌, IfSome};
-ghost use Rattle.call_devices.specs.Files.{IsOnlyRead};
+ghost use Rattle.host_files.specs.Files.{IsOnlyRead};
 ghost use Rattle.call_devices.specs.Sinks.{sink_of};
 ghost use Rattle.tardis_command.specs.More as more;
 
 use super::fault::CommandFault;
-use call_devices::{CallFault, Folder};
+use call_devices::CallFault;
+use host_files::Folder;
 use command_line::{Check, Request};
 use judge_commands::JudgingFault;
 use log_file::ByteSink;

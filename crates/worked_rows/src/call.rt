@@ -7,7 +7,8 @@ ghost use Rattle.tardis_command.specs.Endings.{AreConsistent, AskFor};
 
 use super::fault::{RowsFault, text_of};
 use super::watch::Counting;
-use call_devices::{Folder, open_all};
+use call_devices::open_all;
+use host_files::Folder;
 use log_file::{MemSink, Step};
 use rows::{File, Given, MemoryFolder};
 use std::alloc::Global;

@@ -1,7 +1,7 @@
 -- Why the log of a core isn't put.
 use Rattle.std.specs.Prelude.{◌≡◌, ℕ}
 use Rattle.log_file.specs.Devices.{Failed}
-use Rattle.call_devices.specs.Files.{Files}
+use Rattle.host_files.specs.Files.{Files}
 use Rattle.call_devices.specs.declared.call_fault.CallFault.{CallFault}
 use Rattle.call_devices.specs.declared.call_fault.CallFault.TheVariants.{LogUnwritten, OutOfMemory}
 

@@ -1,7 +1,7 @@
 -- Why a search found nothing, and why what it found isn't put.
 use Rattle.std.specs.Prelude.{◌≡◌, ◌⊎◌, ⊤, ℕ, List, Option}
 use Rattle.std.specs.Borrow.{Bor}
-use Rattle.call_devices.specs.Files.{Files}
+use Rattle.host_files.specs.Files.{Files}
 use Rattle.call_devices.specs.Outputs.{FailsPutAt, PutsAt}
 use Rattle.call_devices.specs.declared.call_fault.CallFault.TheVariants.{OutOfMemory}
 use Rattle.command_line.specs.declared.request.Search.{Search}

@@ -1,6 +1,6 @@
 -- What a request came to, before anything is told of it on standard error.
 use Rattle.std.specs.Prelude.{◌≡◌, ℕ, List, Result, IfOk}
-use Rattle.call_devices.specs.Files.{Files, KeepsFiles}
+use Rattle.host_files.specs.Files.{Files, KeepsFiles}
 use Rattle.call_devices.specs.Sinks.{Sink}
 use Rattle.command_line.specs.Files.{IsApart}
 use Rattle.command_line.specs.declared.request.Request.{Request}

@@ -3,7 +3,7 @@ use Rattle.std.proofs.lemmas.Slice.Zip.{AllZip-long}
 use Rattle.log_record.specs.Entries.{record_lists}
 use Rattle.verdict.specs.SetFaults.{from_set}
 use Rattle.verdict.specs.declared.judge_fault.JudgeFault.TheVariants.{OutOfMemory}
-use Rattle.call_devices.specs.Files.{IsUnread}
+use Rattle.host_files.specs.Files.{IsUnread}
 use Rattle.call_devices.specs.LogFiles.{AreSourcesOf}
 use Rattle.call_devices.proofs.LogFiles.{faulty, told_by_sources, unopened_files, unread_at}
 use Rattle.call_devices.proofs.log_files.read_log_files.Goals as goal

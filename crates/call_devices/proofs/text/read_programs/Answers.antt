@@ -5,7 +5,7 @@ use Rattle.core_program.specs.declared.fault.ProgramFault.{ProgramFault}
 use Rattle.core_program.specs.declared.fault.ProgramFault.TheVariants.{BadLine, TooLong, SkipPastEnd, OutOfMemory}
 use Rattle.log_file.specs.Devices.{Tells}
 use Rattle.call_devices.specs.CallFaults.{from_program}
-use Rattle.call_devices.specs.Files.{IsUnread}
+use Rattle.host_files.specs.Files.{IsUnread}
 use Rattle.call_devices.specs.Programs.{IsUnprogrammed}
 use Rattle.call_devices.proofs.text.read_programs.Goals as goal
 

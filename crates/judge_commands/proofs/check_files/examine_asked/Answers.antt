@@ -5,7 +5,7 @@ use Rattle.command_line.specs.declared.request.Check.{Check}
 use Rattle.verdict.specs.Bases.{IsExaminationOf}
 use Rattle.verdict.specs.declared.answer.Verdict.{Verdict}
 use Rattle.verdict.specs.declared.judge_fault.JudgeFault.{JudgeFault}
-use Rattle.call_devices.specs.Files.{Files, IsUnread}
+use Rattle.host_files.specs.Files.{Files, IsUnread}
 use Rattle.call_devices.specs.LogFiles.{Spelled}
 use Rattle.call_devices.proofs.Files.{only_read_after}
 use Rattle.judge_commands.specs.Checking as checking

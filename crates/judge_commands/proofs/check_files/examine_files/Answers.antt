@@ -4,7 +4,7 @@ use Rattle.verdict.specs.CoreFaultsOf.{given}
 use Rattle.verdict.specs.Bases.{verdict_in}
 use Rattle.verdict.specs.declared.judge_fault.Count.TheVariants.{Files, Workers, Programs}
 use Rattle.verdict.specs.declared.judge_fault.JudgeFault.TheVariants.{BadConfig}
-use Rattle.call_devices.specs.Files.{IsUnread}
+use Rattle.host_files.specs.Files.{IsUnread}
 use Rattle.call_devices.specs.LogFiles.{AreSourcesOf}
 use Rattle.call_devices.proofs.LogFiles.{only_opened, told_by_sources, unread_at}
 use Rattle.judge_commands.specs.Checking.{AreNotAsMany}

@@ -1,7 +1,7 @@
 use Rattle.std.proofs.Common.{rules, inl, ◌≡◌, ◌∙◌, length, vec_len, Ok, Err}
 use Rattle.std.proofs.lemmas.Slice.Zip.{AllZip-long}
 use Rattle.verdict.specs.Counts.{IsInRange}
-use Rattle.call_devices.specs.Files.{IsUnread}
+use Rattle.host_files.specs.Files.{IsUnread}
 use Rattle.call_devices.specs.Sinks.{sink_of}
 use Rattle.call_devices.specs.LogFiles.{AreSourcesOf}
 use Rattle.call_devices.proofs.LogFiles.{files_refused, only_opened, told_by_sources}

@@ -1,7 +1,7 @@
 use Rattle.std.proofs.Common.{◌≡◌, rules, subst, Err}
 use Rattle.std.specs.Prelude.{string_bytes}
 use Rattle.std.proofs.KnownBytes.{Keeps-refl}
-use Rattle.call_devices.specs.Files.{Files, IsUnread}
+use Rattle.host_files.specs.Files.{Files, IsUnread}
 use Rattle.call_devices.specs.Outputs.{FailsPutAt}
 use Rattle.call_devices.specs.Sinks.{HasFailed, TakesBeginning, sink_of}
 use Rattle.call_devices.specs.declared.call_fault.CallFault.TheVariants.{Output}

@@ -2,7 +2,7 @@ use Rattle.std.proofs.Common.{◌≡◌, ◌++◌, subst, sym}
 use Rattle.std.specs.Prelude.{string_bytes}
 use Rattle.log_record.specs.Entries.{operations_of}
 use Rattle.call_devices.specs.Sinks.{line}
-use Rattle.call_devices.specs.Files.{IsUnread}
+use Rattle.host_files.specs.Files.{IsUnread}
 use Rattle.verdict.specs.Bases.{IsExaminationOf}
 use Rattle.verdict.specs.Texts.{verdict_text}
 use Rattle.judge_commands.specs.OtherOrders.{TellsOther}

@@ -5,7 +5,7 @@ use Rattle.log_record.specs.Entries.{record_lists}
 use Rattle.log_record.specs.declared.record.Record.{Record}
 use Rattle.verdict.specs.Counts.{IsInRange}
 use Rattle.judge_commands.specs.Faults.{from_judge}
-use Rattle.call_devices.specs.Files.{Files, IsUnread}
+use Rattle.host_files.specs.Files.{Files, IsUnread}
 use Rattle.call_devices.specs.LogFiles.{IsUnspelled, Spelled}
 use Rattle.call_devices.proofs.Files.{keeps_told}
 use Rattle.call_devices.proofs.LogFiles.{files_refused, only_read}

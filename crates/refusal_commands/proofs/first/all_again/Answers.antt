@@ -1,7 +1,7 @@
 use Rattle.std.proofs.Common.{inl, rules, ◌≡◌, ◌++◌, ◌∷◌, ◌∙◌, [], subst, ℕ, List, Bor, get_or}
 use Rattle.std.proofs.lemmas.List.{get_or_default}
 use Rattle.call_devices.proofs.Files.{only_read_after}
-use Rattle.call_devices.specs.Files.{Files, IsUnread}
+use Rattle.host_files.specs.Files.{Files, IsUnread}
 use Rattle.call_devices.specs.inner.Texts.{IsNoText}
 use Rattle.log_file.specs.declared.device_fault.ReadFault.{ReadFault}
 use Rattle.log_file.specs.declared.device_fault.ReadFault.TheVariants.{Read}

@@ -5,7 +5,7 @@ use Rattle.log_file.specs.Devices.{Tells}
 use Rattle.schedule.specs.Answers.{IsFault}
 use Rattle.schedule.specs.declared.fault.ScheduleFault.{ScheduleFault}
 use Rattle.schedule.specs.declared.fault.ScheduleFault.TheVariants.{BadScheduleLine, OutOfMemory}
-use Rattle.call_devices.specs.Files.{IsUnread}
+use Rattle.host_files.specs.Files.{IsUnread}
 use Rattle.run_commands.specs.Faults.{from_schedule}
 use Rattle.run_commands.specs.Simulating.{IsUnscheduled}
 use Rattle.run_commands.proofs.simulated.read_schedule.Goals as goal

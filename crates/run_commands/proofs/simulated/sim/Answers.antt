@@ -5,7 +5,7 @@ use Rattle.simulation.specs.Simulating.{IsSimulated, IsSimulationFault}
 use Rattle.core_machine.specs.Opening.{opening_parts}
 use Rattle.core_machine.specs.Parts.{world}
 use Rattle.core_machine.specs.Works.{log_at}
-use Rattle.call_devices.specs.Files.{Files, IsUnread, KeepsFiles}
+use Rattle.host_files.specs.Files.{Files, IsUnread, KeepsFiles}
 use Rattle.call_devices.specs.Programs.{AreProgramsIn}
 use Rattle.call_devices.proofs.Files.{keeps_files, only_read_after}
 use Rattle.run_commands.proofs.Runs.{came, faulted, unscheduled}

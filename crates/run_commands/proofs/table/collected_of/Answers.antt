@@ -7,7 +7,7 @@ use Rattle.litmus.specs.Collecting.{IsBadRunCount, IsRunCount}
 use Rattle.litmus.specs.declared.run_fault.CollectFault.{CollectFault}
 use Rattle.litmus.specs.declared.run_fault.CollectFault.TheVariants.{BadRuns, Run, OutOfMemory}
 use Rattle.litmus_test.specs.Parts.{LitmusParts}
-use Rattle.call_devices.specs.Files.{IsUnread}
+use Rattle.host_files.specs.Files.{IsUnread}
 use Rattle.run_commands.specs.Faults.{from_collect}
 use Rattle.run_commands.specs.Programmed.{config_of}
 use Rattle.run_commands.specs.Tabling.{IsFaultBy, IsInOrder, IsTestIn, IsUntabled}

@@ -3,7 +3,7 @@ use Rattle.std.proofs.Common.{◌≡◌, ℕ, List, Option, None, Some, Err, Bor
 use Rattle.std.specs.Prelude.{IfSome}
 use Rattle.std.proofs.KnownBytes.{Keeps-refl}
 use Rattle.command_line.specs.declared.request.Litmus.{Litmus}
-use Rattle.call_devices.specs.Files.{Files, IsOnlyRead, IsUnread}
+use Rattle.host_files.specs.Files.{Files, IsOnlyRead, IsUnread}
 use Rattle.call_devices.specs.Outputs.{PutsAt}
 use Rattle.call_devices.specs.Sinks.{Sink, sink_of}
 use Rattle.call_devices.specs.declared.call_fault.CallFault.TheVariants.{Output, OutOfMemory}

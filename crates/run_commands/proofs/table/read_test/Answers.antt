@@ -4,7 +4,7 @@ use Rattle.log_file.specs.Devices.{Tells}
 use Rattle.litmus_test.specs.Answers.{IsFault}
 use Rattle.litmus_test.specs.declared.fault.LitmusFault.{LitmusFault}
 use Rattle.litmus_test.specs.declared.fault.LitmusFault.TheVariants.{BadLitmusLine, BadLine, TooLong, SkipPastEnd, OutOfMemory}
-use Rattle.call_devices.specs.Files.{IsUnread}
+use Rattle.host_files.specs.Files.{IsUnread}
 use Rattle.run_commands.specs.Faults.{from_test}
 use Rattle.run_commands.specs.Tabling.{IsUntested}
 use Rattle.run_commands.proofs.table.read_test.Goals as goal

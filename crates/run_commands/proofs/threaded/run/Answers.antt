@@ -3,7 +3,7 @@ use Rattle.std.specs.Prelude.{IfErr, OnOk}
 use Rattle.lease_rule.specs.Ranges.{first_bad}
 use Rattle.audit.specs.Runs.{IsRun, kept_log}
 use Rattle.machine.specs.Runs.{AreSlicesLeft, IsMachineRun}
-use Rattle.call_devices.specs.Files.{Files, IsUnread, KeepsFiles}
+use Rattle.host_files.specs.Files.{Files, IsUnread, KeepsFiles}
 use Rattle.call_devices.specs.Programs.{AreProgramsIn}
 use Rattle.call_devices.proofs.Files.{keeps_files}
 use Rattle.run_commands.proofs.ThreadRuns.{came, left, left_by}

@@ -1,7 +1,7 @@
 use Rattle.std.proofs.Common.{rules, ◌≡◌, ◌∙◌, ℕ, List, subst, Err, Ok}
 use Rattle.std.specs.Io.KnownBytes.{Appends}
 use Rattle.std.proofs.KnownBytes.{Keeps-refl}
-use Rattle.call_devices.specs.Files.{Files, IsUnread}
+use Rattle.host_files.specs.Files.{Files, IsUnread}
 use Rattle.call_devices.specs.Sinks.{HasFailed, TakesBeginning, line, sink_of}
 use Rattle.call_devices.proofs.Files.{only_read_after}
 use Rattle.search_commands.specs.Answers.{search_text}

@@ -1,6 +1,6 @@
 use Rattle.std.proofs.Common.{rules, ◌≡◌, length, Err}
 use Rattle.verdict.specs.Counts.{IsInRange}
-use Rattle.call_devices.specs.Files.{IsUnread}
+use Rattle.host_files.specs.Files.{IsUnread}
 use Rattle.call_devices.proofs.LogFiles.{files_refused, only_read}
 use Rattle.search_commands.specs.Faults.{from_logs}
 use Rattle.search_commands.proofs.LogReads.{logs_spelled, not_counted, not_read}

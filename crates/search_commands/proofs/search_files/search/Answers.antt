@@ -1,7 +1,7 @@
 use Rattle.std.proofs.Common.{rules, ◌≡◌, subst, Err, Ok}
 use Rattle.std.specs.Prelude.{string_bytes}
 use Rattle.std.proofs.KnownBytes.{Keeps-refl}
-use Rattle.call_devices.specs.Files.{Files, IsUnread, KeepsFiles}
+use Rattle.host_files.specs.Files.{Files, IsUnread, KeepsFiles}
 use Rattle.call_devices.proofs.Files.{keeps_files}
 use Rattle.call_devices.specs.Sinks.{HasFailed, TakesBeginning, sink_of}
 use Rattle.search_commands.specs.Searching.{IsOutputName}

@@ -1,5 +1,5 @@
 use Rattle.std.proofs.Common.{◌∙◌, refl, subst, sym, ℕ, List}
-use Rattle.call_devices.specs.Files.{IsUnread}
+use Rattle.host_files.specs.Files.{IsUnread}
 use Rattle.call_devices.proofs.Files.{keeps_files}
 use Rattle.command_line.specs.Asking.{IsRefusalOf, texts}
 use Rattle.tardis_command.proofs.Ends.{done_after, ends_answered, ends_misused, ends_refused, ends_unread, told_no, told_not_zero}

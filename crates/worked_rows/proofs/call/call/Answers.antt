@@ -1,6 +1,6 @@
 -- The folder of the call tells the files that were given.
 use Rattle.std.proofs.Common.{subst}
-use Rattle.call_devices.specs.Files.{Files}
+use Rattle.host_files.specs.Files.{Files}
 use Rattle.command_line.specs.Asking.{texts}
 use Rattle.tardis_command.specs.Endings.{AreConsistent, AskFor}
 use Rattle.worked_rows.proofs.call.call.Goals as goal

@@ -1,6 +1,6 @@
 //! What the host's bytes are read from.
 
-ghost use Rattle.host_source.specs.Sources.{failed_reads, left};
+ghost use Rattle.host_files.specs.Sources.{failed_reads, left};
 
 use log_file::{ByteSource, FromRead, ReadFailed};
 use std::fs;

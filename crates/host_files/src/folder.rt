@@ -2,7 +2,7 @@
 
 ghost use Rattle.std.specs.Prelude.{◌≡◌, ◌≢◌, ℕ, List, Some, IfOk, IfSome, OnErr, OnOk};
 ghost use Rattle.log_file.specs.Devices.{CountsFailure, Tells};
-ghost use Rattle.call_devices.specs.Files.{Files, one_more_unopened};
+ghost use Rattle.host_files.specs.Files.{Files, one_more_unopened};
 
 use log_file::{ByteSource, ReadFailed, WriteFailed};
 

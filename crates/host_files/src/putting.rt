@@ -8,7 +8,7 @@ use std::io::Write;
 /// Puts a file of these bytes under a name, in place of any that is there. It is written beside that, under the name with `.new`, and then takes
 /// its place, so a write that fails leaves the name as it was. Only what isn't a plain file, as a device, a pipe or a link, and a name beside
 /// which no file can be made, is written to as it stands.
-pub fn put(rt: &HostRuntime, name: &str, bytes: &[u8]) -> Result<(), WriteFailed> {
+pub(crate) fn put(rt: &HostRuntime, name: &str, bytes: &[u8]) -> Result<(), WriteFailed> {
     let Ok(beside) = format!(in rt.alloc(); "{name}.new") else {
         return Err(WriteFailed);
     };

@@ -1,0 +1,55 @@
+//! The host's files, and its standard input under the name `/dev/stdin`.
+
+ghost use Rattle.std.specs.Prelude.{◌≡◌};
+ghost use Rattle.host_files.specs.Host.{files_of_host};
+
+use super::folder::Folder;
+use super::putting::put;
+use super::source::{HostSource, open};
+use log_file::{ReadFailed, WriteFailed};
+use std::fs::File;
+use std::io::Stdin;
+
+/// The host's files by their paths.
+#[derive(Clone, Copy)]
+pub struct HostFolder<'a> {
+    rt: &'a HostRuntime,
+    failures: u64,
+    unopened: u64,
+}
+
+impl<'a> HostFolder<'a> {
+    /// The files of the host.
+    pub fn new(rt: &'a HostRuntime) -> HostFolder<'a>
+        ensures failed { result.failures ≡ 0 }
+        ensures unopened { result.unopened ≡ 0 }
+    {
+        HostFolder {
+            rt,
+            failures: 0,
+            unopened: 0,
+        }
+    }
+}
+
+impl<'a> Folder for HostFolder<'a> {
+    ghost files = { λ folder. files_of_host folder.failures folder.unopened };
+
+    type Source = HostSource<File, Stdin>;
+
+    fn open_file(&mut self, name: &str) -> Result<HostSource<File, Stdin>, ReadFailed> {
+        let opened = open(self.rt, name);
+        if opened.is_err() {
+            self.unopened = self.unopened.saturating_add(1);
+        }
+        opened
+    }
+
+    fn put(&mut self, name: &str, bytes: &[u8]) -> Result<(), WriteFailed> {
+        let is_put = put(self.rt, name, bytes);
+        if is_put.is_err() {
+            self.failures = self.failures.saturating_add(1);
+        }
+        is_put
+    }
+}
