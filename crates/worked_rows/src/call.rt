@@ -45,8 +45,8 @@ pub(crate) struct Done {
     pub(crate) seen: (u64, u64),
 }
 
-/// Calls the program. Where a verdict was asked for and the answer is 0, the given files spell a set of logs whose operations are
-/// sequentially consistent.
+/// Calls the program over files in memory. Where a verdict was asked for and the answer is 0, the given files spell a set of logs whose
+/// operations are sequentially consistent.
 pub(crate) fn call<R: Threads + Wait + Sync>(
     rt: &R,
     alloc: Global,
@@ -58,15 +58,31 @@ pub(crate) fn call<R: Threads + Wait + Sync>(
         (AreConsistent (told_of given.entry.files.now []))) }
 {
     let mut folder = MemoryFolder::new(alloc, given);
+    let mut done = call_over(rt, alloc, words, &mut folder, outputs)?;
+    done.put = folder.into_put();
+    Ok(done)
+}
+
+/// Calls the program over any folder; which files it puts isn't looked at.
+pub(crate) fn call_over<R: Threads + Wait + Sync, F: Folder>(
+    rt: &R,
+    alloc: Global,
+    words: &[&str],
+    folder: &mut F,
+    outputs: Outputs<'_>,
+) -> Result<Done, RowsFault>
+    ensures sound { IfOk result (λ done. done.status ≡ 0 → AskFor (texts words.entry.now)
+        (AreConsistent (F.files folder.old).told)) }
+{
     let mut out = MemSink::new(alloc, outputs.writes);
     let mut err = MemSink::new(alloc, outputs.complaints);
     let watch = Counting::new();
-    let status = serve(rt, alloc, words, &watch, &mut folder, &mut out, &mut err);
+    let status = serve(rt, alloc, words, &watch, folder, &mut out, &mut err);
     Ok(Done {
         status,
         printed: text_of(Vec::from_slice(alloc, out.bytes())?)?,
         told: text_of(Vec::from_slice(alloc, err.bytes())?)?,
-        put: folder.into_put(),
+        put: Vec::new(alloc),
         seen: watch.seen(),
     })
 }

@@ -2,7 +2,7 @@
 
 use super::call::Done;
 use super::fault::RowsFault;
-use rows::File;
+use rows::{File, Wanted};
 use std::fmt;
 
 /// What a call should do.
@@ -13,6 +13,18 @@ pub(crate) struct Expected<'a> {
     pub(crate) status: u8,
     pub(crate) printed: &'a str,
     pub(crate) told: &'a str,
+}
+
+impl<'a> Expected<'a> {
+    /// What a row says of its call.
+    pub(crate) fn of(wanted: &'a Wanted) -> Expected<'a> {
+        Expected {
+            line: wanted.line,
+            status: wanted.status,
+            printed: wanted.printed.as_str(),
+            told: wanted.told.as_str(),
+        }
+    }
 }
 
 /// Whether a text is as it should be. In what is expected a line that ends with `*` stands for each line that begins so, and the

@@ -1,19 +1,21 @@
 //! Replays rows: calls of the program over files in memory, with what each prints, its status and the files that it puts. They are those
-//! of each file whose name ends with `.rows` in the folder where this runs, and `docs/ROWS.md` tells how they are written. Besides, each
-//! call is made again in other ways, of which `again.rt` knows what has to come.
+//! of each file in the folder where this runs, and `docs/ROWS.md` tells how they are written. Besides, each call is made again in other
+//! ways, of which `again.rt` knows what has to come. The rows of a file whose name ends with `.host.rows` are calls over files of the host.
 #![tactic(auto)]
 
 mod again;
 mod call;
 mod compare;
 mod fault;
+mod host;
 mod replay;
 mod watch;
 mod words;
 
 use fault::{RowsFault, text_of};
+use host::OnHost;
 use log_file::{FromRead, read_all};
-use replay::replay;
+use replay::{InMemory, replay};
 use std::fs;
 
 /// The text of a file of the host.
@@ -25,15 +27,12 @@ fn read_text(rt: &HostRuntime, name: &str) -> Result<String, RowsFault> {
     }
 }
 
-/// The names of the files of rows in the folder where this runs, in ascending order.
+/// The names of the files in the folder where this runs, in ascending order.
 fn file_names(rt: &HostRuntime) -> Result<Vec<String>, RowsFault> {
     let mut names = Vec::new(rt.alloc());
     for entry in fs::read_dir(rt, ".")? {
         let entry = entry?;
-        let name = entry.file_name();
-        if name.ends_with(".rows") {
-            names.push(String::from_str(rt.alloc(), name)?)?;
-        }
+        names.push(String::from_str(rt.alloc(), entry.file_name())?)?;
     }
     names.sort()?;
     Ok(names)
@@ -43,7 +42,16 @@ fn main(rt: HostRuntime) -> Result<(), RowsFault> {
     let mut wrong: u64 = 0;
     for name in &file_names(&rt)? {
         let text = read_text(&rt, name.as_str())?;
-        let tally = replay(&rt, rt.alloc(), text.as_str())?;
+        let tally = if name.ends_with(".host.rows") {
+            let player = OnHost { rt: &rt, host: &rt };
+            replay(&player, rt.alloc(), text.as_str())?
+        } else {
+            let player = InMemory {
+                rt: &rt,
+                alloc: rt.alloc(),
+            };
+            replay(&player, rt.alloc(), text.as_str())?
+        };
         println!(rt; "{name}: {} calls, {} wrong", tally.calls, tally.wrong)?;
         wrong = wrong.saturating_add(tally.wrong);
     }

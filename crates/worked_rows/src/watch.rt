@@ -40,7 +40,9 @@ impl Watch for Counting {
 }
 
 impl SearchWatch for Counting {
-    fn steps(&self, _made: u64) {}
+    fn steps(&self, _made: u64, _budget: u64) -> bool {
+        true
+    }
 
     fn found(&self) {}
 }

@@ -8,5 +8,5 @@ use Rattle.worked_rows.proofs.call.call.Goals as goal
 pub returns : goal.returns
 returns g c = record {
   sound = λ zero.
-      subst (λ (files : Files). AskFor (texts c.args.words.now) (AreConsistent files.told)) c.new-folder.ensures (c.serve-status.ensures.sound zero);
+      subst (λ (files : Files). AskFor (texts c.args.words.now) (AreConsistent files.told)) c.new-folder.ensures (c.in_ok-done.ensures.sound zero);
 }
