@@ -8,7 +8,6 @@ mod text;
 mod writing;
 
 pub use call_fault::CallFault;
-
 pub use log_files::{open_all, read_log_files, trace_of};
 pub use putting::put_under;
 pub use text::{read_programs, read_text};

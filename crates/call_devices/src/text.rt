@@ -7,8 +7,8 @@ ghost use Rattle.call_devices.specs.Programs.{AreProgramsIn, IsUnprogrammed};
 ghost use Rattle.call_devices.specs.inner.Texts.{IsNoText};
 
 use super::call_fault::CallFault;
-use host_files::Folder;
 use core_program::ProgramSet;
+use host_files::Folder;
 use log_file::{ReadFault, read_all};
 use std::alloc::Global;
 

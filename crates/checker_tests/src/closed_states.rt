@@ -28,12 +28,7 @@ fn set_of(alloc: Global, states: &str) -> Result<String, Fail> {
 }
 
 /// That the line of the set is the first bad one.
-fn expect_wrong(
-    rt: &impl Abort,
-    alloc: Global,
-    trace: &Trace,
-    states: &str,
-) -> Result<(), Fail> {
+fn expect_wrong(rt: &impl Abort, alloc: Global, trace: &Trace, states: &str) -> Result<(), Fail> {
     let text = set_of(alloc, states)?;
     assert_eq!(rt; first_bad_line(alloc, trace, text.as_bytes())?, Some(2));
     Ok(())

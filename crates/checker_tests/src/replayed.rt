@@ -19,14 +19,35 @@ fn orders_of_lines(rt: HostRuntime) -> Result<(), Fail> {
     let rows: [(&[u8], &str); 11] = [
         (b"", "yes: 0 operations"),
         (b"# nothing\n\n3: sync\n", "yes: 0 operations"),
-        (b"0: M[0] := 1\n0: M[1] == 0\n1: M[1] := 1\n1: M[0] == 1\n", "yes: 4 operations"),
-        (b"0: M[0] := 1\n0: M[1] == 0\n1: M[1] := 1\n1: M[0] == 0\n", "no: 1.1 VALUE"),
-        (b"0: M[0] := 1\n1: M[1] := 1\n0: M[1] == 0\n1: M[0] == 0\n", "no: 0.1 VALUE"),
-        (b"0: { M[5] == 0; M[5] := 7 }\n1: { M[5] == 7; M[5] := 8 }\n0: M[5] == 8", "yes: 3 operations"),
+        (
+            b"0: M[0] := 1\n0: M[1] == 0\n1: M[1] := 1\n1: M[0] == 1\n",
+            "yes: 4 operations",
+        ),
+        (
+            b"0: M[0] := 1\n0: M[1] == 0\n1: M[1] := 1\n1: M[0] == 0\n",
+            "no: 1.1 VALUE",
+        ),
+        (
+            b"0: M[0] := 1\n1: M[1] := 1\n0: M[1] == 0\n1: M[0] == 0\n",
+            "no: 0.1 VALUE",
+        ),
+        (
+            b"0: { M[5] == 0; M[5] := 7 }\n1: { M[5] == 7; M[5] := 8 }\n0: M[5] == 8",
+            "yes: 3 operations",
+        ),
         (b"0: { M[5] == 7; M[5] := 7 }\n", "no: 0.0 VALUE"),
-        (b"0: M[0xffffffffffffffff] := 0xffffffffffffffff\n63: M[18446744073709551615] == 18446744073709551615\n", "yes: 2 operations"),
-        (b"0: M[1] := 2\r\n1: M[1] == 2\r\n1: M[1] == 3\r\nno line\n", "no: 1.1 VALUE"),
-        (b"0: M[1] := 2\nno line\n1: M[1] == 3\n", "line 2: 42 BadTraceLine"),
+        (
+            b"0: M[0xffffffffffffffff] := 0xffffffffffffffff\n63: M[18446744073709551615] == 18446744073709551615\n",
+            "yes: 2 operations",
+        ),
+        (
+            b"0: M[1] := 2\r\n1: M[1] == 2\r\n1: M[1] == 3\r\nno line\n",
+            "no: 1.1 VALUE",
+        ),
+        (
+            b"0: M[1] := 2\nno line\n1: M[1] == 3\n",
+            "line 2: 42 BadTraceLine",
+        ),
         (b"0: M[1] := 2\n1: M[1", "line 2: 42 BadTraceLine"),
     ];
     for (text, due) in rows {

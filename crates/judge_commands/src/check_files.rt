@@ -10,9 +10,9 @@ ghost use Rattle.judge_commands.specs.Checking as checking;
 
 use super::fault::JudgingFault;
 use call_devices::{CallFault, open_all, read_programs};
-use host_files::Folder;
 use command_line::Check;
 use core_program::ProgramSet;
+use host_files::Folder;
 use std::alloc::Global;
 use std::thread::Threads;
 use verdict::{Examined, JudgeFault, OpenGate, Verdict, check_counts, examine};

@@ -9,8 +9,8 @@ ghost use Rattle.call_devices.specs.Sinks.{sink_of};
 
 use super::fault::JudgingFault;
 use call_devices::open_all;
-use host_files::Folder;
 use command_line::Order;
+use host_files::Folder;
 use log_file::ByteSink;
 use merge_judge::merge_judge;
 use std::alloc::Global;

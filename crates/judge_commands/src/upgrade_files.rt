@@ -9,8 +9,8 @@ ghost use Rattle.judge_commands.specs.inner.Reading.{read_log_of};
 
 use super::fault::JudgingFault;
 use call_devices::{LogsOfCores, read_log_files, write_logs};
-use host_files::Folder;
 use command_line::Upgrade;
+use host_files::Folder;
 use log_record::{Format, Record};
 use mem_op::CoreId;
 use std::alloc::Global;

@@ -5,9 +5,9 @@ ghost use Rattle.host_files.specs.Files.{IsOnlyRead};
 
 use super::refused::RefusedLog;
 use call_devices::read_text;
-use host_files::Folder;
 use core_program::{ProgramFault, ProgramSet};
 use cut_logs::log_in_text;
+use host_files::Folder;
 use litmus_test::{Litmus, LitmusFault};
 use log_file::LogFault;
 use mem_op::CoreId;

@@ -7,8 +7,8 @@ ghost use Rattle.cut_logs.specs.Beginnings.{texts_of};
 ghost use Rattle.refusal_commands.specs.First.{TellsFirst, first_words};
 
 use call_devices::read_text;
-use host_files::Folder;
 use cut_logs::{FirstVerdict, first_verdict};
+use host_files::Folder;
 use log_file::ReadFault;
 use std::alloc::{AllocError, Global};
 

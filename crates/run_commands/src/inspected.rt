@@ -8,8 +8,8 @@ ghost use Rattle.run_commands.specs.Inspecting as inspecting;
 use super::fault::RunningFault;
 use super::table::read_test;
 use call_devices::read_programs;
-use host_files::Folder;
 use command_line::{FileKind, Inspect};
+use host_files::Folder;
 use std::alloc::Global;
 
 /// Reads a file of a litmus test, or of programs, as the commands that run them do. How many cores it is for, or why it is refused.

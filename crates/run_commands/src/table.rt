@@ -10,8 +10,8 @@ ghost use Rattle.statistics.specs.TableText.{totals_text};
 use super::config::config_of;
 use super::fault::RunningFault;
 use call_devices::{CallFault, put_under, read_text};
-use host_files::Folder;
 use command_line::Litmus as Asked;
+use host_files::Folder;
 use lease_rule::Config;
 use litmus::{
     CollectFault, Collected, Litmus, Table, collect_seeded, collect_threaded, write_table,

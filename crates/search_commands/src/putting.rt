@@ -12,8 +12,8 @@ ghost use Rattle.search_commands.specs.declared.fault.SearchingFault.TheVariants
 
 use super::fault::SearchingFault;
 use call_devices::put_under;
-use host_files::Folder;
 use command_line::Search;
+use host_files::Folder;
 use mem_op::OpId;
 use merge_judge::print_order;
 use refutation::{Answer, Refutation};

@@ -12,7 +12,6 @@ mod verdict_line;
 pub use answer::Answer;
 pub use brief::serve;
 pub use call::command;
-
 pub use fault::CommandFault;
 pub use run_commands::Watch;
 pub use search_commands::SearchWatch;

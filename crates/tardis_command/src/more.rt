@@ -7,8 +7,8 @@ ghost use Rattle.tardis_command.specs.More as more;
 
 use super::fault::CommandFault;
 use call_devices::CallFault;
-use host_files::Folder;
 use command_line::{Check, Request};
+use host_files::Folder;
 use judge_commands::JudgingFault;
 use log_file::ByteSink;
 use refusal_commands::{RefusedFile, RefusedLog, tell_refusal};
