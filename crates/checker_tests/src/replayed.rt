@@ -56,6 +56,23 @@ fn orders_of_lines(rt: HostRuntime) -> Result<(), Fail> {
     Ok(())
 }
 
+/// What a no says of its operation.
+fn told(alloc: Global, verdict: &ReplayVerdict) -> Result<String, Fail> {
+    match verdict {
+        ReplayVerdict::No(wrong) => Ok(wrong.to_string(alloc)?),
+        ReplayVerdict::Yes(_) => Err(Fail::from("it is wrong")),
+    }
+}
+
+/// What is said of the operation at which this text goes wrong.
+fn reason_of(alloc: Global, text: &[u8]) -> Result<String, Fail> {
+    let mut source = MemSource::new(text, &[]);
+    match replay(alloc, &mut source) {
+        Ok(verdict) => told(alloc, &verdict),
+        Err(fault) => Ok(fault.to_string(alloc)?),
+    }
+}
+
 #[test]
 fn what_a_load_should_have_read(rt: HostRuntime) -> Result<(), Fail> {
     let rows: [(&[u8], &str); 2] = [
@@ -69,11 +86,7 @@ fn what_a_load_should_have_read(rt: HostRuntime) -> Result<(), Fail> {
         ),
     ];
     for (text, due) in rows {
-        let mut source = MemSource::new(text, &[]);
-        let Ok(ReplayVerdict::No(wrong)) = replay(rt.alloc(), &mut source) else {
-            return Err(Fail::from("it is wrong"));
-        };
-        assert_eq!(rt; wrong.to_string(rt.alloc())?.as_str(), due);
+        assert_eq!(rt; reason_of(rt.alloc(), text)?.as_str(), due);
     }
     Ok(())
 }
