@@ -13,9 +13,8 @@ mod watch;
 mod words;
 
 use fault::{RowsFault, text_of};
-use host::OnHost;
 use log_file::{FromRead, read_all};
-use replay::{InMemory, replay};
+use replay::replay;
 use std::fs;
 
 /// The text of a file of the host.
@@ -42,16 +41,8 @@ fn main(rt: HostRuntime) -> Result<(), RowsFault> {
     let mut wrong: u64 = 0;
     for name in &file_names(&rt)? {
         let text = read_text(&rt, name.as_str())?;
-        let tally = if name.ends_with(".host.rows") {
-            let player = OnHost { rt: &rt, host: &rt };
-            replay(&player, rt.alloc(), text.as_str())?
-        } else {
-            let player = InMemory {
-                rt: &rt,
-                alloc: rt.alloc(),
-            };
-            replay(&player, rt.alloc(), text.as_str())?
-        };
+        let host = name.ends_with(".host.rows").then_some(&rt);
+        let tally = replay(&rt, rt.alloc(), host, text.as_str())?;
         println!(rt; "{name}: {} calls, {} wrong", tally.calls, tally.wrong)?;
         wrong = wrong.saturating_add(tally.wrong);
     }

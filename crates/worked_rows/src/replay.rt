@@ -4,6 +4,7 @@ use super::again::wrong_again;
 use super::call::{SOUND, call};
 use super::compare::{Expected, compare, compare_files};
 use super::fault::RowsFault;
+use super::host::perform_on_host;
 use super::words::texts_of;
 use rows::{File, Given, Row, RowFault, Wanted, calls_of, read, words_of};
 use std::alloc::Global;
@@ -17,56 +18,38 @@ pub(crate) struct Tally {
     pub(crate) wrong: u64,
 }
 
-/// How the calls of rows are made.
-pub(crate) trait Player {
-    /// Makes a call. Answers how often it went wrong, and the files that it put.
-    fn perform(
-        &self,
-        row: &Row,
-        wanted: &Wanted,
-        line: &str,
-    ) -> Result<(u64, Vec<File>), RowsFault>;
-}
-
-/// Calls over files in memory, each made again in other ways where it went right.
-#[derive(Drop)]
-pub(crate) struct InMemory<'a, R> {
-    pub(crate) rt: &'a R,
-    pub(crate) alloc: Global,
-}
-
-impl<'a, R: Threads + Wait + Sync + Print> Player for InMemory<'a, R> {
-    fn perform(
-        &self,
-        row: &Row,
-        wanted: &Wanted,
-        line: &str,
-    ) -> Result<(u64, Vec<File>), RowsFault> {
-        let (rt, alloc) = (self.rt, self.alloc);
-        let words = words_of(alloc, line)?;
-        let words = texts_of(alloc, words.as_slice())?;
-        let given = Given {
-            files: row.files.as_slice(),
-            slow: None,
-            room: row.room,
-        };
-        let done = call(rt, alloc, words.as_slice(), given, SOUND)?;
-        let expected = Expected::of(wanted);
-        let is_told = compare(rt, words.as_slice(), &expected, &done)?;
-        let is_put = compare_files(rt, wanted.line, wanted.put.as_slice(), done.put.as_slice())?;
-        let wrong = if is_told && is_put {
-            wrong_again(rt, alloc, words.as_slice(), given, &expected, &done)?
-        } else {
-            1
-        };
-        Ok((wrong, done.put))
-    }
+/// Makes a call over files in memory, and makes it again in other ways where it went right. Answers how often it went wrong, and the files that it put.
+fn perform<R: Threads + Wait + Sync + Print>(
+    rt: &R,
+    alloc: Global,
+    row: &Row,
+    wanted: &Wanted,
+    line: &str,
+) -> Result<(u64, Vec<File>), RowsFault> {
+    let words = words_of(alloc, line)?;
+    let words = texts_of(alloc, words.as_slice())?;
+    let given = Given {
+        files: row.files.as_slice(),
+        slow: None,
+        room: row.room,
+    };
+    let done = call(rt, alloc, words.as_slice(), given, SOUND)?;
+    let expected = Expected::of(wanted);
+    let is_told = compare(rt, words.as_slice(), &expected, &done)?;
+    let is_put = compare_files(rt, wanted.line, wanted.put.as_slice(), done.put.as_slice())?;
+    let wrong = if is_told && is_put {
+        wrong_again(rt, alloc, words.as_slice(), given, &expected, &done)?
+    } else {
+        1
+    };
+    Ok((wrong, done.put))
 }
 
 /// Makes the calls of the row's call, if it has one, and has the row keep the files that they put.
-fn finish<P: Player>(
-    player: &P,
+fn finish<R: Threads + Wait + Sync + Print>(
+    rt: &R,
     alloc: Global,
+    host: Option<&HostRuntime>,
     row: &mut Row,
     tally: &mut Tally,
 ) -> Result<(), RowsFault> {
@@ -74,7 +57,10 @@ fn finish<P: Player>(
         return Ok(());
     };
     for line in &calls_of(alloc, wanted.words.as_str())? {
-        let (wrong, put) = player.perform(row, &wanted, line.as_str())?;
+        let (wrong, put) = match host {
+            Some(host) => perform_on_host(rt, host, row, &wanted, line.as_str())?,
+            None => perform(rt, alloc, row, &wanted, line.as_str())?,
+        };
         tally.calls = tally.calls.saturating_add(1);
         tally.wrong = tally.wrong.saturating_add(wrong);
         for file in put {
@@ -84,17 +70,22 @@ fn finish<P: Player>(
     Ok(())
 }
 
-/// Replays the rows of a text.
-pub(crate) fn replay<P: Player>(player: &P, alloc: Global, text: &str) -> Result<Tally, RowsFault> {
+/// Replays the rows of a text, over files of the host where one is given.
+pub(crate) fn replay<R: Threads + Wait + Sync + Print>(
+    rt: &R,
+    alloc: Global,
+    host: Option<&HostRuntime>,
+    text: &str,
+) -> Result<Tally, RowsFault> {
     let mut row = Row::new(alloc);
     let mut tally = Tally { calls: 0, wrong: 0 };
     for (at, text) in text.lines().enumerate() {
         let line = read(text).ok_or(RowFault::BadLine)?;
         if line.ends_call() {
-            finish(player, alloc, &mut row, &mut tally)?;
+            finish(rt, alloc, host, &mut row, &mut tally)?;
         }
         row.take(at.saturating_add(1), line)?;
     }
-    finish(player, alloc, &mut row, &mut tally)?;
+    finish(rt, alloc, host, &mut row, &mut tally)?;
     Ok(tally)
 }
