@@ -21,6 +21,7 @@ pub struct HostFolder<'a> {
 impl<'a> HostFolder<'a> {
     /// The files of the host.
     pub fn new(rt: &'a HostRuntime) -> HostFolder<'a>
+        ensures host { result.rt ≡ rt.entry }
         ensures failed { result.failures ≡ 0 }
         ensures unopened { result.unopened ≡ 0 }
     {
