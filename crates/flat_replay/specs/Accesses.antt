@@ -1,5 +1,5 @@
 -- The parts of an operation, and the operations of each core.
-use Rattle.std.specs.Prelude.{ℕ, ◌<◌, ◌^◌, List, [], Option, Some, None, map, slice_get, unwrap_or}
+use Rattle.std.specs.Prelude.{ℕ, List, [], Option, Some, None, map, slice_get, unwrap_or}
 use Rattle.std.specs.Global.{Vec}
 use Rattle.mem_op.specs.Consistency.{Operation, Loaded, Stored, Swapped}
 
@@ -13,12 +13,6 @@ abbrev pub word_read : Operation → Option ℕ
 word_read (Loaded a v) = Some v
 word_read (Stored a v) = None
 word_read (Swapped a r v) = Some r
-
--- an operation whose address and words have 64 bits
-abbrev pub Fits : Operation → Type 0
-Fits (Loaded a v) = (a < 2 ^ 64) × (v < 2 ^ 64)
-Fits (Stored a v) = (a < 2 ^ 64) × (v < 2 ^ 64)
-Fits (Swapped a r v) = (a < 2 ^ 64) × (r < 2 ^ 64) × (v < 2 ^ 64)
 
 -- the operations that the vectors of the cores hold
 abbrev pub operation_lists : List (Vec Operation) → List (List Operation)

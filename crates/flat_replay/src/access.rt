@@ -2,7 +2,7 @@
 
 ghost use Rattle.std.specs.Prelude.{◌≡◌, ◌&&◌, ◌==◌};
 ghost use Rattle.mem_op.specs.Consistency.{Loaded, Stored, Swapped, is_store_to, word_left};
-ghost use Rattle.flat_replay.specs.Accesses.{address_of, word_read, Fits};
+ghost use Rattle.flat_replay.specs.Accesses.{address_of, word_read};
 
 use mem_op::Word;
 use std::marker::Model;
@@ -89,13 +89,6 @@ impl Access {
             addr,
             kind: Kind::Swap,
         }
-    }
-
-    /// Its address and words have 64 bits.
-    pub fn fits(&self)
-        ensures { Fits self.now }
-    {
-        let (_addr, _read, _stored) = (self.addr, self.read, self.stored);
     }
 
     /// The address.
