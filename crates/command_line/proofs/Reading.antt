@@ -47,6 +47,7 @@ asked_by words named (request.Run run) line is asks = (line, (named, is, asks))
 asked_by words named (request.Litmus litmus) line is asks = (line, (named, is, asks))
 asked_by words named (request.Search search) line is asks = (line, (named, is, asks))
 asked_by words named (request.Confirm confirm) line is asks = (line, (named, is, asks))
+asked_by words named (request.Replay replay) line is asks = (line, (named, is, asks))
 asked_by words named request.Version line is asks = absurd asks
 
 -- lack of memory is no usage

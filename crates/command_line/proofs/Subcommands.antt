@@ -179,7 +179,7 @@ sub i = get_or (built tardis).subs i (built tardis).top
 
 -- its own subcommands
 abbrev pub own : List Shape
-own = sub 0 ∷ sub 1 ∷ sub 2 ∷ sub 3 ∷ sub 4 ∷ sub 5 ∷ sub 6 ∷ sub 7 ∷ sub 8 ∷ []
+own = sub 0 ∷ sub 1 ∷ sub 2 ∷ sub 3 ∷ sub 4 ∷ sub 5 ∷ sub 6 ∷ sub 7 ∷ sub 8 ∷ sub 9 ∷ []
 
 names_own : (words : List Text) (named : Text × List Row) → fault_of tardis words ≡ [] → subcommand_of tardis words ≡ Some named
     → IsOneOf named.0 own
@@ -191,7 +191,7 @@ names_own words named quiet is = go (stop_after (built tardis).top.rules (names_
     go (Some p) was e =
         let well = built_walk (built tardis) nothing_held (argument_words tardis words) quiet in
         let off = not_help (built tardis).top (names_of (built tardis)) (walk_from nothing_held) (argument_words tardis words) p refl refl well was in
-        one_before own (sub 9) p named (help_unmet p.0 off) e
+        one_before own (sub 10) p named (help_unmet p.0 off) e
 
 -- so it is one of their names
 is_among : (name : Text) (subs : List Shape) → IsOneOf name subs → IsTrue (list_any (bytes_eq name) (map (λ s. s.name) subs))

@@ -18,6 +18,7 @@ use Rattle.command_line.specs.declared.request.Inspect.{Inspect}
 use Rattle.command_line.specs.declared.request.Limits.{Limits}
 use Rattle.command_line.specs.declared.request.Litmus.{Litmus}
 use Rattle.command_line.specs.declared.request.Order.{Order}
+use Rattle.command_line.specs.declared.request.Replay.{Replay}
 use Rattle.command_line.specs.declared.request.Request.{Request}
 use Rattle.command_line.specs.declared.request.Request.TheVariants as request
 use Rattle.command_line.specs.declared.request.Run.{Run}
@@ -175,6 +176,11 @@ pub record IsConfirm (rows : List Row) (confirm : Confirm) : Type 0 where
   pub logs : IsFlag (one_of (codes "logs") rows) are_logs
   pub names : IsCertifiedBy are_logs (unwrap_or (first_of (codes "TRACE") rows) []) (files_given rows) confirm.certificate.now confirm.trace
 
+-- the trace that was given, in the order of its lines, and whether it is told why it isn't right so
+pub record IsReplay (rows : List Row) (replay : Replay) : Type 0 where
+  pub why : IsFlag (one_of (codes "why") rows) replay.why
+  pub trace : replay.trace.now ≡ unwrap_or (first_of (codes "TRACE") rows) []
+
 -- the request is that of the subcommand of this name, by these arguments
 abbrev pub IsAskedBy : Text × List Row → Request → Type 0
 IsAskedBy named (request.Check check) = (named.0 ≡ codes "check") × IsCheck named.1 check
@@ -187,6 +193,7 @@ IsAskedBy named (request.Run run) = (named.0 ≡ codes "run") × IsThreaded name
 IsAskedBy named (request.Litmus litmus) = (named.0 ≡ codes "litmus") × IsLitmus named.1 litmus
 IsAskedBy named (request.Search search) = (named.0 ≡ codes "search") × IsSearch named.1 search
 IsAskedBy named (request.Confirm confirm) = (named.0 ≡ codes "confirm") × IsConfirm named.1 confirm
+IsAskedBy named (request.Replay replay) = (named.0 ≡ codes "replay") × IsReplay named.1 replay
 IsAskedBy named request.Version = ⊥
 
 -- the words are a command line of the program: none is unknown, missing or one too many, and each option has what it takes

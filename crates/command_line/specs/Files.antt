@@ -4,7 +4,7 @@ use Rattle.std.specs.Borrow.{Bor}
 use Rattle.clap.specs.Words.{Text}
 use Rattle.command_line.specs.RunFiles.{IsLogName}
 use Rattle.command_line.specs.declared.request.Request.{Request}
-use Rattle.command_line.specs.declared.request.Request.TheVariants.{Check, Order, Explain, Inspect, Upgrade, Sim, Run, Litmus, Search, Confirm, Version}
+use Rattle.command_line.specs.declared.request.Request.TheVariants.{Check, Order, Explain, Inspect, Upgrade, Sim, Run, Litmus, Search, Confirm, Replay, Version}
 use Rattle.command_line.specs.declared.request.TraceFiles.{TraceFiles}
 use Rattle.command_line.specs.declared.request.TraceFiles.TheVariants.{One, Logs}
 
@@ -37,6 +37,7 @@ files_read (Run asked) = asked.programs.now ∷ []
 files_read (Litmus asked) = asked.test.now ∷ []
 files_read (Search asked) = names_of asked.trace
 files_read (Confirm asked) = asked.certificate.now ∷ names_of asked.trace
+files_read (Replay asked) = asked.trace.now ∷ []
 files_read Version = []
 
 -- the names of the files that are put, but for logs: of a picture, of the numbers of runs, of an order, of a refutation

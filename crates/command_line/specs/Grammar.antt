@@ -115,6 +115,10 @@ search = with_rule (with_search_outputs (with_number (with_rule (new_app (codes 
 abbrev pub confirm : App
 confirm = with_rule (with_rule (with_rule (new_app (codes "confirm")) (flag (codes "logs"))) (name (codes "TRACE"))) files
 
+-- tardis replay [--why] TRACE
+abbrev pub replay : App
+replay = with_rule (with_rule (new_app (codes "replay")) (flag (codes "why"))) (name (codes "TRACE"))
+
 -- check, order and explain
 abbrev pub with_judges : App → App
 with_judges app = with_subcommand (with_subcommand (with_subcommand app check.top) order.top) explain.top
@@ -135,9 +139,9 @@ with_machine app = with_subcommand (with_subcommand (with_subcommand app sim.top
 abbrev pub with_logs : App → App
 with_logs app = with_subcommand app upgrade.top
 
--- search and confirm
+-- search, confirm and replay
 abbrev pub with_traces : App → App
-with_traces app = with_subcommand (with_subcommand app search.top) confirm.top
+with_traces app = with_subcommand (with_subcommand (with_subcommand app search.top) confirm.top) replay.top
 
 -- the program
 abbrev pub tardis : App

@@ -13,7 +13,7 @@ mod words;
 
 pub use refusal::Refusal;
 pub use request::{
-    Check, Confirm, Explain, FileKind, Inspect, Limits, Litmus, Order, Request, Run, Search, Sim,
-    TraceFiles, Upgrade,
+    Check, Confirm, Explain, FileKind, Inspect, Limits, Litmus, Order, Replay, Request, Run,
+    Search, Sim, TraceFiles, Upgrade,
 };
 pub use words::read;

@@ -23,6 +23,8 @@ pub enum Request<'a> {
     Search(Search<'a>),
     /// Whether a trace is consistent, by a certificate alone.
     Confirm(Confirm<'a>),
+    /// Whether a trace is right in the order of its lines.
+    Replay(Replay<'a>),
     /// The version of the program, and what it was proved with.
     Version,
 }
@@ -161,6 +163,15 @@ pub struct Confirm<'a> {
     pub certificate: &'a str,
     /// Where the trace is.
     pub trace: TraceFiles<'a>,
+}
+
+/// Asks whether a trace is right in the order of its lines.
+#[derive(Debug, Drop)]
+pub struct Replay<'a> {
+    /// Whether it is told after a no what should have been read.
+    pub why: bool,
+    /// The name of the file of the trace.
+    pub trace: &'a str,
 }
 
 /// The numbers of the machine.

@@ -17,8 +17,8 @@ pub(crate) struct Subcommand<'a> {
 }
 
 /// The subcommands, in the order in which the help lists them.
-pub(crate) const SUBCOMMANDS: [Subcommand<'static>; 9] = [
-    CHECK, ORDER, EXPLAIN, SIM, RUN, LITMUS, UPGRADE, SEARCH, CONFIRM,
+pub(crate) const SUBCOMMANDS: [Subcommand<'static>; 10] = [
+    CHECK, ORDER, EXPLAIN, SIM, RUN, LITMUS, UPGRADE, SEARCH, CONFIRM, REPLAY,
 ];
 
 /// The subcommand that judges a set of logs.
@@ -173,6 +173,21 @@ const CONFIRM: Subcommand<'static> = Subcommand {
         Argument::Flag("logs", "Reads logs, and leaves their times out"),
         Argument::Name("TRACE", "The trace; with --logs the certificate"),
         Argument::Files("The certificate; with --logs the logs, that of core 0 first"),
+    ],
+};
+
+/// The subcommand that replays a trace.
+const REPLAY: Subcommand<'static> = Subcommand {
+    name: "replay",
+    about: "Tells whether a trace is right in the order of its lines, and stops at the first load that isn't",
+    example: "Examples: tardis replay trace\n          simulator | tardis replay /dev/stdin\n\nA yes says that the trace is sequentially consistent. A no says that it isn't so in this order; tardis search looks for another.",
+    limits: &[],
+    arguments: &[
+        Argument::Flag("why", "After a no, tell what should have been read"),
+        Argument::Name(
+            "TRACE",
+            "The trace, its lines in the order in which the operations took effect",
+        ),
     ],
 };
 

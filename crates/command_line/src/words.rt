@@ -13,7 +13,7 @@ use super::explaining::explaining_of;
 use super::grammar::tardis;
 use super::refusal::Refusal;
 use super::request::{
-    Check, Confirm, Limits, Litmus, Order, Request, Run, Search, Sim, TraceFiles, Upgrade,
+    Check, Confirm, Limits, Litmus, Order, Replay, Request, Run, Search, Sim, TraceFiles, Upgrade,
 };
 use clap::error::ErrorKind;
 use clap::{ArgMatches, Error};
@@ -73,6 +73,7 @@ fn asked_of<'a>(alloc: Global, name: &str, matches: &ArgMatches<'a>) -> Result<R
         "litmus" => Ok(litmus_of(matches)),
         "search" => search_of(alloc, matches),
         "confirm" => confirm_of(alloc, matches),
+        "replay" => Ok(replay_of(matches)),
         _ => unreachable!(),
     }
 }
@@ -165,6 +166,16 @@ fn confirm_of<'a>(alloc: Global, matches: &ArgMatches<'a>) -> Result<Request<'a>
         certificate,
         trace: TraceFiles::One(first),
     }))
+}
+
+/// What the words after `replay` ask for.
+fn replay_of<'a>(matches: &ArgMatches<'a>) -> Request<'a>
+    ensures { asking.IsAskedBy (codes "replay", rows_of (found_of matches.now)) result }
+{
+    Request::Replay(Replay {
+        why: flag_of(matches, "why"),
+        trace: word_of(matches, "TRACE"),
+    })
 }
 
 /// The files as those of logs, or the only one as that of a trace.

@@ -6,7 +6,7 @@ use Rattle.clap.specs.Words.{Text}
 
 abbrev pub subcommand_names : List Text
 subcommand_names =
-    codes "check" ∷ codes "order" ∷ codes "explain" ∷ codes "sim" ∷ codes "run" ∷ codes "litmus" ∷ codes "upgrade" ∷ codes "search" ∷ codes "confirm" ∷ []
+    codes "check" ∷ codes "order" ∷ codes "explain" ∷ codes "sim" ∷ codes "run" ∷ codes "litmus" ∷ codes "upgrade" ∷ codes "search" ∷ codes "confirm" ∷ codes "replay" ∷ []
 
 -- whether it is one of them
 abbrev pub is_subcommand : Text → Bool
