@@ -101,10 +101,6 @@ closed-told cores facts addresses keys states n same l first all = record {
       (all number state (let m = slice_get_within states number state at in omega arith) at);
 }
 
-pub closed-first : (cores : List (List Operation)) (facts : List Fact) (addresses : List ℕ) (keys : BTreeSet (Vec ℕ × Vec ℕ)) (states : List State) → SameAs keys states → IsClosedSet cores facts addresses states
-    → IsIn cores addresses (IsAmong keys) (map (λ _. nought) cores) (map (λ _. nought) addresses)
-closed-first cores facts addresses keys states same closed = (same _ _).1 closed.first
-
 pub closed-each : (cores : List (List Operation)) (facts : List Fact) (addresses : List ℕ) (keys : BTreeSet (Vec ℕ × Vec ℕ)) (states : List State) (n : ℕ) (state : State) → SameAs keys states → n < length states → state ≡ get_or states n state
     → IsClosedSet cores facts addresses states → IsRightState cores facts addresses (IsAmong keys) state
 closed-each cores facts addresses keys states n state same l is closed =

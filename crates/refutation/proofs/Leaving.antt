@@ -5,7 +5,7 @@ use Rattle.std.proofs.lemmas.List.{take_more, drop_more, take_all, take-append-d
 use Rattle.mem_op.specs.declared.id.OpId.{OpId}
 use Rattle.mem_op.specs.Consistency.{Operation}
 use Rattle.refutation.specs.declared.step.Step.{Step}
-use Rattle.refutation.specs.declared.step.Step.TheVariants.{Read, Order, FromRead, WriteOrder, Cycle, States}
+use Rattle.refutation.specs.declared.step.Step.TheVariants.{Read, FromRead, WriteOrder, Cycle, States}
 use Rattle.refutation.specs.declared.fact.Fact.{Fact}
 use Rattle.refutation.specs.declared.fact.Fact.TheVariants.{Before, Source}
 use Rattle.refutation.specs.declared.step.Point.TheVariants.{At}
@@ -43,7 +43,6 @@ write_order-once cores facts source write path g h a b =
 
 gives-once : (cores : List (List Operation)) (facts : List Fact) (step : Step) (g h : List Fact) → Gives cores facts step g → Gives cores facts step h → g ≡ h
 gives-once cores facts (Read read ranges) g h a b = a.1 ∙ sym b.1
-gives-once cores facts (Order one other) g h a b = a.1 ∙ sym b.1
 gives-once cores facts (FromRead source write path) g h a b = from_read-once cores facts source write path g h a b
 gives-once cores facts (WriteOrder source write path) g h a b = write_order-once cores facts source write path g h a b
 gives-once cores facts (Cycle path) g h a b = a.1 ∙ sym b.1

@@ -12,7 +12,7 @@ use Rattle.refutation.specs.declared.step.Point.{Point}
 use Rattle.refutation.specs.declared.step.Point.TheVariants.{Init, At}
 use Rattle.refutation.specs.declared.step.Range.{Range}
 use Rattle.refutation.specs.declared.step.Step.{Step}
-use Rattle.refutation.specs.declared.step.Step.TheVariants.{Read, Order, FromRead, WriteOrder, Cycle, States}
+use Rattle.refutation.specs.declared.step.Step.TheVariants.{Read, FromRead, WriteOrder, Cycle, States}
 use Rattle.refutation.specs.Grammar.{spaced, state_text, id_text, point_text, is_same_point, range_text, reason_text, fields_text, step_text, steps_text, header_line, end_line, Fits, EachFits}
 use Rattle.refutation.specs.Texts.{StepInFront, NoStepInFront}
 use Rattle.refutation.specs.inner.Lines.{IsOneLine}
@@ -51,8 +51,6 @@ step_no_lf (Read read ranges) =
     NoLf-append (codes "read ") (id_text read ++ (codes " :" ++ spaced range_text ranges)) (const_no_lf (codes "read ") refl)
     (NoLf-append (id_text read) (codes " :" ++ spaced range_text ranges) (id_no_lf read)
     (NoLf-append (codes " :") (spaced range_text ranges) (const_no_lf (codes " :") refl) (spaced_no_lf range_text range_no_lf ranges)))
-step_no_lf (Order one other) =
-    NoLf-append (codes "order ") (id_text one ++ 32 ∷ id_text other) (const_no_lf (codes "order ") refl) (NoLf-append (id_text one) (32 ∷ id_text other) (id_no_lf one) (refl, id_no_lf other))
 step_no_lf (FromRead source write path) = NoLf-append (codes "from-read ") (reason_text source write path) (const_no_lf (codes "from-read ") refl) (reason_no_lf source write path)
 step_no_lf (WriteOrder source write path) = NoLf-append (codes "write-order ") (reason_text source write path) (const_no_lf (codes "write-order ") refl) (reason_no_lf source write path)
 step_no_lf (Cycle path) = NoLf-append (codes "cycle :") (spaced numeral path) (const_no_lf (codes "cycle :") refl) (spaced_no_lf numeral numeral_no_lf path)

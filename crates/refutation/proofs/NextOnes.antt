@@ -21,9 +21,6 @@ module _ (cores : List (List Operation)) (numbers : List ℕ) (P : ℕ → Opera
     pub none : is_one ≡ false → (core : ℕ) (y : Operation) → core < n → operation_at cores (next_id numbers core) ≡ Some y → ⊥
     pub each : (core : ℕ) (y : Operation) → core < n → operation_at cores (next_id numbers core) ≡ Some y → P core y
 
-  pub ones-start : FirstOnes false 0
-  ones-start = record { some = λ e. absurd cc; none = λ e core y l at. absurd (omega arith); each = λ core y l at. absurd (omega arith) }
-
   -- one core more, without an operation there
   pub ones-skip : (is_one : Bool) (n : ℕ) → FirstOnes is_one n → operation_at cores (next_id numbers n) ≡ None → FirstOnes is_one (n + 1)
   ones-skip is_one n first nothing = record {

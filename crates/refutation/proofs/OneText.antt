@@ -11,13 +11,13 @@ use Rattle.refutation.specs.declared.fault.CertificateFault.{CertificateFault}
 use Rattle.refutation.specs.declared.fault.CertificateFault.TheVariants.{BadCertificate, OutOfMemory}
 use Rattle.refutation.specs.declared.step.Range.{Range}
 use Rattle.refutation.specs.declared.step.Step.{Step}
-use Rattle.refutation.specs.declared.step.Step.TheVariants.{Read, Order, FromRead, WriteOrder, Cycle, States}
+use Rattle.refutation.specs.declared.step.Step.TheVariants.{Read, FromRead, WriteOrder, Cycle, States}
 use Rattle.refutation.specs.Grammar.{spaced, id_text, range_text, reason_text, name_text, fields_text, step_text, steps_text, header_line, end_line, IdFits, RangeFits, PathFits, Fits, EachFits}
 use Rattle.refutation.specs.Texts.{Spells, NoStepInFront, Begins, EndsBadly, IsFirstMisshapen, IsFault}
 use Rattle.refutation.specs.TextLaws.{SpelledIsRead, AtMostOneFault}
-use Rattle.refutation.specs.inner.Reading.{id_at, named_at, source_at, fact_at, range_at}
+use Rattle.refutation.specs.inner.Reading.{named_at, source_at, fact_at, range_at}
 use Rattle.refutation.proofs.Lines.{line_once, step_no_lf, text_cons}
-use Rattle.refutation.proofs.Parts.{id_again, named_again, source_again, facts_are_words, ranges_are_words}
+use Rattle.refutation.proofs.Parts.{named_again, source_again, facts_are_words, ranges_are_words}
 use Rattle.refutation.proofs.StateTexts.{set-once}
 use Rattle.refutation.proofs.StepLines.{first_of, name_of, name_first}
 use Rattle.refutation.proofs.Words.{HasWords, all_words}
@@ -55,14 +55,6 @@ reason-once s t v w p q f g e =
     let rest = named-once v w (spaced numeral p) (spaced numeral q) f.1 g.1 (ap (λ (z : ℕ × List ℕ). z.1) same) in
     record { source = ap (λ (z : ℕ × List ℕ). z.0) same; write = rest.0; path = path-once p q f.2 g.2 rest.1 }
 
-order-once : (a b c d : OpId) → IdFits a → IdFits b → IdFits c → IdFits d → id_text a ++ 32 ∷ id_text b ≡ id_text c ++ 32 ∷ id_text d → (a ≡ c) × (b ≡ d)
-order-once a b c d p q r s e =
-    let first : (a, 32 ∷ id_text b) ≡ (c, 32 ∷ id_text d) = some_is (a, 32 ∷ id_text b) (c, 32 ∷ id_text d) (sym (id_again a (32 ∷ id_text b) p refl) ∙ ap id_at e ∙ id_again c (32 ∷ id_text d) r refl) in
-    let both : 32 ∷ id_text b ≡ 32 ∷ id_text d = ap (λ (z : OpId × List ℕ). z.1) first in
-    let behind : id_text b ≡ id_text d = cc in
-    let second : (b, []) ≡ (d, []) = some_is (b, []) (d, []) (sym (id_again b [] q tt) ∙ ap (λ (xs : List ℕ). id_at (xs ++ [])) behind ∙ id_again d [] s tt) in
-    (ap (λ (z : OpId × List ℕ). z.0) first, ap (λ (z : OpId × List ℕ). z.0) second)
-
 fields-once : (a b : Step) → Fits a → Fits b → name_text a ≡ name_text b → fields_text a ≡ fields_text b → a ≡ b
 unfolding fields_text
 fields-once (Read read ranges) (Read read2 ranges2) p q name e =
@@ -70,9 +62,6 @@ fields-once (Read read ranges) (Read read2 ranges2) p q name e =
     let id : read ≡ read2 = same.0 in
     let rest : ranges ≡ ranges2 = ranges-once ranges ranges2 p.1 q.1 same.1 in
     λ i. Read (id i) (rest i)
-fields-once (Order one other) (Order one2 other2) p q name e =
-    let same = order-once one other one2 other2 p.0 p.1 q.0 q.1 e in
-    λ i. Order (same.0 i) (same.1 i)
 fields-once (FromRead source write path) (FromRead source2 write2 path2) p q name e =
     let same = reason-once source source2 write write2 path path2 p q e in
     λ i. FromRead (same.source i) (same.write i) (same.path i)
@@ -109,7 +98,6 @@ end-no_step count more step rest there = other step (ap (λ (xs : List ℕ). fir
   where
     other : (s : Step) → 101 ≡ first_of (step_text s ++ 10 ∷ rest) → ⊥
     other (Read read ranges) e = omega arith
-    other (Order one second) e = omega arith
     other (FromRead source write path) e = omega arith
     other (WriteOrder source write path) e = omega arith
     other (Cycle path) e = omega arith

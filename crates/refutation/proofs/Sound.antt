@@ -4,7 +4,7 @@ use Rattle.std.specs.List.{list_any}
 use Rattle.std.proofs.Common.{sym, ap, subst, inl, inr, arith}
 use Rattle.std.proofs.lemmas.Grind.{common_steps}
 use Rattle.std.proofs.lemmas.Option.{gets}
-use Rattle.std.proofs.lemmas.Bool.{cases_order, and_parts, or_cases}
+use Rattle.std.proofs.lemmas.Bool.{and_parts, or_cases}
 use Rattle.mem_op.specs.declared.id.OpId.{OpId}
 use Rattle.mem_op.specs.Consistency.{Operation, operation_at, is_store_to}
 use Rattle.flat_replay.specs.Accesses.{address_of}
@@ -13,11 +13,11 @@ use Rattle.refutation.specs.declared.step.Point.TheVariants.{Init, At}
 use Rattle.refutation.specs.declared.step.Range.{Range}
 use Rattle.refutation.specs.declared.state.State.{State}
 use Rattle.refutation.specs.declared.step.Step.{Step}
-use Rattle.refutation.specs.declared.step.Step.TheVariants.{Read, Order, FromRead, WriteOrder, Cycle, States}
+use Rattle.refutation.specs.declared.step.Step.TheVariants.{Read, FromRead, WriteOrder, Cycle, States}
 use Rattle.refutation.specs.declared.fact.Fact.{Fact}
-use Rattle.refutation.specs.declared.fact.Fact.TheVariants.{Before, Source}
+use Rattle.refutation.specs.declared.fact.Fact.TheVariants.{Source}
 use Rattle.refutation.specs.Facts.{is_up_to, earlier_of, later_of, Leads, IsCycle}
-use Rattle.refutation.specs.Rules.{is_in, LiesIn, HasItsSourceIn, AreTwo, IsOtherWrite, Gives}
+use Rattle.refutation.specs.Rules.{is_in, LiesIn, HasItsSourceIn, IsOtherWrite, Gives}
 use Rattle.refutation.specs.States.{IsClosedSet}
 use Rattle.refutation.specs.Refuting.{split, Leave}
 use Rattle.refutation.specs.Laws.{RefutationsHold}
@@ -110,12 +110,6 @@ module _ (cores : List (List Operation)) (time : Point → ℕ) (timing : IsTimi
       | inr r ↦ absurd (not-read (omega arith))
     ]
 
-  order-one : (a b : OpId) → AreTwo cores a b → OneHolds cores time (Before (At a) (At b) ∷ Before (At b) (At a) ∷ [])
-  order-one a b two = elim (cases_order (time (At a)) (time (At b))) [
-    | inl same ↦ absurd (two.differ (let e = timing.apart a two.first (At b) two.at_one same in cc))
-    | inr apart ↦ elim apart [ inl l ↦ inl l | inr r ↦ inr (inl r) ]
-  ]
-
   -- the source lies in one of the ranges, so its fact holds
   source-one : (read : OpId) (y : Operation) (there : operation_at cores read ≡ Some y) (source : Point) → time source < time (At read) → NoStoreBetween cores time (address_of y) source (At read)
       → (ranges : List Range) → LiesIn ranges source → OneHolds cores time (map (λ range. Source read range) ranges)
@@ -150,7 +144,6 @@ module _ (cores : List (List Operation)) (time : Point → ℕ) (timing : IsTimi
   -- of the facts that a step gives one holds
   gives-one : (facts : List Fact) → AllHold cores time facts → (step : Step) (given : List Fact) → Gives cores facts step given → OneHolds cores time given
   gives-one facts all (Read read ranges) given gives = subst (OneHolds cores time) (sym gives.1) (read-one read ranges gives.0)
-  gives-one facts all (Order a b) given gives = subst (OneHolds cores time) (sym gives.1) (order-one a b gives.0)
   gives-one facts all (FromRead source write path) given gives =
       let known = all source (Source gives.read gives.range) gives.known in
       let after = leads-later facts all gives.range.last path (At write) gives.leads in

@@ -1,5 +1,5 @@
 -- The text of a set of states is that of no other.
-use Rattle.std.proofs.Common.{◌≡◌, ◌≢◌, ℕ, ◌<◌, ◌^◌, true, List, [], ◌∷◌, ◌++◌, length, Some, None, refl, sym, ap, subst, ◌∙◌, arith, append_assoc, append-nil, length-append}
+use Rattle.std.proofs.Common.{◌≡◌, ◌≢◌, ℕ, ◌<◌, true, List, [], ◌∷◌, ◌++◌, length, Some, None, refl, sym, ap, subst, ◌∙◌, arith, append_assoc, append-nil, length-append}
 use Rattle.std.specs.Prelude.{codes, flat_map}
 use Rattle.std.specs.List.{AllByRecursion}
 use Rattle.std.proofs.lemmas.List.{append_cancel_left}
@@ -34,9 +34,6 @@ unfolding fact_at after number_at state_text
 stops-states [] rest stops = stops
 stops-states (Open next words ∷ states) rest stops = (refl, refl)
 stops-states (Dead next words limits ∷ states) rest stops = (refl, refl)
-
-abbrev Low : ℕ → Type 0
-Low n = n < 2 ^ 64
 
 -- a list of numbers, and what comes after it
 record IsFront (numbers rest : List ℕ) : Type 0 where
@@ -222,28 +219,6 @@ pub record StatesSoFar (text : List ℕ) (states : List State) (rest : List ℕ)
   pub text_is : text ≡ flat_map state_text states ++ rest
   pub none : fact_at rest ≡ None
   pub ends : states ≢ [] → ends_word rest ≡ true
-
-pub no_states : (text : List ℕ) → fact_at text ≡ None → StatesSoFar text [] text
-no_states text none = record { each = tt; text_is = refl; none = none; ends = λ some. absurd (some refl) }
-
-each_state_push : (states : List State) (state : State) → AllByRecursion StateFits states → StateFits state → AllByRecursion StateFits (states ++ state ∷ [])
-each_state_push [] state each fits = (fits, tt)
-each_state_push (s ∷ states) state each fits = (each.0, each_state_push states state each.1 fits)
-
-states_push : (states : List State) (state : State) (rest : List ℕ) → flat_map state_text (states ++ state ∷ []) ++ rest ≡ flat_map state_text states ++ (state_text state ++ rest)
-states_push [] state rest = ap (λ (xs : List ℕ). xs ++ rest) (append-nil (state_text state))
-states_push (s ∷ states) state rest =
-    append_assoc (state_text s) (flat_map state_text (states ++ state ∷ [])) rest
-    ∙ ap (λ (xs : List ℕ). state_text s ++ xs) (states_push states state rest)
-    ∙ sym (append_assoc (state_text s) (flat_map state_text states) (state_text state ++ rest))
-
-pub one_more_state : (text : List ℕ) (states : List State) (state : State) (rest behind : List ℕ) → StatesSoFar text states rest → StateInFront state rest behind → StatesSoFar text (states ++ state ∷ []) behind
-one_more_state text states state rest behind far there = record {
-  each = each_state_push states state far.each there.fits;
-  text_is = far.text_is ∙ ap (λ (xs : List ℕ). flat_map state_text states ++ xs) there.text ∙ sym (states_push states state behind);
-  none = there.none;
-  ends = λ some. there.ends;
-}
 
 state-bytes : (state : State) → 0 < length (state_text state)
 unfolding state_text

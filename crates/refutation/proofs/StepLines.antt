@@ -8,12 +8,12 @@ use Rattle.refutation.specs.declared.line.Reason.{Reason}
 use Rattle.refutation.specs.declared.step.Range.{Range}
 use Rattle.refutation.specs.declared.state.State.{State}
 use Rattle.refutation.specs.declared.step.Step.{Step}
-use Rattle.refutation.specs.declared.step.Step.TheVariants.{Read, Order, FromRead, WriteOrder, Cycle, States}
-use Rattle.refutation.specs.Grammar.{spaced, state_text, id_text, range_text, reason_text, name_text, fields_text, IdFits, RangeFits, Fits}
-use Rattle.refutation.specs.inner.Reading.{id_at, named_at, source_at}
+use Rattle.refutation.specs.declared.step.Step.TheVariants.{Read, FromRead, WriteOrder, Cycle, States}
+use Rattle.refutation.specs.Grammar.{spaced, state_text, id_text, range_text, reason_text, name_text, fields_text, RangeFits, Fits}
+use Rattle.refutation.specs.inner.Reading.{named_at, source_at}
 use Rattle.refutation.specs.inner.StateLines.{NumbersInFront, NoStateInFront}
 use Rattle.refutation.specs.inner.Telling.{TellsWords, TellsReason, TellsStep, TellsLine}
-use Rattle.refutation.proofs.Parts.{id_takes, id_again, named_takes, named_again, source_takes, source_again}
+use Rattle.refutation.proofs.Parts.{named_takes, named_again, source_takes, source_again}
 use Rattle.refutation.proofs.StateTexts.{StatesSoFar, set-whole}
 
 -- ---- what is read once
@@ -34,39 +34,30 @@ first_of (b ∷ bs) = b
 
 -- the name that begins with a letter
 abbrev pub name_of : ℕ → List ℕ
-name_of b = if b == 114 then codes "read " else (if b == 111 then codes "order " else (if b == 102 then codes "from-read " else (if b == 119 then codes "write-order " else (if b == 115 then codes "states" else codes "cycle :"))))
+name_of b = if b == 114 then codes "read " else (if b == 102 then codes "from-read " else (if b == 119 then codes "write-order " else (if b == 115 then codes "states" else codes "cycle :")))
 
 pub name_first : (step : Step) (rest : List ℕ) → name_of (first_of (name_text step ++ rest)) ≡ name_text step
 name_first (Read read ranges) rest = refl
-name_first (Order one other) rest = refl
 name_first (FromRead source write path) rest = refl
 name_first (WriteOrder source write path) rest = refl
 name_first (Cycle path) rest = refl
 name_first (States addresses set) rest = refl
 
 -- a line that begins with none of the names is no step's
-pub line-none : (line : List ℕ) → ((rest : List ℕ) → line ≢ codes "read " ++ rest) → ((rest : List ℕ) → line ≢ codes "order " ++ rest) → ((rest : List ℕ) → line ≢ codes "from-read " ++ rest)
+pub line-none : (line : List ℕ) → ((rest : List ℕ) → line ≢ codes "read " ++ rest) → ((rest : List ℕ) → line ≢ codes "from-read " ++ rest)
     → ((rest : List ℕ) → line ≢ codes "write-order " ++ rest) → ((rest : List ℕ) → line ≢ codes "cycle :" ++ rest) → ((rest : List ℕ) → line ≢ codes "states" ++ rest) → TellsLine line None
-line-none line a b c d e f (Read read ranges) fits is = a (fields_text (Read read ranges)) is
-line-none line a b c d e f (Order one other) fits is = b (fields_text (Order one other)) is
-line-none line a b c d e f (FromRead source write path) fits is = c (fields_text (FromRead source write path)) is
-line-none line a b c d e f (WriteOrder source write path) fits is = d (fields_text (WriteOrder source write path)) is
-line-none line a b c d e f (Cycle path) fits is = e (fields_text (Cycle path)) is
-line-none line a b c d e f (States addresses set) fits is = f (fields_text (States addresses set)) is
+line-none line a b c d e (Read read ranges) fits is = a (fields_text (Read read ranges)) is
+line-none line a b c d e (FromRead source write path) fits is = b (fields_text (FromRead source write path)) is
+line-none line a b c d e (WriteOrder source write path) fits is = c (fields_text (WriteOrder source write path)) is
+line-none line a b c d e (Cycle path) fits is = d (fields_text (Cycle path)) is
+line-none line a b c d e (States addresses set) fits is = e (fields_text (States addresses set)) is
 
 -- ---- the steps of each name
-
-pub other_name : (a b : List ℕ) → first_of a ≢ first_of b → a ≢ b
-other_name a b apart e = apart (ap (λ (x : List ℕ). first_of x) e)
 
 -- none, where no fields of the kind are there
 read-none : (bytes : List ℕ) → ((read : OpId) (ranges : List Range) → Fits (Read read ranges) → bytes ≢ fields_text (Read read ranges)) → TellsStep (codes "read ") bytes None
 read-none bytes none (Read read ranges) fits name is = none read ranges fits is
 read-none bytes none step fits name is = absurd (let e = ap first_of name in omega (arith, e))
-
-order-none : (bytes : List ℕ) → ((one other : OpId) → Fits (Order one other) → bytes ≢ fields_text (Order one other)) → TellsStep (codes "order ") bytes None
-order-none bytes none (Order one other) fits name is = none one other fits is
-order-none bytes none step fits name is = absurd (let e = ap first_of name in omega (arith, e))
 
 pub from_read-told : (bytes : List ℕ) (found : Option Reason) → TellsReason bytes found → TellsStep (codes "from-read ") bytes (option_map (λ x. FromRead x.source x.write x.path) found)
 unfolding fields_text
@@ -142,48 +133,6 @@ read-told bytes words read (Some ranges) told e =
     ((r.0, told.0), refl, r.1 ∙ ap (λ (x : List ℕ). id_text read ++ (codes " :" ++ x)) told.1)
 read-told bytes words read None told e = read-none bytes (λ id ranges fits is.
     told ranges fits.1 (one_rest (named_at bytes) read id words (spaced range_text ranges) e (ap named_at is ∙ named_again id (spaced range_text ranges) fits.0)))
-
--- ---- two operations
-
-pub order-no_one : (bytes : List ℕ) → id_at bytes ≡ None → TellsStep (codes "order ") bytes None
-unfolding fields_text
-order-no_one bytes none = order-none bytes (λ one other fits is.
-    no_some (id_at bytes) (one, 32 ∷ id_text other) none (ap id_at is ∙ id_again one (32 ∷ id_text other) fits.0 refl))
-
--- what comes after the first
-behind_one : (bytes rest : List ℕ) (found one other : OpId) → id_at bytes ≡ Some (found, rest) → Fits (Order one other) → bytes ≡ fields_text (Order one other) → rest ≡ 32 ∷ id_text other
-unfolding fields_text
-behind_one bytes rest found one other e fits is =
-    one_rest (id_at bytes) found one rest (32 ∷ id_text other) e (ap id_at is ∙ id_again one (32 ∷ id_text other) fits.0 refl)
-
-pub order-no_space : (bytes rest : List ℕ) (found : OpId) → ((behind : List ℕ) → rest ≢ codes " " ++ behind) → id_at bytes ≡ Some (found, rest) → TellsStep (codes "order ") bytes None
-order-no_space bytes rest found none e = order-none bytes (λ one other fits is. none (id_text other) (behind_one bytes rest found one other e fits is))
-
-whole_id : (id : OpId) → IdFits id → id_at (id_text id) ≡ Some (id, [])
-whole_id id fits = ap id_at (sym (append-nil (id_text id))) ∙ id_again id [] fits tt
-
--- what comes after the space
-behind_space : (bytes rest behind : List ℕ) (found one other : OpId) → id_at bytes ≡ Some (found, rest) → rest ≡ codes " " ++ behind → Fits (Order one other) → bytes ≡ fields_text (Order one other) → id_at behind ≡ Some (other, [])
-behind_space bytes rest behind found one other e f fits is =
-    let both : 32 ∷ behind ≡ 32 ∷ id_text other = sym f ∙ behind_one bytes rest found one other e fits is in
-    let same : behind ≡ id_text other = cc in
-    ap id_at same ∙ whole_id other fits.1
-
-pub order-no_other : (bytes rest behind : List ℕ) (found : OpId) → rest ≡ codes " " ++ behind → id_at behind ≡ None → id_at bytes ≡ Some (found, rest) → TellsStep (codes "order ") bytes None
-order-no_other bytes rest behind found f none e = order-none bytes (λ one other fits is.
-    no_some (id_at behind) (other, []) none (behind_space bytes rest behind found one other e f fits is))
-
-pub order-too_long : (bytes rest behind end : List ℕ) (found second : OpId) → rest ≡ codes " " ++ behind → id_at behind ≡ Some (second, end) → end ≢ [] → id_at bytes ≡ Some (found, rest) → TellsStep (codes "order ") bytes None
-order-too_long bytes rest behind end found second f g some e = order-none bytes (λ one other fits is.
-    some (one_rest (id_at behind) second other end [] g (behind_space bytes rest behind found one other e f fits is)))
-
-pub order-told : (bytes rest behind end : List ℕ) (one other : OpId) → rest ≡ codes " " ++ behind → end ≡ [] → id_at bytes ≡ Some (one, rest) → id_at behind ≡ Some (other, end) → TellsStep (codes "order ") bytes (Some (Order one other))
-unfolding fields_text
-order-told bytes rest behind end one other f none e g =
-    let a = id_takes bytes (one, rest) e in
-    let b = id_takes behind (other, end) g in
-    let last : behind ≡ id_text other = b.1 ∙ ap (λ (x : List ℕ). id_text other ++ x) none ∙ append-nil (id_text other) in
-    ((a.0, b.0), refl, a.1 ∙ ap (λ (x : List ℕ). id_text one ++ x) (f ∙ ap (λ (x : List ℕ). 32 ∷ x) last))
 
 -- ---- a set of states
 

@@ -11,7 +11,7 @@ use Rattle.refutation.specs.declared.step.Range.{Range}
 use Rattle.refutation.specs.declared.state.State.{State}
 use Rattle.refutation.specs.declared.state.State.TheVariants.{Open, Dead}
 use Rattle.refutation.specs.declared.step.Step.{Step}
-use Rattle.refutation.specs.declared.step.Step.TheVariants.{Read, Order, FromRead, WriteOrder, Cycle, States}
+use Rattle.refutation.specs.declared.step.Step.TheVariants.{Read, FromRead, WriteOrder, Cycle, States}
 
 -- ---- the texts
 
@@ -41,7 +41,6 @@ range_text range = point_text range.first ++ (if is_same_point range.first range
 -- what a step is called, as its line begins
 abbrev pub name_text : Step → List ℕ
 name_text (Read read ranges) = codes "read "
-name_text (Order one other) = codes "order "
 name_text (FromRead source write path) = codes "from-read "
 name_text (WriteOrder source write path) = codes "write-order "
 name_text (Cycle path) = codes "cycle :"
@@ -60,7 +59,6 @@ state_text (Dead next words limits) =
 -- what its line goes on with
 unfoldable pub fields_text : Step → List ℕ
 fields_text (Read read ranges) = id_text read ++ (codes " :" ++ spaced range_text ranges)
-fields_text (Order one other) = id_text one ++ 32 ∷ id_text other
 fields_text (FromRead source write path) = reason_text source write path
 fields_text (WriteOrder source write path) = reason_text source write path
 fields_text (Cycle path) = spaced numeral path
@@ -106,7 +104,6 @@ StateFits (Dead next words limits) = PathFits next × PathFits words × PathFits
 
 abbrev pub Fits : Step → Type 0
 Fits (Read read ranges) = IdFits read × AllByRecursion RangeFits ranges
-Fits (Order one other) = IdFits one × IdFits other
 Fits (FromRead source write path) = (source < 2 ^ 64) × IdFits write × PathFits path
 Fits (WriteOrder source write path) = (source < 2 ^ 64) × IdFits write × PathFits path
 Fits (Cycle path) = PathFits path

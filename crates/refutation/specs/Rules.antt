@@ -8,7 +8,7 @@ use Rattle.refutation.specs.declared.step.Point.{Point}
 use Rattle.refutation.specs.declared.step.Point.TheVariants.{Init, At}
 use Rattle.refutation.specs.declared.step.Range.{Range}
 use Rattle.refutation.specs.declared.step.Step.{Step}
-use Rattle.refutation.specs.declared.step.Step.TheVariants.{Read, Order, FromRead, WriteOrder, Cycle, States}
+use Rattle.refutation.specs.declared.step.Step.TheVariants.{Read, FromRead, WriteOrder, Cycle, States}
 use Rattle.refutation.specs.declared.fact.Fact.{Fact}
 use Rattle.refutation.specs.declared.fact.Fact.TheVariants.{Before, Source}
 use Rattle.refutation.specs.Facts.{is_up_to, Leads, IsCycle}
@@ -37,14 +37,6 @@ pub record HasItsSourceIn (cores : List (List Operation)) (read : OpId) (ranges 
   pub reads : word_read operation ≡ Some value
   pub init : value ≡ 0 → LiesIn ranges Init
   pub writes : (id : OpId) (write : Operation) → operation_at cores id ≡ Some write → MayGive (address_of operation) value read id write → LiesIn ranges (At id)
-
--- two operations
-pub record AreTwo (cores : List (List Operation)) (one other : OpId) : Type 0 where
-  pub first : Operation
-  pub second : Operation
-  pub at_one : operation_at cores one ≡ Some first
-  pub at_other : operation_at cores other ≡ Some second
-  pub differ : one ≢ other
 
 -- a write of the read's address that is neither the read nor the last point that the read's source may be
 pub record IsOtherWrite (cores : List (List Operation)) (read : OpId) (last : Point) (write : OpId) : Type 0 where
@@ -77,7 +69,6 @@ pub record IsWriteOrder (cores : List (List Operation)) (facts : List Fact) (sou
 -- a step is right where these facts are in force, and gives cases with these facts
 abbrev pub Gives : List (List Operation) → List Fact → Step → List Fact → Type 0
 Gives cores facts (Read read ranges) given = HasItsSourceIn cores read ranges × (given ≡ map (λ range. Source read range) ranges)
-Gives cores facts (Order one other) given = AreTwo cores one other × (given ≡ Before (At one) (At other) ∷ Before (At other) (At one) ∷ [])
 Gives cores facts (FromRead source write path) given = IsFromRead cores facts source write path given
 Gives cores facts (WriteOrder source write path) given = IsWriteOrder cores facts source write path given
 Gives cores facts (Cycle path) given = IsCycle facts path × (given ≡ [])

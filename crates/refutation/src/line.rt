@@ -5,7 +5,7 @@ ghost use Rattle.decimal_text.specs.Numbers.{numeral};
 ghost use Rattle.refutation.specs.Grammar.{range_text, RangeFits};
 ghost use Rattle.refutation.specs.inner.Telling.{TellsWords, TellsReason, TellsStep, TellsLine};
 
-use super::reading::{fact, id, named, range, source};
+use super::reading::{fact, named, range, source};
 use super::state_line::read_states;
 use super::step::{Path, Ranges, Step};
 use decimal_text::after_text;
@@ -87,23 +87,6 @@ fn read_read(alloc: Global, fields: &[u8]) -> Result<Option<Step>, AllocError>
     }
 }
 
-/// The step whose fields these are, of those that split by an order.
-fn read_order(fields: &[u8]) -> Option<Step>
-    ensures { TellsStep (codes "order ") fields.now result }
-{
-    let Some((one, rest)) = id(fields) else {
-        return None;
-    };
-    let Some((other, rest)) = id(after_text(b" ", rest)?) else {
-        return None;
-    };
-    if rest.is_empty() {
-        Some(Step::Order { one, other })
-    } else {
-        None
-    }
-}
-
 /// The step whose fields these are, of those of from-read.
 fn read_from_read(alloc: Global, fields: &[u8]) -> Result<Option<Step>, AllocError>
     ensures { IfOk result (TellsStep (codes "from-read ") fields.now) }
@@ -148,8 +131,6 @@ pub(crate) fn read_step(alloc: Global, line: &[u8]) -> Result<Option<Step>, Allo
 {
     if let Some(fields) = after_text(b"read ", line) {
         read_read(alloc, fields)
-    } else if let Some(fields) = after_text(b"order ", line) {
-        Ok(read_order(fields))
     } else if let Some(fields) = after_text(b"from-read ", line) {
         read_from_read(alloc, fields)
     } else if let Some(fields) = after_text(b"write-order ", line) {

@@ -161,10 +161,6 @@ fn push_step(text: &mut String, step: &Step) -> Result<(), AllocError>
 {
     match step {
         Step::Read { read, ranges } => push_read(text, read, ranges),
-        Step::Order { one, other } => {
-            let (one, other) = (Point::At(*one), Point::At(*other));
-            write!(text, "order {one} {other}")
-        }
         Step::FromRead {
             source,
             write,

@@ -18,7 +18,7 @@ pub(crate) fn ends_word(bytes: &[u8]) -> bool
 
 /// An id, and the bytes after it.
 #[tactic(auto, unfolding(crate::specs::inner::Reading::id_at))]
-pub(crate) fn id(bytes: &[u8]) -> Option<(OpId, &[u8])>
+fn id(bytes: &[u8]) -> Option<(OpId, &[u8])>
     ensures { front_now result ≡ id_at bytes.now }
 {
     let (core, rest) = read_field(b'.', bytes)?;

@@ -1,9 +1,8 @@
 //! The rules: the cases that a step gives.
 
-ghost use Rattle.std.specs.Prelude.{◌≡◌, ◌↔◌, IsTrue, [], ◌∷◌, IfOk, map};
-ghost use Rattle.refutation.specs.declared.fact.Fact.TheVariants.{Before, Source};
-ghost use Rattle.refutation.specs.declared.step.Point.TheVariants.{At};
-ghost use Rattle.refutation.specs.Rules.{Gives, AreTwo, HasItsSourceIn, IsOtherWrite, IsFromRead, IsWriteOrder};
+ghost use Rattle.std.specs.Prelude.{◌≡◌, ◌↔◌, IsTrue, [], IfOk, map};
+ghost use Rattle.refutation.specs.declared.fact.Fact.TheVariants.{Source};
+ghost use Rattle.refutation.specs.Rules.{Gives, HasItsSourceIn, IsOtherWrite, IsFromRead, IsWriteOrder};
 ghost use Rattle.refutation.specs.States.{IsClosedSet};
 ghost use Rattle.refutation.specs.inner.Answers.{TellsGiven, TellsOne, TellsReading, IsCaseOf};
 
@@ -54,32 +53,6 @@ fn by_source(
         Some(found) if cover(trace, &found, ranges) => Ok(Some(sources(alloc, read, ranges)?)),
         _ => Ok(None),
     }
-}
-
-/// Whether two ids are those of two operations.
-fn are_two(trace: &Trace, one: &OpId, other: &OpId) -> bool
-    ensures { IsTrue result ↔ AreTwo trace.now one.now other.now }
-{
-    one != other && trace.operation(one).is_some() && trace.operation(other).is_some()
-}
-
-/// The cases of a split by the order of two operations. None where they aren't two.
-fn by_order(
-    alloc: Global,
-    trace: &Trace,
-    one: &OpId,
-    other: &OpId,
-) -> Result<Option<Vec<Known>>, AllocError>
-    ensures { IfOk result (TellsGiven (λ given. AreTwo trace.now one.now other.now
-        × (given ≡ Before (At one.now) (At other.now) ∷ Before (At other.now) (At one.now) ∷ []))) }
-{
-    if !are_two(trace, one, other) {
-        return Ok(None);
-    }
-    let (one, other) = (Point::At(*one), Point::At(*other));
-    let first = Known::new(Fact::Before(one, other));
-    let second = Known::new(Fact::Before(other, one));
-    Ok(Some(vec![in alloc; first, second]?))
 }
 
 /// Whether an operation writes the address of a read, and is neither the read nor the last point of its source.
@@ -164,7 +137,6 @@ pub(crate) fn given(
 {
     match step {
         Step::Read { read, ranges } => by_source(alloc, trace, read, ranges.as_slice()),
-        Step::Order { one, other } => by_order(alloc, trace, one, other),
         Step::FromRead {
             source,
             write,

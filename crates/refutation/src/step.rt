@@ -95,13 +95,6 @@ pub enum Step {
         /// The ranges.
         ranges: Ranges,
     },
-    /// One of two operations is before the other: two cases.
-    Order {
-        /// The one that is first in the first case.
-        one: OpId,
-        /// The one that is first in the second case.
-        other: OpId,
-    },
     /// A write is after the last point that a read's source may be, so the read is before the write.
     FromRead {
         /// The fact that says where the read's source lies.
