@@ -8,7 +8,7 @@ use trace_replay::{ReplayFault, ReplayVerdict, replay};
 /// The line that a replay of this text answers.
 fn line_of(alloc: Global, text: &[u8]) -> Result<String, Fail> {
     let mut source = MemSource::new(text, &[]);
-    match replay(alloc, &mut source) {
+    match replay(alloc, &mut source, &mut None) {
         Ok(verdict) => Ok(verdict.to_string(alloc)?),
         Err(fault) => Ok(fault.to_string(alloc)?),
     }
@@ -67,7 +67,7 @@ fn told(alloc: Global, verdict: &ReplayVerdict) -> Result<String, Fail> {
 /// What is said of the operation at which this text goes wrong.
 fn reason_of(alloc: Global, text: &[u8]) -> Result<String, Fail> {
     let mut source = MemSource::new(text, &[]);
-    match replay(alloc, &mut source) {
+    match replay(alloc, &mut source, &mut None) {
         Ok(verdict) => told(alloc, &verdict),
         Err(fault) => Ok(fault.to_string(alloc)?),
     }
@@ -106,7 +106,7 @@ fn each_read_fails_in_turn(rt: HostRuntime) -> Result<(), Fail> {
         } else {
             Ok(ReplayVerdict::Yes(2))
         };
-        assert!(rt; replay(rt.alloc(), &mut source) == due);
+        assert!(rt; replay(rt.alloc(), &mut source, &mut None) == due);
         assert_eq!(rt; source.failures(), if read < READS { 1 } else { 0 });
     }
     Ok(())
@@ -116,7 +116,7 @@ fn each_read_fails_in_turn(rt: HostRuntime) -> Result<(), Fail> {
 fn nothing_is_read_behind_a_wrong_load(rt: HostRuntime) -> Result<(), Fail> {
     let text = b"0: M[1] == 1\nno line\n";
     let mut source = MemSource::new(text, &[Step::Move(12), Step::Fail]);
-    let Ok(ReplayVerdict::No(_)) = replay(rt.alloc(), &mut source) else {
+    let Ok(ReplayVerdict::No(_)) = replay(rt.alloc(), &mut source, &mut None) else {
         return Err(Fail::from("it is wrong"));
     };
     assert_eq!(rt; source.failures(), 0);

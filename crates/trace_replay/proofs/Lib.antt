@@ -4,3 +4,4 @@ pub mod OneAnswer
 pub mod Readings
 pub mod Sequential
 pub mod States
+pub mod Stores

@@ -4,5 +4,6 @@ pub mod Parts
 pub mod Reading
 pub mod States
 pub mod Steps
+pub mod Stores
 pub mod Texts
 pub mod inner

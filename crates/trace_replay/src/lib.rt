@@ -9,6 +9,7 @@ mod replayer;
 mod step_id;
 mod stop;
 mod stored;
+mod stores_by_word;
 mod verdict;
 mod wrong_load;
 
@@ -18,5 +19,6 @@ pub use reading::replay;
 pub use replayer::Replayer;
 pub use step_id::StepId;
 pub use stored::Stored;
+pub use stores_by_word::StoresByWord;
 pub use verdict::ReplayVerdict;
 pub use wrong_load::WrongLoad;

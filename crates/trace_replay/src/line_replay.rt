@@ -10,8 +10,11 @@ ghost use Rattle.trace_replay.specs.inner.Feeding.{IsSettled, IsStopAt, IsStopBy
 
 use super::fault::ReplayFault;
 use super::replayer::Replayer;
+use super::step_id::StepId;
 use super::stop::Stop;
-use std::alloc::Global;
+use super::stores_by_word::StoresByWord;
+use flat_replay::Access;
+use std::alloc::{AllocError, Global};
 use trace::{TraceLine, next_line, parse_line, without_return};
 
 /// Lines that were replayed.
@@ -23,18 +26,33 @@ pub(crate) struct LineReplay {
     number: u64,
 }
 
+/// Keeps an operation where stores are kept by their words.
+fn keep(stores: &mut Option<StoresByWord>, id: StepId, access: &Access) -> Result<(), AllocError> {
+    match stores {
+        Some(stores) => stores.keep(id, access),
+        None => Ok(()),
+    }
+}
+
 /// Performs the operation that a line says, if it says one.
-fn perform(replayer: &mut Replayer, said: TraceLine) -> Result<(), Stop>
+fn perform(
+    replayer: &mut Replayer,
+    stores: &mut Option<StoresByWord>,
+    said: TraceLine,
+) -> Result<(), Stop>
     ensures { (steps : List Step) → StandsFor replayer.old steps → MatchResult result
         (λ _. StandsFor replayer.new (with_said steps said))
         (IsStopBy steps said) }
 {
     match said {
         TraceLine::Nothing => Ok(()),
-        TraceLine::Performs(core, access) => match replayer.step(core, &access)? {
-            None => Ok(()),
-            Some(wrong) => Err(Stop::Wrong(wrong)),
-        },
+        TraceLine::Performs(core, access) => {
+            let id = replayer.next_id(core);
+            match replayer.step(core, &access)? {
+                None => Ok(keep(stores, id, &access)?),
+                Some(wrong) => Err(Stop::Wrong(wrong)),
+            }
+        }
     }
 }
 
@@ -50,7 +68,7 @@ impl LineReplay {
     }
 
     /// Replays one more line.
-    fn take(&mut self, line: &[u8]) -> Result<(), Stop>
+    fn take(&mut self, stores: &mut Option<StoresByWord>, line: &[u8]) -> Result<(), Stop>
         ensures { (said : List TraceLine) → Stands self.old said → MatchResult result
             (λ _. TakesLine said line.now self.new)
             (IsStopAt said line.now) }
@@ -59,34 +77,44 @@ impl LineReplay {
         let Some(said) = parse_line(line) else {
             return Err(Stop::Refused(ReplayFault::BadTraceLine { line: self.number }));
         };
-        perform(&mut self.replayer, said)
+        perform(&mut self.replayer, stores, said)
     }
 
     /// Replays the line that ends with this part, where `begun` has the bytes before it.
-    fn end(&mut self, begun: &mut Vec<u8>, part: &[u8]) -> Result<(), Stop>
+    fn end(
+        &mut self,
+        stores: &mut Option<StoresByWord>,
+        begun: &mut Vec<u8>,
+        part: &[u8],
+    ) -> Result<(), Stop>
         ensures { (said : List TraceLine) → Stands self.old said → MatchResult result
             (λ _. TakesLine said (strip_carriage_return (begun.old.items ++ part.now)) self.new
             × (begun.new.items ≡ []))
             (IsStopAt said (strip_carriage_return (begun.old.items ++ part.now))) }
     {
         if begun.is_empty() {
-            return self.take(without_return(part));
+            return self.take(stores, without_return(part));
         }
         begun.extend_from_slice(part)?;
-        self.take(without_return(begun))?;
+        self.take(stores, without_return(begun))?;
         begun.clear();
         Ok(())
     }
 
     /// Replays the lines that end in a piece, where `begun` has the bytes before it, and keeps the beginning of one more there.
-    pub(crate) fn feed(&mut self, begun: &mut Vec<u8>, piece: &[u8]) -> Result<(), Stop>
+    pub(crate) fn feed(
+        &mut self,
+        stores: &mut Option<StoresByWord>,
+        begun: &mut Vec<u8>,
+        piece: &[u8],
+    ) -> Result<(), Stop>
         ensures { (bytes : List ℕ) → WasFed self.old begun.old.items bytes → MatchResult result
             (λ _. WasFed self.new begun.new.items (bytes ++ piece.now))
             (IsSettled (bytes ++ piece.now)) }
     {
         let mut rest = piece;
         while let Some((part, behind)) = next_line(rest) {
-            self.end(begun, part)?;
+            self.end(stores, begun, part)?;
             rest = behind;
         }
         begun.extend_from_slice(rest)?;
@@ -94,13 +122,17 @@ impl LineReplay {
     }
 
     /// Replays the last line, which lacks its line feed, and answers how many operations there were.
-    pub(crate) fn finish(mut self, begun: &[u8]) -> Result<u64, Stop>
+    pub(crate) fn finish(
+        mut self,
+        stores: &mut Option<StoresByWord>,
+        begun: &[u8],
+    ) -> Result<u64, Stop>
         ensures { (bytes : List ℕ) → WasFed self begun.now bytes → MatchResult result
             (IsReplayed bytes)
             (IsStopOf bytes) }
     {
         if !begun.is_empty() {
-            self.take(begun)?;
+            self.take(stores, begun)?;
         }
         Ok(self.replayer.count())
     }

@@ -10,6 +10,7 @@ ghost use Rattle.trace_replay.specs.declared.stop.Stop.TheVariants.{Refused};
 use super::fault::ReplayFault;
 use super::line_replay::LineReplay;
 use super::stop::Stop;
+use super::stores_by_word::StoresByWord;
 use super::verdict::ReplayVerdict;
 use log_file::ByteSource;
 use std::alloc::Global;
@@ -18,7 +19,11 @@ use std::alloc::Global;
 const PIECE: usize = 65_536;
 
 /// Replays the lines of a source, piece by piece, and answers how many operations they have.
-fn replay_pieces<S: ByteSource>(alloc: Global, source: &mut S) -> Result<u64, Stop>
+fn replay_pieces<S: ByteSource>(
+    alloc: Global,
+    source: &mut S,
+    stores: &mut Option<StoresByWord>,
+) -> Result<u64, Stop>
     ensures answer { (bytes : List ℕ) × Tells (S.remaining source.old) bytes
         × MatchResult result (IsReplayed bytes) (λ stop. IsAnswerOf bytes (answer_to stop)) }
     ensures far { ReadsOn (S.remaining source.old) (S.remaining source.new) }
@@ -34,9 +39,9 @@ fn replay_pieces<S: ByteSource>(alloc: Global, source: &mut S) -> Result<u64, St
         let room = buffer.as_mut_slice();
         let count = source.read(room)?;
         if count == 0 {
-            return lines.finish(begun.as_slice());
+            return lines.finish(stores, begun.as_slice());
         }
-        lines.feed(&mut begun, &room[..count])?;
+        lines.feed(stores, &mut begun, &room[..count])?;
     }
     Err(Stop::Refused(ReplayFault::OutOfMemory))
 }
@@ -53,8 +58,13 @@ fn answer_to(stop: Stop) -> Result<ReplayVerdict, ReplayFault>
 
 /// Judges a trace in the order in which its lines stand: Yes where that is a sequential order of it, and No with the first
 /// operation at which it isn't. It reads no further than a piece of 65,536 bytes beyond. 42 comes with the first line that
-/// isn't a line of a trace, 10 where a growth was refused, and 28 where a read failed.
-pub fn replay<S: ByteSource>(alloc: Global, source: &mut S) -> Result<ReplayVerdict, ReplayFault>
+/// isn't a line of a trace, 10 where a growth was refused, and 28 where a read failed. The stores that were performed are kept by their
+/// words, where these are given.
+pub fn replay<S: ByteSource>(
+    alloc: Global,
+    source: &mut S,
+    stores: &mut Option<StoresByWord>,
+) -> Result<ReplayVerdict, ReplayFault>
     ensures answer { (bytes : List ℕ) × Tells (S.remaining source.old) bytes
         × MatchResult result (IsVerdict bytes) (IsFault bytes) }
     ensures far { ReadsOn (S.remaining source.old) (S.remaining source.new) }
@@ -63,7 +73,7 @@ pub fn replay<S: ByteSource>(alloc: Global, source: &mut S) -> Result<ReplayVerd
         Failed (S.failed source.old) (S.failed source.new) }
     ensures quiet { ¬ IsErrOf result ReplayFault.Read → S.failed source.new ≡ S.failed source.old }
 {
-    match replay_pieces(alloc, source) {
+    match replay_pieces(alloc, source, stores) {
         Ok(count) => Ok(ReplayVerdict::Yes(count)),
         Err(stop) => answer_to(stop),
     }

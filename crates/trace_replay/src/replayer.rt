@@ -56,6 +56,14 @@ impl Replayer {
         self.count
     }
 
+    /// The id of a core's next operation.
+    pub(crate) fn next_id(&self, core: CoreId) -> StepId {
+        StepId {
+            core,
+            index: self.counts[core.get() as usize],
+        }
+    }
+
     /// What is told of the operation of this id if it may not come next.
     fn wrong_load(&self, id: StepId, access: &Access) -> Option<WrongLoad>
         ensures { MatchOption result
