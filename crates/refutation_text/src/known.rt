@@ -9,8 +9,6 @@ use std::alloc::{AllocError, Global};
 pub enum Rule {
     /// A read has its word from a point, or from one after it.
     Source,
-    /// It is assumed in a case.
-    Order,
     /// A read has an older word than that of a write.
     FromRead,
     /// A read has a newer word than that of a write.
@@ -69,7 +67,7 @@ pub fn closes(step: &Step) -> bool {
 pub fn known_at(facts: &[Known], number: usize) -> Known {
     match facts.get(number) {
         Some(known) => *known,
-        None => Known::before(Rule::Order, &Point::Init, &Point::Init, 0),
+        None => Known::before(Rule::FromRead, &Point::Init, &Point::Init, 0),
     }
 }
 
@@ -82,7 +80,6 @@ pub(crate) fn given(
 ) -> Result<Vec<Known>, AllocError> {
     match step {
         Step::Read { read, ranges } => sources(alloc, read, ranges.as_slice(), place),
-        Step::Order { one, other } => orders(alloc, one, other, place),
         Step::FromRead { source, write, .. } => {
             let read = known_at(facts, *source).later;
             follows(alloc, Rule::FromRead, &read, &Point::At(*write), place)
@@ -106,15 +103,6 @@ fn sources(
     for range in ranges {
         facts.push(Known::source(read, range, place))?;
     }
-    Ok(facts)
-}
-
-/// That one is before the other, and the other way round.
-fn orders(alloc: Global, one: &OpId, other: &OpId, place: usize) -> Result<Vec<Known>, AllocError> {
-    let (one, other) = (Point::At(*one), Point::At(*other));
-    let mut facts = Vec::new(alloc);
-    facts.push(Known::before(Rule::Order, &one, &other, place))?;
-    facts.push(Known::before(Rule::Order, &other, &one, place))?;
     Ok(facts)
 }
 

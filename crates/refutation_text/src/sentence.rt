@@ -1,10 +1,11 @@
 //! What is told of each kind of step.
 
-use super::known::{Known, Rule};
+use super::known::Known;
 use super::path::Hop;
-use super::shown::{Deed, Joined, OneOf, Pairs, Shown, Stored, Way, Within};
+use super::shown::{Addresses, Deed, Joined, OneOf, Pairs, Shown, Sought, Stored, Way, Within};
+use super::stand::{Course, Lack, Stand, Wait};
 use mem_op::OpId;
-use refutation::{Point, Range, State};
+use refutation::{Point, Range};
 use std::alloc::{AllocError, Global};
 use trace::{Address, Trace};
 
@@ -93,27 +94,9 @@ pub(crate) fn push_write_order(
     write!(text, ", comes before {}", Shown(source.last))
 }
 
-/// Adds that two operations come in one of two orders.
-pub(crate) fn push_order(
-    text: &mut String,
-    trace: &Trace,
-    one: &OpId,
-    other: &OpId,
-) -> Result<(), AllocError> {
-    write!(
-        text,
-        "{} and {}, one of them first",
-        Deed(trace, *one),
-        Deed(trace, *other)
-    )
-}
-
 /// Adds what a case begins with.
 pub(crate) fn push_case(text: &mut String, fact: &Known) -> Result<(), AllocError> {
-    let (earlier, later) = (Shown(fact.earlier), Shown(fact.later));
-    if fact.rule != Rule::Source {
-        return write!(text, "{earlier} comes before {later}:");
-    }
+    let later = Shown(fact.later);
     write!(text, "{} gave {later} its word", Within(range_of(fact)))?;
     match fact.earlier {
         Point::Init => text.push_str(":"),
@@ -146,15 +129,48 @@ fn by_program(alloc: Global, round: &[Hop]) -> Result<Vec<Hop>, AllocError> {
     Ok(pairs)
 }
 
-/// Adds how many states of which addresses are all that can be reached.
+/// Adds that a set of so many states shows that no order of the operations at these addresses comes to its end.
 pub(crate) fn push_states(
     text: &mut String,
     addresses: &[Address],
-    states: &[State],
+    count: usize,
 ) -> Result<(), AllocError> {
-    write!(text, "but {} states of", states.len())?;
-    for address in addresses {
-        write!(text, " M[{address}]")?;
+    let states = if count == 1 {
+        "state shows"
+    } else {
+        "states show"
+    };
+    write!(
+        text,
+        "but no order of the operations at {} comes to its end, as {count} {states}; in the furthest of these",
+        Addresses(addresses)
+    )
+}
+
+/// Adds what a core did last and how it goes on.
+pub(crate) fn push_stand(
+    text: &mut String,
+    trace: &Trace,
+    stand: &Stand,
+) -> Result<(), AllocError> {
+    let core = stand.core.get();
+    match stand.last {
+        Point::Init => write!(text, "core {core} has done nothing")?,
+        last => write!(text, "core {core} has done {last}")?,
     }
-    text.push_str(" are all that can be reached, and none of them is an end")
+    match &stand.course {
+        Course::Done => text.push_str(", its last"),
+        Course::Free => text.push_str(" and may go on"),
+        Course::Waits(wait) => push_wait(text, trace, wait),
+    }
+}
+
+/// Adds where a core waits, and for what.
+fn push_wait(text: &mut String, trace: &Trace, wait: &Wait) -> Result<(), AllocError> {
+    let word = if wait.is_next { "waits" } else { "would wait" };
+    write!(text, " and {word} at {} for ", Point::At(wait.id))?;
+    match &wait.lack {
+        Lack::Earlier(point) => write!(text, "{point}"),
+        Lack::Word(there) => write!(text, "{}", Sought(&trace.operation(&wait.id), *there)),
+    }
 }

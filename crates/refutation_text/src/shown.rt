@@ -1,10 +1,10 @@
 //! How points, operations and paths are shown.
 
 use super::path::Hop;
-use mem_op::OpId;
+use mem_op::{OpId, Word};
 use refutation::{Point, Range};
 use std::fmt;
-use trace::{Access, Trace};
+use trace::{Access, Address, Trace};
 
 /// A point: an operation by its id.
 #[derive(Clone, Copy)]
@@ -58,6 +58,42 @@ fn between(place: usize, count: usize, word: &'static str) -> &'static str {
         word
     } else {
         ", "
+    }
+}
+
+/// How many addresses are told one by one.
+const ADDRESSES: usize = 8;
+
+/// Addresses, or how many there are.
+#[derive(Clone, Copy)]
+pub(crate) struct Addresses<'a>(pub(crate) &'a [Address]);
+
+impl<'a> fmt::Display for Addresses<'a> {
+    fn fmt<W: fmt::Write>(&self, f: &mut fmt::Formatter<W>) -> fmt::Result {
+        let count = self.0.len();
+        if count > ADDRESSES {
+            return write!(f, "{count} addresses");
+        }
+        f.write_str(if count == 1 { "address " } else { "addresses " })?;
+        for (place, addr) in self.0.iter().enumerate() {
+            write!(f, "{}{addr}", between(place, count, " and "))?;
+        }
+        Ok(())
+    }
+}
+
+/// The word that a read seeks at an address which has another one.
+#[derive(Clone, Copy)]
+pub(crate) struct Sought<'a>(pub(crate) &'a Option<Access>, pub(crate) Word);
+
+impl<'a> fmt::Display for Sought<'a> {
+    fn fmt<W: fmt::Write>(&self, f: &mut fmt::Formatter<W>) -> fmt::Result {
+        let there = self.1;
+        let Some(access) = self.0 else {
+            return f.write_str("nothing");
+        };
+        let (addr, read) = (access.addr(), access.read().unwrap_or(there));
+        write!(f, "a {read} at address {addr}, which has {there}")
     }
 }
 

@@ -8,13 +8,14 @@ use super::cases::Cases;
 use super::known::{closes, known_at};
 use super::path::{hops, round};
 use super::sentence::{
-    push_after, push_case, push_from_read, push_order, push_read, push_round, push_source,
+    push_after, push_case, push_from_read, push_read, push_round, push_source, push_stand,
     push_states, push_write_order,
 };
+use super::stand::{Standing, furthest};
 use mem_op::OpId;
-use refutation::{Point, Range, Refutation, Step};
+use refutation::{Point, Range, Refutation, State, Step};
 use std::alloc::{AllocError, Global};
-use trace::{Access, Trace};
+use trace::{Access, Address, Trace};
 
 /// A refutation of a trace as an argument: the line that says No, and then its steps, one after the other. The cases of a
 /// split stand under `either` and `or`, each to its end.
@@ -129,10 +130,6 @@ impl<'a> Telling<'a> {
     fn say(&mut self, step: &Step) -> Result<(), AllocError> {
         match step {
             Step::Read { read, ranges } => self.read(read, ranges.as_slice()),
-            Step::Order { one, other } => {
-                self.new_line()?;
-                push_order(&mut self.text, self.trace, one, other)
-            }
             Step::FromRead {
                 source,
                 write,
@@ -144,10 +141,7 @@ impl<'a> Telling<'a> {
                 path,
             } => self.write_order(*source, write, path.as_slice()),
             Step::Cycle { path } => self.cycle(path.as_slice()),
-            Step::States { addresses, set } => {
-                self.new_line()?;
-                push_states(&mut self.text, addresses.as_slice(), set.as_slice())
-            }
+            Step::States { addresses, set } => self.states(addresses.as_slice(), set.as_slice()),
         }
     }
 
@@ -248,5 +242,27 @@ impl<'a> Telling<'a> {
         self.new_line()?;
         let round = round(self.alloc, self.cases.facts(), path)?;
         push_round(self.alloc, &mut self.text, &round)
+    }
+
+    /// Adds the set of states that closes a case, and where the cores stand in the furthest of them.
+    fn states(&mut self, addresses: &[Address], states: &[State]) -> Result<(), AllocError> {
+        self.new_line()?;
+        push_states(&mut self.text, addresses, states.len())?;
+        let Some(state) = states.get(furthest(states)) else {
+            return Ok(());
+        };
+        let standing = Standing {
+            trace: self.trace,
+            addresses,
+            state,
+            facts: self.cases.facts(),
+        };
+        let stands = standing.stands(self.alloc)?;
+        let depth = self.cases.depth().saturating_add(1);
+        for stand in &stands {
+            self.indent(depth)?;
+            push_stand(&mut self.text, self.trace, stand)?;
+        }
+        Ok(())
     }
 }
