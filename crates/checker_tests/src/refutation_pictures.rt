@@ -1,8 +1,9 @@
 //! Refutations as pictures.
 
-use super::told_traces::{found, store_buffering, trace_of};
+use super::told_traces::{found, refutation_of, store_buffering, trace_of};
 use refutation_picture::draw;
 use std::test::Fail;
+use trace::Access;
 
 /// What the picture of store buffering has.
 const PARTS: [&str; 8] = [
@@ -25,8 +26,34 @@ fn store_buffering_is_drawn(rt: HostRuntime) -> Result<(), Fail> {
     for part in &PARTS {
         assert!(rt; svg.as_str().contains(part), "{part}");
     }
-    for part in &["reads-from", "write order", "assumed in", "cases"] {
+    for part in &["reads-from", "write order", "cases"] {
         assert!(rt; !svg.as_str().contains(part), "{part}");
     }
+    Ok(())
+}
+
+/// What the picture of a lost update has, of which a set of states shows that there is no order.
+const STATES: [&str; 4] = [
+    "In the furthest of 4 states. The red operations wait.",
+    ">0.0  M[0] == 0; M[0] := 1</text>",
+    "<rect class=\"box swap red\"",
+    ">0.1  M[0] == 1; M[0] := 2 (finds 2)</text>",
+];
+
+#[test]
+fn a_set_of_states_is_drawn(rt: HostRuntime) -> Result<(), Fail> {
+    let rows = [
+        (0, Access::swap(0, 0, 1)),
+        (0, Access::swap(0, 1, 2)),
+        (1, Access::load(0, 1)),
+        (1, Access::swap(0, 1, 2)),
+    ];
+    let trace = trace_of(rt.alloc(), &rows)?;
+    let steps = "tardis-refutation 1\nstates 0 | 0 0 : 0 | 1 1 : 1 | 1 2 : 2 ! 2 1 : 2 : 2 1\nend 1\n";
+    let svg = draw(rt.alloc(), &trace, &refutation_of(rt.alloc(), steps)?)?;
+    for part in &STATES {
+        assert!(rt; svg.as_str().contains(part), "{part}");
+    }
+    assert!(rt; !svg.as_str().contains("class=\"arrow program red\""));
     Ok(())
 }

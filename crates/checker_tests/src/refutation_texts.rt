@@ -112,43 +112,6 @@ but 1.0, 3.0, 3.1, 1.0 would go round: 3.0 before 3.1 by program order\n";
     expect_found(&rt, rt.alloc(), &rows, told)
 }
 
-// The same by a split.
-#[test]
-fn either_order(rt: HostRuntime) -> Result<(), Fail> {
-    let rows = [
-        (0, Access::store(7, 1)),
-        (1, Access::store(7, 2)),
-        (2, Access::load(7, 1)),
-        (2, Access::load(7, 2)),
-        (3, Access::load(7, 2)),
-        (3, Access::load(7, 1)),
-    ];
-    let told = "no: no order of 6 operations\n\
-2.0 loaded 1 from address 7, which only 0.0 gives; so it comes after 0.0\n\
-2.1 loaded 2 from address 7, which only 1.0 gives; so it comes after 1.0\n\
-3.0 loaded 2 from address 7, which only 1.0 gives; so it comes after 1.0\n\
-3.1 loaded 1 from address 7, which only 0.0 gives; so it comes after 0.0\n\
-0.0 stored 1 to address 7 and 1.0 stored 2 to address 7, one of them first\n\
-either 0.0 comes before 1.0:\n\
-\x20\x203.1 loaded 1 from address 7, which 0.0 gave; so it comes before 1.0, which stored 2 there after 0.0\n\
-\x20\x20but 1.0, 3.0, 3.1, 1.0 would go round: 3.0 before 3.1 by program order\n\
-or 1.0 comes before 0.0:\n\
-\x20\x202.1 loaded 2 from address 7, which 1.0 gave; so it comes before 0.0, which stored 1 there after 1.0\n\
-\x20\x20but 0.0, 2.0, 2.1, 0.0 would go round: 2.0 before 2.1 by program order\n";
-    let steps = "tardis-refutation 1\n\
-read 2.0 : 0.0\n\
-read 2.1 : 1.0\n\
-read 3.0 : 1.0\n\
-read 3.1 : 0.0\n\
-order 0.0 1.0\n\
-from-read 3 1.0 : 4\n\
-cycle : 5 2\n\
-from-read 1 0.0 : 4\n\
-cycle : 5 0\n\
-end 9\n";
-    expect_told(&rt, rt.alloc(), &rows, steps, told)
-}
-
 // Two stores may have given a word.
 #[test]
 fn either_source(rt: HostRuntime) -> Result<(), Fail> {
@@ -190,4 +153,23 @@ fn word_from_nowhere(rt: HostRuntime) -> Result<(), Fail> {
     let told = "no: no order of 1 operations\n\
 0.0 loaded 5 from address 0, which nothing gives\n";
     expect_found(&rt, rt.alloc(), &rows, told)
+}
+
+// A closed set of states: where the cores stand in the first of those in which most is performed.
+#[test]
+fn lost_update(rt: HostRuntime) -> Result<(), Fail> {
+    let rows = [
+        (0, Access::swap(0, 0, 1)),
+        (0, Access::swap(0, 1, 2)),
+        (1, Access::load(0, 1)),
+        (1, Access::swap(0, 1, 2)),
+    ];
+    let told = "no: no order of 4 operations\n\
+but no order of the operations at address 0 comes to its end, as 4 states show; in the furthest of these\n\
+\x20\x20core 0 has done 0.0 and waits at 0.1 for a 1 at address 0, which has 2\n\
+\x20\x20core 1 has done 1.1, its last\n";
+    let steps = "tardis-refutation 1\n\
+states 0 | 0 0 : 0 | 1 1 : 1 | 1 2 : 2 ! 2 1 : 2 : 2 1\n\
+end 1\n";
+    expect_told(&rt, rt.alloc(), &rows, steps, told)
 }

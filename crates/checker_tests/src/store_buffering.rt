@@ -97,7 +97,7 @@ fn lines_of_no_shape_are_refused(rt: HostRuntime) -> Result<(), Fail> {
         (1, "read 0.01 : init", 2),
         (2, "from-read 0 1.0", 3),
         (2, "from-read 18446744073709551616 1.0 :", 3),
-        (2, "order 1.0", 3),
+        (2, "order 1.0 0.0", 3),
         (4, "write-order 2 0.0 : x", 5),
         (5, "cycle 3 1", 6),
         (5, "cycle : 3 1\r", 6),
