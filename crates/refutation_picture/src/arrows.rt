@@ -18,17 +18,14 @@ pub(crate) enum Kind {
     FromRead,
     /// The one stored an older word than the other.
     WriteOrder,
-    /// It is assumed in the case.
-    Order,
 }
 
 /// The kinds, in the order of the legend.
-pub(crate) const KINDS: [Kind; 5] = [
+pub(crate) const KINDS: [Kind; 4] = [
     Kind::Program,
     Kind::Source,
     Kind::FromRead,
     Kind::WriteOrder,
-    Kind::Order,
 ];
 
 impl Kind {
@@ -38,7 +35,6 @@ impl Kind {
             Rule::Source => Kind::Source,
             Rule::FromRead => Kind::FromRead,
             Rule::WriteOrder => Kind::WriteOrder,
-            Rule::Order => Kind::Order,
         }
     }
 
@@ -49,7 +45,6 @@ impl Kind {
             Kind::Source => "source",
             Kind::FromRead => "fromread",
             Kind::WriteOrder => "writes",
-            Kind::Order => "assumed",
         }
     }
 
@@ -60,7 +55,6 @@ impl Kind {
             Kind::Source => "reads-from: from a store to a load of its word",
             Kind::FromRead => "from-read: from a load of an older word to a store",
             Kind::WriteOrder => "write order: from a store to a later one",
-            Kind::Order => "assumed in this case",
         }
     }
 }

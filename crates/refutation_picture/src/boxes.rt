@@ -1,6 +1,6 @@
 //! What stands in the boxes and beside them.
 
-use mem_op::OpId;
+use mem_op::{OpId, Word};
 use refutation::Point;
 use std::fmt;
 use trace::Access;
@@ -35,17 +35,42 @@ impl<'a> fmt::Display for Act<'a> {
     }
 }
 
-/// The text of an operation's box, with whether it loaded the initial 0.
+/// What stands behind an operation in its box.
+#[derive(Clone, Copy)]
+pub(crate) enum Note {
+    /// Nothing.
+    Nothing,
+    /// It loaded the initial 0.
+    Initial,
+    /// It waits for another point.
+    Waits,
+    /// It waits for its word, and finds this one.
+    Finds(Word),
+}
+
+impl Note {
+    /// Whether the operation waits.
+    pub(crate) fn is_waiting(self) -> bool {
+        matches!(self, Note::Waits | Note::Finds(_))
+    }
+}
+
+/// The text of an operation's box.
 #[derive(Clone, Copy)]
 pub(crate) struct BoxText<'a> {
     pub(crate) id: OpId,
     pub(crate) act: Act<'a>,
-    pub(crate) is_initial: bool,
+    pub(crate) note: Note,
 }
 
 impl<'a> fmt::Display for BoxText<'a> {
     fn fmt<W: fmt::Write>(&self, f: &mut fmt::Formatter<W>) -> fmt::Result {
         write!(f, "{}  {}", Point::At(self.id), self.act)?;
-        f.write_str(if self.is_initial { " (initial)" } else { "" })
+        match self.note {
+            Note::Nothing => Ok(()),
+            Note::Initial => f.write_str(" (initial)"),
+            Note::Waits => f.write_str(" (waits)"),
+            Note::Finds(word) => write!(f, " (finds {word})"),
+        }
     }
 }

@@ -4,7 +4,7 @@ ghost use Rattle.std.specs.Prelude.{IfOk, string_bytes};
 ghost use Rattle.refutation_picture.specs.Pictures.{IsPicture};
 
 use super::arrows::{Arrow, KINDS, Kind};
-use super::boxes::{Act, BoxText, class_of};
+use super::boxes::{Act, BoxText, Note, class_of};
 use super::layout::{Layout, columns_of};
 use super::ports::{Ends, ends_of};
 use super::scene::{Scene, scene_of};
@@ -21,7 +21,7 @@ pub fn draw(alloc: Global, trace: &Trace, refutation: &Refutation) -> Result<Str
     ensures picture { IfOk result (λ svg. IsPicture (string_bytes svg)) }
 {
     let words = tell(alloc, trace, refutation)?;
-    let scene = scene_of(alloc, refutation.steps())?;
+    let scene = scene_of(alloc, trace, refutation.steps())?;
     paint(alloc, trace, &scene, words.as_str())
 }
 
@@ -51,11 +51,16 @@ fn texts(alloc: Global, trace: &Trace, scene: &Scene) -> Result<Vec<String>, All
         let text = BoxText {
             id: *operation,
             act: Act(&trace.operation(operation)),
-            is_initial: scene.initial.get(place) == Some(&true),
+            note: note_at(scene, place),
         };
         texts.push(text.to_string(alloc)?)?;
     }
     Ok(texts)
+}
+
+/// What stands behind the operation at a place.
+fn note_at(scene: &Scene, place: usize) -> Note {
+    scene.notes.get(place).copied().unwrap_or(Note::Nothing)
 }
 
 /// How many letters the longest text has.
@@ -86,7 +91,7 @@ impl<'a> Canvas<'a> {
         let title = words.lines().next().unwrap_or("");
         let size = self
             .layout
-            .size(self.scene.operations.len(), self.legend_lines());
+            .size(self.scene.row_count(), self.legend_lines());
         let mut svg = Svg::new(self.alloc, size, title, words)?;
         svg.text("title", Spot { x: 16, y: 26 }, title)?;
         self.parts(&mut svg)?;
@@ -109,14 +114,27 @@ impl<'a> Canvas<'a> {
         self.scene.arrows.iter().any(|arrow| arrow.is_red)
     }
 
+    /// What the arrows or the boxes show.
+    fn what(&self) -> Result<String, AllocError> {
+        if let Some(count) = self.scene.states {
+            return format!(in self.alloc;
+                "In the furthest of {count} states. The red operations wait."
+            );
+        }
+        String::from_str(
+            self.alloc,
+            if self.goes_round() {
+                "Each arrow leads to what comes later. The red ones go round."
+            } else {
+                "Nothing gives the word that was loaded."
+            },
+        )
+    }
+
     /// What the picture shows.
     fn caption(&self, svg: &mut Svg) -> Result<(), AllocError> {
-        let what = if self.goes_round() {
-            "Each arrow leads to what comes later. The red ones go round."
-        } else {
-            "Nothing gives the word that was loaded."
-        };
-        svg.text("note", Spot { x: 16, y: 46 }, what)?;
+        let what = self.what()?;
+        svg.text("note", Spot { x: 16, y: 46 }, what.as_str())?;
         if self.scene.cases <= 1 {
             return Ok(());
         }
@@ -180,7 +198,8 @@ impl<'a> Canvas<'a> {
         for (place, operation) in self.scene.operations.iter().enumerate() {
             let class = class_of(&self.trace.operation(operation));
             let corner = self.layout.corner(self.scene, place);
-            svg.frame(class, corner, self.layout.box_size())?;
+            let is_red = note_at(self.scene, place).is_waiting();
+            svg.frame(class, is_red, corner, self.layout.box_size())?;
             let text = self.texts.get(place).map_or("", |text| text.as_str());
             let (x, y) = (corner.x.saturating_add(10), corner.y.saturating_add(20));
             svg.text("act", Spot { x, y }, text)?;
@@ -268,7 +287,7 @@ impl<'a> Canvas<'a> {
 
     /// What a kind of arrow means.
     fn legend_line(&self, svg: &mut Svg, kind: Kind, line: usize) -> Result<(), AllocError> {
-        let at = self.layout.line(self.scene.operations.len(), line);
+        let at = self.layout.line(self.scene.row_count(), line);
         let stroke = Stroke {
             class: kind.class(),
             is_red: false,

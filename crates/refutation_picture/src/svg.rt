@@ -21,10 +21,9 @@ text{font:13px monospace;fill:#1b1f24}\
 .source{stroke:#1a7f37;stroke-dasharray:9 3}\
 .fromread{stroke:#0969da;stroke-dasharray:2 3}\
 .writes{stroke:#8250df;stroke-dasharray:9 3 2 3}\
-.assumed{stroke:#9a6700;stroke-dasharray:5 5}\
 .red{stroke:#d1242f;stroke-width:2.4}\
 .tip-program{fill:#7d8590}.tip-source{fill:#1a7f37}.tip-fromread{fill:#0969da}\
-.tip-writes{fill:#8250df}.tip-assumed{fill:#9a6700}.tip-red{fill:#d1242f}\
+.tip-writes{fill:#8250df}.tip-red{fill:#d1242f}\
 @media (prefers-color-scheme:dark){\
 text{fill:#e6edf3}\
 .note{fill:#9198a1}\
@@ -36,15 +35,14 @@ text{fill:#e6edf3}\
 .source{stroke:#3fb950}\
 .fromread{stroke:#58a6ff}\
 .writes{stroke:#bc8cff}\
-.assumed{stroke:#d29922}\
 .red{stroke:#ff6a63}\
 .tip-source{fill:#3fb950}.tip-fromread{fill:#58a6ff}\
-.tip-writes{fill:#bc8cff}.tip-assumed{fill:#d29922}.tip-red{fill:#ff6a63}\
+.tip-writes{fill:#bc8cff}.tip-red{fill:#ff6a63}\
 }\
 </style>\n";
 
 /// The heads of arrows.
-const TIPS: [&str; 6] = ["program", "source", "fromread", "writes", "assumed", "red"];
+const TIPS: [&str; 5] = ["program", "source", "fromread", "writes", "red"];
 
 /// How round the corners of arrows are.
 const CORNER: usize = 8;
@@ -150,11 +148,18 @@ impl Svg {
         )
     }
 
-    /// A box of a class, whose upper left corner is at a spot.
-    pub(crate) fn frame(&mut self, class: &str, at: Spot, size: Spot) -> Result<(), AllocError> {
+    /// A box of a class, red or not, whose upper left corner is at a spot.
+    pub(crate) fn frame(
+        &mut self,
+        class: &str,
+        is_red: bool,
+        at: Spot,
+        size: Spot,
+    ) -> Result<(), AllocError> {
+        let red = if is_red { " red" } else { "" };
         write!(
             self.text,
-            "<rect class=\"box {class}\" x=\"{}\" y=\"{}\" ",
+            "<rect class=\"box {class}{red}\" x=\"{}\" y=\"{}\" ",
             at.x, at.y
         )?;
         write!(
