@@ -24,7 +24,7 @@ use Rattle.refutation.proofs.Settled.{word-put, word-zero, passes-is, core-of, l
 
 -- ---- operations and addresses
 
-store-address : (a : ℕ) (y : Operation) → is_store_to a y ≡ true → address_of y ≡ a
+pub store-address : (a : ℕ) (y : Operation) → is_store_to a y ≡ true → address_of y ≡ a
 store-address a y e = go y e
   where
     go : (z : Operation) → is_store_to a z ≡ true → address_of z ≡ a

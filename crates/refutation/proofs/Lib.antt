@@ -2,6 +2,7 @@ pub mod ClosedSound
 pub mod Covered
 pub mod DeadStates
 pub mod Fronts
+pub mod LastStores
 pub mod Leading
 pub mod Leaving
 pub mod Lines

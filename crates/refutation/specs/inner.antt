@@ -2,6 +2,7 @@
 pub mod Answers
 pub mod Covering
 pub mod Dead
+pub mod Lasts
 pub mod Lines
 pub mod Reading
 pub mod Seen

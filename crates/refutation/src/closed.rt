@@ -8,6 +8,7 @@ ghost use Rattle.refutation.specs.inner.Seen.{is_among_settled, IsAmong};
 
 use super::dead::is_dead;
 use super::fact::Known;
+use super::indexed::Indexed;
 use super::moves::{may_go, next_operation, put_word, settle, step};
 use super::seen::Seen;
 use super::state::{State, StateSet};
@@ -85,7 +86,7 @@ fn leads_back(
 /// Whether a state is right: each move from it leads to one that is seen, or it is dead.
 fn is_right(
     alloc: Global,
-    trace: &Trace,
+    trace: &Indexed,
     facts: &[Known],
     addresses: &[Address],
     seen: &Seen,
@@ -96,7 +97,7 @@ fn is_right(
         (¬ IsRightState trace.now facts.now addresses.now (IsAmong seen.now.keys) state.now)) }
 {
     match state {
-        State::Open { .. } => leads_back(alloc, trace, facts, addresses, seen, state),
+        State::Open { .. } => leads_back(alloc, trace.trace(), facts, addresses, seen, state),
         State::Dead {
             next,
             words,
@@ -147,8 +148,9 @@ pub(crate) fn is_closed(
     if !has_first(alloc, trace, addresses, &seen)? {
         return Ok(false);
     }
+    let indexed = Indexed::of(alloc, trace)?;
     for state in set.as_slice() {
-        if !is_right(alloc, trace, facts, addresses, &seen, state)? {
+        if !is_right(alloc, &indexed, facts, addresses, &seen, state)? {
             return Ok(false);
         }
     }

@@ -3,10 +3,12 @@
 ghost use Rattle.std.specs.Prelude.{◌≡◌, ◌≤◌, ◌<◌, MatchBool, length};
 ghost use Rattle.refutation.specs.States.{IsDead, NoneStores, Waits};
 ghost use Rattle.refutation.specs.inner.Dead.{NoneStoresOf};
+ghost use Rattle.refutation.specs.inner.Lasts.{AreUpTo};
 
+use super::indexed::Indexed;
 use super::moves::{access_at, next_operation, number_of, word_of};
 use mem_op::Word;
-use trace::{Access, Address, Trace};
+use trace::{Access, Address};
 
 /// Whether no operation of a core, from one index on and before another, stores a word to an address.
 fn none_stores_of(operations: &[Access], from: u64, to: u64, addr: Address, word: Word) -> bool
@@ -25,13 +27,32 @@ fn none_stores_of(operations: &[Access], from: u64, to: u64, addr: Address, word
     true
 }
 
+/// The same, where the operations store the word there at this index last.
+fn none_stores_up_to(
+    operations: &[Access],
+    last: Option<u64>,
+    from: u64,
+    to: u64,
+    addr: Address,
+    word: Word,
+) -> bool
+    requires { AreUpTo operations.now (length operations.now) addr word last }
+    ensures { MatchBool result (NoneStoresOf operations.now from to addr word) (¬ NoneStoresOf operations.now from to addr word) }
+{
+    match last {
+        Some(last) if from <= last => none_stores_of(operations, from, to, addr, word),
+        _ => true,
+    }
+}
+
 /// Whether no operation from these indices on and before the limits stores a word to an address.
-fn none_stores(trace: &Trace, next: &[u64], limits: &[u64], addr: Address, word: Word) -> bool
+fn none_stores(trace: &Indexed, next: &[u64], limits: &[u64], addr: Address, word: Word) -> bool
     ensures { MatchBool result (NoneStores trace.now next.now limits.now addr word) (¬ NoneStores trace.now next.now limits.now addr word) }
 {
-    for (core, operations) in trace.cores().iter().enumerate() {
+    for (core, operations) in trace.trace().cores().iter().enumerate() {
         let (from, to) = (number_of(next, core), number_of(limits, core));
-        if !none_stores_of(operations, from, to, addr, word) {
+        let last = trace.last(core, addr, word);
+        if !none_stores_up_to(operations, last, from, to, addr, word) {
             return false;
         }
     }
@@ -40,7 +61,7 @@ fn none_stores(trace: &Trace, next: &[u64], limits: &[u64], addr: Address, word:
 
 /// Whether a read waits: another word is there, and none stores its word before the limits.
 fn waits(
-    trace: &Trace,
+    trace: &Indexed,
     addresses: &[Address],
     next: &[u64],
     words: &[Word],
@@ -57,7 +78,7 @@ fn waits(
 
 /// Whether the state of these indices and words is dead by these limits.
 pub(crate) fn is_dead(
-    trace: &Trace,
+    trace: &Indexed,
     addresses: &[Address],
     next: &[u64],
     words: &[Word],
@@ -66,8 +87,9 @@ pub(crate) fn is_dead(
     ensures { MatchBool result (IsDead trace.now addresses.now next.now words.now limits.now) (¬ IsDead trace.now addresses.now next.now words.now limits.now) }
 {
     let mut is_some = false;
-    for core in 0..trace.cores().len() {
-        if let Some((_, access)) = next_operation(trace, limits, core) {
+    let operations = trace.trace();
+    for core in 0..operations.cores().len() {
+        if let Some((_, access)) = next_operation(operations, limits, core) {
             if number_of(next, core) > number_of(limits, core)
                 || !waits(trace, addresses, next, words, limits, &access)
             {

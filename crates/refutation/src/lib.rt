@@ -8,6 +8,7 @@ mod covering;
 mod dead;
 mod fact;
 mod fault;
+mod indexed;
 mod laws;
 mod line;
 mod moves;

@@ -10,7 +10,7 @@ returns-then-not-branch-2 c = (
   λ t. absurd cc,
   λ closed. absurd (
       let keys = c.in_ok-seen.seen.keys in
-      let wrong = rw c.if-not-branch-2.true at c.in_ok-is_right.ensures in
+      let wrong = rw (c.if-not-branch-2.true, c.in_ok-indexed.ensures) at c.in_ok-is_right.ensures in
       let place = subst (λ (s : List State). c.state-item.result ≡ get_or s c.loop-state.state-index c.state-item.result) c.as_slice-state-items.ensures c.state-item.is in
       let low = subst (λ (s : List State). c.loop-state.state-index < length s) c.as_slice-state-items.ensures c.loop-state-test.true in
       wrong (closed-each c.args.trace.now c.args.facts.now c.args.addresses.now keys c.args.set.now c.loop-state.state-index c.state-item.result
@@ -19,7 +19,7 @@ returns-then-not-branch-2 c = (
 
 pub loop-state-preserved : goal.loop-state-preserved
 loop-state-preserved c =
-    let right = rw c.if-not-branch-2.false at c.in_ok-is_right.ensures in
+    let right = rw (c.if-not-branch-2.false, c.in_ok-indexed.ensures) at c.in_ok-is_right.ensures in
     let place = subst (λ (s : List State). c.state-item.result ≡ get_or s c.loop-state.state-index c.state-item.result) c.as_slice-state-items.ensures c.state-item.is in
     let low = subst (λ (s : List State). c.loop-state.state-index < length s) c.as_slice-state-items.ensures c.loop-state-test.true in
     right-more c.args.trace.now c.args.facts.now c.args.addresses.now (IsAmong c.in_ok-seen.seen.keys) c.args.set.now c.loop-state.state-index c.state-item.result low place c.loop-state.invariant right
