@@ -14,7 +14,7 @@ use log_file::{FromWrite, write_all};
 use progress::Progress;
 use shown::Shown;
 use std::process::ExitCode;
-use tardis_command::serve;
+use commands::command;
 use words::{WordsFault, texts, words};
 
 /// Tells the user why the words can't be read, and answers the exit status.
@@ -47,7 +47,7 @@ fn main(rt: HostRuntime) -> ExitCode {
         folder: HostFolder::new(&rt),
         progress,
     };
-    let status = serve(
+    let status = command(
         &rt,
         rt.alloc(),
         words.as_slice(),

@@ -5,7 +5,7 @@ use memchr::memchr_iter;
 use std::io::IsTerminal;
 use std::sync::atomic::{AtomicBool, AtomicU64, Ordering};
 use std::time::Clock;
-use tardis_command::{SearchWatch, Watch};
+use commands::{SearchWatch, Watch};
 
 /// As many operations of a core are counted at once, so that cores seldom meet at the count.
 const OPERATIONS: u64 = 64;

@@ -3,18 +3,17 @@
 ghost use Rattle.std.specs.Prelude.{◌≡◌, [], IfOk};
 ghost use Rattle.command_line.specs.Asking.{texts};
 ghost use Rattle.rows.specs.Files.{told_of};
-ghost use Rattle.tardis_command.specs.Endings.{AreConsistent, AskFor};
+ghost use Rattle.commands.specs.Endings.{AreConsistent, AskFor};
 
 use super::fault::{RowsFault, text_of};
 use super::watch::Counting;
-use call_devices::open_all;
+use commands::{command, open_all};
 use host_files::Folder;
 use log_file::{MemSink, Step};
 use rows::{File, Given, MemoryFolder};
 use std::alloc::Global;
 use std::sync::Wait;
 use std::thread::Threads;
-use tardis_command::serve;
 use verdict::{JudgeFault, OpenGate, check_counts, judge, report};
 
 /// How the writes of a call go.
@@ -77,7 +76,7 @@ pub(crate) fn call_over<R: Threads + Wait + Sync, F: Folder>(
     let mut out = MemSink::new(alloc, outputs.writes);
     let mut err = MemSink::new(alloc, outputs.complaints);
     let watch = Counting::new();
-    let status = serve(rt, alloc, words, &watch, folder, &mut out, &mut err);
+    let status = command(rt, alloc, words, &watch, folder, &mut out, &mut err);
     Ok(Done {
         status,
         printed: text_of(Vec::from_slice(alloc, out.bytes())?)?,

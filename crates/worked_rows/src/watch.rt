@@ -2,7 +2,7 @@
 
 use mem_op::CoreId;
 use std::sync::atomic::{AtomicU64, Ordering};
-use tardis_command::{SearchWatch, Watch};
+use commands::{SearchWatch, Watch};
 
 /// Counts the turns of runs, and the runs that are over. Nothing is counted of a search.
 #[derive(Drop)]

@@ -1,4 +1,0 @@
-pub mod Files
-pub mod LogFiles
-mod LogTraces
-mod Logs

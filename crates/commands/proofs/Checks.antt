@@ -1,0 +1,62 @@
+-- The check of files, by what the judge answers to their sources.
+use Rattle.std.proofs.Common.{◌≡◌, inl, refl, length, ℕ, List, Option, Result, Ok, Err, vec_len}
+use Rattle.std.specs.Prelude.{IsErrOf}
+use Rattle.std.specs.Borrow.{Bor}
+use Rattle.command_line.specs.declared.request.Check.{Check}
+use Rattle.log_record.specs.declared.record.Record.{Record}
+use Rattle.core_program.specs.declared.instruction.Instruction.{Instruction}
+use Rattle.host_files.specs.Files.{Files, IsUnread}
+use Rattle.commands.specs.LogFiles.{AreTextsOf, IsOpenFault, IsUnreadAt}
+use Rattle.commands.proofs.LogFiles.{unopened_at}
+use Rattle.verdict.specs.Counts.{IsInRange, IsOutOfRange}
+use Rattle.verdict.specs.Judgement.{IsAnswerBy}
+use Rattle.verdict.specs.declared.answer.Verdict.{Verdict}
+use Rattle.verdict.specs.declared.judge_fault.Count.TheVariants.{Files as FileCount, Workers, Programs as ProgramCount}
+use Rattle.verdict.specs.declared.judge_fault.JudgeFault.{JudgeFault}
+use Rattle.verdict.specs.declared.judge_fault.JudgeFault.TheVariants.{BadConfig, Log, Read, OutOfMemory}
+use Rattle.commands.specs.JudgingFaults.{from_judge}
+use Rattle.commands.specs.declared.judging_fault.JudgingFault.{JudgingFault}
+use Rattle.commands.specs.Checking.{Against, AreInRange, AreNotAsMany, IsAnswerAgainst, IsChecked, IsCheckedAgainst}
+
+-- a file can't be opened
+pub not_opened : {S : Type 0} (remaining : S → Option (List ℕ)) (failed : S → ℕ) (old new : Files) (programs : Option (List (List Instruction))) (asked : Check) (fault : JudgeFault) → AreInRange asked
+    → IsOpenFault old new asked.files.items fault → IsCheckedAgainst old.told (IsUnread remaining failed old new) programs asked (Err fault)
+not_opened remaining failed old new programs asked (Read file) range why = (range, unopened_at remaining failed old new asked.files.items file why.0 why.1)
+not_opened remaining failed old new programs asked OutOfMemory range why = tt
+not_opened remaining failed old new programs asked other range why = absurd why
+
+-- the judge's answer is that of the check
+pub checked : (told : List ℕ → Option (List ℕ)) (unread : List ℕ → Type 0) (programs : Option (List (List Instruction))) (asked : Check) (judged : List (List Record) → Verdict) (answer : Result Verdict JudgeFault) (texts : List (List ℕ))
+    → ((a : Result Verdict JudgeFault) → IsAnswerBy judged texts a → IsAnswerAgainst programs texts a) → AreInRange asked
+    → AreTextsOf told asked.files.items texts → IsAnswerBy judged texts answer → length texts ≡ vec_len asked.files
+    → (IsErrOf answer (BadConfig FileCount) → IsOutOfRange (vec_len asked.files))
+    → (IsErrOf answer (BadConfig Workers) → IsInRange (vec_len asked.files) × IsOutOfRange asked.workers)
+    → (IsErrOf answer (BadConfig ProgramCount) → AreNotAsMany (vec_len asked.files) programs)
+    → ((file : ℕ) → answer ≡ Err (Read file) → IsUnreadAt unread asked.files.items file) → IsCheckedAgainst told unread programs asked answer
+checked told unread programs asked judged (Ok verdict) texts same range tell answers many files workers counted reads = (range, (texts, tell, same (Ok verdict) answers))
+checked told unread programs asked judged (Err (Log file line fault)) texts same range tell answers many files workers counted reads = (range, (texts, tell, same (Err (Log file line fault)) answers))
+checked told unread programs asked judged (Err (BadConfig FileCount)) texts same range tell answers many files workers counted reads = files refl
+checked told unread programs asked judged (Err (BadConfig Workers)) texts same range tell answers many files workers counted reads = workers refl
+checked told unread programs asked judged (Err (BadConfig ProgramCount)) texts same range tell answers many files workers counted reads = (range, counted refl)
+checked told unread programs asked judged (Err (Read file)) texts same range tell answers many files workers counted reads = (range, reads file refl)
+checked told unread programs asked judged (Err OutOfMemory) texts same range tell answers many files workers counted reads = tt
+
+-- ---- against the programs that were asked for
+
+abbrev pub lifted : Result Verdict JudgeFault → Result Verdict JudgingFault
+lifted (Ok verdict) = Ok verdict
+lifted (Err fault) = Err (from_judge fault)
+
+-- what holds whatever the programs are
+whatever : (told : List ℕ → Option (List ℕ)) (name : Option (Bor (List ℕ))) (Holds : Type 0) → Against told name (λ programs. Holds) → Holds
+whatever told name Holds h = h.2
+
+pub against : (told : List ℕ → Option (List ℕ)) (unread : List ℕ → Type 0) (asked : Check) (answer : Result Verdict JudgeFault)
+    → Against told asked.program (λ programs. IsCheckedAgainst told unread programs asked answer) → IsChecked told unread asked (lifted answer)
+against told unread asked (Ok verdict) h = h
+against told unread asked (Err (Log file line fault)) h = h
+against told unread asked (Err (Read file)) h = h
+against told unread asked (Err (BadConfig FileCount)) h = whatever told asked.program (IsOutOfRange (vec_len asked.files)) h
+against told unread asked (Err (BadConfig Workers)) h = whatever told asked.program (IsInRange (vec_len asked.files) × IsOutOfRange asked.workers) h
+against told unread asked (Err (BadConfig ProgramCount)) h = h
+against told unread asked (Err OutOfMemory) h = inl refl

@@ -1,0 +1,126 @@
+-- What explaining comes to, from what its parts answer.
+use Rattle.std.proofs.Common.{◌≡◌, ap, subst, refl, inl, inr, ◌+◌, ℕ, List, [], ◌∷◌, length, arith, Option, None, Some, Result, Ok, Err, vec_len, option_copied}
+use Rattle.std.specs.Prelude.{IfOk, IsErrOf, option_map}
+use Rattle.std.specs.Borrow.{Bor}
+use Rattle.std.proofs.lemmas.Slice.Zip.{AllZip-long}
+use Rattle.core_check.specs.FaultOrder.{core_fault_cmp}
+use Rattle.core_check.specs.declared.fault.RuleFault.{RuleFault}
+use Rattle.line_stamps.specs.Least.{least_of}
+use Rattle.command_line.specs.declared.request.Check.{Check}
+use Rattle.log_record.specs.declared.record.Record.{Record}
+use Rattle.core_program.specs.SetParts.{SetParts}
+use Rattle.core_program.specs.declared.instruction.Instruction.{Instruction}
+use Rattle.log_file.specs.Sets.{ReaderFailed, SpellFrom, SpellSet}
+use Rattle.log_file.proofs.Sets.{spelled_short}
+use Rattle.verdict.specs.CoreFaultsOf.{core_faults, given}
+use Rattle.verdict.specs.declared.basis.Basis.{Basis}
+use Rattle.verdict.specs.declared.basis.Basis.TheVariants.{Logs, Index}
+use Rattle.verdict.specs.Counts.{IsInRange, IsOutOfRange}
+use Rattle.verdict.specs.Bases.{IsBasisOf, IsExaminationOf, IsExaminedBy, verdict_in}
+use Rattle.verdict.specs.Judgement.{IsYes, OnYes, SpellFlatRunBy, TellsFailures}
+use Rattle.verdict.specs.VerdictOf.{run_verdict_of, verdict_of}
+use Rattle.verdict.specs.declared.answer.Verdict.{Verdict}
+use Rattle.verdict.specs.declared.basis.Examined.{Examined}
+use Rattle.verdict.specs.declared.judge_fault.Count.TheVariants.{Files as FileCount, Workers, Programs as ProgramCount}
+use Rattle.verdict.specs.declared.judge_fault.JudgeFault.{JudgeFault}
+use Rattle.verdict.specs.declared.judge_fault.JudgeFault.TheVariants.{BadConfig, Read}
+use Rattle.std.proofs.KnownBytes.{Keeps-refl}
+use Rattle.command_line.specs.declared.request.Explain.{Explain}
+use Rattle.host_files.specs.Files.{Files}
+use Rattle.commands.specs.LogFiles.{AreTextsOf, IsUnreadAt, Spelled}
+use Rattle.commands.specs.Sinks.{Sink}
+use Rattle.commands.specs.declared.call_fault.CallFault.TheVariants.{Output, OutOfMemory}
+use Rattle.commands.specs.Checking.{AreInRange, AreNotAsMany, FilesRunFlatBy, IsAnswerAgainst, IsChecked, IsCheckedAgainst, IsUnprogrammedBy}
+use Rattle.commands.specs.Explaining.{IsExplained}
+use Rattle.commands.specs.inner.ReadLogs.{AreLogsOf, HoldsRecords}
+use Rattle.commands.specs.declared.judging_fault.JudgingFault.{JudgingFault}
+use Rattle.commands.specs.declared.judging_fault.JudgingFault.TheVariants.{PictureUnwritten, Call}
+use Rattle.commands.proofs.Checks.{checked}
+
+-- the programs that a reference leads to are those that were read
+pub given_is : (lent : Option (Bor SetParts)) (set : Option SetParts) → option_copied lent ≡ set → given lent ≡ option_map (λ s. s.programs) set
+given_is None set is = ap (λ (o : Option SetParts). option_map (λ s. s.programs) o) is
+given_is (Some lent) set is = ap (λ (o : Option SetParts). option_map (λ s. s.programs) o) is
+
+-- the verdict on the files against these programs
+pub checked_against : (told : List ℕ → Option (List ℕ)) (unread : List ℕ → Type 0) (programs : Option (List (List Instruction))) (asked : Check) (answer : Result Verdict JudgeFault) (texts : List (List ℕ))
+    → AreInRange asked → AreTextsOf told asked.files.items texts → IsAnswerAgainst programs texts answer → length texts ≡ vec_len asked.files
+    → (IsErrOf answer (BadConfig FileCount) → IsOutOfRange (vec_len asked.files))
+    → (IsErrOf answer (BadConfig Workers) → IsInRange (vec_len asked.files) × IsOutOfRange asked.workers)
+    → (IsErrOf answer (BadConfig ProgramCount) → AreNotAsMany (vec_len asked.files) programs)
+    → ((file : ℕ) → answer ≡ Err (Read file) → IsUnreadAt unread asked.files.items file) → IsCheckedAgainst told unread programs asked answer
+checked_against told unread None asked answer texts range tell answers many files workers counted reads =
+    checked told unread None asked verdict_of answer texts (λ a h. h) range tell answers many files workers counted reads
+checked_against told unread (Some programs) asked answer texts range tell answers many files workers counted reads =
+    checked told unread (Some programs) asked (run_verdict_of programs) answer texts (λ a h. h) range tell answers many files workers counted reads
+
+-- a fault of the verdict is one of the examination
+pub err_in : (result : Result Examined JudgeFault) (fault : JudgeFault) → IsErrOf (verdict_in result) fault → IsErrOf result fault
+err_in (Ok examined) fault is = cc
+err_in (Err found) fault is = let same : found ≡ fault = cc in subst (λ (f : JudgeFault). IsErrOf {T = Examined} (Err found) f) same refl
+
+-- and a failed read is that of a reader
+pub reader_failed_in : {S : Type 0} (failed : S → ℕ) (sources later : List S) (result : Result Examined JudgeFault) (file : ℕ) → TellsFailures failed sources later result
+    → verdict_in result ≡ Err (Read file) → ReaderFailed failed sources later file
+reader_failed_in failed sources later (Ok examined) file tells is = cc
+reader_failed_in failed sources later (Err found) file tells is =
+    let same : found ≡ Read file = cc in subst (λ (f : JudgeFault). TellsFailures {T = Examined} failed sources later (Err f)) same tells
+
+-- what a Yes says of the verdict, it says of the examination
+pub yes_in : {P Q : Type 0} (result : Result Examined JudgeFault) → (P → Q) → OnYes (verdict_in result) P → IfOk result (λ examined. IsYes examined.verdict → Q)
+yes_in (Ok examined) turned holds = λ is. turned (holds is)
+yes_in (Err fault) turned holds = tt
+
+-- the texts of the files spell a run of these programs
+pub flat_by : (told : List ℕ → Option (List ℕ)) (asked : Check) (programs : Option (List (List Instruction))) (texts : List (List ℕ)) → AreTextsOf told asked.files.items texts
+    → SpellFlatRunBy programs texts → FilesRunFlatBy told asked programs
+flat_by told asked None texts tell runs = tt
+flat_by told asked (Some programs) texts tell runs = (texts, tell, runs)
+
+-- what is examined is the set that the texts of the files spell
+pub examined_set : (told : List ℕ → Option (List ℕ)) (names : List (Bor (List ℕ))) (programs : Option (List (List Instruction))) (texts : List (List ℕ)) (result : Result Examined JudgeFault)
+    → AreTextsOf told names texts → IsExaminedBy programs texts result → IfOk result (λ examined. Spelled told names (λ logs. IsExaminationOf programs logs examined))
+examined_set told names programs texts (Ok examined) tell by = (texts, tell, by)
+examined_set told names programs texts (Err fault) tell by = tt
+
+as_many : (core cores : ℕ) (texts : List (List ℕ)) (logs : List (List Record)) → SpellFrom core cores texts logs → length logs ≡ length texts
+as_many core cores [] [] spell = refl
+as_many core cores [] (log ∷ logs) spell = absurd spell
+as_many core cores (text ∷ texts) [] spell = absurd spell
+as_many core cores (text ∷ texts) (log ∷ logs) spell = let rest = as_many (core + 1) cores texts logs spell.1 in omega (arith, rest)
+
+-- these are the logs that its verdict stands on
+pub logs_examined : (told : List ℕ → Option (List ℕ)) (unread : List ℕ → Type 0) (programs : Option (List (List Instruction))) (asked : Check) (texts : List (List ℕ)) (logs : List (List Record)) (examined : Examined)
+    → IsChecked told unread asked (Ok examined.verdict) → AreTextsOf told asked.files.items texts → SpellSet texts logs → IsExaminationOf programs logs examined
+    → AreLogsOf logs examined.basis (vec_len asked.files)
+logs_examined told unread programs asked texts logs examined (against, are, (range, judged)) tell spell is = record {
+  many = (
+      let as_texts : length logs ≡ length texts = as_many 0 (length texts) texts logs spell in
+      let as_names : length texts ≡ length asked.files.items = AllZip-long _ _ texts tell in
+      let filled = asked.files.ok in
+      omega (arith, as_texts, as_names, filled)
+      );
+  few = range.0.1;
+  short = spelled_short 0 (length texts) texts logs spell;
+  held = held_by (least_of core_fault_cmp (core_faults programs logs)) examined.basis is.basis;
+}
+  where
+    held_by : (o : Option RuleFault) (basis : Basis) → IsBasisOf o logs basis → HoldsRecords logs basis
+    held_by (Some fault) (Logs set) of = of
+    held_by (Some fault) (Index index) of = absurd of
+    held_by None (Logs set) of = absurd of
+    held_by None (Index index) of = of.0
+
+-- ---- no verdict to explain
+
+unprogrammed_alone : (told : List ℕ → Option (List ℕ)) (unread : List ℕ → Type 0) (name : Option (Bor (List ℕ))) → ¬ (IsUnprogrammedBy told unread name Output)
+unprogrammed_alone told unread None is = is
+unprogrammed_alone told unread (Some name) is = is
+
+-- nothing was printed and nothing was put
+pub untold : (old new : Files) (unread : List ℕ → Type 0) (asked : Explain) (sink : Sink) (fault : JudgingFault) → IsChecked old.told unread asked.check (Err fault) → IsExplained old new unread asked sink sink (Err fault)
+untold old new unread asked sink (Call Output) (inl wrong) = cc
+untold old new unread asked sink (Call Output) (inr why) = absurd (unprogrammed_alone old.told unread asked.check.program why.1)
+untold old new unread asked sink (Call OutOfMemory) why = Keeps-refl sink.contents
+untold old new unread asked sink PictureUnwritten why = absurd why
+untold old new unread asked sink other why = (why, Keeps-refl sink.contents)

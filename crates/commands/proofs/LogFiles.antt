@@ -1,0 +1,133 @@
+-- Files that are opened, what their sources tell, and why they tell no logs.
+use Rattle.std.proofs.Common.{◌≡◌, ◌+◌, ◌<◌, ℕ, zero, suc, List, [], ◌∷◌, ◌++◌, Option, None, Some, Err, add-one, arith, inl, inr, length, refl, slice_index_or, subst, take}
+use Rattle.std.specs.Prelude.{◌↔◌, IfSome, IsErrOf, IsOk, slice_get}
+use Rattle.std.specs.Borrow.{Bor}
+use Rattle.std.specs.List.{AllZip}
+use Rattle.std.proofs.Math.Seq.{take-suc}
+use Rattle.log_file.specs.Devices.{Tells}
+use Rattle.log_file.specs.Sets.{IsSetFault, ReaderFailed, TellEach}
+use Rattle.log_file.specs.declared.fault.LogFault.{LogFault}
+use Rattle.log_file.specs.declared.fault.LogFault.TheVariants.{At, OutOfMemory as NoLogMemory, Read as ReadFailed}
+use Rattle.verdict.specs.Counts.{IsBadCount, IsInRange, IsOutOfRange}
+use Rattle.verdict.specs.SetFaults.{from_set}
+use Rattle.verdict.specs.declared.judge_fault.Count.TheVariants.{Files as FileCount, Workers, Programs as ProgramCount}
+use Rattle.verdict.specs.declared.judge_fault.JudgeFault.{JudgeFault}
+use Rattle.verdict.specs.declared.judge_fault.JudgeFault.TheVariants.{BadConfig, Log, Read, OutOfMemory}
+use Rattle.host_files.specs.Files.{Files, IsOnlyRead, IsUnread, one_more_unopened}
+use Rattle.commands.specs.LogFiles.{AreSourcesOf, AreTextsOf, IsOpenFault, IsUnreadAt, IsUnspelled}
+use Rattle.commands.proofs.Files.{unopened}
+
+-- the next file's source, after those of the files before it
+one_source_more : {S : Type 0} (told : List ℕ → Option (List ℕ)) (remaining : S → Option (List ℕ)) (sources : List S) (names : List (Bor (List ℕ)))
+    (source : S) (name : Bor (List ℕ)) → AreSourcesOf told remaining sources names → IfSome (told name.now) (λ bytes. remaining source ≡ Some bytes)
+    → AreSourcesOf told remaining (sources ++ source ∷ []) (names ++ name ∷ [])
+one_source_more told remaining [] [] source name are opened = (opened, tt)
+one_source_more told remaining [] (n ∷ names) source name are opened = absurd are
+one_source_more told remaining (s ∷ sources) [] source name are opened = absurd are
+one_source_more told remaining (s ∷ sources) (n ∷ names) source name are opened =
+    (are.0, one_source_more told remaining sources names source name are.1 opened)
+
+-- the next file is opened, in a folder that is as it was
+pub one_file_more : {S : Type 0} (old now : Files) (remaining : S → Option (List ℕ)) (sources : List S) (names : List (Bor (List ℕ)))
+    (file : ℕ) (source : S) (d : Bor (List ℕ)) → now ≡ old → file < length names → AreSourcesOf old.told remaining sources (take file names)
+    → IfSome (now.told (slice_index_or names file d).now) (λ bytes. remaining source ≡ Some bytes)
+    → AreSourcesOf old.told remaining (sources ++ source ∷ []) (take (file + 1) names)
+one_file_more old now remaining sources names file source d same there are opened =
+    rw (add-one file, take-suc names file d there) (one_source_more old.told remaining sources (take file names) source (slice_index_or names file d) are
+    (subst (λ (files : Files). IfSome (files.told (slice_index_or names file d).now) (λ bytes. remaining source ≡ Some bytes)) same opened))
+
+-- what a source tells is what the folder tells of its file
+tells_so : (told remaining : Option (List ℕ)) (text : List ℕ) → IfSome told (λ bytes. remaining ≡ Some bytes) → Tells remaining text → Tells told text
+tells_so None remaining text same tells = tt
+tells_so (Some bytes) remaining text same tells = rw same at tells
+
+-- what the sources tell are the texts of the files
+pub told_by_sources : {S : Type 0} (told : List ℕ → Option (List ℕ)) (remaining : S → Option (List ℕ)) (sources : List S) (names : List (Bor (List ℕ)))
+    (texts : List (List ℕ)) → AreSourcesOf told remaining sources names → TellEach remaining sources texts → AreTextsOf told names texts
+told_by_sources told remaining [] [] [] are tell = tt
+told_by_sources told remaining [] [] (text ∷ texts) are tell = absurd tell
+told_by_sources told remaining [] (name ∷ names) texts are tell = absurd are
+told_by_sources told remaining (s ∷ sources) [] texts are tell = absurd are
+told_by_sources told remaining (s ∷ sources) (name ∷ names) [] are tell = absurd tell
+told_by_sources told remaining (s ∷ sources) (name ∷ names) (text ∷ texts) are tell =
+    (tells_so (told name.now) (remaining s) text are.0 tell.0, told_by_sources told remaining sources names texts are.1 tell.1)
+
+-- what holds of a source holds with the name of its file
+at_name : {S N : Type 0} (R : S → N → Type 0) (sources : List S) (names : List N) (file : ℕ) (source : S) → AllZip R sources names → slice_get sources file ≡ Some source
+    → (file < length names) × ((d : N) → R source (slice_index_or names file d))
+at_name R [] names file source are is = cc
+at_name R (s ∷ sources) [] file source are is = absurd are
+at_name R (s ∷ sources) (name ∷ names) zero source are is =
+    let same : s ≡ source = cc in
+    (omega arith, λ d. subst (λ x. R x name) same are.0)
+at_name R (s ∷ sources) (name ∷ names) (suc file) source are is =
+    let further = at_name R sources names file source are.1 is in
+    (omega (arith, further.0), further.1)
+
+-- the reader of a file failed
+pub unread_at : {S : Type 0} (remaining : S → Option (List ℕ)) (failed : S → ℕ) (old new : Files) (sources later : List S) (names : List (Bor (List ℕ))) (file : ℕ)
+    → AreSourcesOf old.told remaining sources names → ReaderFailed failed sources later file → IsUnreadAt (IsUnread remaining failed old new) names file
+unread_at remaining failed old new sources later names file are (before, (after, is, is', fails)) =
+    let there = at_name (λ source (name : Bor (List ℕ)). IfSome (old.told name.now) (λ bytes. remaining source ≡ Some bytes)) sources names file before are is in
+    (there.0, λ d. inr (before, after, there.1 d, fails))
+
+-- the opening of a file failed
+pub unopened_at : {S : Type 0} (remaining : S → Option (List ℕ)) (failed : S → ℕ) (old new : Files) (names : List (Bor (List ℕ))) (file : ℕ)
+    → file < length names → new ≡ one_more_unopened old → IsUnreadAt (IsUnread remaining failed old new) names file
+unopened_at remaining failed old new names file there is = (there, λ d. inl (unopened old new is))
+
+-- and then the folder was only read
+pub only_opened : (old new : Files) (names : List (Bor (List ℕ))) (fault : JudgeFault) → IsOpenFault old new names fault → IsOnlyRead old new
+only_opened old new names (Read file) why = inr why.1
+only_opened old new names OutOfMemory why = inl why
+only_opened old new names (BadConfig count) why = absurd why
+only_opened old new names (Log file line fault) why = absurd why
+
+-- ---- no logs are read
+
+pub unopened_files : {S : Type 0} (remaining : S → Option (List ℕ)) (failed : S → ℕ) (old new : Files) (names : List (Bor (List ℕ))) (fault : JudgeFault) → IsOpenFault old new names fault
+    → IsUnspelled old new (IsUnread remaining failed old new) names fault
+unopened_files remaining failed old new names (Read file) why = (inr why.1, unopened_at remaining failed old new names file why.0 why.1)
+unopened_files remaining failed old new names OutOfMemory why = inl why
+unopened_files remaining failed old new names (BadConfig count) why = absurd why
+unopened_files remaining failed old new names (Log file line fault) why = absurd why
+
+-- the set has a fault
+pub faulty : (old new : Files) (unread : List ℕ → Type 0) (names : List (Bor (List ℕ))) (texts : List (List ℕ)) (file : ℕ) (fault : LogFault)
+    → new ≡ old → AreTextsOf old.told names texts → IsSetFault texts file fault → (fault ≡ ReadFailed → IsUnreadAt unread names file)
+    → IsUnspelled old new unread names (from_set file fault)
+faulty old new unread names texts file (At line fault) same tell is reads = (same, texts, tell, is)
+faulty old new unread names texts file NoLogMemory same tell is reads = inl same
+faulty old new unread names texts file ReadFailed same tell is reads = (inl same, reads refl)
+
+-- and the folder was only read
+pub only_read : (old new : Files) (unread : List ℕ → Type 0) (names : List (Bor (List ℕ))) (fault : JudgeFault) → IsUnspelled old new unread names fault → IsOnlyRead old new
+only_read old new unread names (Log file line fault) why = inl why.0
+only_read old new unread names (Read file) why = why.0
+only_read old new unread names OutOfMemory why = why
+only_read old new unread names (BadConfig count) why = absurd why
+
+-- ---- how many files there are
+
+-- a number that isn't out of range is in it
+in_range : (n : ℕ) → ¬ (IsOutOfRange n) → IsInRange n
+in_range n not =
+    let some : n < 1 → ⊥ = λ h. not (inl h) in
+    let few : 64 < n → ⊥ = λ h. not (inr h) in
+    (omega (arith, some), omega (arith, few))
+
+one_in_range : ¬ (IsOutOfRange 1)
+one_in_range (inl few) = absurd (omega (arith, few))
+one_in_range (inr many) = absurd (omega (arith, many))
+
+-- for one worker, counts are refused for the number of files alone
+pub files_refused : (n : ℕ) (fault : JudgeFault) → (IsOk {T = Unit {0}} (Err fault) ↔ (IsInRange n × IsInRange 1)) → IsBadCount fault
+    → (IsErrOf {T = Unit {0}} (Err fault) (BadConfig FileCount) ↔ IsOutOfRange n)
+    → (IsErrOf {T = Unit {0}} (Err fault) (BadConfig Workers) ↔ (IsInRange n × IsOutOfRange 1))
+    → (fault ≡ BadConfig FileCount) × IsOutOfRange n
+files_refused n (BadConfig FileCount) ok bad files workers = (refl, files.0 refl)
+files_refused n (BadConfig Workers) ok bad files workers = absurd (one_in_range (workers.0 refl).1)
+files_refused n (BadConfig ProgramCount) ok bad files workers =
+    let fine = in_range n (λ out. let wrong : BadConfig ProgramCount ≡ BadConfig FileCount = cc (files.1 out) in absurd cc) in
+    absurd (let wrong = ok.1 (fine, in_range 1 one_in_range) in cc)
+files_refused n other ok bad files workers = absurd bad

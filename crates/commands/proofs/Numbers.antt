@@ -1,0 +1,33 @@
+-- How what was left first and then goes together.
+use Rattle.std.proofs.Common.{ℕ, List, sym, subst, ◌∙◌, inl, inr, Bor}
+use Rattle.std.specs.Prelude.{Option}
+use Rattle.log_record.specs.declared.format.Format.{Format}
+use Rattle.log_record.specs.declared.record.Record.{Record}
+use Rattle.host_files.specs.Files.{Files, KeepsFiles}
+use Rattle.commands.specs.Logs.{ArePut, ArePutUpTo, IsUnwritten, KeepsOthers}
+use Rattle.commands.specs.Outputs.{IsNameOf}
+use Rattle.commands.specs.declared.call_fault.CallFault.{CallFault}
+use Rattle.commands.specs.Numbers.{AreLeftAsFar, IsLeftName, IsUnleft, IsUnput}
+use Rattle.commands.specs.declared.running_fault.RunningFault.{RunningFault}
+use Rattle.commands.specs.declared.running_fault.RunningFault.TheVariants.{StatisticsUnwritten, Call}
+
+-- what is put first and then is put in all
+pub keeps_both : (told mid new : List ℕ → Option (List ℕ)) (out : List ℕ) (statistics : Option (Bor (List ℕ))) → KeepsOthers told mid out 64
+    → KeepsFiles mid new (IsNameOf statistics) → KeepsFiles told new (IsLeftName out statistics)
+keeps_both told mid new out statistics first later name none = later name (λ is. none (inr is)) ∙ first name (λ c below same. none (inl (c, below, same)))
+
+pub keeps_first : (told new : List ℕ → Option (List ℕ)) (out : List ℕ) (statistics : Option (Bor (List ℕ))) → KeepsOthers told new out 64 → KeepsFiles told new (IsLeftName out statistics)
+keeps_first told new out statistics first name none = first name (λ c below same. none (inl (c, below, same)))
+
+module _ (format : Format) (old mid new : Files) (out : List ℕ) (cores : ℕ) (made : ℕ → List Record) (statistics : Option (Bor (List ℕ))) (text : List ℕ)
+    (put : ArePut format old mid out cores made) where
+  -- the numbers weren't put
+  pub unleft_after : (fault : RunningFault) → IsUnput mid new statistics fault → IsUnleft format old new out cores made statistics fault
+  unleft_after StatisticsUnwritten fails = (mid, put, fails)
+  unleft_after (Call fault) why = subst (λ (f : CallFault). IsUnwritten (ArePutUpTo format old new out cores made) f) (sym why.0) tt
+  unleft_after other why = absurd why
+
+  pub far_after : (fault : RunningFault) → IsUnput mid new statistics fault → AreLeftAsFar format old new out cores made statistics text
+  far_after StatisticsUnwritten fails = inr (mid, put, inr fails)
+  far_after (Call fault) why = inl (inl (subst (λ (files : Files). ArePut format old files out cores made) (sym why.1) put))
+  far_after other why = absurd why

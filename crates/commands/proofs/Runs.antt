@@ -1,0 +1,59 @@
+-- How a run ends after its simulation.
+use Rattle.std.proofs.Common.{◌≡◌, ℕ, List, length, subst, inl, inr}
+use Rattle.std.specs.Prelude.{Option, None, Result, Ok, Err, IfErr, IfOk, OnOk}
+use Rattle.command_line.specs.declared.request.Sim.{Sim}
+use Rattle.lease_rule.specs.Ranges.{first_bad}
+use Rattle.core_program.specs.SetParts.{SetParts}
+use Rattle.schedule.specs.declared.command.Command.{Command}
+use Rattle.simulation.specs.Simulating.{IsSimulated, IsSimulationFault}
+use Rattle.simulation.specs.declared.fault.SimulationFault.{SimulationFault}
+use Rattle.core_machine.specs.Opening.{opening_parts}
+use Rattle.core_machine.specs.Parts.{CoreParts, world}
+use Rattle.core_machine.specs.Works.{log_at}
+use Rattle.host_files.specs.Files.{Files, IsUnread}
+use Rattle.commands.specs.Logs.{performed_below}
+use Rattle.commands.specs.Programs.{AreProgramsIn}
+use Rattle.commands.specs.Numbers.{AreLeft, AreLeftAsFar, IsUnleft}
+use Rattle.commands.specs.Programmed.{config_of, log_format}
+use Rattle.commands.specs.Simulating.{AreCommandsOf, IsRun, IsUnscheduled, numbers_in}
+use Rattle.commands.specs.declared.running_fault.RunningFault.{RunningFault}
+use Rattle.commands.specs.declared.running_fault.RunningFault.TheVariants.{Schedule, ScheduleUnread, Simulation, StatisticsUnwritten, Call}
+
+module _ (old new : Files) (unread : List ℕ → Type 0) (asked : Sim) (set : SetParts) (commands : List Command) (q : CoreParts)
+    (sound : first_bad (config_of asked.limits) ≡ None) (read : AreProgramsIn old.told asked.programs.now set)
+    (parsed : AreCommandsOf old.told asked.schedule (length set.programs) commands) where
+  pub faulted : (fault : SimulationFault) → IsSimulationFault commands asked.seed (opening_parts set.programs (config_of asked.limits)) q fault
+      → AreLeftAsFar (log_format set.format) old new asked.out.now (length set.programs) (log_at (world q)) asked.statistics (numbers_in asked (length set.programs) q) → IsRun old new unread asked (Err (Simulation fault))
+  faulted fault is far = (sound, set, read, (commands, parsed, (q, is, far)))
+
+  module _ (simulated : IsSimulated commands asked.seed (opening_parts set.programs (config_of asked.limits)) q) where
+    pub ended : (count : ℕ) → count ≡ performed_below (log_at (world q)) (length set.programs)
+        → AreLeft (log_format set.format) old new asked.out.now (length set.programs) (log_at (world q)) asked.statistics (numbers_in asked (length set.programs) q) → IsRun old new unread asked (Ok count)
+    ended count counted put = (sound, set, read, (commands, parsed, (q, simulated, (counted, put))))
+
+    pub unleft : (fault : RunningFault) → IsUnleft (log_format set.format) old new asked.out.now (length set.programs) (log_at (world q)) asked.statistics fault
+        → IsRun old new unread asked (Err fault)
+    unleft (Call fault) why = inr (inr (sound, set, read, (commands, parsed, (q, simulated, why))))
+    unleft StatisticsUnwritten why = (sound, set, read, (commands, parsed, (q, simulated, why)))
+    unleft other why = absurd why
+
+    -- whatever was left, or not
+    pub came : (r : Result ℕ RunningFault) → IfOk r (λ count. count ≡ performed_below (log_at (world q)) (length set.programs))
+        → OnOk r (AreLeft (log_format set.format) old new asked.out.now (length set.programs) (log_at (world q)) asked.statistics (numbers_in asked (length set.programs) q))
+        → IfErr r (IsUnleft (log_format set.format) old new asked.out.now (length set.programs) (log_at (world q)) asked.statistics)
+        → IsRun old new unread asked r
+    came (Ok count) counted left why = ended count counted left
+    came (Err fault) counted left why = unleft fault why
+
+-- there is no schedule
+pub unscheduled : {S : Type 0} (remaining : S → Option (List ℕ)) (failed : S → ℕ) (old now new : Files) (asked : Sim) (set : SetParts) (fault : RunningFault) → first_bad (config_of asked.limits) ≡ None
+    → AreProgramsIn old.told asked.programs.now set → now ≡ old → IsUnscheduled now.told (IsUnread remaining failed now new) asked.schedule (length set.programs) fault
+    → IsRun old new (IsUnread remaining failed old new) asked (Err fault)
+unscheduled remaining failed old now new asked set fault sound read same why =
+    go fault (subst (λ (files : Files). IsUnscheduled files.told (IsUnread remaining failed files new) asked.schedule (length set.programs) fault) same why)
+  where
+    go : (fault : RunningFault) → IsUnscheduled old.told (IsUnread remaining failed old new) asked.schedule (length set.programs) fault → IsRun old new (IsUnread remaining failed old new) asked (Err fault)
+    go (Schedule reason) why = (sound, set, read, why)
+    go ScheduleUnread why = (sound, set, read, why)
+    go (Call reason) why = inl why
+    go other why = absurd why

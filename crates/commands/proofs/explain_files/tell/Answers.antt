@@ -1,0 +1,33 @@
+use Rattle.std.proofs.Common.{◌≡◌, ◌++◌, subst, sym}
+use Rattle.std.specs.Prelude.{string_bytes}
+use Rattle.log_record.specs.Entries.{operations_of}
+use Rattle.commands.specs.Sinks.{line}
+use Rattle.host_files.specs.Files.{IsUnread}
+use Rattle.verdict.specs.Bases.{IsExaminationOf}
+use Rattle.verdict.specs.Texts.{verdict_text}
+use Rattle.commands.specs.OtherOrders.{TellsOther}
+use Rattle.commands.proofs.Explained.{given_is, logs_examined}
+use Rattle.commands.proofs.explain_files.tell.Goals as goal
+
+pub last_lines-requires : goal.last_lines-requires
+last_lines-requires g c =
+    let files = g.F.Folder.files in
+    let unread = IsUnread g.F.Source.ByteSource.remaining g.F.Source.ByteSource.failed (files c.args.folder.now) (files c.examine_asked.new.folder) in
+    let (texts, tell, (logs, spell, is)) = c.in_ok-found.ensures.examined in
+    (logs, logs_examined (files c.args.folder.now).told unread _ c.args.asked.now.check texts logs c.in_ok-found.found.examined c.in_ok-found.ensures.exact tell spell is)
+
+pub words-requires : goal.words-requires
+words-requires g c =
+    let given = given_is c.as_ref.result c.in_ok-found.found.programs c.as_ref.ensures.value in
+    let (texts, tell, (logs, spell, is)) = c.in_ok-found.ensures.examined in
+    (logs, subst (λ programs. IsExaminationOf programs logs c.in_ok-found.found.examined) (sym given) is)
+
+pub returns-clause-text : goal.returns-clause-text
+returns-clause-text g c =
+    let files = g.F.Folder.files in
+    let unread = IsUnread g.F.Source.ByteSource.remaining g.F.Source.ByteSource.failed (files c.args.folder.now) (files c.examine_asked.new.folder) in
+    let (texts, tell, (logs, spell, is)) = c.in_ok-found.ensures.examined in
+    let are = logs_examined (files c.args.folder.now).told unread _ c.args.asked.now.check texts logs c.in_ok-found.found.examined c.in_ok-found.ensures.exact tell spell is in
+    let other = subst (λ verdict. TellsOther c.args.asked.now.no_search verdict (operations_of logs) (string_bytes c.in_ok-last.last)) (sym c.in_ok-told.ensures.verdict) (c.in_ok-last.ensures logs are) in
+    let (why, is_told) = c.in_ok-told.ensures.text in
+    (why, string_bytes c.in_ok-last.last, subst (λ last. string_bytes c.in_ok-told.told.text ≡ line (verdict_text c.in_ok-told.told.verdict) ++ (why ++ last)) c.as_str.ensures.value is_told, (texts, tell, (logs, spell, other)))

@@ -1,0 +1,94 @@
+use Rattle.std.proofs.Common.{◌≡◌, ◌∙◌, ◌<◌, ap, subst, length, slice_index, arith, sym, refl, Some, None, take}
+use Rattle.std.specs.Prelude.{slice_get}
+use Rattle.std.proofs.lemmas.List.{get_or_read, length-set, take_more}
+use Rattle.std.proofs.lemmas.Option.{slice_get_read}
+use Rattle.mem_op.specs.declared.id.OpId.{OpId}
+use Rattle.mem_op.specs.Consistency.{operation_at}
+use Rattle.flat_replay.specs.Memory.{IsAnsweredBy}
+use Rattle.flat_replay.specs.inner.Words.{word_at}
+use Rattle.flat_replay.proofs.Replaying.{replayed-more}
+use Rattle.flat_replay.proofs.Turns.{within_cores}
+use Rattle.flat_replay.proofs.Words.{word_at-after}
+use Rattle.commands.specs.OrderTexts.{ComesNext}
+use Rattle.commands.proofs.OrderReplays.{come_more, comes_next, next_answered, next_index, next_there}
+use Rattle.commands.proofs.order_replay.first_wrong_id.Goals as goal
+use Rattle.commands.proofs.order_replay.first_wrong_id.Goals.{then-index-via-then-index, then-index-via-else-index+then-not-is_answered}
+
+pub returns-in_default-clause-first : goal.returns-in_default-clause-first
+returns-in_default-clause-first c =
+    let cores = c.args.trace.now in
+    let ids = c.args.ids.now in
+    let place = c.replaying.place in
+    let id = c.index-ids-place.result in
+    let none : None ≡ operation_at cores id = sym c.in_default.is ∙ c.operation.ensures.found in
+    record {
+      right = c.replaying.invariant.order;
+      id = id;
+      there = slice_get_read ids (length ids) place id refl c.replaying-test.true c.index-ids-place.is;
+      wrong = next_there cores (take place ids) id none;
+    }
+
+pub returns-then-index-clause-first : goal.returns-then-index-clause-first
+returns-then-index-clause-first c =
+    let cores = c.args.trace.now in
+    let ids = c.args.ids.now in
+    let place = c.replaying.place in
+    let id = c.index-ids-place.result in
+    let next = c.replaying.next.items in
+    let replayed = c.replaying.invariant.replayed in
+    record {
+      right = c.replaying.invariant.order;
+      id = id;
+      there = slice_get_read ids (length ids) place id refl c.replaying-test.true c.index-ids-place.is;
+      wrong = λ comes. (
+          let there : id.core < length cores = within_cores cores id c.in-Some.access c.in-Some.ensures.found in
+          let many = c.replaying.invariant.many in
+          let core_is = c.get-core.ensures.value ∙ ap (λ (x : OpId). x.core) c.id.view_is in
+          let index_is = c.get-index.ensures.value ∙ ap (λ (x : OpId). x.index) c.id.view_is in
+          elim c.then-index.branch [
+            | then-index-via-then-index w ↦ (let read = get_or_read next c.get-core.result c.index.result.now (omega arith) c.index.ensures 0 in let turn = next_index cores (take place ids) next (word_at c.replaying.memory) id replayed comes in w.if-index.true cc)
+            | then-index-via-else-index+then-not-is_answered w ↦ (
+                let answered = w.is_answered.ensures.1 (next_answered cores (take place ids) next (word_at c.replaying.memory) id c.in-Some.access replayed c.in-Some.ensures.found comes) in
+                let isnt = w.if-not-is_answered.true in
+                cc
+                )
+          ]
+          );
+    }
+
+pub index_mut-requires : goal.index_mut-requires
+index_mut-requires c =
+    let cores = c.args.trace.now in
+    let id = c.index-ids-place.result in
+    let there : id.core < length cores = within_cores cores id c.in-Some.access c.in-Some.ensures.found in
+    let many = c.replaying.invariant.many in
+    let core_is = c.get-core.ensures.value ∙ ap (λ (x : OpId). x.core) c.id.view_is in
+    omega arith
+
+pub replaying-preserved : goal.replaying-preserved
+replaying-preserved c =
+    let cores = c.args.trace.now in
+    let ids = c.args.ids.now in
+    let place = c.replaying.place in
+    let id = c.index-ids-place.result in
+    let next = c.replaying.next.items in
+    let memory = word_at c.replaying.memory in
+    let replayed = c.replaying.invariant.replayed in
+    let found = c.in-Some.ensures.found in
+    let there : id.core < length cores = within_cores cores id c.in-Some.access found in
+    let many = c.replaying.invariant.many in
+    let core_is = c.get-core.ensures.value ∙ ap (λ (x : OpId). x.core) c.id.view_is in
+    let index_is = c.get-index.ensures.value ∙ ap (λ (x : OpId). x.index) c.id.view_is in
+    let read = get_or_read next c.get-core.result c.index.result.now (omega arith) c.index.ensures 0 in
+    let turn : id.index ≡ slice_index next id.core = cc in
+    let answered : IsAnsweredBy memory c.in-Some.access = c.is_answered.ensures.0 c.if-not-is_answered.false in
+    let at_place : slice_get ids place ≡ Some id = slice_get_read ids (length ids) place id refl c.replaying-test.true c.index-ids-place.is in
+    record {
+      replayed = rw (core_is, index_is, take_more ids place id c.replaying-test.true, sym c.index-ids-place.is)
+          (replayed-more cores _ next memory (word_at c.insert.new.self) id c.in-Some.access replayed found (omega arith) turn answered
+          (word_at-after c.in-Some.access c.replaying.memory c.insert.new.self (rw (← c.addr.ensures, ← c.word_left.ensures) c.in_ok-insert.ensures.updates) answered));
+      many = length-set _ _ _ ∙ c.replaying.invariant.many;
+      order = come_more cores ids place c.replaying.invariant.order
+          (λ x at. (let same : id ≡ x = (let both : Some id ≡ Some x = sym at_place ∙ at in cc) in
+          subst (ComesNext cores (take place ids)) same (comes_next cores (take place ids) next memory id c.in-Some.access replayed found turn answered)));
+    }

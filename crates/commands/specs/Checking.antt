@@ -1,0 +1,90 @@
+-- What the check of files answers.
+use Rattle.std.specs.Prelude.{◌≡◌, ◌⊎◌, ⊤, ℕ, List, Option, None, Some, Result, Ok, Err, vec_len}
+use Rattle.std.specs.Borrow.{Bor}
+use Rattle.command_line.specs.declared.request.Check.{Check}
+use Rattle.core_program.specs.Answers.{SpellsSet}
+use Rattle.core_program.specs.declared.format.Format.{Format}
+use Rattle.core_program.specs.declared.instruction.Instruction.{Instruction}
+use Rattle.log_file.specs.Devices.{Tells}
+use Rattle.verdict.specs.Counts.{IsInRange, IsOutOfRange}
+use Rattle.verdict.specs.Judgement.{SpellConsistentSet, SpellFlatRun}
+use Rattle.verdict.specs.declared.answer.Verdict.{Verdict}
+use Rattle.verdict.specs.declared.judge_fault.Count.TheVariants.{Files, Workers, Programs as ProgramCount}
+use Rattle.verdict.specs.declared.judge_fault.JudgeFault.{JudgeFault}
+use Rattle.verdict.specs.declared.judge_fault.JudgeFault.TheVariants.{BadConfig, Log, Read, OutOfMemory}
+use Rattle.commands.specs.LogFiles.{AreTextsOf, IsUnreadAt}
+use Rattle.commands.specs.Programs.{IsUnprogrammed}
+use Rattle.commands.specs.declared.call_fault.CallFault.{CallFault}
+use Rattle.commands.specs.declared.call_fault.CallFault.TheVariants.{OutOfMemory as NoMemory}
+use Rattle.commands.specs.declared.judging_fault.JudgingFault.{JudgingFault}
+use Rattle.commands.specs.declared.judging_fault.JudgingFault.TheVariants.{Judge, Call}
+pub use Rattle.verdict.specs.Counts.{AreNotAsMany}
+pub use Rattle.verdict.specs.Judgement.{IsAnswerAgainst}
+
+-- 1..64 files and 1..64 workers
+abbrev pub AreInRange : Check → Type 0
+AreInRange asked = IsInRange (vec_len asked.files) × IsInRange asked.workers
+
+-- ---- the programs
+
+-- the programs that the text of their file spells, where one was given
+abbrev pub AreProgramsOf : (List ℕ → Option (List ℕ)) → Option (Bor (List ℕ)) → Option (List (List Instruction)) → Type 0
+AreProgramsOf told None None = ⊤
+AreProgramsOf told None (Some programs) = ⊥
+AreProgramsOf told (Some name) None = ⊥
+AreProgramsOf told (Some name) (Some programs) =
+    (text : List ℕ) × Tells (told name.now) text × (format : Format) × SpellsSet text (record { format = format; programs = programs })
+
+-- something holds of the programs that were asked for
+abbrev pub Against : (List ℕ → Option (List ℕ)) → Option (Bor (List ℕ)) → (Option (List (List Instruction)) → Type 0) → Type 0
+Against told name Holds = (programs : Option (List (List Instruction))) × AreProgramsOf told name programs × Holds programs
+
+-- why there are no programs in a file whose name was given
+abbrev pub IsUnprogrammedBy : (List ℕ → Option (List ℕ)) → (List ℕ → Type 0) → Option (Bor (List ℕ)) → CallFault → Type 0
+IsUnprogrammedBy told unread None fault = ⊥
+IsUnprogrammedBy told unread (Some name) fault = IsUnprogrammed told unread name.now fault
+
+-- ---- the answer
+
+-- what the judge answers to the texts of the files
+abbrev pub IsJudged : (List ℕ → Option (List ℕ)) → Option (List (List Instruction)) → Check → Result Verdict JudgeFault → Type 0
+IsJudged told programs asked answer = (texts : List (List ℕ)) × AreTextsOf told asked.files.items texts × IsAnswerAgainst programs texts answer
+
+-- The verdict on the files, or why there is none. `unread` holds of the name of a file that can't be opened or read.
+abbrev pub IsCheckedAgainst : (List ℕ → Option (List ℕ)) → (List ℕ → Type 0) → Option (List (List Instruction)) → Check → Result Verdict JudgeFault → Type 0
+IsCheckedAgainst told unread programs asked (Ok verdict) = AreInRange asked × IsJudged told programs asked (Ok verdict)
+IsCheckedAgainst told unread programs asked (Err (Log file line fault)) = AreInRange asked × IsJudged told programs asked (Err (Log file line fault))
+IsCheckedAgainst told unread programs asked (Err (Read file)) = AreInRange asked × IsUnreadAt unread asked.files.items file
+IsCheckedAgainst told unread programs asked (Err (BadConfig Files)) = IsOutOfRange (vec_len asked.files)
+IsCheckedAgainst told unread programs asked (Err (BadConfig Workers)) = IsInRange (vec_len asked.files) × IsOutOfRange asked.workers
+IsCheckedAgainst told unread programs asked (Err (BadConfig ProgramCount)) = AreInRange asked × AreNotAsMany (vec_len asked.files) programs
+IsCheckedAgainst told unread programs asked (Err OutOfMemory) = ⊤
+
+-- The same with the programs that were asked for. A count of files or workers that is out of range is told before they are read, and
+-- they are told before a log is opened.
+abbrev pub IsChecked : (List ℕ → Option (List ℕ)) → (List ℕ → Type 0) → Check → Result Verdict JudgingFault → Type 0
+IsChecked told unread asked (Ok verdict) = Against told asked.program (λ programs. IsCheckedAgainst told unread programs asked (Ok verdict))
+IsChecked told unread asked (Err (Judge (Log file line fault))) = Against told asked.program (λ programs. IsCheckedAgainst told unread programs asked (Err (Log file line fault)))
+IsChecked told unread asked (Err (Judge (Read file))) = Against told asked.program (λ programs. IsCheckedAgainst told unread programs asked (Err (Read file)))
+IsChecked told unread asked (Err (Judge (BadConfig Files))) = IsOutOfRange (vec_len asked.files)
+IsChecked told unread asked (Err (Judge (BadConfig Workers))) = IsInRange (vec_len asked.files) × IsOutOfRange asked.workers
+IsChecked told unread asked (Err (Judge (BadConfig ProgramCount))) = Against told asked.program (λ programs. IsCheckedAgainst told unread programs asked (Err (BadConfig ProgramCount)))
+IsChecked told unread asked (Err (Call fault)) = (fault ≡ NoMemory) ⊎ (AreInRange asked × IsUnprogrammedBy told unread asked.program fault)
+IsChecked told unread asked (Err other) = ⊥
+
+-- ---- what a Yes says
+
+-- the texts of the files spell a set whose operations are sequentially consistent
+abbrev pub TextsAreConsistent : (List ℕ → Option (List ℕ)) → List (Bor (List ℕ)) → Type 0
+TextsAreConsistent told names = (texts : List (List ℕ)) × AreTextsOf told names texts × SpellConsistentSet texts
+
+abbrev pub FilesAreConsistent : (List ℕ → Option (List ℕ)) → Check → Type 0
+FilesAreConsistent told asked = TextsAreConsistent told asked.files.items
+
+-- some whole run of these programs on the flat machine performs just the operations of the set that the texts of the files spell
+abbrev pub FilesRunFlatBy : (List ℕ → Option (List ℕ)) → Check → Option (List (List Instruction)) → Type 0
+FilesRunFlatBy told asked None = ⊤
+FilesRunFlatBy told asked (Some programs) = (texts : List (List ℕ)) × AreTextsOf told asked.files.items texts × SpellFlatRun programs texts
+
+abbrev pub FilesRunFlat : (List ℕ → Option (List ℕ)) → Check → Type 0
+FilesRunFlat told asked = Against told asked.program (FilesRunFlatBy told asked)

@@ -1,0 +1,59 @@
+-- What a look at a certificate answers, and what standard output took of it. The folder and the sink were `old` before and are `new` after.
+use Rattle.std.specs.Prelude.{◌≡◌, ◌≢◌, ◌⊎◌, ⊤, ℕ, List, ◌++◌, Option, Result, Ok, Err}
+use Rattle.std.specs.Io.KnownBytes.{Appends, Keeps}
+use Rattle.host_files.specs.Files.{Files}
+use Rattle.commands.specs.declared.call_fault.CallFault.TheVariants.{Output, OutOfMemory}
+use Rattle.commands.specs.Sinks.{HasFailed, Sink, TakesBeginning, line}
+use Rattle.command_line.specs.declared.request.Confirm.{Confirm}
+use Rattle.log_file.specs.Devices.{Tells}
+use Rattle.mem_op.specs.Consistency.{Operation}
+use Rattle.refutation.specs.Grammar.{header_line}
+use Rattle.refutation.specs.Texts.{IsFirstBad, SpellsRefutation}
+use Rattle.refutation.specs.declared.fault.CertificateFault.{CertificateFault}
+use Rattle.refutation.specs.declared.fault.CertificateFault.TheVariants.{BadCertificate, OutOfMemory as NoCertificateMemory}
+use Rattle.refutation_text.specs.FirstLines.{operation_count}
+use Rattle.commands.specs.SearchAnswers.{search_text}
+use Rattle.commands.specs.OrderTexts.{IsFirstBadOfOrder, SpellsOrder}
+use Rattle.commands.specs.Traces.{AreTraceless, TellsTrace}
+use Rattle.commands.specs.declared.search_answer.SearchAnswer.{SearchAnswer}
+use Rattle.commands.specs.declared.search_answer.SearchAnswer.TheVariants.{Yes, No}
+use Rattle.commands.specs.declared.searching_fault.SearchingFault.{SearchingFault}
+use Rattle.commands.specs.declared.searching_fault.SearchingFault.TheVariants.{Certificate, CertificateUnread, Call}
+
+-- the text of a sequential order certifies a yes, and that of a refutation a no
+abbrev pub Certifies : List (List Operation) → List ℕ → SearchAnswer → Type 0
+Certifies cores text (Yes operations) = SpellsOrder cores text × (operations ≡ operation_count cores)
+Certifies cores text (No operations) = SpellsRefutation cores text × (operations ≡ operation_count cores)
+
+-- this line, counted from 1, is the first of a certificate that isn't as it should be: of a refutation, where the text begins as one, and
+-- else of an order
+abbrev pub IsFirstBadOfCertificate : List (List Operation) → List ℕ → ℕ → Type 0
+IsFirstBadOfCertificate cores text line =
+    (((rest : List ℕ) × (text ≡ header_line ++ rest)) × IsFirstBad cores text line)
+    ⊎ (((rest : List ℕ) → text ≢ header_line ++ rest) × IsFirstBadOfOrder cores text line)
+
+-- why a text certifies nothing
+abbrev pub IsBadCertificate : List (List Operation) → List ℕ → CertificateFault → Type 0
+IsBadCertificate cores text (BadCertificate line) = IsFirstBadOfCertificate cores text line
+IsBadCertificate cores text NoCertificateMemory = ⊥
+
+-- the files tell a trace, and this holds of it and of the text of the certificate
+abbrev pub TellsBoth : (List ℕ → Option (List ℕ)) → Confirm → (List (List Operation) → List ℕ → Type 0) → Type 0
+TellsBoth told asked Holds =
+    TellsTrace told asked.trace (λ cores. (text : List ℕ) × Tells (told asked.certificate.now) text × Holds cores text)
+
+-- The answer that the certificate gives, whose line standard output took, or why there is none. The trace is read first. `unread` holds of
+-- the name of a file that can't be opened or read.
+abbrev pub IsConfirmed : Files → Files → (List ℕ → Type 0) → Confirm → Sink → Sink → Result SearchAnswer SearchingFault → Type 0
+IsConfirmed old new unread asked out out' (Ok answer) =
+    TellsBoth old.told asked (λ cores text. Certifies cores text answer) × (new ≡ old)
+    × Appends out.contents out'.contents (line (search_text answer))
+IsConfirmed old new unread asked out out' (Err (Call Output)) =
+    (answer : SearchAnswer) × TellsBoth old.told asked (λ cores text. Certifies cores text answer) × (new ≡ old)
+    × HasFailed out out' × TakesBeginning out out' (line (search_text answer))
+IsConfirmed old new unread asked out out' (Err (Certificate fault)) =
+    TellsBoth old.told asked (λ cores text. IsBadCertificate cores text fault) × (new ≡ old) × Keeps out.contents out'.contents
+IsConfirmed old new unread asked out out' (Err CertificateUnread) =
+    TellsTrace old.told asked.trace (λ cores. ⊤) × unread asked.certificate.now × Keeps out.contents out'.contents
+IsConfirmed old new unread asked out out' (Err (Call OutOfMemory)) = Keeps out.contents out'.contents
+IsConfirmed old new unread asked out out' (Err fault) = AreTraceless old.told unread asked.trace fault × Keeps out.contents out'.contents

@@ -1,0 +1,54 @@
+-- What the explaining of files answers, what standard output took of it and which picture was put. The folder and the sink were `old`
+-- before and are `new` after.
+use Rattle.std.specs.Prelude.{◌≡◌, ◌⊎◌, ℕ, List, ◌++◌, Option, None, Result, Ok, Err}
+use Rattle.std.specs.Borrow.{Bor}
+use Rattle.std.specs.Io.KnownBytes.{Appends, Keeps}
+use Rattle.command_line.specs.declared.request.Check.{Check}
+use Rattle.command_line.specs.declared.request.Explain.{Explain}
+use Rattle.explain.specs.Pictures.{HasPicture}
+use Rattle.explanation_picture.specs.Pictures.{IsPicture}
+use Rattle.log_record.specs.Entries.{operations_of}
+use Rattle.verdict.specs.Texts.{verdict_text}
+use Rattle.verdict.specs.declared.answer.Verdict.{Verdict}
+use Rattle.commands.specs.Sinks.{line}
+use Rattle.commands.specs.Checking.{IsChecked}
+use Rattle.commands.specs.OtherOrders.{TellsOther}
+use Rattle.commands.specs.declared.call_fault.CallFault.TheVariants.{Output, OutOfMemory}
+use Rattle.host_files.specs.Files.{Files}
+use Rattle.commands.specs.LogFiles.{Spelled}
+use Rattle.commands.specs.Outputs.{FailsPutAt, PutsSuchAt}
+use Rattle.commands.specs.Sinks.{HasFailed, Sink, TakesBeginning}
+use Rattle.commands.specs.declared.judging_fault.JudgingFault.{JudgingFault}
+use Rattle.commands.specs.declared.judging_fault.JudgingFault.TheVariants.{PictureUnwritten, Call}
+
+-- what is told of another order, which is true of the operations of the set that the texts of the files spell
+abbrev pub TellsOtherOf : (List ℕ → Option (List ℕ)) → Explain → Verdict → List ℕ → Type 0
+TellsOtherOf told asked verdict text =
+    Spelled told asked.check.files.items (λ logs. TellsOther asked.no_search verdict (operations_of logs) text)
+
+-- the line of a verdict, then why it is so, and last what is told of another order
+abbrev pub TellsVerdict : (List ℕ → Option (List ℕ)) → Explain → Verdict → List ℕ → Type 0
+TellsVerdict told asked verdict text =
+    (why : List ℕ) × (last : List ℕ) × (text ≡ line (verdict_text verdict) ++ (why ++ last)) × TellsOtherOf told asked verdict last
+
+-- a picture was put under the name that was given, where this verdict has a picture; nothing was, where no name was given or it has none
+abbrev pub PutsPictureAt : Verdict → Files → Files → Option (Bor (List ℕ)) → Type 0
+PutsPictureAt verdict old new None = new ≡ old
+PutsPictureAt verdict old new name = (HasPicture verdict × PutsSuchAt old new name IsPicture) ⊎ ((HasPicture verdict → ⊥) × (new ≡ old))
+
+-- there was a verdict to explain
+abbrev pub Judged : Files → (List ℕ → Type 0) → Check → (Verdict → Type 0) → Type 0
+Judged old unread asked Holds = (verdict : Verdict) × IsChecked old.told unread asked (Ok verdict) × Holds verdict
+
+-- The verdict on the files, whose line standard output took first, or why there is none. A picture is put before anything is printed.
+abbrev pub IsExplained : Files → Files → (List ℕ → Type 0) → Explain → Sink → Sink → Result Verdict JudgingFault → Type 0
+IsExplained old new unread asked out out' (Ok verdict) =
+    IsChecked old.told unread asked.check (Ok verdict) × PutsPictureAt verdict old new asked.picture
+    × (text : List ℕ) × TellsVerdict old.told asked verdict text × Appends out.contents out'.contents text
+IsExplained old new unread asked out out' (Err (Call Output)) =
+    Judged old unread asked.check (λ verdict. PutsPictureAt verdict old new asked.picture × HasFailed out out'
+    × (text : List ℕ) × TellsVerdict old.told asked verdict text × TakesBeginning out out' text)
+IsExplained old new unread asked out out' (Err PictureUnwritten) =
+    Judged old unread asked.check (λ verdict. HasPicture verdict × FailsPutAt old new asked.picture) × Keeps out.contents out'.contents
+IsExplained old new unread asked out out' (Err (Call OutOfMemory)) = Keeps out.contents out'.contents
+IsExplained old new unread asked out out' (Err fault) = IsChecked old.told unread asked.check (Err fault) × Keeps out.contents out'.contents

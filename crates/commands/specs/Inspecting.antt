@@ -1,0 +1,27 @@
+-- What a look at a file of a litmus test, or of programs, answers.
+use Rattle.std.specs.Prelude.{◌≡◌, ℕ, List, Option, Result, Ok, Err, length}
+use Rattle.commands.specs.Programs.{AreProgramsIn, IsUnprogrammed}
+use Rattle.command_line.specs.declared.request.FileKind.{FileKind}
+use Rattle.command_line.specs.declared.request.FileKind.TheVariants.{Litmus, Programs}
+use Rattle.command_line.specs.declared.request.Inspect.{Inspect}
+use Rattle.core_program.specs.SetParts.{SetParts}
+use Rattle.litmus_test.specs.Parts.{LitmusParts}
+use Rattle.commands.specs.Tabling.{IsTestIn, IsUntested}
+use Rattle.commands.specs.declared.running_fault.RunningFault.{RunningFault}
+use Rattle.commands.specs.declared.running_fault.RunningFault.TheVariants.{Call}
+
+-- the file of this name is one of this kind, for so many cores
+abbrev pub AreCoresIn : (List ℕ → Option (List ℕ)) → FileKind → List ℕ → ℕ → Type 0
+AreCoresIn told Litmus name cores = (t : LitmusParts) × IsTestIn told name t × (cores ≡ length t.programs)
+AreCoresIn told Programs name cores = (set : SetParts) × AreProgramsIn told name set × (cores ≡ length set.programs)
+
+-- Why it isn't: as the commands that run such a file say. `unread` holds of the name of a file that can't be opened or read.
+abbrev pub IsUnreadable : (List ℕ → Option (List ℕ)) → (List ℕ → Type 0) → FileKind → List ℕ → RunningFault → Type 0
+IsUnreadable told unread Litmus name fault = IsUntested told unread name fault
+IsUnreadable told unread Programs name (Call fault) = IsUnprogrammed told unread name fault
+IsUnreadable told unread Programs name other = ⊥
+
+-- what a look at the file that was asked for answers
+abbrev pub IsInspected : (List ℕ → Option (List ℕ)) → (List ℕ → Type 0) → Inspect → Result ℕ RunningFault → Type 0
+IsInspected told unread asked (Ok cores) = AreCoresIn told asked.kind asked.file.now cores
+IsInspected told unread asked (Err fault) = IsUnreadable told unread asked.kind asked.file.now fault

@@ -1,0 +1,61 @@
+-- The logs that the folder tells, all of one format. `made` gives the log of each core.
+use Rattle.std.specs.Prelude.{◌≡◌, ◌≢◌, ◌⊎◌, ⊤, ℕ, zero, suc, ◌+◌, ◌<◌, List, length, Option}
+use Rattle.log_file.specs.Devices.{Failed, Tells}
+use Rattle.log_file.specs.Log.{SpellsIn}
+use Rattle.log_record.specs.declared.format.Format.{Format}
+use Rattle.log_record.specs.declared.record.Record.{Record}
+use Rattle.host_files.specs.Files.{Files}
+use Rattle.commands.specs.declared.call_fault.CallFault.{CallFault}
+use Rattle.commands.specs.declared.call_fault.CallFault.TheVariants.{LogUnwritten, OutOfMemory}
+pub use Rattle.command_line.specs.RunFiles.{log_name}
+
+-- core c's log, of `cores`, is told under its name, in its one spelling in this format
+abbrev pub TellsLog : Format → (List ℕ → Option (List ℕ)) → List ℕ → ℕ → (ℕ → List Record) → ℕ → Type 0
+TellsLog format told out cores made c = (text : List ℕ) × Tells (told (log_name out c)) text × SpellsIn format c cores text (made c)
+
+-- so are the logs of the first n cores
+abbrev pub TellsFirst : Format → (List ℕ → Option (List ℕ)) → List ℕ → ℕ → (ℕ → List Record) → ℕ → Type 0
+TellsFirst format told out cores made n = (c : ℕ) → c < n → TellsLog format told out cores made c
+
+-- what is told of a name that none of the first n logs has is what was told of it before
+abbrev pub KeepsOthers : (List ℕ → Option (List ℕ)) → (List ℕ → Option (List ℕ)) → List ℕ → ℕ → Type 0
+KeepsOthers told told' out n = (name : List ℕ) → ((c : ℕ) → c < n → name ≢ log_name out c) → told' name ≡ told name
+
+-- the logs of the first n cores were put, and nothing else
+pub record ArePutFirst (format : Format) (told told' : List ℕ → Option (List ℕ)) (out : List ℕ) (cores : ℕ) (made : ℕ → List Record) (n : ℕ) : Type 0 where
+  pub logs : TellsFirst format told' out cores made n
+  pub others : KeepsOthers told told' out n
+
+-- those of all cores were, and no put failed
+abbrev pub ArePut : Format → Files → Files → List ℕ → ℕ → (ℕ → List Record) → Type 0
+ArePut format old new out cores made = ArePutFirst format old.told new.told out cores made cores × (new.failed ≡ old.failed)
+
+-- the put of core c's log failed: the logs before it were put, and nothing else but what may stand in its place
+pub record ArePutUpTo (format : Format) (old new : Files) (out : List ℕ) (cores : ℕ) (made : ℕ → List Record) (c : ℕ) : Type 0 where
+  pub core : c < cores
+  pub logs : TellsFirst format new.told out cores made c
+  pub others : KeepsOthers old.told new.told out (c + 1)
+  pub failed : Failed old.failed new.failed
+
+-- memory ran out before the put of core c's log: the logs before it were put, nothing else, and no put failed
+pub record ArePutBefore (format : Format) (old new : Files) (out : List ℕ) (cores : ℕ) (made : ℕ → List Record) (c : ℕ) : Type 0 where
+  pub core : c < cores
+  pub put : ArePutFirst format old.told new.told out cores made c
+  pub quiet : new.failed ≡ old.failed
+
+-- the logs of all cores were put, or those before one whose put failed or for which memory ran out
+abbrev pub ArePutAsFar : Format → Files → Files → List ℕ → ℕ → (ℕ → List Record) → Type 0
+ArePutAsFar format old new out cores made =
+    ArePut format old new out cores made
+    ⊎ (((c : ℕ) × ArePutUpTo format old new out cores made c) ⊎ ((c : ℕ) × ArePutBefore format old new out cores made c))
+
+-- how many operations the first cores have performed
+abbrev pub performed_below : (ℕ → List Record) → ℕ → ℕ
+performed_below made zero = 0
+performed_below made (suc c) = performed_below made c + length (made c)
+
+-- a core's log can't be written, of whose number this holds, or memory ran out
+abbrev pub IsUnwritten : (ℕ → Type 0) → CallFault → Type 0
+IsUnwritten Holds (LogUnwritten file) = Holds file
+IsUnwritten Holds OutOfMemory = ⊤
+IsUnwritten Holds other = ⊥

@@ -1,0 +1,93 @@
+-- What a search of a trace answers, what standard output took of it, and which files were put. The folder and the sink were `old` before
+-- and are `new` after.
+use Rattle.std.specs.Prelude.{◌≡◌, ◌⊎◌, ⊤, ℕ, ◌*◌, ◌+◌, List, Option, Result, Ok, Err, unwrap_or}
+use Rattle.std.specs.Io.KnownBytes.{Appends, Keeps}
+use Rattle.host_files.specs.Files.{Files, IsOnlyRead}
+use Rattle.commands.specs.Outputs.{FailsPutAt, IsNameOf, PutsAt, PutsSuchAt}
+use Rattle.commands.specs.declared.call_fault.CallFault.TheVariants.{Output, OutOfMemory}
+use Rattle.commands.specs.Sinks.{HasFailed, Sink, TakesBeginning, line}
+use Rattle.command_line.specs.declared.request.Search.{Search}
+use Rattle.mem_op.specs.Consistency.{Operation, IsConsistent, IsSequentialOrder}
+use Rattle.merge_judge.specs.OrderText.{order_text}
+use Rattle.refutation.specs.Grammar.{refutation_text}
+use Rattle.refutation.specs.Refuting.{IsRefutation}
+use Rattle.refutation.specs.declared.answer.Answer.{Answer}
+use Rattle.refutation.specs.declared.answer.Answer.TheVariants as found
+use Rattle.refutation.specs.declared.step.Step.{Step}
+use Rattle.refutation_picture.specs.Pictures.{IsPicture}
+use Rattle.refutation_text.specs.FirstLines.{IsGrown, operation_count}
+use Rattle.commands.specs.SearchAnswers.{search_text}
+use Rattle.commands.specs.Traces.{AreTraceless, TellsTrace}
+use Rattle.commands.specs.declared.search_answer.SearchAnswer.{SearchAnswer}
+use Rattle.commands.specs.declared.search_answer.SearchAnswer.TheVariants.{Yes, No}
+use Rattle.commands.specs.declared.searching_fault.SearchingFault.{SearchingFault}
+use Rattle.commands.specs.declared.searching_fault.SearchingFault.TheVariants.{Undecided, OrderUnwritten, RefutationUnwritten, PictureUnwritten, Call}
+
+-- how many steps a search may make where nothing is said: 100,000,000, and 100 for each operation
+abbrev pub budget_or_default : Option ℕ → ℕ → ℕ
+budget_or_default given operations = unwrap_or given (operations * 100 + 100000000)
+
+-- a name under which the search may put a file
+abbrev pub IsOutputName : Search → List ℕ → Type 0
+IsOutputName asked name = IsNameOf asked.order name ⊎ (IsNameOf asked.refutation name ⊎ IsNameOf asked.picture name)
+
+-- an order shows that the trace is consistent, and a refutation that it isn't
+abbrev pub IsProof : List (List Operation) → Answer → Type 0
+IsProof cores (found.Order order) = IsSequentialOrder cores order.items
+IsProof cores (found.Refutation steps) = IsRefutation cores steps
+IsProof cores found.Undecided = ⊥
+
+-- the answer that a proof gives
+abbrev pub AnswersBy : List (List Operation) → Answer → SearchAnswer → Type 0
+AnswersBy cores (found.Order order) answer = answer ≡ Yes (operation_count cores)
+AnswersBy cores (found.Refutation steps) answer = answer ≡ No (operation_count cores)
+AnswersBy cores found.Undecided answer = ⊥
+
+-- the text of a refutation and then a picture of it were put, each where that was asked for
+abbrev pub PutsBoth : Files → Files → Search → List Step → Type 0
+PutsBoth old new asked steps =
+    (between : Files) × PutsAt old between asked.refutation (refutation_text steps) × PutsSuchAt between new asked.picture IsPicture
+
+-- what shows the answer was put where that was asked for
+abbrev pub PutsProof : Files → Files → Search → Answer → Type 0
+PutsProof old new asked (found.Order order) = PutsAt old new asked.order (order_text order.items)
+PutsProof old new asked (found.Refutation steps) = PutsBoth old new asked steps
+PutsProof old new asked found.Undecided = ⊥
+
+-- a refutation was put, where that was asked for, and the put of its picture failed
+abbrev pub FailsPicture : Files → Files → Search → List (List Operation) → Type 0
+FailsPicture old new asked cores =
+    (steps : List Step) × IsRefutation cores steps
+    × ((between : Files) × PutsAt old between asked.refutation (refutation_text steps) × FailsPutAt between new asked.picture)
+
+-- the proof was found, and put where that was asked for
+pub record Finds (old new : Files) (asked : Search) (cores : List (List Operation)) (answer : SearchAnswer) : Type 0 where
+  pub proof : Answer
+  pub is_proof : IsProof cores proof
+  pub answers : AnswersBy cores proof answer
+  pub puts : PutsProof old new asked proof
+
+-- the text begins with the line of an answer; that of a yes is the line
+abbrev pub TellsAnswer : SearchAnswer → List ℕ → Type 0
+TellsAnswer (Yes operations) text = text ≡ line (search_text (Yes operations))
+TellsAnswer (No operations) text = IsGrown (line (search_text (No operations))) text
+
+-- The answer, whose line standard output took, or why there is none. What is found is put before anything is printed. A search that gives
+-- up promises nothing of the trace. `unread` holds of the name of a file that can't be opened or read.
+abbrev pub IsSearched : Files → Files → (List ℕ → Type 0) → Search → Sink → Sink → Result SearchAnswer SearchingFault → Type 0
+IsSearched old new unread asked out out' (Ok answer) =
+    TellsTrace old.told asked.trace (λ cores. Finds old new asked cores answer)
+    × (text : List ℕ) × TellsAnswer answer text × Appends out.contents out'.contents text
+IsSearched old new unread asked out out' (Err (Call Output)) =
+    (answer : SearchAnswer) × TellsTrace old.told asked.trace (λ cores. Finds old new asked cores answer)
+    × (text : List ℕ) × TellsAnswer answer text × HasFailed out out' × TakesBeginning out out' text
+IsSearched old new unread asked out out' (Err Undecided) = TellsTrace old.told asked.trace (λ cores. ⊤) × (new ≡ old) × Keeps out.contents out'.contents
+IsSearched old new unread asked out out' (Err OrderUnwritten) =
+    TellsTrace old.told asked.trace IsConsistent × FailsPutAt old new asked.order × Keeps out.contents out'.contents
+IsSearched old new unread asked out out' (Err RefutationUnwritten) =
+    TellsTrace old.told asked.trace (λ cores. ¬ (IsConsistent cores)) × FailsPutAt old new asked.refutation × Keeps out.contents out'.contents
+IsSearched old new unread asked out out' (Err PictureUnwritten) =
+    TellsTrace old.told asked.trace (FailsPicture old new asked) × Keeps out.contents out'.contents
+IsSearched old new unread asked out out' (Err (Call OutOfMemory)) = Keeps out.contents out'.contents
+IsSearched old new unread asked out out' (Err fault) =
+    AreTraceless old.told unread asked.trace fault × IsOnlyRead old new × Keeps out.contents out'.contents

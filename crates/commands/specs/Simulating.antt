@@ -1,0 +1,89 @@
+-- What the simulation of programs answers.
+use Rattle.std.specs.Prelude.{◌≡◌, ◌≢◌, ◌⊎◌, ℕ, List, [], length, map, Option, None, Some, Result, Ok, Err}
+use Rattle.std.specs.Borrow.{Bor}
+use Rattle.command_line.specs.declared.request.Sim.{Sim}
+use Rattle.lease_rule.specs.Ranges.{first_bad}
+use Rattle.core_program.specs.SetParts.{SetParts}
+use Rattle.log_file.specs.Devices.{Tells}
+use Rattle.schedule.specs.Answers.{IsFault as IsScheduleFault, Spells as SpellsSchedule}
+use Rattle.schedule.specs.declared.command.Command.{Command}
+use Rattle.schedule.specs.declared.fault.ScheduleFault.{ScheduleFault}
+use Rattle.schedule.specs.declared.fault.ScheduleFault.TheVariants.{OutOfMemory as NoScheduleMemory}
+use Rattle.core_machine.specs.Opening.{opening_parts}
+use Rattle.core_machine.specs.Parts.{CoreParts, world}
+use Rattle.core_machine.specs.Works.{log_at}
+use Rattle.simulation.specs.Simulating.{IsSimulated, IsSimulationFault}
+use Rattle.commands.specs.Programs.{IsUnprogrammed}
+use Rattle.host_files.specs.Files.{Files}
+use Rattle.commands.specs.declared.call_fault.CallFault.TheVariants.{OutOfMemory}
+use Rattle.commands.specs.Logs.{ArePutUpTo, IsUnwritten, performed_below}
+use Rattle.commands.specs.Numbers.{AreLeft, AreLeftAsFar, IsUnleft, numbers_of}
+use Rattle.commands.specs.Programmed.{Programmed, config_of, log_format}
+use Rattle.commands.specs.declared.running_fault.RunningFault.{RunningFault}
+use Rattle.commands.specs.declared.running_fault.RunningFault.TheVariants.{Config, Schedule, ScheduleUnread, Simulation, StatisticsUnwritten, Call}
+
+-- ---- what was asked for
+
+-- the commands that the text of the schedule spells for this number of cores; none where no schedule was given
+abbrev pub AreCommandsOf : (List ℕ → Option (List ℕ)) → Option (Bor (List ℕ)) → ℕ → List Command → Type 0
+AreCommandsOf told None cores commands = commands ≡ []
+AreCommandsOf told (Some name) cores commands = (text : List ℕ) × Tells (told name.now) text × SpellsSchedule cores text commands
+
+-- why the text isn't a schedule for this number of cores, and not for lack of memory
+abbrev pub IsFaultOfSchedule : (List ℕ → Option (List ℕ)) → Option (Bor (List ℕ)) → ℕ → ScheduleFault → Type 0
+IsFaultOfSchedule told None cores fault = ⊥
+IsFaultOfSchedule told (Some name) cores fault = (fault ≢ NoScheduleMemory) × (text : List ℕ) × Tells (told name.now) text × IsScheduleFault cores text fault
+
+-- the file of the schedule can't be opened or read
+abbrev pub IsUnreadSchedule : (List ℕ → Type 0) → Option (Bor (List ℕ)) → Type 0
+IsUnreadSchedule unread None = ⊥
+IsUnreadSchedule unread (Some name) = unread name.now
+
+-- why there is no schedule: the text of its file, or it can't be read, or memory ran out
+abbrev pub IsUnscheduled : (List ℕ → Option (List ℕ)) → (List ℕ → Type 0) → Option (Bor (List ℕ)) → ℕ → RunningFault → Type 0
+IsUnscheduled told unread name cores (Schedule fault) = IsFaultOfSchedule told name cores fault
+IsUnscheduled told unread name cores ScheduleUnread = IsUnreadSchedule unread name
+IsUnscheduled told unread name cores (Call fault) = fault ≡ OutOfMemory
+IsUnscheduled told unread name cores other = ⊥
+
+-- ---- what it came to
+
+-- the configuration is in range, and something holds of the programs and of the commands of their schedule
+abbrev pub Scheduled : (List ℕ → Option (List ℕ)) → Sim → (SetParts → List Command → Type 0) → Type 0
+Scheduled told asked Holds =
+    Programmed told asked.limits asked.programs.now (λ set. (commands : List Command) × AreCommandsOf told asked.schedule (length set.programs) commands × Holds set commands)
+
+-- this holds of the machine in which the simulation ended
+abbrev pub EndsIn : Sim → SetParts → List Command → (CoreParts → Type 0) → Type 0
+EndsIn asked set commands Holds = (q : CoreParts) × IsSimulated commands asked.seed (opening_parts set.programs (config_of asked.limits)) q × Holds q
+
+-- the numbers of a machine of so many cores
+abbrev pub numbers_in : Sim → ℕ → CoreParts → List ℕ
+numbers_in asked cores q = numbers_of cores asked.limits.slices (map (λ seat. seat.unit) q.seats) q.slices
+
+-- The number of operations that the programs performed, or why there is none. The configuration is looked at first, then
+-- the programs, then the schedule; what a simulation is refused for is told before a log that can't be written. The
+-- folder was `old` before and is `new` after: the logs of the machine to which the simulation came, and then its numbers where a file
+-- was given for them. After a log that can't be written they are those before it, and after a fault of the simulation all, or those of the
+-- first cores. `unread`
+-- holds of the name of a file that can't be opened or read.
+abbrev pub IsRun : Files → Files → (List ℕ → Type 0) → Sim → Result ℕ RunningFault → Type 0
+IsRun old new unread asked (Ok count) =
+    Scheduled old.told asked (λ set commands. EndsIn asked set commands (λ q.
+    (count ≡ performed_below (log_at (world q)) (length set.programs)) × AreLeft (log_format set.format) old new asked.out.now (length set.programs) (log_at (world q)) asked.statistics (numbers_in asked (length set.programs) q)))
+IsRun old new unread asked (Err (Config fault)) = first_bad (config_of asked.limits) ≡ Some fault
+IsRun old new unread asked (Err (Schedule fault)) = Programmed old.told asked.limits asked.programs.now (λ set. IsFaultOfSchedule old.told asked.schedule (length set.programs) fault)
+IsRun old new unread asked (Err ScheduleUnread) = Programmed old.told asked.limits asked.programs.now (λ set. IsUnreadSchedule unread asked.schedule)
+IsRun old new unread asked (Err (Simulation fault)) =
+    Scheduled old.told asked (λ set commands. (q : CoreParts)
+    × IsSimulationFault commands asked.seed (opening_parts set.programs (config_of asked.limits)) q fault
+    × AreLeftAsFar (log_format set.format) old new asked.out.now (length set.programs) (log_at (world q)) asked.statistics (numbers_in asked (length set.programs) q))
+IsRun old new unread asked (Err (Call fault)) =
+    (fault ≡ OutOfMemory)
+    ⊎ (((first_bad (config_of asked.limits) ≡ None) × IsUnprogrammed old.told unread asked.programs.now fault)
+    ⊎ Scheduled old.told asked (λ set commands. EndsIn asked set commands (λ q.
+    IsUnwritten (ArePutUpTo (log_format set.format) old new asked.out.now (length set.programs) (log_at (world q))) fault)))
+IsRun old new unread asked (Err StatisticsUnwritten) =
+    Scheduled old.told asked (λ set commands. EndsIn asked set commands (λ q.
+    IsUnleft (log_format set.format) old new asked.out.now (length set.programs) (log_at (world q)) asked.statistics StatisticsUnwritten))
+IsRun old new unread asked (Err other) = ⊥

@@ -1,0 +1,100 @@
+-- What the counting of a litmus test's outcomes answers, what standard output took of their table, and what the folder tells of the
+-- totals. The folder was `before` and is `after`, the sink was `old` before and is `new` after.
+use Rattle.std.specs.Prelude.{◌≡◌, ◌≢◌, ℕ, Bool, true, false, List, Option, None, Some, Result, Ok, Err}
+use Rattle.std.specs.Io.KnownBytes.{Appends, Keeps}
+use Rattle.std.specs.List.{AllByRecursion, list_any}
+use Rattle.command_line.specs.declared.request.Litmus.{Litmus}
+use Rattle.core_program.specs.Shape.{IsProgram}
+use Rattle.lease_rule.specs.Ranges.{first_bad}
+use Rattle.litmus_test.specs.Answers.{IsFault, Spells}
+use Rattle.lease_rule.specs.ConfigParts.{ConfigParts}
+use Rattle.litmus.specs.Collecting.{IsBadRunCount, IsCollectFault, IsRunCount, IsSeededTable, IsThreadFault, IsThreadTable}
+use Rattle.litmus_test.specs.Parts.{LitmusParts}
+use Rattle.litmus_test.specs.declared.fault.LitmusFault.TheVariants.{OutOfMemory as NoTestMemory}
+use Rattle.litmus_test.specs.TableParts.{TableParts}
+use Rattle.litmus_test.specs.TableText.{table_text}
+use Rattle.litmus.specs.declared.collecting.Collected.{Collected}
+use Rattle.litmus.specs.declared.run_fault.CollectFault.{CollectFault}
+use Rattle.litmus.specs.declared.run_fault.CollectFault.TheVariants.{BadRuns, Run as RunFailed}
+use Rattle.log_file.specs.Devices.{Tells}
+use Rattle.commands.specs.Programmed.{config_of}
+use Rattle.statistics.specs.TableText.{totals_text}
+use Rattle.host_files.specs.Files.{Files, IsOnlyRead}
+use Rattle.commands.specs.Outputs.{FailsPutAt, PutsAt}
+use Rattle.commands.specs.declared.call_fault.CallFault.TheVariants.{Output, OutOfMemory}
+use Rattle.commands.specs.Sinks.{HasFailed, Sink, TakesBeginning}
+use Rattle.commands.specs.declared.running_fault.RunningFault.{RunningFault}
+use Rattle.commands.specs.declared.running_fault.RunningFault.TheVariants.{Config, Test, TestUnread, Collect, StatisticsUnwritten, Call}
+
+-- ---- what was asked for
+
+-- this is the test in the file of this name
+abbrev pub IsTestIn : (List ℕ → Option (List ℕ)) → List ℕ → LitmusParts → Type 0
+IsTestIn told name t = (text : List ℕ) × Tells (told name) text × Spells text t × AllByRecursion IsProgram t.programs
+
+-- why there is no test: the text of its file, or it can't be read, or memory ran out
+abbrev pub IsUntested : (List ℕ → Option (List ℕ)) → (List ℕ → Type 0) → List ℕ → RunningFault → Type 0
+IsUntested told unread name (Test fault) = (fault ≢ NoTestMemory) × (text : List ℕ) × Tells (told name) text × IsFault text fault
+IsUntested told unread name TestUnread = unread name
+IsUntested told unread name (Call fault) = fault ≡ OutOfMemory
+IsUntested told unread name other = ⊥
+
+-- the numbers of the machine and the number of runs are in range
+pub record IsInOrder (asked : Litmus) : Type 0 where
+  pub config : first_bad (config_of asked.limits) ≡ None
+  pub runs : IsRunCount asked.runs
+
+-- and something holds of the test
+abbrev pub Tested : (List ℕ → Option (List ℕ)) → Litmus → (LitmusParts → Type 0) → Type 0
+Tested told asked Holds = IsInOrder asked × (t : LitmusParts) × IsTestIn told asked.test.now t × Holds t
+
+-- ---- its table
+
+-- the table and the totals of runs by threads, or of runs by a seed
+abbrev pub IsTableBy : Bool → LitmusParts → ConfigParts → ℕ → ℕ → Collected → Type 0
+IsTableBy true t g runs seed collected = IsThreadTable t g runs collected
+IsTableBy false t g runs seed collected = IsSeededTable t g runs seed collected
+
+-- and why there is none
+abbrev pub IsFaultBy : Bool → LitmusParts → ConfigParts → ℕ → ℕ → CollectFault → Type 0
+IsFaultBy true t g runs seed fault = IsThreadFault t g runs fault
+IsFaultBy false t g runs seed fault = IsCollectFault t g runs seed fault
+
+-- something holds of the table and the totals of its runs
+abbrev pub Tabled : (List ℕ → Option (List ℕ)) → Litmus → (Collected → Type 0) → Type 0
+Tabled told asked Holds =
+    Tested told asked (λ t. (collected : Collected)
+    × IsTableBy asked.threads t (config_of asked.limits) asked.runs asked.seed collected × Holds collected)
+
+-- an outcome of the table is forbidden
+abbrev pub has_forbidden : TableParts → Bool
+has_forbidden table = list_any (λ row. row.forbidden) table.rows
+
+-- Why there is no table: the configuration is looked at first, then the number of runs, then the test. `unread` holds of the name of a file
+-- that can't be opened or read.
+abbrev pub IsUntabled : (List ℕ → Option (List ℕ)) → (List ℕ → Type 0) → Litmus → RunningFault → Type 0
+IsUntabled told unread asked (Config fault) = first_bad (config_of asked.limits) ≡ Some fault
+IsUntabled told unread asked (Collect BadRuns) = (first_bad (config_of asked.limits) ≡ None) × IsBadRunCount asked.runs
+IsUntabled told unread asked (Collect (RunFailed k cause)) =
+    Tested told asked (λ t. IsFaultBy asked.threads t (config_of asked.limits) asked.runs asked.seed (RunFailed k cause))
+IsUntabled told unread asked (Test fault) = IsInOrder asked × IsUntested told unread asked.test.now (Test fault)
+IsUntabled told unread asked TestUnread = IsInOrder asked × unread asked.test.now
+IsUntabled told unread asked (Call fault) = fault ≡ OutOfMemory
+IsUntabled told unread asked other = ⊥
+
+-- ---- its text
+
+-- Whether an outcome of the table is forbidden, whose text the sink took, and then the totals' text was put where a file was given for it;
+-- or why there is none. Where the sink failed, it took a beginning of the text; where the totals couldn't be put, all of it; and else it
+-- holds what it held.
+abbrev pub IsCounted : Files → Files → (List ℕ → Type 0) → Litmus → Sink → Sink → Result Bool RunningFault → Type 0
+IsCounted before after unread asked old new (Ok forbidden) =
+    Tabled before.told asked (λ collected. (forbidden ≡ has_forbidden collected.table) × Appends old.contents new.contents (table_text collected.table)
+    × PutsAt before after asked.statistics (totals_text collected.totals))
+IsCounted before after unread asked old new (Err (Call Output)) =
+    Tabled before.told asked (λ collected. HasFailed old new × TakesBeginning old new (table_text collected.table)) × IsOnlyRead before after
+IsCounted before after unread asked old new (Err (Call OutOfMemory)) = Keeps old.contents new.contents × IsOnlyRead before after
+IsCounted before after unread asked old new (Err StatisticsUnwritten) =
+    Tabled before.told asked (λ collected. Appends old.contents new.contents (table_text collected.table)) × FailsPutAt before after asked.statistics
+IsCounted before after unread asked old new (Err fault) =
+    IsUntabled before.told unread asked fault × Keeps old.contents new.contents × IsOnlyRead before after

@@ -1,0 +1,10 @@
+-- Definitions that serve private contracts alone.
+pub mod Certificates
+pub mod Finding
+pub mod Looking
+pub mod Performing
+pub mod Printing
+pub mod Putting
+pub mod ReadLogs
+pub mod ReadTraces
+pub mod Texts

@@ -1,0 +1,30 @@
+//! The configuration that is asked for.
+
+ghost use Rattle.std.specs.Prelude.{◌≡◌, Some, None, MatchResult};
+ghost use Rattle.lease_rule.specs.Ranges.{first_bad};
+ghost use Rattle.commands.specs.Programmed as programmed;
+
+use command_line::Limits;
+use lease_rule::{BadConfig, Config};
+
+/// How many turns a core has for an operation, where it runs as a thread; a simulation has no use
+/// for them.
+const TURNS: u64 = 10_000_000;
+
+/// The configuration of these numbers: 6 where one is out of its range.
+pub(crate) fn config_of(limits: &Limits) -> Result<Config, BadConfig>
+    ensures { MatchResult result
+        (λ config. (config ≡ programmed.config_of limits.now)
+        × (first_bad (programmed.config_of limits.now) ≡ None))
+        (λ fault. first_bad (programmed.config_of limits.now) ≡ Some fault) }
+{
+    Config::new(
+        limits.slices,
+        limits.lease,
+        limits.period,
+        limits.cache_lines,
+        limits.slice_lines,
+        limits.inbox,
+        TURNS,
+    )
+}

@@ -1,0 +1,122 @@
+//! The look at a certificate.
+
+ghost use Rattle.std.specs.Prelude.{◌≡◌, ◌≢◌, ◌++◌, ℕ, List, IfErr, IfOk, OnOk};
+ghost use Rattle.host_files.specs.Files.{IsOnlyRead, IsUnread};
+ghost use Rattle.commands.specs.Sinks.{sink_of};
+ghost use Rattle.log_file.specs.Devices.{Tells};
+ghost use Rattle.refutation.specs.Grammar.{header_line};
+ghost use Rattle.refutation.specs.declared.fault.CertificateFault.TheVariants.{BadCertificate};
+ghost use Rattle.commands.specs.SearchAnswers.{IsRightOf};
+ghost use Rattle.commands.specs.Confirming as confirming;
+ghost use Rattle.commands.specs.Traces.{TellsTrace};
+ghost use Rattle.commands.specs.declared.searching_fault.SearchingFault.TheVariants.{Certificate};
+ghost use Rattle.commands.specs.inner.Looking.{IsLook, IsNoCertificate};
+
+use super::search_answer::SearchAnswer;
+use super::searching_fault::SearchingFault;
+use super::order_certificate::first_bad_line_of_order;
+use super::printing::answer_line;
+use super::trace_files::read_files;
+use super::call_fault::CallFault;
+use super::text::read_text;
+use command_line::Confirm;
+use decimal_text::after_text;
+use host_files::Folder;
+use log_file::{ByteSink, ReadFault, write_all};
+use refutation::{CertificateFault, first_bad_line};
+use refutation_text::count_of;
+use std::alloc::Global;
+use std::thread::Threads;
+use trace::Trace;
+
+/// The first line of a refutation's text.
+const HEADER: &[u8] = b"tardis-refutation 1\n";
+
+/// Looks whether the certificate in a file of the folder holds of the trace in others, and prints the line of the answer that it
+/// gives. The answer, or why there is none: the trace is read first, and 43 comes with the first line of the certificate that isn't as
+/// it should be.
+pub fn confirm<R: Threads + Sync, F: Folder, O: ByteSink>(
+    rt: &R,
+    alloc: Global,
+    folder: &mut F,
+    asked: &Confirm<'_>,
+    out: &mut O,
+) -> Result<SearchAnswer, SearchingFault>
+    ensures exact { confirming.IsConfirmed (F.files folder.old) (F.files folder.new)
+        (IsUnread F.Source.remaining F.Source.failed
+        (F.files folder.old) (F.files folder.new)) asked.now
+        (sink_of O.contents O.failed out.old)
+        (sink_of O.contents O.failed out.new) result }
+    ensures sound { IfOk result (λ answer. TellsTrace (F.files folder.old).told asked.now.trace
+        (λ cores. IsRightOf cores answer)) }
+    ensures read { IsOnlyRead (F.files folder.old) (F.files folder.new) }
+{
+    let trace = read_files(rt, alloc, folder, &asked.trace)?;
+    let text = read_certificate(alloc, folder, asked.certificate)?;
+    let answer = look_at(alloc, &trace, text.as_slice())?;
+    let line = answer_line(alloc, &answer)?;
+    write_all(out, line.as_bytes())?;
+    Ok(answer)
+}
+
+/// The text of a certificate: 28 where its file can't be opened or read, and 10 where a growth was refused.
+fn read_certificate<F: Folder>(
+    alloc: Global,
+    folder: &mut F,
+    name: &str,
+) -> Result<Vec<u8>, SearchingFault>
+    ensures ok { IfOk result (λ text. Tells ((F.files folder.old).told name.now) text.items) }
+    ensures quiet { OnOk result (F.files folder.new ≡ F.files folder.old) }
+    ensures err { IfErr result (IsNoCertificate (IsUnread F.Source.remaining F.Source.failed
+        (F.files folder.old) (F.files folder.new)) name.now) }
+    ensures read { IsOnlyRead (F.files folder.old) (F.files folder.new) }
+{
+    match read_text(alloc, folder, name) {
+        Ok(text) => Ok(text),
+        Err(ReadFault::Read) => Err(SearchingFault::CertificateUnread),
+        Err(ReadFault::OutOfMemory) => Err(SearchingFault::Call(CallFault::OutOfMemory)),
+    }
+}
+
+/// The answer that a certificate gives of a trace, or its first line that isn't as it should be.
+fn look_at(alloc: Global, trace: &Trace, text: &[u8]) -> Result<SearchAnswer, SearchingFault>
+    ensures { IsLook trace.now text.now result }
+{
+    match after_text(HEADER, text) {
+        Some(_) => look_at_refutation(alloc, trace, text),
+        None => look_at_order(alloc, trace, text),
+    }
+}
+
+/// The same of a text that begins as that of a refutation.
+fn look_at_refutation(
+    alloc: Global,
+    trace: &Trace,
+    text: &[u8],
+) -> Result<SearchAnswer, SearchingFault>
+    requires { (rest : List ℕ) × (text.now ≡ header_line ++ rest) }
+    ensures { IsLook trace.now text.now result }
+{
+    match first_bad_line(alloc, trace, text)? {
+        None => Ok(SearchAnswer::No(count_of(trace) as u64)),
+        Some(line) => Err(bad_line(line)),
+    }
+}
+
+/// The same of a text that doesn't.
+fn look_at_order(alloc: Global, trace: &Trace, text: &[u8]) -> Result<SearchAnswer, SearchingFault>
+    requires { (rest : List ℕ) → text.now ≢ header_line ++ rest }
+    ensures { IsLook trace.now text.now result }
+{
+    match first_bad_line_of_order(alloc, trace, text)? {
+        None => Ok(SearchAnswer::Yes(count_of(trace) as u64)),
+        Some(line) => Err(bad_line(line)),
+    }
+}
+
+/// The fault of a line of a certificate.
+fn bad_line(line: u64) -> SearchingFault
+    ensures { result ≡ Certificate (BadCertificate line) }
+{
+    SearchingFault::Certificate(CertificateFault::BadCertificate { line })
+}

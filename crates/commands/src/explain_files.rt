@@ -1,0 +1,243 @@
+//! The verdict on the logs of a set, and why it is so.
+
+ghost use Rattle.std.specs.Prelude.{◌≡◌, ◌↔◌, ◌++◌, ℕ, List, IfErr, IfOk, IfSome, IsSome, IsTrue, OnOk, MatchResult, string_bytes, vec_len};
+ghost use Rattle.explain.specs.Pictures.{HasPicture, IsDrawn};
+ghost use Rattle.explanation_picture.specs.Pictures.{IsPicture};
+ghost use Rattle.log_record.specs.Entries.{operations_of};
+ghost use Rattle.log_record.specs.declared.record.Record.{Record};
+ghost use Rattle.verdict.specs.CoreFaultsOf.{given};
+ghost use Rattle.verdict.specs.Bases.{IsExaminationOf};
+ghost use Rattle.verdict.specs.Judgement.{IsYes};
+ghost use Rattle.verdict.specs.Texts.{verdict_text};
+ghost use Rattle.commands.specs.Checking as checking;
+ghost use Rattle.commands.specs.Explaining as explaining;
+ghost use Rattle.host_files.specs.Files.{IsOnlyRead, IsUnread, KeepsFiles};
+ghost use Rattle.commands.specs.Outputs.{FailsPutAt, IsNameOf};
+ghost use Rattle.commands.specs.Sinks.{line, sink_of};
+ghost use Rattle.commands.specs.OtherOrders.{TellsOther};
+ghost use Rattle.commands.specs.inner.ReadLogs.{AreLogsOf};
+
+use super::check_files::examine_asked;
+use super::judging_fault::JudgingFault;
+use super::other_order::other_order;
+use super::putting::put_under;
+use command_line::Explain;
+use core_program::ProgramSet;
+use explain::{Explanation, explain as explained};
+use explanation_picture::draw;
+use explanation_text::{first_sentence, print};
+use host_files::Folder;
+use log_file::{ByteSink, write_all};
+use search::SearchWatch;
+use std::alloc::{AllocError, Global};
+use std::thread::Threads;
+use verdict::{Examined, Verdict};
+
+/// What is told where a picture is asked for and the set is too large for one.
+const NO_PICTURE: &str =
+    "picture        none, of more than 200 operations; where there is a file of its name, that is an older one\n";
+
+/// What is told of a verdict.
+#[derive(Drop)]
+struct Told {
+    verdict: Verdict,
+    text: String,
+    picture: Option<Vec<u8>>,
+}
+
+/// Judges the logs in files of the folder as `check` does, puts a picture of why where one is asked for, and prints the
+/// verdict's line and what there is to tell of it. The verdict, or why there is none; 29 of the picture or of standard output. A watch
+/// is told how far the search for another order is.
+pub fn explain<R: Threads + Sync, W: SearchWatch, F: Folder, O: ByteSink>(
+    rt: &R,
+    alloc: Global,
+    watch: &W,
+    folder: &mut F,
+    asked: &Explain<'_>,
+    out: &mut O,
+) -> Result<Verdict, JudgingFault>
+    ensures exact { explaining.IsExplained (F.files folder.old) (F.files folder.new)
+        (IsUnread F.Source.remaining F.Source.failed
+        (F.files folder.old) (F.files folder.new)) asked.now
+        (sink_of O.contents O.failed out.old)
+        (sink_of O.contents O.failed out.new) result }
+    ensures files { KeepsFiles (F.files folder.old).told (F.files folder.new).told
+        (IsNameOf asked.now.picture) }
+    ensures sound { IfOk result (λ verdict. IsYes verdict
+        → checking.FilesAreConsistent (F.files folder.old).told asked.now.check) }
+    ensures flat { IfOk result (λ verdict. IsYes verdict
+        → checking.FilesRunFlat (F.files folder.old).told asked.now.check) }
+{
+    let told = tell(rt, alloc, watch, folder, asked)?;
+    put_picture(folder, asked.picture, &told)?;
+    write_all(out, told.text.as_bytes())?;
+    Ok(told.verdict)
+}
+
+/// Puts a picture under a name, where there is a name and a picture.
+fn put_picture<F: Folder>(
+    folder: &mut F,
+    name: Option<&str>,
+    told: &Told,
+) -> Result<(), JudgingFault>
+    requires picture { IfSome told.now.picture (λ svg. IsPicture svg.items) }
+    requires drawn { IsSome name → IsSome told.now.picture ↔ HasPicture told.now.verdict }
+    ensures ok { OnOk result (explaining.PutsPictureAt told.now.verdict
+        (F.files folder.old) (F.files folder.new) name.entry) }
+    ensures err { IfErr result (λ fault. (fault ≡ JudgingFault.PictureUnwritten) × HasPicture told.now.verdict
+        × FailsPutAt (F.files folder.old) (F.files folder.new) name.entry) }
+    ensures files { KeepsFiles (F.files folder.old).told (F.files folder.new).told
+        (IsNameOf name.entry) }
+{
+    match (name, &told.picture) {
+        (Some(name), Some(svg)) => match put_under(folder, Some(name), svg.as_slice()) {
+            Ok(()) => Ok(()),
+            Err(_) => Err(JudgingFault::PictureUnwritten),
+        },
+        _ => Ok(()),
+    }
+}
+
+/// What there is to tell of the logs in files of the folder, or why there is no verdict.
+fn tell<R: Threads + Sync, W: SearchWatch, F: Folder>(
+    rt: &R,
+    alloc: Global,
+    watch: &W,
+    folder: &mut F,
+    asked: &Explain<'_>,
+) -> Result<Told, JudgingFault>
+    ensures exact { MatchResult result
+        (λ told. checking.IsChecked (F.files folder.old).told
+        (IsUnread F.Source.remaining F.Source.failed
+        (F.files folder.old) (F.files folder.new))
+        asked.now.check (Ok told.verdict))
+        (λ fault. checking.IsChecked (F.files folder.old).told
+        (IsUnread F.Source.remaining F.Source.failed
+        (F.files folder.old) (F.files folder.new))
+        asked.now.check (Err fault)) }
+    ensures quiet { OnOk result (F.files folder.new ≡ F.files folder.old) }
+    ensures read { IsOnlyRead (F.files folder.old) (F.files folder.new) }
+    ensures text { IfOk result (λ told. explaining.TellsVerdict (F.files folder.old).told asked.now
+        told.verdict (string_bytes told.text)) }
+    ensures picture { IfOk result (λ told. IfSome told.picture (λ svg. IsPicture svg.items)) }
+    ensures drawn { IsSome asked.now.picture → IfOk result (λ told. IsSome told.picture ↔ HasPicture told.verdict) }
+    ensures sound { IfOk result (λ told. IsYes told.verdict
+        → checking.FilesAreConsistent (F.files folder.old).told asked.now.check) }
+    ensures flat { IfOk result (λ told. IsYes told.verdict
+        → checking.FilesRunFlat (F.files folder.old).told asked.now.check) }
+{
+    let found = examine_asked(rt, alloc, folder, &asked.check)?;
+    let last = last_lines(alloc, watch, &found.examined, asked)?;
+    let told = words(
+        alloc,
+        &found.examined,
+        found.programs.as_ref(),
+        asked.check.files.as_slice(),
+        asked.picture.is_some(),
+        last.as_str(),
+    )?;
+    Ok(told)
+}
+
+/// The last lines of what is told: whether another order explains all values, where that is asked for.
+fn last_lines<W: SearchWatch>(
+    alloc: Global,
+    watch: &W,
+    examined: &Examined,
+    asked: &Explain<'_>,
+) -> Result<String, AllocError>
+    requires { (logs : List (List Record))
+        × AreLogsOf logs examined.now.basis (vec_len asked.now.check.files) }
+    ensures { (logs : List (List Record)) → AreLogsOf logs examined.now.basis (vec_len asked.now.check.files)
+        → IfOk result (λ text. TellsOther asked.now.no_search examined.now.verdict (operations_of logs) (string_bytes text)) }
+{
+    if asked.no_search {
+        return Ok(String::new(alloc));
+    }
+    other_order(alloc, watch, examined, asked.check.files.len())
+}
+
+/// The text of a verdict on the logs of these names and of what there is to tell of it, with its last lines, and a picture where it is to
+/// be drawn and can be.
+fn words(
+    alloc: Global,
+    examined: &Examined,
+    programs: Option<&ProgramSet>,
+    names: &[&str],
+    is_drawn: bool,
+    last: &str,
+) -> Result<Told, AllocError>
+    requires { (logs : List (List Record)) × IsExaminationOf (given programs) logs examined.now }
+    ensures verdict { IfOk result (λ told. told.verdict ≡ examined.now.verdict) }
+    ensures text { IfOk result (λ told. (why : List ℕ)
+        × (string_bytes told.text ≡ line (verdict_text told.verdict) ++ (why ++ last.now))) }
+    ensures picture { IfOk result (λ told. IfSome told.picture (λ svg. IsPicture svg.items)) }
+    ensures drawn { IsTrue is_drawn → IfOk result (λ told. IsSome told.picture ↔ HasPicture told.verdict) }
+{
+    let verdict = examined.verdict;
+    let line = format!(in alloc; "{verdict}\n")?;
+    let why = reason(alloc, examined, programs, names.len())?;
+    let picture = picture_of(alloc, line.as_str(), &why, is_drawn)?;
+    let more = more_text(alloc, names, &why, is_drawn && picture.is_none())?;
+    Ok(Told {
+        verdict,
+        text: text_of(line, more, last)?,
+        picture,
+    })
+}
+
+/// Why the verdict is so. There is always a reason.
+fn reason(
+    alloc: Global,
+    examined: &Examined,
+    programs: Option<&ProgramSet>,
+    cores: usize,
+) -> Result<Explanation, AllocError>
+    requires { (logs : List (List Record)) × IsExaminationOf (given programs) logs examined.now }
+    ensures { IfOk result (λ why. IsDrawn why ↔ HasPicture examined.now.verdict) }
+{
+    match explained(alloc, examined, programs, cores)? {
+        Some(why) => Ok(why),
+        None => unreachable!(),
+    }
+}
+
+/// The picture of why a verdict of this line is so, where it is to be drawn and can be.
+fn picture_of(
+    alloc: Global,
+    line: &str,
+    why: &Explanation,
+    is_drawn: bool,
+) -> Result<Option<Vec<u8>>, AllocError>
+    ensures picture { IfOk result (λ drawn. IfSome drawn (λ svg. IsPicture svg.items)) }
+    ensures drawn { IsTrue is_drawn → IfOk result (λ drawn. IsSome drawn ↔ IsDrawn why.now) }
+{
+    if !is_drawn {
+        return Ok(None);
+    }
+    let sentence = first_sentence(alloc, why)?;
+    draw(alloc, line.trim_end(), sentence.as_str(), why)
+}
+
+/// What there is to tell after the line of a verdict, and whether a picture that was asked for is left out.
+fn more_text(
+    alloc: Global,
+    names: &[&str],
+    why: &Explanation,
+    is_left_out: bool,
+) -> Result<String, AllocError> {
+    let mut text = print(alloc, names, why)?;
+    if is_left_out {
+        text.push_str(NO_PICTURE)?;
+    }
+    Ok(text)
+}
+
+/// The line of a verdict, what there is to tell after it, and the last lines.
+fn text_of(mut line: String, why: String, last: &str) -> Result<String, AllocError>
+    ensures { IfOk result (λ text. string_bytes text ≡ string_bytes line ++ (string_bytes why ++ last.now)) }
+{
+    line.push_str(why.as_str())?;
+    line.push_str(last)?;
+    Ok(line)
+}

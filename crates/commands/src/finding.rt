@@ -1,0 +1,51 @@
+//! What a search finds.
+
+ghost use Rattle.std.specs.Prelude.{◌≡◌, ◌≤◌, ◌^◌, IfErr, IfOk};
+ghost use Rattle.commands.specs.Searching.{AnswersBy, IsProof, budget_or_default};
+ghost use Rattle.commands.specs.inner.Finding.{IsGivenUp};
+
+use super::search_answer::SearchAnswer;
+use super::searching_fault::SearchingFault;
+use refutation::Answer;
+use refutation_text::count_of;
+use search::{SearchWatch, search_watched};
+use std::alloc::Global;
+use trace::Trace;
+
+/// The number of steps that a search of so many operations may make.
+fn budget(given: Option<u64>, operations: u64) -> u64
+    requires { operations ≤ 2 ^ 26 }
+    ensures { result ≡ budget_or_default given operations }
+{
+    given.unwrap_or(operations * 100 + 100_000_000)
+}
+
+/// An order of a trace, or a refutation: 44 where the search gives up, and 10 where a growth was refused. A watch is told how far the
+/// search is.
+pub(crate) fn find<W: SearchWatch>(
+    alloc: Global,
+    watch: &W,
+    trace: &Trace,
+    given: Option<u64>,
+) -> Result<Answer, SearchingFault>
+    ensures proof { IfOk result (IsProof trace.now) }
+    ensures err { IfErr result IsGivenUp }
+{
+    match search_watched(alloc, trace, budget(given, count_of(trace) as u64), watch)? {
+        Answer::Order(order) => Ok(Answer::Order(order)),
+        Answer::Refutation(steps) => Ok(Answer::Refutation(steps)),
+        Answer::Undecided => Err(SearchingFault::Undecided),
+    }
+}
+
+/// The answer that a proof gives.
+pub(crate) fn answer(trace: &Trace, proof: &Answer) -> SearchAnswer
+    requires { IsProof trace.now proof.now }
+    ensures { AnswersBy trace.now proof.now result }
+{
+    match proof {
+        Answer::Order(_) => SearchAnswer::Yes(count_of(trace) as u64),
+        Answer::Refutation(_) => SearchAnswer::No(count_of(trace) as u64),
+        Answer::Undecided => unreachable!(),
+    }
+}

@@ -1,0 +1,106 @@
+//! What a run leaves in the folder: its logs, and then its numbers.
+
+ghost use Rattle.std.specs.Prelude.{◌≡◌, ◌≤◌, IfErr, IfOk, OnOk};
+ghost use Rattle.host_files.specs.Files.{KeepsFiles};
+ghost use Rattle.commands.specs.Logs as logs;
+ghost use Rattle.commands.specs.Outputs.{IsNameOf, PutsAt};
+ghost use Rattle.commands.specs.Numbers as numbers;
+
+use super::running_fault::RunningFault;
+use super::call_fault::CallFault;
+use super::writing::{LogsOfCores, write_logs};
+use super::putting::put_under;
+use host_files::Folder;
+use log_record::Format;
+use statistics::{RunParts, counts_of_cores, counts_of_slices, print_statistics};
+use std::alloc::{AllocError, Global};
+
+/// Where a run leaves what, and how much of it there is.
+#[derive(Clone, Copy)]
+pub(crate) struct Leaving<'a> {
+    /// What the names of the logs begin with.
+    pub(crate) out: &'a str,
+    /// The name of the file that the numbers go to, where one is given.
+    pub(crate) statistics: Option<&'a str>,
+    /// The format of the logs.
+    pub(crate) format: Format,
+    /// How many cores there are.
+    pub(crate) cores: usize,
+    /// How many slices there are.
+    pub(crate) slices: usize,
+}
+
+/// The text of the numbers of so many cores and slices.
+fn numbers_of<R: RunParts>(
+    alloc: Global,
+    of: &R,
+    cores: usize,
+    slices: usize,
+) -> Result<Vec<u8>, AllocError>
+    requires { cores ≤ 64 }
+    ensures { IfOk result (λ text.
+        text.items ≡ numbers.numbers_of cores slices (R.units of.now) (R.slices of.now)) }
+{
+    let of_cores = counts_of_cores(alloc, of, cores)?;
+    let of_slices = counts_of_slices(alloc, of, slices)?;
+    print_statistics(alloc, of_cores.as_slice(), of_slices.as_slice())
+}
+
+/// Puts the numbers of a run under the name that is given for them, if one is: 29 where that fails, 10.
+fn put_numbers<F: Folder, R: RunParts>(
+    alloc: Global,
+    folder: &mut F,
+    leaving: &Leaving<'_>,
+    of: &R,
+) -> Result<(), RunningFault>
+    requires { leaving.now.cores ≤ 64 }
+    ensures ok { OnOk result (PutsAt (F.files folder.old) (F.files folder.new) leaving.now.statistics
+        (numbers.numbers_of leaving.now.cores leaving.now.slices (R.units of.now) (R.slices of.now))) }
+    ensures err { IfErr result (numbers.IsUnput (F.files folder.old) (F.files folder.new) leaving.now.statistics) }
+    ensures others { KeepsFiles (F.files folder.old).told (F.files folder.new).told
+        (IsNameOf leaving.now.statistics) }
+{
+    let Some(name) = leaving.statistics else {
+        return Ok(());
+    };
+    let Ok(text) = numbers_of(alloc, of, leaving.cores, leaving.slices) else {
+        return Err(RunningFault::Call(CallFault::OutOfMemory));
+    };
+    match put_under(folder, Some(name), text.as_slice()) {
+        Ok(()) => Ok(()),
+        Err(_) => Err(RunningFault::StatisticsUnwritten),
+    }
+}
+
+/// Writes the log of each core, and then the numbers of the run where a file is given for them. How many operations were performed.
+/// What can't be written ends it: 29 where a put fails, and 10 where a growth was refused.
+pub(crate) fn leave<F: Folder, R: RunParts + LogsOfCores>(
+    alloc: Global,
+    folder: &mut F,
+    leaving: &Leaving<'_>,
+    of: &R,
+) -> Result<u64, RunningFault>
+    requires { leaving.now.cores ≤ 64 }
+    ensures ok { IfOk result (λ count. count ≡ logs.performed_below (R.made of.now) leaving.now.cores) }
+    ensures left { OnOk result (numbers.AreLeft leaving.now.format (F.files folder.old) (F.files folder.new) leaving.now.out.now
+        leaving.now.cores (R.made of.now) leaving.now.statistics
+        (numbers.numbers_of leaving.now.cores leaving.now.slices (R.units of.now) (R.slices of.now))) }
+    ensures err { IfErr result (numbers.IsUnleft leaving.now.format (F.files folder.old) (F.files folder.new) leaving.now.out.now
+        leaving.now.cores (R.made of.now) leaving.now.statistics) }
+    ensures far { numbers.AreLeftAsFar leaving.now.format (F.files folder.old) (F.files folder.new) leaving.now.out.now
+        leaving.now.cores (R.made of.now) leaving.now.statistics
+        (numbers.numbers_of leaving.now.cores leaving.now.slices (R.units of.now) (R.slices of.now)) }
+    ensures others { KeepsFiles (F.files folder.old).told (F.files folder.new).told
+        (numbers.IsLeftName leaving.now.out.now leaving.now.statistics) }
+{
+    let count = write_logs(
+        alloc,
+        folder,
+        leaving.out,
+        leaving.format,
+        of,
+        leaving.cores,
+    )?;
+    put_numbers(alloc, folder, leaving, of)?;
+    Ok(count)
+}

@@ -1,0 +1,51 @@
+//! The commands of the program over any folder and any output.
+#![tactic(auto)]
+
+mod answer;
+mod basis_logs;
+mod call;
+mod call_fault;
+mod check_files;
+mod command_fault;
+mod config;
+mod confirm_files;
+mod explain_files;
+mod finding;
+mod first_operations;
+mod inspect_files;
+mod judging_fault;
+mod left;
+mod litmus_files;
+mod log_files;
+mod log_trace;
+mod more;
+mod order_certificate;
+mod order_files;
+mod order_replay;
+mod other_order;
+mod output;
+mod printing;
+mod proof_files;
+mod putting;
+mod refusal_telling;
+mod refused_again;
+mod refused_file;
+mod run_files;
+mod run_logs;
+mod running_fault;
+mod search_answer;
+mod search_files;
+mod searching_fault;
+mod sim_files;
+mod text;
+mod trace_file;
+mod trace_files;
+mod upgrade_files;
+mod verdict_line;
+mod watch;
+mod writing;
+
+pub use call::command;
+pub use log_files::open_all;
+pub use search::SearchWatch;
+pub use watch::Watch;

@@ -1,0 +1,163 @@
+//! The outcomes of a litmus test.
+
+ghost use Rattle.std.specs.Prelude.{◌≡◌, IfErr, IfOk, IfSome, MatchResult, OnOk};
+ghost use Rattle.host_files.specs.Files.{IsOnlyRead, IsUnread, KeepsFiles};
+ghost use Rattle.commands.specs.Outputs.{FailsPutAt, IsNameOf, PutsAt};
+ghost use Rattle.commands.specs.Sinks.{sink_of};
+ghost use Rattle.commands.specs.Tabling as tabling;
+ghost use Rattle.statistics.specs.TableText.{totals_text};
+
+use super::config::config_of;
+use super::running_fault::RunningFault;
+use super::call_fault::CallFault;
+use super::putting::put_under;
+use super::text::read_text;
+use command_line::Litmus as Asked;
+use host_files::Folder;
+use lease_rule::Config;
+use litmus::{
+    CollectFault, Collected, Litmus, Table, collect_seeded, collect_threaded, write_table,
+};
+use log_file::{ByteSink, ReadFault};
+use statistics::{RunTotals, print_totals};
+use std::alloc::{AllocError, Global};
+use std::sync::Wait;
+use std::thread::Threads;
+
+/// The most runs.
+const RUN_LIMIT: u64 = 100_000;
+
+/// Whether an outcome of a table is forbidden.
+fn has_forbidden(table: &Table) -> bool
+    ensures { result ≡ tabling.has_forbidden table.now }
+{
+    for row in table.rows() {
+        if row.forbidden {
+            return true;
+        }
+    }
+    false
+}
+
+/// The test in a file of the folder: 28 where it can't be opened or read.
+pub(crate) fn read_test<F: Folder>(
+    alloc: Global,
+    folder: &mut F,
+    name: &str,
+) -> Result<Litmus, RunningFault>
+    ensures ok { IfOk result (λ test. tabling.IsTestIn (F.files folder.old).told name.now test) }
+    ensures quiet { OnOk result (F.files folder.new ≡ F.files folder.old) }
+    ensures err { IfErr result (tabling.IsUntested (F.files folder.old).told
+        (IsUnread F.Source.remaining F.Source.failed
+        (F.files folder.old) (F.files folder.new)) name.now) }
+    ensures read { IsOnlyRead (F.files folder.old) (F.files folder.new) }
+{
+    let text = match read_text(alloc, folder, name) {
+        Ok(text) => text,
+        Err(ReadFault::Read) => return Err(RunningFault::TestUnread),
+        Err(ReadFault::OutOfMemory) => return Err(RunningFault::Call(CallFault::OutOfMemory)),
+    };
+    let test = Litmus::parse(alloc, text.as_slice())?;
+    Ok(test)
+}
+
+/// The table and the totals of the runs of a test: of threads, or by the seed.
+fn collect<R: Threads + Wait + Sync>(
+    rt: &R,
+    alloc: Global,
+    test: &Litmus,
+    config: &Config,
+    asked: &Asked<'_>,
+) -> Result<Collected, CollectFault>
+    ensures { MatchResult result
+        (tabling.IsTableBy asked.now.threads test.now config.now asked.now.runs asked.now.seed)
+        (tabling.IsFaultBy asked.now.threads test.now config.now asked.now.runs asked.now.seed) }
+{
+    if asked.threads {
+        return collect_threaded(rt, alloc, test, config, asked.runs);
+    }
+    collect_seeded(rt, alloc, test, config, asked.runs, asked.seed)
+}
+
+/// The table and the totals of the runs that are asked for, or why there are none: 6 of the configuration, and then of
+/// the number of runs, comes before the test is read.
+fn collected_of<R: Threads + Wait + Sync, F: Folder>(
+    rt: &R,
+    alloc: Global,
+    folder: &mut F,
+    asked: &Asked<'_>,
+) -> Result<Collected, RunningFault>
+    ensures ok { IfOk result (λ collected.
+        tabling.Tabled (F.files folder.old).told asked.now (λ made. made ≡ collected)) }
+    ensures quiet { OnOk result (F.files folder.new ≡ F.files folder.old) }
+    ensures err { IfErr result (tabling.IsUntabled (F.files folder.old).told
+        (IsUnread F.Source.remaining F.Source.failed
+        (F.files folder.old) (F.files folder.new)) asked.now) }
+    ensures read { IsOnlyRead (F.files folder.old) (F.files folder.new) }
+{
+    let config = config_of(&asked.limits)?;
+    if asked.runs < 1 || asked.runs > RUN_LIMIT {
+        return Err(RunningFault::Collect(CollectFault::BadRuns));
+    }
+    let test = read_test(alloc, folder, asked.test)?;
+    Ok(collect(rt, alloc, &test, &config, asked)?)
+}
+
+/// The text of the totals, where a file is given for it; else none.
+fn text_of(
+    alloc: Global,
+    statistics: Option<&str>,
+    totals: &RunTotals,
+) -> Result<Vec<u8>, AllocError>
+    ensures { IfOk result (λ text.
+        IfSome statistics.entry (λ _. text.items ≡ totals_text totals.now)) }
+{
+    match statistics {
+        Some(_) => print_totals(alloc, totals),
+        None => Ok(Vec::new(alloc)),
+    }
+}
+
+/// Puts a text under the name that is given for it, if one is: 29 where that fails.
+fn put_text<F: Folder>(
+    folder: &mut F,
+    statistics: Option<&str>,
+    text: &[u8],
+) -> Result<(), RunningFault>
+    ensures ok { OnOk result (PutsAt (F.files folder.old) (F.files folder.new) statistics.entry text.now) }
+    ensures err { IfErr result (λ fault. (fault ≡ RunningFault.StatisticsUnwritten)
+        × FailsPutAt (F.files folder.old) (F.files folder.new) statistics.entry) }
+    ensures others { KeepsFiles (F.files folder.old).told (F.files folder.new).told
+        (IsNameOf statistics.entry) }
+{
+    match put_under(folder, statistics, text) {
+        Ok(()) => Ok(()),
+        Err(_) => Err(RunningFault::StatisticsUnwritten),
+    }
+}
+
+/// Writes the table of the runs that are asked for, then puts their totals where a file is given for them, and answers whether an outcome
+/// is forbidden, or why there is no table: 29 where standard output failed, and then it took a beginning of it, or where the totals can't
+/// be put.
+pub fn count_outcomes<R: Threads + Wait + Sync, F: Folder, O: ByteSink>(
+    rt: &R,
+    alloc: Global,
+    folder: &mut F,
+    asked: &Asked<'_>,
+    out: &mut O,
+) -> Result<bool, RunningFault>
+    ensures exact { tabling.IsCounted (F.files folder.old) (F.files folder.new)
+        (IsUnread F.Source.remaining F.Source.failed
+        (F.files folder.old) (F.files folder.new)) asked.now
+        (sink_of O.contents O.failed out.old) (sink_of O.contents O.failed out.new) result }
+    ensures files { KeepsFiles (F.files folder.old).told (F.files folder.new).told
+        (IsNameOf asked.now.statistics) }
+{
+    let collected = collected_of(rt, alloc, folder, asked)?;
+    let Ok(text) = text_of(alloc, asked.statistics, &collected.totals) else {
+        return Err(RunningFault::Call(CallFault::OutOfMemory));
+    };
+    write_table(alloc, out, &collected.table)?;
+    put_text(folder, asked.statistics, text.as_slice())?;
+    Ok(has_forbidden(&collected.table))
+}

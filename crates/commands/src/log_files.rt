@@ -1,0 +1,74 @@
+//! The logs in files, and their trace.
+
+ghost use Rattle.std.specs.Prelude.{◌≡◌, ◌≤◌, All, IfErr, IfOk, OnOk, length, vec_len};
+ghost use Rattle.mem_op.specs.Limits.{operation_limit};
+ghost use Rattle.log_record.specs.Entries.{operations_of, record_lists};
+ghost use Rattle.host_files.specs.Files.{IsUnread};
+ghost use Rattle.commands.specs.LogFiles.{AreSourcesOf, IsOpenFault, IsUnspelled, Spelled};
+
+use host_files::Folder;
+use log_file::LogSet;
+use log_record::Record;
+use std::alloc::{AllocError, Global};
+use std::thread::Threads;
+use trace::{Refusal, Trace};
+use verdict::JudgeFault;
+
+/// Opens the files of these names in their order: 28 for the first that can't be opened.
+pub fn open_all<F: Folder>(
+    alloc: Global,
+    folder: &mut F,
+    names: &[&str],
+) -> Result<Vec<F::Source>, JudgeFault>
+    ensures ok { IfOk result (λ sources. AreSourcesOf (F.files folder.old).told
+        F.Source.remaining sources.items names.now) }
+    ensures quiet { OnOk result (F.files folder.new ≡ F.files folder.old) }
+    ensures err { IfErr result (IsOpenFault (F.files folder.old) (F.files folder.new) names.now) }
+{
+    let mut sources = Vec::new(alloc);
+    'opening: for (file, name) in names.iter().enumerate() {
+        let Ok(source) = folder.open_file(name) else {
+            return Err(JudgeFault::Read { file });
+        };
+        if sources.push(source).is_err() {
+            return Err(JudgeFault::OutOfMemory);
+        }
+    }
+    Ok(sources)
+}
+
+/// The logs in the files of these names, a core each, or why there are none: 28 of a file that can't be opened comes before one is
+/// read.
+pub fn read_log_files<R: Threads + Sync, F: Folder>(
+    rt: &R,
+    alloc: Global,
+    folder: &mut F,
+    names: &[&str],
+) -> Result<Vec<Vec<Record>>, JudgeFault>
+    requires { length names.now ≤ 64 }
+    ensures ok { IfOk result (λ logs. Spelled (F.files folder.old).told names.now
+        (λ read. read ≡ record_lists logs.items)) }
+    ensures count { IfOk result (λ logs. vec_len logs ≡ length names.now) }
+    ensures short { IfOk result (λ logs. All (λ log. vec_len log ≤ operation_limit) logs.items) }
+    ensures quiet { OnOk result (F.files folder.new ≡ F.files folder.old) }
+    ensures err { IfErr result (IsUnspelled (F.files folder.old) (F.files folder.new)
+        (IsUnread F.Source.remaining F.Source.failed
+        (F.files folder.old) (F.files folder.new)) names.now) }
+{
+    let mut sources = open_all(alloc, folder, names)?;
+    let set = LogSet::read(rt, alloc, sources.as_mut_slice(), 1)?;
+    Ok(set.logs(alloc)?)
+}
+
+/// The trace of logs. Err where memory was refused.
+pub fn trace_of(alloc: Global, logs: &[Vec<Record>]) -> Result<Trace, AllocError>
+    requires few { length logs.now ≤ 64 }
+    requires short { All (λ log. vec_len log ≤ operation_limit) logs.now }
+    ensures { IfOk result (λ trace. trace ≡ operations_of (record_lists logs.now)) }
+{
+    match Trace::from_logs(alloc, logs) {
+        Ok(trace) => Ok(trace),
+        Err(Refusal::OutOfMemory) => Err(AllocError),
+        Err(Refusal::TooMany) => unreachable!(),
+    }
+}

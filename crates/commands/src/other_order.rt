@@ -1,0 +1,98 @@
+//! Whether a set that got No has another order, one that explains all values.
+
+ghost use Rattle.std.specs.Prelude.{◌≡◌, ◌↔◌, List, IfOk, IsTrue, false, string_bytes};
+ghost use Rattle.log_record.specs.Entries.{operations_of};
+ghost use Rattle.log_record.specs.declared.record.Record.{Record};
+ghost use Rattle.commands.specs.OtherOrders.{IsWrongByOrder, TellsOrder, TellsOther};
+ghost use Rattle.commands.specs.inner.ReadLogs.{AreLogsOf};
+
+use super::basis_logs::logs_of;
+use super::log_files::trace_of;
+use refutation::Answer;
+use refutation_text::{count_of, push_argument};
+use search::{SearchWatch, search_watched};
+use std::alloc::{AllocError, Global};
+use trace::Trace;
+use verdict::{Basis, Examined, Rule, Verdict};
+
+/// The most operations of a set for which another order is searched.
+const MOST_SEARCHED: usize = 100_000;
+
+/// How many steps the search may make, which takes about a second at most: so many, and so many more for each operation.
+const STEPS: u64 = 1_000_000;
+
+const STEPS_EACH: u64 = 100;
+
+/// What is told where there is one.
+const ANOTHER: &str =
+    "\nanother order explains all values, so this run is sequentially consistent; a time or a source was logged wrong, or the machine broke its own order and no value of this run shows it\n";
+
+/// What is told where there is none, before the argument.
+const NONE: &str = "\nno order explains all values:\n";
+
+/// What is told where the search gave up.
+const UNDECIDED: &str =
+    "\nwhether another order explains all values isn't decided; search --logs looks longer\n";
+
+/// The last lines of what is told of a set: whether another order explains all values. Nothing of a Yes, of a log that isn't
+/// its program's, and of a set of more than 100,000 operations. A watch is told how far the search is.
+pub(crate) fn other_order<W: SearchWatch>(
+    alloc: Global,
+    watch: &W,
+    examined: &Examined,
+    cores: usize,
+) -> Result<String, AllocError>
+    requires { (logs : List (List Record)) × AreLogsOf logs examined.now.basis cores }
+    ensures { (logs : List (List Record)) → AreLogsOf logs examined.now.basis cores
+        → IfOk result (λ text. TellsOther false examined.now.verdict (operations_of logs) (string_bytes text)) }
+{
+    if !is_wrong_by_its_order(&examined.verdict) {
+        return Ok(String::new(alloc));
+    }
+    let trace = trace_of_basis(alloc, &examined.basis, cores)?;
+    if count_of(&trace) > MOST_SEARCHED {
+        return Ok(String::new(alloc));
+    }
+    whether_another(alloc, watch, &trace)
+}
+
+/// Whether it is by its order that a set got No, which another order may mend.
+fn is_wrong_by_its_order(verdict: &Verdict) -> bool
+    ensures { IsTrue result ↔ IsWrongByOrder verdict.now }
+{
+    match verdict {
+        Verdict::Yes(_) => false,
+        Verdict::No(fault) => fault.rule != Rule::Program,
+    }
+}
+
+/// Whether some order of a trace explains all values.
+fn whether_another<W: SearchWatch>(
+    alloc: Global,
+    watch: &W,
+    trace: &Trace,
+) -> Result<String, AllocError>
+    ensures { IfOk result (λ text. TellsOrder trace.now (string_bytes text)) }
+{
+    let more = STEPS_EACH.saturating_mul(count_of(trace) as u64);
+    let budget = STEPS.saturating_add(more);
+    match search_watched(alloc, trace, budget, watch)? {
+        Answer::Order(_) => String::from_str(alloc, ANOTHER),
+        Answer::Undecided => String::from_str(alloc, UNDECIDED),
+        Answer::Refutation(refutation) => {
+            let mut text = String::from_str(alloc, NONE)?;
+            push_argument(&mut text, alloc, trace, &refutation)?;
+            Ok(text)
+        }
+    }
+}
+
+/// The trace of the set that a verdict stands on, of so many cores.
+fn trace_of_basis(alloc: Global, basis: &Basis, cores: usize) -> Result<Trace, AllocError>
+    requires { (logs : List (List Record)) × AreLogsOf logs basis.now cores }
+    ensures { (logs : List (List Record)) → AreLogsOf logs basis.now cores
+        → IfOk result (λ trace. trace ≡ operations_of logs) }
+{
+    let logs = logs_of(alloc, basis, cores)?;
+    trace_of(alloc, logs.as_slice())
+}

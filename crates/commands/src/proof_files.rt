@@ -1,0 +1,125 @@
+//! Puts what was found where it was asked for.
+
+ghost use Rattle.std.specs.Prelude.{IfErr, OnOk};
+ghost use Rattle.host_files.specs.Files.{KeepsFiles};
+ghost use Rattle.commands.specs.Outputs.{IsNameOf, PutsAt, PutsSuchAt};
+ghost use Rattle.merge_judge.specs.OrderText.{order_text};
+ghost use Rattle.refutation.specs.Grammar.{refutation_text};
+ghost use Rattle.refutation_picture.specs.Pictures.{IsPicture};
+ghost use Rattle.commands.specs.Searching.{IsOutputName, PutsBoth, PutsProof};
+ghost use Rattle.commands.specs.inner.Finding.{IsBothUnput, IsUnput, IsUnputAt};
+ghost use Rattle.commands.specs.declared.searching_fault.SearchingFault.TheVariants.{OrderUnwritten, PictureUnwritten, RefutationUnwritten};
+
+use super::searching_fault::SearchingFault;
+use super::putting::put_under;
+use command_line::Search;
+use host_files::Folder;
+use mem_op::OpId;
+use merge_judge::print_order;
+use refutation::{Answer, Refutation};
+use refutation_picture::draw;
+use std::alloc::Global;
+use trace::Trace;
+
+/// Puts an order or a refutation where that was asked for: 29 where the put fails.
+pub(crate) fn put_proof<F: Folder>(
+    alloc: Global,
+    folder: &mut F,
+    asked: &Search<'_>,
+    trace: &Trace,
+    proof: &Answer,
+) -> Result<(), SearchingFault>
+    ensures ok { OnOk result (PutsProof (F.files folder.old) (F.files folder.new) asked.now proof.now) }
+    ensures err { IfErr result (IsUnput (F.files folder.old) (F.files folder.new) asked.now proof.now) }
+    ensures files { KeepsFiles (F.files folder.old).told (F.files folder.new).told (IsOutputName asked.now) }
+{
+    match proof {
+        Answer::Order(order) => put_order(alloc, folder, asked.order, order),
+        Answer::Refutation(refutation) => put_both(alloc, folder, asked, trace, refutation),
+        Answer::Undecided => Err(SearchingFault::Undecided),
+    }
+}
+
+/// Puts the text of an order under a name, where one is given.
+fn put_order<F: Folder>(
+    alloc: Global,
+    folder: &mut F,
+    name: Option<&str>,
+    order: &[OpId],
+) -> Result<(), SearchingFault>
+    ensures ok { OnOk result (PutsAt (F.files folder.old) (F.files folder.new) name.entry (order_text order.now)) }
+    ensures err { IfErr result (IsUnputAt OrderUnwritten (F.files folder.old) (F.files folder.new) name.entry) }
+    ensures files { KeepsFiles (F.files folder.old).told (F.files folder.new).told (IsNameOf name.entry) }
+{
+    let Some(name) = name else {
+        return Ok(());
+    };
+    let text = print_order(alloc, order)?;
+    match put_under(folder, Some(name), text.as_bytes()) {
+        Ok(()) => Ok(()),
+        Err(_) => Err(SearchingFault::OrderUnwritten),
+    }
+}
+
+/// Puts the text of a refutation, and then a picture of it, each where that was asked for.
+fn put_both<F: Folder>(
+    alloc: Global,
+    folder: &mut F,
+    asked: &Search<'_>,
+    trace: &Trace,
+    refutation: &Refutation,
+) -> Result<(), SearchingFault>
+    ensures ok { OnOk result (PutsBoth (F.files folder.old) (F.files folder.new) asked.now refutation.now) }
+    ensures err { IfErr result (IsBothUnput (F.files folder.old) (F.files folder.new) asked.now refutation.now) }
+    ensures files { KeepsFiles (F.files folder.old).told (F.files folder.new).told (IsOutputName asked.now) }
+{
+    put_refutation(alloc, folder, asked.refutation, refutation)?;
+    match put_picture(alloc, folder, asked.picture, trace, refutation) {
+        Ok(()) => Ok(()),
+        Err(fault) => Err(fault),
+    }
+}
+
+/// Puts a picture of a refutation under a name, where one is given.
+fn put_picture<F: Folder>(
+    alloc: Global,
+    folder: &mut F,
+    name: Option<&str>,
+    trace: &Trace,
+    refutation: &Refutation,
+) -> Result<(), SearchingFault>
+    ensures ok { OnOk result (PutsSuchAt (F.files folder.old) (F.files folder.new) name.entry IsPicture) }
+    ensures err { IfErr result (IsUnputAt PictureUnwritten (F.files folder.old) (F.files folder.new) name.entry) }
+    ensures files { KeepsFiles (F.files folder.old).told (F.files folder.new).told (IsNameOf name.entry) }
+{
+    let Some(name) = name else {
+        return Ok(());
+    };
+    let picture = draw(alloc, trace, refutation)?;
+    match put_under(folder, Some(name), picture.as_bytes()) {
+        Ok(()) => Ok(()),
+        Err(_) => Err(SearchingFault::PictureUnwritten),
+    }
+}
+
+/// Puts the text of a refutation under a name, where one is given.
+fn put_refutation<F: Folder>(
+    alloc: Global,
+    folder: &mut F,
+    name: Option<&str>,
+    refutation: &Refutation,
+) -> Result<(), SearchingFault>
+    ensures ok { OnOk result (PutsAt (F.files folder.old) (F.files folder.new) name.entry
+        (refutation_text refutation.now)) }
+    ensures err { IfErr result (IsUnputAt RefutationUnwritten (F.files folder.old) (F.files folder.new) name.entry) }
+    ensures files { KeepsFiles (F.files folder.old).told (F.files folder.new).told (IsNameOf name.entry) }
+{
+    let Some(name) = name else {
+        return Ok(());
+    };
+    let text = refutation.print(alloc)?;
+    match put_under(folder, Some(name), text.as_bytes()) {
+        Ok(()) => Ok(()),
+        Err(_) => Err(SearchingFault::RefutationUnwritten),
+    }
+}

@@ -1,0 +1,148 @@
+//! What is told of a file that was refused.
+
+ghost use Rattle.std.specs.Prelude.{◌≡◌, ◌⊎◌, ◌++◌, IfOk, OnErr, OnOk, string_bytes};
+ghost use Rattle.host_files.specs.Files.{IsOnlyRead};
+ghost use Rattle.commands.specs.Sinks.{sink_of};
+ghost use Rattle.commands.specs.RefusalTelling as telling;
+
+use super::refused_again::{log_again, programs_again, test_again};
+use super::first_operations::first_text;
+use super::refused_file::{RefusedFile, RefusedLog};
+use fault_telling::{Kind, Place, Refused, Telling};
+use host_files::Folder;
+use litmus_test::LitmusFault;
+use log_file::{ByteSink, FormatFault, write_all};
+use std::alloc::{AllocError, Global};
+use verdict::Count;
+
+/// Tells on standard output more of the refusal of a file: where its fault is, how the line there is written, and what is wrong with it.
+/// A file that could be read is read again for that. A write that fails is passed over. Err where there is no memory, and then nothing is told.
+pub fn tell_refusal<F: Folder, O: ByteSink>(
+    alloc: Global,
+    folder: &mut F,
+    refused: RefusedFile<'_>,
+    out: &mut O,
+) -> Result<(), AllocError>
+    ensures told { OnOk result (telling.TellsOf refused.entry
+        (sink_of O.contents O.failed out.old) (sink_of O.contents O.failed out.new)) }
+    ensures untold { OnErr result (out.new ≡ out.old) }
+    ensures read { IsOnlyRead (F.files folder.old) (F.files folder.new) }
+    ensures quiet { (F.files folder.new ≡ F.files folder.old) ⊎ telling.IsReadAgain refused.entry }
+{
+    let text = refusal_text(alloc, folder, refused)?;
+    let _ = write_all(out, text.as_bytes());
+    Ok(())
+}
+
+/// What is told of it.
+fn refusal_text<F: Folder>(
+    alloc: Global,
+    folder: &mut F,
+    refused: RefusedFile<'_>,
+) -> Result<String, AllocError>
+    ensures told { IfOk result (λ text. telling.IsToldOf refused.entry (string_bytes text)) }
+    ensures read { IsOnlyRead (F.files folder.old) (F.files folder.new) }
+    ensures quiet { (F.files folder.new ≡ F.files folder.old) ⊎ telling.IsReadAgain refused.entry }
+{
+    match refused {
+        RefusedFile::Log(log) => log_text(alloc, folder, log),
+        RefusedFile::Test(name, fault) => {
+            let bytes = test_again(alloc, folder, name, fault);
+            test_text(alloc, name, Kind::Litmus, fault, bytes)
+        }
+        RefusedFile::Programs(name, fault) => {
+            let bytes = programs_again(alloc, folder, name, fault);
+            test_text(alloc, name, Kind::Programs, LitmusFault::from(fault), bytes)
+        }
+        RefusedFile::Unread(name) => format!(in alloc; "{name}: it can't be opened or read.\n"),
+        RefusedFile::Count(count) => count_text(alloc, count),
+    }
+}
+
+/// What is told of a log that was refused.
+fn log_text<F: Folder>(
+    alloc: Global,
+    folder: &mut F,
+    log: RefusedLog<'_>,
+) -> Result<String, AllocError>
+    ensures told { IfOk result (λ text. telling.BeginsAt log.entry.name.now log.entry.line (string_bytes text)) }
+    ensures read { IsOnlyRead (F.files folder.old) (F.files folder.new) }
+{
+    let bytes = log_again(alloc, folder, log);
+    let is_cut_off = bytes.is_some() && log.fault == FormatFault::Truncated;
+    let place = Place {
+        file: log.name,
+        line: log.line,
+    };
+    let refused = Refused::Log {
+        file: log.file,
+        files: log.files.len(),
+        fault: log.fault,
+    };
+    let text = fault_text(alloc, place, refused, bytes)?;
+    if !is_cut_off {
+        return Ok(text);
+    }
+    let first = first_text(alloc, folder, log.files)?;
+    with_more(text, first.as_str())
+}
+
+/// What is told of a text of this kind that was refused. A fault of a set of programs is told as that of a test with these programs.
+fn test_text(
+    alloc: Global,
+    name: &str,
+    kind: Kind,
+    fault: LitmusFault,
+    bytes: Option<Vec<u8>>,
+) -> Result<String, AllocError>
+    ensures { IfOk result (λ text. telling.BeginsAtFault name.now fault (string_bytes text)) }
+{
+    let (line, refused) = match fault {
+        LitmusFault::BadLitmusLine(line) | LitmusFault::BadLine(line) => {
+            (line, Refused::BadLine(kind))
+        }
+        LitmusFault::TooLong(line) => (line, Refused::TooLong),
+        LitmusFault::SkipPastEnd(line) => (line, Refused::SkipPastEnd),
+        LitmusFault::OutOfMemory => return Ok(String::new(alloc)),
+    };
+    fault_text(alloc, Place { file: name, line }, refused, bytes)
+}
+
+/// What is told of a fault at this place of a file, whose bytes these are where it could be read again.
+fn fault_text(
+    alloc: Global,
+    place: Place<'_>,
+    refused: Refused,
+    bytes: Option<Vec<u8>>,
+) -> Result<String, AllocError>
+    ensures { IfOk result (λ text. telling.BeginsAt place.entry.file.now place.entry.line (string_bytes text)) }
+{
+    let telling = Telling {
+        place,
+        refused,
+        bytes: bytes.as_ref().map(|bytes| bytes.as_slice()),
+    };
+    telling.print(alloc)
+}
+
+/// A text with more after it.
+fn with_more(mut text: String, more: &str) -> Result<String, AllocError>
+    ensures { IfOk result (λ whole. string_bytes whole ≡ string_bytes text ++ more.now) }
+{
+    text.push_str(more)?;
+    Ok(text)
+}
+
+/// What is told of a number of files or programs that is wrong.
+fn count_text(alloc: Global, count: Count) -> Result<String, AllocError>
+    ensures { IfOk result (λ text. string_bytes text ≡ telling.count_words count) }
+{
+    let words = match count {
+        Count::Programs => {
+            "The file of the programs has those of another number of cores than there are logs.\n"
+        }
+        Count::Files => "A set has 1 to 64 logs, one of each core.\n",
+        Count::Workers => "",
+    };
+    String::from_str(alloc, words)
+}

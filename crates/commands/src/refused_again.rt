@@ -1,0 +1,64 @@
+//! Files that were refused, read again.
+
+ghost use Rattle.std.specs.Prelude.{◌≡◌, IsSome};
+ghost use Rattle.host_files.specs.Files.{IsOnlyRead};
+
+use super::refused_file::RefusedLog;
+use super::text::read_text;
+use core_program::{ProgramFault, ProgramSet};
+use cut_logs::log_in_text;
+use host_files::Folder;
+use litmus_test::{Litmus, LitmusFault};
+use log_file::LogFault;
+use mem_op::CoreId;
+use std::alloc::Global;
+
+/// The bytes of a log that is read again, where they have this fault; none of a file that can be read once.
+pub(crate) fn log_again<F: Folder>(
+    alloc: Global,
+    folder: &mut F,
+    log: RefusedLog<'_>,
+) -> Option<Vec<u8>>
+    ensures read { IsOnlyRead (F.files folder.old) (F.files folder.new) }
+    ensures quiet { IsSome result → F.files folder.new ≡ F.files folder.old }
+{
+    let bytes = read_text(alloc, folder, log.name).ok()?;
+    let core = CoreId::new(log.file as u64).ok()?;
+    let fault = log_in_text(alloc, core, log.files.len() as u64, bytes.as_slice()).err();
+    if fault == Some(LogFault::At(log.line, log.fault)) {
+        return Some(bytes);
+    }
+    None
+}
+
+/// The bytes of a litmus test that is read again, where they have this fault.
+pub(crate) fn test_again<F: Folder>(
+    alloc: Global,
+    folder: &mut F,
+    name: &str,
+    fault: LitmusFault,
+) -> Option<Vec<u8>>
+    ensures { IsOnlyRead (F.files folder.old) (F.files folder.new) }
+{
+    let bytes = read_text(alloc, folder, name).ok()?;
+    if Litmus::parse(alloc, bytes.as_slice()).err() == Some(fault) {
+        return Some(bytes);
+    }
+    None
+}
+
+/// The bytes of a set of programs that is read again, where they have this fault.
+pub(crate) fn programs_again<F: Folder>(
+    alloc: Global,
+    folder: &mut F,
+    name: &str,
+    fault: ProgramFault,
+) -> Option<Vec<u8>>
+    ensures { IsOnlyRead (F.files folder.old) (F.files folder.new) }
+{
+    let bytes = read_text(alloc, folder, name).ok()?;
+    if ProgramSet::parse(alloc, bytes.as_slice()).err() == Some(fault) {
+        return Some(bytes);
+    }
+    None
+}

@@ -1,0 +1,64 @@
+//! Programs run in threads.
+
+ghost use Rattle.host_files.specs.Files.{IsUnread, KeepsFiles};
+ghost use Rattle.commands.specs.Numbers.{IsLeftName};
+ghost use Rattle.commands.specs.Running as running;
+
+use super::config::config_of;
+use super::running_fault::RunningFault;
+use super::left::{Leaving, leave};
+use super::run_logs::{UnitLogs, log_format};
+use super::watch::{Watch, Watched};
+use super::text::read_programs;
+use command_line::Run;
+use host_files::Folder;
+use machine::{ThreadsFault, run_threads};
+use std::alloc::Global;
+use std::sync::Wait;
+use std::thread::Threads;
+
+/// Runs the programs in a file of the folder, each core in a thread of its own, and writes the log of each core, and then the run's
+/// numbers where a file is given for them, also where a fault ends the run. The number of operations that were performed, or why there is none.
+pub fn run<R: Threads + Wait + Sync, W: Watch + Sync, F: Folder>(
+    rt: &R,
+    alloc: Global,
+    watch: &W,
+    folder: &mut F,
+    asked: &Run<'_>,
+) -> Result<u64, RunningFault>
+    ensures exact { running.IsThreadRun (F.files folder.old)
+        (F.files folder.new)
+        (IsUnread F.Source.remaining F.Source.failed
+        (F.files folder.old) (F.files folder.new)) asked.now result }
+    ensures files { KeepsFiles (F.files folder.old).told (F.files folder.new).told
+        (IsLeftName asked.now.out.now asked.now.statistics) }
+{
+    let config = config_of(&asked.limits)?;
+    let programs = read_programs(alloc, folder, asked.programs)?;
+    let ran = run_threads(rt, alloc, &programs, &config, &Watched { watch });
+    watch.over();
+    let leaving = Leaving {
+        out: asked.out,
+        statistics: asked.statistics,
+        format: log_format(programs.format()),
+        cores: programs.len(),
+        slices: config.slices(),
+    };
+    match ran {
+        Ok(end) => {
+            let made = UnitLogs {
+                units: &end.units,
+                slices: &end.slices,
+            };
+            leave(alloc, folder, &leaving, &made)
+        }
+        Err(fault) => {
+            let made = UnitLogs {
+                units: &fault.units,
+                slices: &fault.slices,
+            };
+            let _left = leave(alloc, folder, &leaving, &made);
+            Err(RunningFault::Run(ThreadsFault::of(&fault)))
+        }
+    }
+}

@@ -1,0 +1,51 @@
+//! The search of a trace.
+
+ghost use Rattle.std.specs.Prelude.{IfOk};
+ghost use Rattle.host_files.specs.Files.{IsUnread, KeepsFiles};
+ghost use Rattle.commands.specs.Sinks.{sink_of};
+ghost use Rattle.commands.specs.SearchAnswers.{IsRightOf};
+ghost use Rattle.commands.specs.Searching as searching;
+ghost use Rattle.commands.specs.Traces.{TellsTrace};
+
+use super::search_answer::SearchAnswer;
+use super::searching_fault::SearchingFault;
+use super::finding::{answer, find};
+use super::printing::print_proof;
+use super::proof_files::put_proof;
+use super::trace_files::read_files;
+use command_line::Search;
+use host_files::Folder;
+use log_file::{ByteSink, write_all};
+use search::SearchWatch;
+use std::alloc::Global;
+use std::thread::Threads;
+
+/// Searches an order of the trace in files of the folder, or a refutation, puts what it finds where that was asked for, and prints
+/// the answer's line and why it is so. The answer, or why there is none: 29 of a file that can't be put comes before anything is
+/// printed, and 44 where the search gives up. A watch is told how far the search is.
+pub fn search<R: Threads + Sync, W: SearchWatch, F: Folder, O: ByteSink>(
+    rt: &R,
+    alloc: Global,
+    watch: &W,
+    folder: &mut F,
+    asked: &Search<'_>,
+    out: &mut O,
+) -> Result<SearchAnswer, SearchingFault>
+    ensures exact { searching.IsSearched (F.files folder.old) (F.files folder.new)
+        (IsUnread F.Source.remaining F.Source.failed
+        (F.files folder.old) (F.files folder.new)) asked.now
+        (sink_of O.contents O.failed out.old)
+        (sink_of O.contents O.failed out.new) result }
+    ensures sound { IfOk result (λ answer. TellsTrace (F.files folder.old).told asked.now.trace
+        (λ cores. IsRightOf cores answer)) }
+    ensures files { KeepsFiles (F.files folder.old).told (F.files folder.new).told
+        (searching.IsOutputName asked.now) }
+{
+    let trace = read_files(rt, alloc, folder, &asked.trace)?;
+    let proof = find(alloc, watch, &trace, asked.budget)?;
+    let answer = answer(&trace, &proof);
+    let text = print_proof(alloc, &trace, &proof, &answer)?;
+    put_proof(alloc, folder, asked, &trace, &proof)?;
+    write_all(out, text.as_bytes())?;
+    Ok(answer)
+}

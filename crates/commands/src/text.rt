@@ -1,0 +1,49 @@
+//! The texts of files.
+
+ghost use Rattle.std.specs.Prelude.{◌≡◌, IfErr, IfOk, OnOk};
+ghost use Rattle.log_file.specs.Devices.{Tells};
+ghost use Rattle.host_files.specs.Files.{IsOnlyRead, IsUnread};
+ghost use Rattle.commands.specs.Programs.{AreProgramsIn, IsUnprogrammed};
+ghost use Rattle.commands.specs.inner.Texts.{IsNoText};
+
+use super::call_fault::CallFault;
+use core_program::ProgramSet;
+use host_files::Folder;
+use log_file::{ReadFault, read_all};
+use std::alloc::Global;
+
+/// The text of a file of the folder: 28 where it can't be opened or read, and 10 where a growth was refused.
+pub fn read_text<F: Folder>(alloc: Global, folder: &mut F, name: &str) -> Result<Vec<u8>, ReadFault>
+    ensures ok { IfOk result (λ text. Tells ((F.files folder.old).told name.now) text.items) }
+    ensures quiet { OnOk result (F.files folder.new ≡ F.files folder.old) }
+    ensures err { IfErr result (IsNoText (IsUnread F.Source.remaining F.Source.failed
+        (F.files folder.old) (F.files folder.new)) name.now) }
+    ensures read { IsOnlyRead (F.files folder.old) (F.files folder.new) }
+{
+    let Ok(mut source) = folder.open_file(name) else {
+        return Err(ReadFault::Read);
+    };
+    read_all(alloc, &mut source)
+}
+
+/// The programs in a file of the folder: 28 where it can't be opened or read, 10 where a growth was refused, and else the
+/// first fault of its text.
+pub fn read_programs<F: Folder>(
+    alloc: Global,
+    folder: &mut F,
+    name: &str,
+) -> Result<ProgramSet, CallFault>
+    ensures ok { IfOk result (AreProgramsIn (F.files folder.old).told name.now) }
+    ensures quiet { OnOk result (F.files folder.new ≡ F.files folder.old) }
+    ensures err { IfErr result (IsUnprogrammed (F.files folder.old).told
+        (IsUnread F.Source.remaining F.Source.failed (F.files folder.old) (F.files folder.new))
+        name.now) }
+    ensures read { IsOnlyRead (F.files folder.old) (F.files folder.new) }
+{
+    let text = match read_text(alloc, folder, name) {
+        Ok(text) => text,
+        Err(ReadFault::Read) => return Err(CallFault::ProgramsUnread),
+        Err(ReadFault::OutOfMemory) => return Err(CallFault::OutOfMemory),
+    };
+    Ok(ProgramSet::parse(alloc, text.as_slice())?)
+}

@@ -1,0 +1,58 @@
+//! The trace in a file.
+
+ghost use Rattle.std.specs.Prelude.{◌≡◌, ◌<◌, ℕ, List, IfErr, IfOk, IsErrOf, OnOk};
+ghost use Rattle.host_files.specs.Files.{IsOnlyRead, IsUnread};
+ghost use Rattle.log_file.specs.Devices.{Failed, Tells};
+ghost use Rattle.commands.specs.Traces.{SpellsTraceAt};
+ghost use Rattle.commands.specs.inner.ReadTraces.{IsNoTrace, IsReadOf};
+
+use super::searching_fault::SearchingFault;
+use super::call_fault::CallFault;
+use host_files::Folder;
+use log_file::ByteSource;
+use std::alloc::Global;
+use trace::{Trace, TraceReader};
+
+/// How many bytes are read at once.
+const PIECE: usize = 32_768;
+
+/// The trace whose text the source's bytes are, read piece by piece, or their first fault. A text that has no end is told as lack of memory.
+fn read_pieces<S: ByteSource>(alloc: Global, source: &mut S) -> Result<Trace, SearchingFault>
+    ensures answer { (bytes : List ℕ) × Tells (S.remaining source.old) bytes × IsReadOf bytes result }
+    ensures read { IsErrOf result SearchingFault.TraceUnread →
+        Failed (S.failed source.old) (S.failed source.new) }
+{
+    let mut reader = TraceReader::new(alloc);
+    let mut buffer = vec![in alloc; 0u8; PIECE]?;
+    'pieces: for _ in 0..u64::MAX {
+        let room = buffer.as_mut_slice();
+        let Ok(count) = source.read(room) else {
+            return Err(SearchingFault::TraceUnread);
+        };
+        if count == 0 {
+            return Ok(reader.finish()?);
+        }
+        reader.feed(&room[..count])?;
+    }
+    Err(SearchingFault::Call(CallFault::OutOfMemory))
+}
+
+/// The trace in a file of the folder: 28 where it can't be opened or read, 10 where a growth was refused, and else the
+/// first fault of its text.
+pub(crate) fn read_trace<F: Folder>(
+    alloc: Global,
+    folder: &mut F,
+    name: &str,
+) -> Result<Trace, SearchingFault>
+    ensures ok { IfOk result (SpellsTraceAt (F.files folder.old).told name.now) }
+    ensures quiet { OnOk result (F.files folder.new ≡ F.files folder.old) }
+    ensures err { IfErr result (IsNoTrace (F.files folder.old).told
+        (IsUnread F.Source.remaining F.Source.failed (F.files folder.old) (F.files folder.new))
+        name.now) }
+    ensures read { IsOnlyRead (F.files folder.old) (F.files folder.new) }
+{
+    let Ok(mut source) = folder.open_file(name) else {
+        return Err(SearchingFault::TraceUnread);
+    };
+    read_pieces(alloc, &mut source)
+}

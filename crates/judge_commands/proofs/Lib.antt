@@ -1,6 +1,0 @@
-mod Checks
-mod Explained
-mod Orders
-mod OtherOrders
-mod OwnLogs
-mod Upgrades

@@ -1,5 +1,0 @@
-pub mod Leaving
-mod Numbers
-mod Runs
-mod Tables
-mod ThreadRuns

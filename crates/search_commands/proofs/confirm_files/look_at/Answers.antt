@@ -1,5 +1,0 @@
-use Rattle.std.proofs.Common.{refl}
-use Rattle.search_commands.proofs.confirm_files.look_at.Goals as goal
-
-pub look_at_order-requires : goal.look_at_order-requires
-look_at_order-requires c = c.in-None.ensures.none refl

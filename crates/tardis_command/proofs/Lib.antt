@@ -1,3 +1,0 @@
-mod Ends
-mod Performed
-mod Unread

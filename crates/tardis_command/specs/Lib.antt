@@ -1,5 +1,0 @@
-pub mod Answers
-pub mod Endings
-pub mod Faults
-pub mod More
-pub mod inner
