@@ -1,5 +1,5 @@
 -- The check of files, by what the judge answers to their sources.
-use Rattle.std.proofs.Common.{◌≡◌, inl, refl, length, ℕ, List, Option, Result, Ok, Err, vec_len}
+use Rattle.std.proofs.Common.{◌≡◌, refl, length, ℕ, List, Option, None, Some, Result, Ok, Err, vec_len}
 use Rattle.std.specs.Prelude.{IsErrOf}
 use Rattle.std.specs.Borrow.{Bor}
 use Rattle.command_line.specs.declared.request.Check.{Check}
@@ -14,9 +14,11 @@ use Rattle.verdict.specs.declared.answer.Verdict.{Verdict}
 use Rattle.verdict.specs.declared.judge_fault.Count.TheVariants.{Files as FileCount, Workers, Programs as ProgramCount}
 use Rattle.verdict.specs.declared.judge_fault.JudgeFault.{JudgeFault}
 use Rattle.verdict.specs.declared.judge_fault.JudgeFault.TheVariants.{BadConfig, Log, Read, OutOfMemory}
-use Rattle.commands.specs.JudgingFaults.{from_judge}
-use Rattle.commands.specs.declared.judging_fault.JudgingFault.{JudgingFault}
-use Rattle.commands.specs.Checking.{Against, AreInRange, AreNotAsMany, IsAnswerAgainst, IsChecked, IsCheckedAgainst}
+use Rattle.commands.specs.Checking.{Against, AreInRange, AreNotAsMany, IsAnswerAgainst, IsChecked, IsCheckedAgainst, IsUnprogrammedBy}
+use Rattle.std.specs.Option.{IsSomeAnd}
+use Rattle.commands.specs.declared.refusal.Refusal.TheVariants as refused
+use Rattle.commands.specs.Refusals.{from_judge}
+use Rattle.commands.specs.declared.refusal.Refusal.{Refusal}
 
 -- a file can't be opened
 pub not_opened : {S : Type 0} (remaining : S → Option (List ℕ)) (failed : S → ℕ) (old new : Files) (programs : Option (List (List Instruction))) (asked : Check) (fault : JudgeFault) → AreInRange asked
@@ -43,7 +45,19 @@ checked told unread programs asked judged (Err OutOfMemory) texts same range tel
 
 -- ---- against the programs that were asked for
 
-abbrev pub lifted : Result Verdict JudgeFault → Result Verdict JudgingFault
+pub nowhere : {X : Type 0} (given : Option X) → IsSomeAnd given (λ x. ⊥) → ⊥
+nowhere None is = is
+nowhere (Some x) is = is
+
+-- there are no programs
+pub not_programmed : (told : List ℕ → Option (List ℕ)) (unread : List ℕ → Type 0) (asked : Check) (refusal : Refusal) → AreInRange asked
+    → IsUnprogrammedBy told unread asked.program refusal → IsChecked told unread asked (Err refusal)
+not_programmed told unread asked (refused.Programs reason) range why = (range, why)
+not_programmed told unread asked (refused.Unread place) range why = (range, why)
+not_programmed told unread asked refused.OutOfMemory range why = tt
+not_programmed told unread asked other range why = absurd (nowhere asked.program why)
+
+abbrev pub lifted : Result Verdict JudgeFault → Result Verdict Refusal
 lifted (Ok verdict) = Ok verdict
 lifted (Err fault) = Err (from_judge fault)
 
@@ -59,4 +73,4 @@ against told unread asked (Err (Read file)) h = h
 against told unread asked (Err (BadConfig FileCount)) h = whatever told asked.program (IsOutOfRange (vec_len asked.files)) h
 against told unread asked (Err (BadConfig Workers)) h = whatever told asked.program (IsInRange (vec_len asked.files) × IsOutOfRange asked.workers) h
 against told unread asked (Err (BadConfig ProgramCount)) h = h
-against told unread asked (Err OutOfMemory) h = inl refl
+against told unread asked (Err OutOfMemory) h = tt

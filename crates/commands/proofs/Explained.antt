@@ -26,16 +26,15 @@ use Rattle.verdict.specs.declared.judge_fault.JudgeFault.{JudgeFault}
 use Rattle.verdict.specs.declared.judge_fault.JudgeFault.TheVariants.{BadConfig, Read}
 use Rattle.std.proofs.KnownBytes.{Keeps-refl}
 use Rattle.command_line.specs.declared.request.Explain.{Explain}
-use Rattle.host_files.specs.Files.{Files}
+use Rattle.host_files.specs.Files.{Files, IsOnlyRead}
 use Rattle.commands.specs.LogFiles.{AreTextsOf, IsUnreadAt, Spelled}
 use Rattle.commands.specs.Sinks.{Sink}
-use Rattle.commands.specs.declared.call_fault.CallFault.TheVariants.{Output, OutOfMemory}
-use Rattle.commands.specs.Checking.{AreInRange, AreNotAsMany, FilesRunFlatBy, IsAnswerAgainst, IsChecked, IsCheckedAgainst, IsUnprogrammedBy}
+use Rattle.commands.specs.Checking.{AreInRange, AreNotAsMany, FilesRunFlatBy, IsAnswerAgainst, IsChecked, IsCheckedAgainst}
 use Rattle.commands.specs.Explaining.{IsExplained}
 use Rattle.commands.specs.inner.ReadLogs.{AreLogsOf, HoldsRecords}
-use Rattle.commands.specs.declared.judging_fault.JudgingFault.{JudgingFault}
-use Rattle.commands.specs.declared.judging_fault.JudgingFault.TheVariants.{PictureUnwritten, Call}
-use Rattle.commands.proofs.Checks.{checked}
+use Rattle.commands.proofs.Checks.{checked, nowhere}
+use Rattle.commands.specs.declared.refusal.Refusal.{Refusal}
+use Rattle.commands.specs.declared.refusal.Refusal.TheVariants.{OutOfMemory, Unwritten}
 
 -- the programs that a reference leads to are those that were read
 pub given_is : (lent : Option (Bor SetParts)) (set : Option SetParts) → option_copied lent ≡ set → given lent ≡ option_map (λ s. s.programs) set
@@ -113,14 +112,9 @@ logs_examined told unread programs asked texts logs examined (against, are, (ran
 
 -- ---- no verdict to explain
 
-unprogrammed_alone : (told : List ℕ → Option (List ℕ)) (unread : List ℕ → Type 0) (name : Option (Bor (List ℕ))) → ¬ (IsUnprogrammedBy told unread name Output)
-unprogrammed_alone told unread None is = is
-unprogrammed_alone told unread (Some name) is = is
-
 -- nothing was printed and nothing was put
-pub untold : (old new : Files) (unread : List ℕ → Type 0) (asked : Explain) (sink : Sink) (fault : JudgingFault) → IsChecked old.told unread asked.check (Err fault) → IsExplained old new unread asked sink sink (Err fault)
-untold old new unread asked sink (Call Output) (inl wrong) = cc
-untold old new unread asked sink (Call Output) (inr why) = absurd (unprogrammed_alone old.told unread asked.check.program why.1)
-untold old new unread asked sink (Call OutOfMemory) why = Keeps-refl sink.contents
-untold old new unread asked sink PictureUnwritten why = absurd why
-untold old new unread asked sink other why = (why, Keeps-refl sink.contents)
+pub untold : (old new : Files) (unread : List ℕ → Type 0) (asked : Explain) (sink : Sink) (refusal : Refusal) → IsChecked old.told unread asked.check (Err refusal)
+    → IsOnlyRead old new → IsExplained old new unread asked sink sink (Err refusal)
+untold old new unread asked sink (Unwritten place) why read = absurd (nowhere asked.check.program why.1)
+untold old new unread asked sink OutOfMemory why read = Keeps-refl sink.contents
+untold old new unread asked sink other why read = (why, read, Keeps-refl sink.contents)

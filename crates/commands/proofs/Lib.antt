@@ -1,6 +1,5 @@
 mod Checks
 mod Confirms
-mod Ends
 mod Explained
 mod Files
 mod Leaving
@@ -17,7 +16,7 @@ mod OwnLogs
 mod Performed
 mod Puts
 mod Readings
-mod RefusedReading
+mod Refused
 mod Runs
 mod Searches
 mod Tables

@@ -11,13 +11,13 @@ use Rattle.verdict.specs.Counts.{IsInRange, IsOutOfRange}
 use Rattle.verdict.specs.declared.judge_fault.Count.TheVariants.{Files as FileCount}
 use Rattle.verdict.specs.declared.judge_fault.JudgeFault.{JudgeFault}
 use Rattle.verdict.specs.declared.judge_fault.JudgeFault.TheVariants.{BadConfig, Log, Read, OutOfMemory as NoLogMemory}
-use Rattle.commands.specs.SearchingFaults.{from_logs}
 use Rattle.commands.specs.Traces.{SpellLogsAt}
 use Rattle.commands.specs.inner.ReadTraces.{AreLogless}
+use Rattle.commands.specs.Refusals.{from_judge}
 
 -- no logs are read
 pub not_read : (old new : Files) (unread : List ℕ → Type 0) (names : List (Bor (List ℕ))) (fault : JudgeFault)
-    → IsInRange (length names) → IsUnspelled old new unread names fault → AreLogless old.told unread names (from_logs fault)
+    → IsInRange (length names) → IsUnspelled old new unread names fault → AreLogless old.told unread names (from_judge fault)
 not_read old new unread names (Log file line fault) range (same, texts, tell, is) = (range, texts, tell, is)
 not_read old new unread names (Read file) range why = (range, why.1)
 not_read old new unread names NoLogMemory range why = tt
@@ -25,8 +25,8 @@ not_read old new unread names (BadConfig count) range why = absurd why
 
 -- no file was opened, since their number is out of range
 pub not_counted : (told : List ℕ → Option (List ℕ)) (unread : List ℕ → Type 0) (names : List (Bor (List ℕ))) (fault : JudgeFault)
-    → (fault ≡ BadConfig FileCount) × IsOutOfRange (length names) → AreLogless told unread names (from_logs fault)
-not_counted told unread names fault (is, out) = subst (λ (f : JudgeFault). AreLogless told unread names (from_logs f)) (sym is) out
+    → (fault ≡ BadConfig FileCount) × IsOutOfRange (length names) → AreLogless told unread names (from_judge fault)
+not_counted told unread names fault (is, out) = subst (λ (f : JudgeFault). AreLogless told unread names (from_judge f)) (sym is) out
 
 -- the trace of the logs that were read
 pub logs_spelled : (told : List ℕ → Option (List ℕ)) (names : List (Bor (List ℕ))) (read given : List (Vec Record)) (cores : List (List Operation)) → given ≡ read

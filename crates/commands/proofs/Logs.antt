@@ -12,8 +12,8 @@ use Rattle.log_record.specs.declared.record.Record.{Record}
 use Rattle.host_files.specs.Files.{Files}
 use Rattle.commands.specs.inner.Putting.{IsUnput}
 use Rattle.commands.specs.Logs.{ArePutAsFar, ArePutBefore, ArePutFirst, ArePutUpTo, IsUnwritten, KeepsOthers, log_name, TellsLog, TellsFirst}
-use Rattle.commands.specs.declared.call_fault.CallFault.{CallFault}
-use Rattle.commands.specs.declared.call_fault.CallFault.TheVariants.{LogUnwritten, OutOfMemory}
+use Rattle.commands.specs.declared.refusal.Refusal.{Refusal}
+use Rattle.commands.specs.declared.refusal.Refusal.TheVariants.{LogUnwritten, OutOfMemory}
 
 -- no two cores' logs are of one name
 names_differ : (out : List ℕ) (c d : ℕ) → c < d → d < 64 → log_name out c ≢ log_name out d
@@ -61,12 +61,12 @@ module _ (format : Format) (old now new : Files) (out : List ℕ) (cores : ℕ) 
     quiet = ap (λ (files : Files). files.failed) same ∙ quiet;
   }
 
-  pub put_as_far : (fault : CallFault) → IsUnput now new core fault → ArePutAsFar format old new out cores made
+  pub put_as_far : (fault : Refusal) → IsUnput now new core fault → ArePutAsFar format old new out cores made
   put_as_far (LogUnwritten file) unput = inr (inl (n, put_up_to unput.1))
   put_as_far OutOfMemory same = inr (inr (n, put_before same))
   put_as_far other unput = absurd unput
 
-  pub unwritten : (fault : CallFault) → IsUnput now new core fault → IsUnwritten (ArePutUpTo format old new out cores made) fault
+  pub unwritten : (fault : Refusal) → IsUnput now new core fault → IsUnwritten (ArePutUpTo format old new out cores made) fault
   unwritten (LogUnwritten file) unput = subst (ArePutUpTo format old new out cores made) (sym (unput.0 ∙ is)) (put_up_to unput.1)
   unwritten OutOfMemory same = tt
   unwritten other unput = absurd unput

@@ -6,10 +6,10 @@ use Rattle.log_record.specs.declared.record.Record.{Record}
 use Rattle.host_files.specs.Files.{Files, KeepsFiles}
 use Rattle.commands.specs.Logs.{ArePut, ArePutUpTo, IsUnwritten, KeepsOthers}
 use Rattle.commands.specs.Outputs.{IsNameOf}
-use Rattle.commands.specs.declared.call_fault.CallFault.{CallFault}
 use Rattle.commands.specs.Numbers.{AreLeftAsFar, IsLeftName, IsUnleft, IsUnput}
-use Rattle.commands.specs.declared.running_fault.RunningFault.{RunningFault}
-use Rattle.commands.specs.declared.running_fault.RunningFault.TheVariants.{StatisticsUnwritten, Call}
+use Rattle.commands.specs.declared.place.Output.TheVariants as output
+use Rattle.commands.specs.declared.refusal.Refusal.{Refusal}
+use Rattle.commands.specs.declared.refusal.Refusal.TheVariants.{LogUnwritten, OutOfMemory, Unwritten}
 
 -- what is put first and then is put in all
 pub keeps_both : (told mid new : List ℕ → Option (List ℕ)) (out : List ℕ) (statistics : Option (Bor (List ℕ))) → KeepsOthers told mid out 64
@@ -19,15 +19,22 @@ keeps_both told mid new out statistics first later name none = later name (λ is
 pub keeps_first : (told new : List ℕ → Option (List ℕ)) (out : List ℕ) (statistics : Option (Bor (List ℕ))) → KeepsOthers told new out 64 → KeepsFiles told new (IsLeftName out statistics)
 keeps_first told new out statistics first name none = first name (λ c below same. none (inl (c, below, same)))
 
+-- the logs weren't put
+pub unleft_first : (format : Format) (old new : Files) (out : List ℕ) (cores : ℕ) (made : ℕ → List Record) (statistics : Option (Bor (List ℕ))) (fault : Refusal)
+    → IsUnwritten (ArePutUpTo format old new out cores made) fault → IsUnleft format old new out cores made statistics fault
+unleft_first format old new out cores made statistics (LogUnwritten file) why = why
+unleft_first format old new out cores made statistics OutOfMemory why = tt
+unleft_first format old new out cores made statistics other why = absurd why
+
 module _ (format : Format) (old mid new : Files) (out : List ℕ) (cores : ℕ) (made : ℕ → List Record) (statistics : Option (Bor (List ℕ))) (text : List ℕ)
     (put : ArePut format old mid out cores made) where
   -- the numbers weren't put
-  pub unleft_after : (fault : RunningFault) → IsUnput mid new statistics fault → IsUnleft format old new out cores made statistics fault
-  unleft_after StatisticsUnwritten fails = (mid, put, fails)
-  unleft_after (Call fault) why = subst (λ (f : CallFault). IsUnwritten (ArePutUpTo format old new out cores made) f) (sym why.0) tt
+  pub unleft_after : (fault : Refusal) → IsUnput mid new statistics fault → IsUnleft format old new out cores made statistics fault
+  unleft_after (Unwritten output.Statistics) fails = (mid, put, fails)
+  unleft_after OutOfMemory why = tt
   unleft_after other why = absurd why
 
-  pub far_after : (fault : RunningFault) → IsUnput mid new statistics fault → AreLeftAsFar format old new out cores made statistics text
-  far_after StatisticsUnwritten fails = inr (mid, put, inr fails)
-  far_after (Call fault) why = inl (inl (subst (λ (files : Files). ArePut format old files out cores made) (sym why.1) put))
+  pub far_after : (fault : Refusal) → IsUnput mid new statistics fault → AreLeftAsFar format old new out cores made statistics text
+  far_after (Unwritten output.Statistics) fails = inr (mid, put, inr fails)
+  far_after OutOfMemory why = inl (inl (subst (λ (files : Files). ArePut format old files out cores made) (sym why) put))
   far_after other why = absurd why

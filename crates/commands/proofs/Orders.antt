@@ -21,10 +21,10 @@ use Rattle.host_files.specs.Files.{Files, IsUnread}
 use Rattle.commands.specs.LogFiles.{AreSourcesOf, AreTextsOf, IsOpenFault, IsUnreadAt}
 use Rattle.commands.proofs.LogFiles.{unopened_at, unread_at}
 use Rattle.commands.specs.Checking.{TextsAreConsistent}
-use Rattle.commands.specs.JudgingFaults.{from_judge, from_merge}
 use Rattle.commands.specs.Ordering.{IsOrdered, TakesOrder}
 use Rattle.commands.specs.Sinks.{HasFailed, Sink, Took}
-use Rattle.commands.specs.declared.judging_fault.JudgingFault.{JudgingFault}
+use Rattle.commands.specs.Refusals.{from_judge, from_merge}
+use Rattle.commands.specs.declared.refusal.Refusal.{Refusal}
 
 -- the text of an order isn't empty
 some_text : 0 < length (order_text [])
@@ -48,7 +48,7 @@ not_opened remaining failed old new asked sink (Read file) range why =
 not_opened remaining failed old new asked sink OutOfMemory range why = (tt, nothing sink)
 not_opened remaining failed old new asked sink other range why = absurd why
 
-abbrev pub lifted : Result Verdict MergeFault → Result Verdict JudgingFault
+abbrev pub lifted : Result Verdict MergeFault → Result Verdict Refusal
 lifted (Ok verdict) = Ok verdict
 lifted (Err fault) = Err (from_merge fault)
 
@@ -73,7 +73,7 @@ merged told unread asked old new texts (Err (MergeJudge (BadConfig Workers))) ra
 merged told unread asked old new texts (Err (MergeJudge (BadConfig ProgramCount))) range tell many answers took files workers programs failed quiet reads = absurd (programs refl)
 
 -- with a Yes the order was written
-pub taken : (told : List ℕ → Option (List ℕ)) (unread : List ℕ → Type 0) (asked : Order) (old new : Sink) (result : Result Verdict JudgingFault) → IsOrdered told unread asked old new result
+pub taken : (told : List ℕ → Option (List ℕ)) (unread : List ℕ → Type 0) (asked : Order) (old new : Sink) (result : Result Verdict Refusal) → IsOrdered told unread asked old new result
     → IfOk result (λ verdict. IsYes verdict → TakesOrder told asked.files.items old new)
 taken told unread asked old new (Err fault) is = tt
 taken told unread asked old new (Ok (Yes count)) is = λ yes. let (range, quiet, (texts, tell, answers, took)) = is in (texts, tell, took)
@@ -83,7 +83,7 @@ taken told unread asked old new (Ok (No fault)) is = λ yes. absurd yes
 consistent : (told : List ℕ → Option (List ℕ)) (names : List (Bor (List ℕ))) (old new : Sink) → TakesOrder told names old new → TextsAreConsistent told names
 consistent told names old new (texts, tell, (written, appends, (logs, (spell, (order, is, text))))) = (texts, tell, (logs, spell, (order, is)))
 
-pub consistent_if : (told : List ℕ → Option (List ℕ)) (unread : List ℕ → Type 0) (asked : Order) (old new : Sink) (result : Result Verdict JudgingFault) → IsOrdered told unread asked old new result
+pub consistent_if : (told : List ℕ → Option (List ℕ)) (unread : List ℕ → Type 0) (asked : Order) (old new : Sink) (result : Result Verdict Refusal) → IsOrdered told unread asked old new result
     → IfOk result (λ verdict. IsYes verdict → TextsAreConsistent told asked.files.items)
 consistent_if told unread asked old new (Err fault) is = tt
 consistent_if told unread asked old new (Ok verdict) is = λ yes. consistent told asked.files.items old new (taken told unread asked old new (Ok verdict) is yes)

@@ -9,9 +9,10 @@ use Rattle.trace.specs.Reading.{IsSettled}
 use Rattle.trace.specs.Texts.{IsFault}
 use Rattle.trace.specs.declared.fault.TraceFault.{TraceFault}
 use Rattle.trace.specs.declared.fault.TraceFault.TheVariants.{BadTraceLine, TooMany, OutOfMemory as NoTraceMemory}
-use Rattle.commands.specs.SearchingFaults.{from_trace}
 use Rattle.commands.specs.inner.ReadTraces.{IsReadOf}
-use Rattle.commands.specs.declared.searching_fault.SearchingFault.TheVariants.{TraceUnread}
+use Rattle.commands.specs.Refusals.{from_trace}
+use Rattle.commands.specs.declared.place.Input.TheVariants as input
+use Rattle.commands.specs.declared.refusal.Refusal.TheVariants.{Unread}
 
 -- a fault of the bytes is answered
 pub fault_answered : (bytes : List ℕ) (fault : TraceFault) → IsFault bytes fault → IsReadOf bytes (Err (from_trace fault))
@@ -33,7 +34,7 @@ failed_read old now new same is = elim (cases_lt old (2 ^ 64 - 1)) [
 ]
 
 -- a fault of the text isn't a failed read
-pub not_unread : {T : Type 0} (fault : TraceFault) → IsErrOf {T = T} (Err (from_trace fault)) TraceUnread → ⊥
+pub not_unread : {T : Type 0} (fault : TraceFault) → IsErrOf {T = T} (Err (from_trace fault)) (Unread input.Trace) → ⊥
 not_unread (BadTraceLine line) is = cc
 not_unread (TooMany line) is = cc
 not_unread NoTraceMemory is = cc

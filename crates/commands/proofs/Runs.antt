@@ -1,5 +1,5 @@
 -- How a run ends after its simulation.
-use Rattle.std.proofs.Common.{◌≡◌, ℕ, List, length, subst, inl, inr}
+use Rattle.std.proofs.Common.{◌≡◌, ℕ, List, length, subst}
 use Rattle.std.specs.Prelude.{Option, None, Result, Ok, Err, IfErr, IfOk, OnOk}
 use Rattle.command_line.specs.declared.request.Sim.{Sim}
 use Rattle.lease_rule.specs.Ranges.{first_bad}
@@ -10,14 +10,16 @@ use Rattle.simulation.specs.declared.fault.SimulationFault.{SimulationFault}
 use Rattle.core_machine.specs.Opening.{opening_parts}
 use Rattle.core_machine.specs.Parts.{CoreParts, world}
 use Rattle.core_machine.specs.Works.{log_at}
-use Rattle.host_files.specs.Files.{Files, IsUnread}
+use Rattle.host_files.specs.Files.{Files, IsOnlyRead, IsUnread}
 use Rattle.commands.specs.Logs.{performed_below}
-use Rattle.commands.specs.Programs.{AreProgramsIn}
+use Rattle.commands.specs.Programs.{AreProgramsIn, IsUnprogrammed}
 use Rattle.commands.specs.Numbers.{AreLeft, AreLeftAsFar, IsUnleft}
 use Rattle.commands.specs.Programmed.{config_of, log_format}
 use Rattle.commands.specs.Simulating.{AreCommandsOf, IsRun, IsUnscheduled, numbers_in}
-use Rattle.commands.specs.declared.running_fault.RunningFault.{RunningFault}
-use Rattle.commands.specs.declared.running_fault.RunningFault.TheVariants.{Schedule, ScheduleUnread, Simulation, StatisticsUnwritten, Call}
+use Rattle.commands.specs.declared.place.Input.TheVariants as input
+use Rattle.commands.specs.declared.place.Output.TheVariants as output
+use Rattle.commands.specs.declared.refusal.Refusal.{Refusal}
+use Rattle.commands.specs.declared.refusal.Refusal.TheVariants.{Programs, Schedule, Simulation, LogUnwritten, OutOfMemory, Unread, Unwritten}
 
 module _ (old new : Files) (unread : List ℕ → Type 0) (asked : Sim) (set : SetParts) (commands : List Command) (q : CoreParts)
     (sound : first_bad (config_of asked.limits) ≡ None) (read : AreProgramsIn old.told asked.programs.now set)
@@ -31,29 +33,38 @@ module _ (old new : Files) (unread : List ℕ → Type 0) (asked : Sim) (set : S
         → AreLeft (log_format set.format) old new asked.out.now (length set.programs) (log_at (world q)) asked.statistics (numbers_in asked (length set.programs) q) → IsRun old new unread asked (Ok count)
     ended count counted put = (sound, set, read, (commands, parsed, (q, simulated, (counted, put))))
 
-    pub unleft : (fault : RunningFault) → IsUnleft (log_format set.format) old new asked.out.now (length set.programs) (log_at (world q)) asked.statistics fault
+    pub unleft : (fault : Refusal) → IsUnleft (log_format set.format) old new asked.out.now (length set.programs) (log_at (world q)) asked.statistics fault
         → IsRun old new unread asked (Err fault)
-    unleft (Call fault) why = inr (inr (sound, set, read, (commands, parsed, (q, simulated, why))))
-    unleft StatisticsUnwritten why = (sound, set, read, (commands, parsed, (q, simulated, why)))
+    unleft (LogUnwritten file) why = (sound, set, read, (commands, parsed, (q, simulated, why)))
+    unleft OutOfMemory why = tt
+    unleft (Unwritten output.Statistics) why = (sound, set, read, (commands, parsed, (q, simulated, why)))
     unleft other why = absurd why
 
     -- whatever was left, or not
-    pub came : (r : Result ℕ RunningFault) → IfOk r (λ count. count ≡ performed_below (log_at (world q)) (length set.programs))
+    pub came : (r : Result ℕ Refusal) → IfOk r (λ count. count ≡ performed_below (log_at (world q)) (length set.programs))
         → OnOk r (AreLeft (log_format set.format) old new asked.out.now (length set.programs) (log_at (world q)) asked.statistics (numbers_in asked (length set.programs) q))
         → IfErr r (IsUnleft (log_format set.format) old new asked.out.now (length set.programs) (log_at (world q)) asked.statistics)
         → IsRun old new unread asked r
     came (Ok count) counted left why = ended count counted left
     came (Err fault) counted left why = unleft fault why
 
+-- there are no programs
+pub unprogrammed : (old new : Files) (unread : List ℕ → Type 0) (asked : Sim) (refusal : Refusal) → first_bad (config_of asked.limits) ≡ None
+    → IsUnprogrammed old.told unread asked.programs.now refusal → IsOnlyRead old new → IsRun old new unread asked (Err refusal)
+unprogrammed old new unread asked (Programs reason) sound why read = (read, sound, why)
+unprogrammed old new unread asked (Unread input.Programs) sound why read = (read, sound, why)
+unprogrammed old new unread asked OutOfMemory sound why read = tt
+unprogrammed old new unread asked other sound why read = absurd why
+
 -- there is no schedule
-pub unscheduled : {S : Type 0} (remaining : S → Option (List ℕ)) (failed : S → ℕ) (old now new : Files) (asked : Sim) (set : SetParts) (fault : RunningFault) → first_bad (config_of asked.limits) ≡ None
+pub unscheduled : {S : Type 0} (remaining : S → Option (List ℕ)) (failed : S → ℕ) (old now new : Files) (asked : Sim) (set : SetParts) (fault : Refusal) → first_bad (config_of asked.limits) ≡ None
     → AreProgramsIn old.told asked.programs.now set → now ≡ old → IsUnscheduled now.told (IsUnread remaining failed now new) asked.schedule (length set.programs) fault
-    → IsRun old new (IsUnread remaining failed old new) asked (Err fault)
-unscheduled remaining failed old now new asked set fault sound read same why =
+    → IsOnlyRead old new → IsRun old new (IsUnread remaining failed old new) asked (Err fault)
+unscheduled remaining failed old now new asked set fault sound read same why only =
     go fault (subst (λ (files : Files). IsUnscheduled files.told (IsUnread remaining failed files new) asked.schedule (length set.programs) fault) same why)
   where
-    go : (fault : RunningFault) → IsUnscheduled old.told (IsUnread remaining failed old new) asked.schedule (length set.programs) fault → IsRun old new (IsUnread remaining failed old new) asked (Err fault)
-    go (Schedule reason) why = (sound, set, read, why)
-    go ScheduleUnread why = (sound, set, read, why)
-    go (Call reason) why = inl why
+    go : (fault : Refusal) → IsUnscheduled old.told (IsUnread remaining failed old new) asked.schedule (length set.programs) fault → IsRun old new (IsUnread remaining failed old new) asked (Err fault)
+    go (Schedule reason) why = (only, sound, set, read, why)
+    go (Unread input.Schedule) why = (only, sound, set, read, why)
+    go OutOfMemory why = tt
     go other why = absurd why

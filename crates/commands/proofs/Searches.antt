@@ -3,7 +3,6 @@ use Rattle.std.proofs.Common.{◌≡◌, subst, sym, inl, inr, ℕ, Bor, List, O
 use Rattle.std.specs.Prelude.{IfOk}
 use Rattle.std.specs.Io.KnownBytes.{Keeps}
 use Rattle.host_files.specs.Files.{Files, IsOnlyRead}
-use Rattle.commands.specs.declared.call_fault.CallFault.TheVariants.{OutOfMemory}
 use Rattle.commands.specs.Outputs.{FailsPutAt}
 use Rattle.commands.specs.Sinks.{Sink}
 use Rattle.command_line.specs.declared.request.Search.{Search}
@@ -17,8 +16,10 @@ use Rattle.commands.specs.Traces.{AreTraceless, IsTraceIn, TellsTrace}
 use Rattle.commands.specs.inner.Finding.{IsGivenUp, IsUnput, IsUnputAt}
 use Rattle.commands.specs.declared.search_answer.SearchAnswer.{SearchAnswer}
 use Rattle.commands.specs.declared.search_answer.SearchAnswer.TheVariants.{Yes, No}
-use Rattle.commands.specs.declared.searching_fault.SearchingFault.{SearchingFault}
-use Rattle.commands.specs.declared.searching_fault.SearchingFault.TheVariants.{Trace, TraceUnread, Logs, Undecided, OrderUnwritten, RefutationUnwritten, PictureUnwritten, Call}
+use Rattle.commands.specs.declared.place.Input.TheVariants as input
+use Rattle.commands.specs.declared.place.Output.TheVariants as output
+use Rattle.commands.specs.declared.refusal.Refusal.{Refusal}
+use Rattle.commands.specs.declared.refusal.Refusal.TheVariants.{Judge, Trace, Undecided, OutOfMemory, Unread, Unwritten}
 
 -- ---- what proofs say
 
@@ -33,36 +34,36 @@ right_of cores found.Undecided answer is by = absurd is
 -- ---- the whole
 
 -- the files tell no trace
-pub traceless : (old new : Files) (unread : List ℕ → Type 0) (asked : Search) (out : Sink) (fault : SearchingFault) → AreTraceless old.told unread asked.trace fault
+pub traceless : (old new : Files) (unread : List ℕ → Type 0) (asked : Search) (out : Sink) (fault : Refusal) → AreTraceless old.told unread asked.trace fault
     → IsOnlyRead old new → Keeps out.contents out.contents → IsSearched old new unread asked out out (Err fault)
 traceless old new unread asked out (Trace fault) is read keeps = (is, read, keeps)
-traceless old new unread asked out TraceUnread is read keeps = (is, read, keeps)
-traceless old new unread asked out (Logs fault) is read keeps = (is, read, keeps)
-traceless old new unread asked out (Call OutOfMemory) is read keeps = keeps
+traceless old new unread asked out (Unread input.Trace) is read keeps = (is, read, keeps)
+traceless old new unread asked out (Judge fault) is read keeps = (is, read, keeps)
+traceless old new unread asked out OutOfMemory is read keeps = keeps
 traceless old new unread asked out other is read keeps = absurd is
 
 -- the search gives up, in a folder that is as it was
-pub given_up : (old new : Files) (unread : List ℕ → Type 0) (asked : Search) (out : Sink) (cores : List (List Operation)) (fault : SearchingFault) → IsTraceIn old.told asked.trace cores
+pub given_up : (old new : Files) (unread : List ℕ → Type 0) (asked : Search) (out : Sink) (cores : List (List Operation)) (fault : Refusal) → IsTraceIn old.told asked.trace cores
     → new ≡ old → Keeps out.contents out.contents → IsGivenUp fault → IsSearched old new unread asked out out (Err fault)
 given_up old new unread asked out cores Undecided is same keeps why = ((cores, is, tt), same, keeps)
-given_up old new unread asked out cores (Call OutOfMemory) is same keeps why = keeps
+given_up old new unread asked out cores OutOfMemory is same keeps why = keeps
 given_up old new unread asked out cores other is same keeps why = absurd why
 
 -- what holds where a put failed and where memory ran out holds of the fault that tells it
-unput_at : (P : SearchingFault → Type 0) (unwritten : SearchingFault) (old new : Files) (name : Option (Bor (List ℕ))) (fault : SearchingFault) → IsUnputAt unwritten old new name fault
-    → (FailsPutAt old new name → P unwritten) → P (Call OutOfMemory) → P fault
-unput_at P unwritten old new name (Call OutOfMemory) why failed memory = memory
+unput_at : (P : Refusal → Type 0) (unwritten : Refusal) (old new : Files) (name : Option (Bor (List ℕ))) (fault : Refusal) → IsUnputAt unwritten old new name fault
+    → (FailsPutAt old new name → P unwritten) → P OutOfMemory → P fault
+unput_at P unwritten old new name OutOfMemory why failed memory = memory
 unput_at P unwritten old new name fault why failed memory = subst P (sym why.0) (failed why.1)
 
 -- what was found isn't put
-pub unput : (old new : Files) (unread : List ℕ → Type 0) (asked : Search) (out : Sink) (cores : List (List Operation)) (proof : Answer) (fault : SearchingFault)
+pub unput : (old new : Files) (unread : List ℕ → Type 0) (asked : Search) (out : Sink) (cores : List (List Operation)) (proof : Answer) (fault : Refusal)
     → IsTraceIn old.told asked.trace cores → IsProof cores proof → Keeps out.contents out.contents → IsUnput old new asked proof fault → IsSearched old new unread asked out out (Err fault)
 unput old new unread asked out cores (found.Order order) fault is proves keeps why =
-    unput_at (λ f. IsSearched old new unread asked out out (Err f)) OrderUnwritten old new asked.order fault why (λ fails. ((cores, is, (order.items, proves)), fails, keeps)) keeps
+    unput_at (λ f. IsSearched old new unread asked out out (Err f)) (Unwritten output.Order) old new asked.order fault why (λ fails. ((cores, is, (order.items, proves)), fails, keeps)) keeps
 unput old new unread asked out cores (found.Refutation steps) fault is proves keeps (inl why) =
-    unput_at (λ f. IsSearched old new unread asked out out (Err f)) RefutationUnwritten old new asked.refutation fault why (λ fails. ((cores, is, refutations-hold cores steps proves), fails, keeps)) keeps
+    unput_at (λ f. IsSearched old new unread asked out out (Err f)) (Unwritten output.Refutation) old new asked.refutation fault why (λ fails. ((cores, is, refutations-hold cores steps proves), fails, keeps)) keeps
 unput old new unread asked out cores (found.Refutation steps) fault is proves keeps (inr (between, puts, why)) =
-    unput_at (λ f. IsSearched old new unread asked out out (Err f)) PictureUnwritten between new asked.picture fault why (λ fails. ((cores, is, (steps, proves, (between, puts, fails))), keeps)) keeps
+    unput_at (λ f. IsSearched old new unread asked out out (Err f)) (Unwritten output.Picture) between new asked.picture fault why (λ fails. ((cores, is, (steps, proves, (between, puts, fails))), keeps)) keeps
 unput old new unread asked out cores found.Undecided fault is proves keeps why = absurd proves
 
 -- it was put
@@ -72,7 +73,7 @@ finds old now new asked cores proof answer is same proves by puts =
     (cores, is, record { proof = proof; is_proof = proves; answers = by; puts = subst (λ (files : Files). PutsProof files new asked proof) same puts })
 
 -- and so the answer is right
-pub right : (old new : Files) (unread : List ℕ → Type 0) (asked : Search) (out out' : Sink) (result : Result SearchAnswer SearchingFault) → IsSearched old new unread asked out out' result
+pub right : (old new : Files) (unread : List ℕ → Type 0) (asked : Search) (out out' : Sink) (result : Result SearchAnswer Refusal) → IsSearched old new unread asked out out' result
     → IfOk result (λ answer. TellsTrace old.told asked.trace (λ cores. IsRightOf cores answer))
 right old new unread asked out out' (Err fault) is = tt
 right old new unread asked out out' (Ok answer) ((cores, there, finds), text, tells, appends) = (cores, there, right_of cores finds.proof answer finds.is_proof finds.answers)

@@ -6,7 +6,7 @@ use Rattle.commands.specs.Outputs.{IsNameOf}
 use Rattle.command_line.specs.Files.{IsApart, files_put, files_read, names_given}
 use Rattle.command_line.specs.declared.request.Request.{Request}
 use Rattle.command_line.specs.declared.request.Request.TheVariants as request
-use Rattle.commands.specs.Endings.{IsPutName}
+use Rattle.commands.specs.Promises.{IsPutName}
 
 -- a name that was given is among those that were
 first : (given : Option (Bor (List ℕ))) (more : List (Option (Bor (List ℕ)))) (name : List ℕ) → IsNameOf given name → Contains (names_given (given ∷ more)) name

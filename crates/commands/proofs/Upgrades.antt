@@ -1,5 +1,5 @@
 -- How the writing of logs anew ends.
-use Rattle.std.proofs.Common.{◌≡◌, ◌∙◌, inl, inr, refl, sym, ap, subst, ℕ, List, [], Option, None, Some, Ok, Err, vec_len}
+use Rattle.std.proofs.Common.{◌≡◌, ◌∙◌, refl, sym, ap, subst, ℕ, List, [], Option, None, Some, Ok, Err, vec_len}
 use Rattle.std.specs.Prelude.{slice_get}
 use Rattle.std.specs.Global.{Vec}
 use Rattle.std.specs.Option.{option_map, option_map_or}
@@ -12,14 +12,14 @@ use Rattle.verdict.specs.Counts.{IsInRange, IsOutOfRange}
 use Rattle.verdict.specs.declared.judge_fault.Count.TheVariants.{Files as FileCount}
 use Rattle.verdict.specs.declared.judge_fault.JudgeFault.{JudgeFault}
 use Rattle.verdict.specs.declared.judge_fault.JudgeFault.TheVariants.{BadConfig, Log, Read, OutOfMemory}
-use Rattle.commands.specs.declared.call_fault.CallFault.{CallFault}
-use Rattle.commands.specs.JudgingFaults.{from_judge}
 use Rattle.host_files.specs.Files.{Files}
 use Rattle.commands.specs.LogFiles.{IsUnspelled, Spelled}
 use Rattle.commands.specs.Logs.{ArePut, ArePutUpTo, IsUnwritten, performed_below}
 use Rattle.commands.specs.Upgrading.{IsUpgraded, log_in}
 use Rattle.commands.specs.inner.ReadLogs.{read_log_of}
-use Rattle.commands.specs.declared.judging_fault.JudgingFault.TheVariants.{Call}
+use Rattle.commands.specs.Refusals.{from_judge}
+use Rattle.commands.specs.declared.refusal.Refusal.{Refusal}
+use Rattle.commands.specs.declared.refusal.Refusal.TheVariants.{LogUnwritten, OutOfMemory as NoMemory}
 
 -- no file was opened, since their number is out of range
 pub not_counted : (old : Files) (unread : List ℕ → Type 0) (asked : Upgrade) (n : ℕ) (fault : JudgeFault) → n ≡ vec_len asked.files
@@ -32,7 +32,7 @@ pub not_read : (old new : Files) (unread : List ℕ → Type 0) (asked : Upgrade
     → IsUnspelled old new unread asked.files.items fault → IsUpgraded old new unread asked (Err (from_judge fault))
 not_read old new unread asked (Log file line fault) range why = (range, why)
 not_read old new unread asked (Read file) range why = (range, why)
-not_read old new unread asked OutOfMemory range why = inl refl
+not_read old new unread asked OutOfMemory range why = tt
 not_read old new unread asked (BadConfig count) range why = absurd why
 
 -- ---- the logs that were read
@@ -61,5 +61,7 @@ module _ (old new : Files) (unread : List ℕ → Type 0) (asked : Upgrade) (vs 
   pub written : (count : ℕ) → count ≡ performed_below (read_log_of vs) n → ArePut Two old new asked.out.now n (read_log_of vs) → IsUpgraded old new unread asked (Ok count)
   written count counted put = (range, spelled (λ m made. (count ≡ performed_below made m) × ArePut Two old new asked.out.now m made) (counted, put))
 
-  pub not_written : (fault : CallFault) → IsUnwritten (ArePutUpTo Two old new asked.out.now n (read_log_of vs)) fault → IsUpgraded old new unread asked (Err (Call fault))
-  not_written fault unwritten = inr (range, spelled (λ m made. IsUnwritten (ArePutUpTo Two old new asked.out.now m made) fault) unwritten)
+  pub not_written : (fault : Refusal) → IsUnwritten (ArePutUpTo Two old new asked.out.now n (read_log_of vs)) fault → IsUpgraded old new unread asked (Err fault)
+  not_written (LogUnwritten file) unwritten = (range, spelled (λ m made. ArePutUpTo Two old new asked.out.now m made file) unwritten)
+  not_written NoMemory unwritten = tt
+  not_written other unwritten = absurd unwritten

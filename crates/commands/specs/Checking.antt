@@ -1,6 +1,7 @@
 -- What the check of files answers.
-use Rattle.std.specs.Prelude.{◌≡◌, ◌⊎◌, ⊤, ℕ, List, Option, None, Some, Result, Ok, Err, vec_len}
+use Rattle.std.specs.Prelude.{⊤, ℕ, List, Option, None, Some, Result, Ok, Err, vec_len}
 use Rattle.std.specs.Borrow.{Bor}
+use Rattle.std.specs.Option.{IsSomeAnd}
 use Rattle.command_line.specs.declared.request.Check.{Check}
 use Rattle.core_program.specs.Answers.{SpellsSet}
 use Rattle.core_program.specs.declared.format.Format.{Format}
@@ -9,17 +10,17 @@ use Rattle.log_file.specs.Devices.{Tells}
 use Rattle.verdict.specs.Counts.{IsInRange, IsOutOfRange}
 use Rattle.verdict.specs.Judgement.{SpellConsistentSet, SpellFlatRun}
 use Rattle.verdict.specs.declared.answer.Verdict.{Verdict}
+use Rattle.verdict.specs.declared.answer.Verdict.TheVariants.{No}
+use Rattle.verdict.specs.FaultParts.{FaultParts}
 use Rattle.verdict.specs.declared.judge_fault.Count.TheVariants.{Files, Workers, Programs as ProgramCount}
 use Rattle.verdict.specs.declared.judge_fault.JudgeFault.{JudgeFault}
 use Rattle.verdict.specs.declared.judge_fault.JudgeFault.TheVariants.{BadConfig, Log, Read, OutOfMemory}
 use Rattle.commands.specs.LogFiles.{AreTextsOf, IsUnreadAt}
 use Rattle.commands.specs.Programs.{IsUnprogrammed}
-use Rattle.commands.specs.declared.call_fault.CallFault.{CallFault}
-use Rattle.commands.specs.declared.call_fault.CallFault.TheVariants.{OutOfMemory as NoMemory}
-use Rattle.commands.specs.declared.judging_fault.JudgingFault.{JudgingFault}
-use Rattle.commands.specs.declared.judging_fault.JudgingFault.TheVariants.{Judge, Call}
 pub use Rattle.verdict.specs.Counts.{AreNotAsMany}
 pub use Rattle.verdict.specs.Judgement.{IsAnswerAgainst}
+use Rattle.commands.specs.declared.refusal.Refusal.{Refusal}
+use Rattle.commands.specs.declared.refusal.Refusal.TheVariants.{Judge, OutOfMemory as NoMemory}
 
 -- 1..64 files and 1..64 workers
 abbrev pub AreInRange : Check → Type 0
@@ -40,9 +41,8 @@ abbrev pub Against : (List ℕ → Option (List ℕ)) → Option (Bor (List ℕ)
 Against told name Holds = (programs : Option (List (List Instruction))) × AreProgramsOf told name programs × Holds programs
 
 -- why there are no programs in a file whose name was given
-abbrev pub IsUnprogrammedBy : (List ℕ → Option (List ℕ)) → (List ℕ → Type 0) → Option (Bor (List ℕ)) → CallFault → Type 0
-IsUnprogrammedBy told unread None fault = ⊥
-IsUnprogrammedBy told unread (Some name) fault = IsUnprogrammed told unread name.now fault
+abbrev pub IsUnprogrammedBy : (List ℕ → Option (List ℕ)) → (List ℕ → Type 0) → Option (Bor (List ℕ)) → Refusal → Type 0
+IsUnprogrammedBy told unread given fault = IsSomeAnd given (λ name. IsUnprogrammed told unread name.now fault)
 
 -- ---- the answer
 
@@ -62,15 +62,19 @@ IsCheckedAgainst told unread programs asked (Err OutOfMemory) = ⊤
 
 -- The same with the programs that were asked for. A count of files or workers that is out of range is told before they are read, and
 -- they are told before a log is opened.
-abbrev pub IsChecked : (List ℕ → Option (List ℕ)) → (List ℕ → Type 0) → Check → Result Verdict JudgingFault → Type 0
+abbrev pub IsChecked : (List ℕ → Option (List ℕ)) → (List ℕ → Type 0) → Check → Result Verdict Refusal → Type 0
 IsChecked told unread asked (Ok verdict) = Against told asked.program (λ programs. IsCheckedAgainst told unread programs asked (Ok verdict))
 IsChecked told unread asked (Err (Judge (Log file line fault))) = Against told asked.program (λ programs. IsCheckedAgainst told unread programs asked (Err (Log file line fault)))
 IsChecked told unread asked (Err (Judge (Read file))) = Against told asked.program (λ programs. IsCheckedAgainst told unread programs asked (Err (Read file)))
 IsChecked told unread asked (Err (Judge (BadConfig Files))) = IsOutOfRange (vec_len asked.files)
 IsChecked told unread asked (Err (Judge (BadConfig Workers))) = IsInRange (vec_len asked.files) × IsOutOfRange asked.workers
 IsChecked told unread asked (Err (Judge (BadConfig ProgramCount))) = Against told asked.program (λ programs. IsCheckedAgainst told unread programs asked (Err (BadConfig ProgramCount)))
-IsChecked told unread asked (Err (Call fault)) = (fault ≡ NoMemory) ⊎ (AreInRange asked × IsUnprogrammedBy told unread asked.program fault)
-IsChecked told unread asked (Err other) = ⊥
+IsChecked told unread asked (Err NoMemory) = ⊤
+IsChecked told unread asked (Err fault) = AreInRange asked × IsUnprogrammedBy told unread asked.program fault
+
+-- the verdict on the set of the files, against the programs that were asked for, is a No
+abbrev pub FilesGetNo : (List ℕ → Option (List ℕ)) → Check → Type 0
+FilesGetNo told asked = Against told asked.program (λ programs. (fault : FaultParts) × IsJudged told programs asked (Ok (No fault)))
 
 -- ---- what a Yes says
 

@@ -2,7 +2,6 @@
 use Rattle.std.specs.Prelude.{◌≡◌, ◌≢◌, ◌⊎◌, ⊤, ℕ, List, ◌++◌, Option, Result, Ok, Err}
 use Rattle.std.specs.Io.KnownBytes.{Appends, Keeps}
 use Rattle.host_files.specs.Files.{Files}
-use Rattle.commands.specs.declared.call_fault.CallFault.TheVariants.{Output, OutOfMemory}
 use Rattle.commands.specs.Sinks.{HasFailed, Sink, TakesBeginning, line}
 use Rattle.command_line.specs.declared.request.Confirm.{Confirm}
 use Rattle.log_file.specs.Devices.{Tells}
@@ -17,8 +16,10 @@ use Rattle.commands.specs.OrderTexts.{IsFirstBadOfOrder, SpellsOrder}
 use Rattle.commands.specs.Traces.{AreTraceless, TellsTrace}
 use Rattle.commands.specs.declared.search_answer.SearchAnswer.{SearchAnswer}
 use Rattle.commands.specs.declared.search_answer.SearchAnswer.TheVariants.{Yes, No}
-use Rattle.commands.specs.declared.searching_fault.SearchingFault.{SearchingFault}
-use Rattle.commands.specs.declared.searching_fault.SearchingFault.TheVariants.{Certificate, CertificateUnread, Call}
+use Rattle.commands.specs.declared.place.Input.TheVariants as input
+use Rattle.commands.specs.declared.place.Output.TheVariants as output
+use Rattle.commands.specs.declared.refusal.Refusal.{Refusal}
+use Rattle.commands.specs.declared.refusal.Refusal.TheVariants.{Certificate, OutOfMemory, Unread, Unwritten}
 
 -- the text of a sequential order certifies a yes, and that of a refutation a no
 abbrev pub Certifies : List (List Operation) → List ℕ → SearchAnswer → Type 0
@@ -44,16 +45,16 @@ TellsBoth told asked Holds =
 
 -- The answer that the certificate gives, whose line standard output took, or why there is none. The trace is read first. `unread` holds of
 -- the name of a file that can't be opened or read.
-abbrev pub IsConfirmed : Files → Files → (List ℕ → Type 0) → Confirm → Sink → Sink → Result SearchAnswer SearchingFault → Type 0
+abbrev pub IsConfirmed : Files → Files → (List ℕ → Type 0) → Confirm → Sink → Sink → Result SearchAnswer Refusal → Type 0
 IsConfirmed old new unread asked out out' (Ok answer) =
     TellsBoth old.told asked (λ cores text. Certifies cores text answer) × (new ≡ old)
     × Appends out.contents out'.contents (line (search_text answer))
-IsConfirmed old new unread asked out out' (Err (Call Output)) =
+IsConfirmed old new unread asked out out' (Err (Unwritten output.Standard)) =
     (answer : SearchAnswer) × TellsBoth old.told asked (λ cores text. Certifies cores text answer) × (new ≡ old)
     × HasFailed out out' × TakesBeginning out out' (line (search_text answer))
 IsConfirmed old new unread asked out out' (Err (Certificate fault)) =
     TellsBoth old.told asked (λ cores text. IsBadCertificate cores text fault) × (new ≡ old) × Keeps out.contents out'.contents
-IsConfirmed old new unread asked out out' (Err CertificateUnread) =
+IsConfirmed old new unread asked out out' (Err (Unread input.Certificate)) =
     TellsTrace old.told asked.trace (λ cores. ⊤) × unread asked.certificate.now × Keeps out.contents out'.contents
-IsConfirmed old new unread asked out out' (Err (Call OutOfMemory)) = Keeps out.contents out'.contents
+IsConfirmed old new unread asked out out' (Err OutOfMemory) = Keeps out.contents out'.contents
 IsConfirmed old new unread asked out out' (Err fault) = AreTraceless old.told unread asked.trace fault × Keeps out.contents out'.contents

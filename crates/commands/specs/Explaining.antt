@@ -13,13 +13,13 @@ use Rattle.verdict.specs.declared.answer.Verdict.{Verdict}
 use Rattle.commands.specs.Sinks.{line}
 use Rattle.commands.specs.Checking.{IsChecked}
 use Rattle.commands.specs.OtherOrders.{TellsOther}
-use Rattle.commands.specs.declared.call_fault.CallFault.TheVariants.{Output, OutOfMemory}
-use Rattle.host_files.specs.Files.{Files}
+use Rattle.host_files.specs.Files.{Files, IsOnlyRead}
 use Rattle.commands.specs.LogFiles.{Spelled}
 use Rattle.commands.specs.Outputs.{FailsPutAt, PutsSuchAt}
 use Rattle.commands.specs.Sinks.{HasFailed, Sink, TakesBeginning}
-use Rattle.commands.specs.declared.judging_fault.JudgingFault.{JudgingFault}
-use Rattle.commands.specs.declared.judging_fault.JudgingFault.TheVariants.{PictureUnwritten, Call}
+use Rattle.commands.specs.declared.place.Output.TheVariants as output
+use Rattle.commands.specs.declared.refusal.Refusal.{Refusal}
+use Rattle.commands.specs.declared.refusal.Refusal.TheVariants.{OutOfMemory, Unwritten}
 
 -- what is told of another order, which is true of the operations of the set that the texts of the files spell
 abbrev pub TellsOtherOf : (List ℕ → Option (List ℕ)) → Explain → Verdict → List ℕ → Type 0
@@ -41,14 +41,15 @@ abbrev pub Judged : Files → (List ℕ → Type 0) → Check → (Verdict → T
 Judged old unread asked Holds = (verdict : Verdict) × IsChecked old.told unread asked (Ok verdict) × Holds verdict
 
 -- The verdict on the files, whose line standard output took first, or why there is none. A picture is put before anything is printed.
-abbrev pub IsExplained : Files → Files → (List ℕ → Type 0) → Explain → Sink → Sink → Result Verdict JudgingFault → Type 0
+abbrev pub IsExplained : Files → Files → (List ℕ → Type 0) → Explain → Sink → Sink → Result Verdict Refusal → Type 0
 IsExplained old new unread asked out out' (Ok verdict) =
     IsChecked old.told unread asked.check (Ok verdict) × PutsPictureAt verdict old new asked.picture
     × (text : List ℕ) × TellsVerdict old.told asked verdict text × Appends out.contents out'.contents text
-IsExplained old new unread asked out out' (Err (Call Output)) =
+IsExplained old new unread asked out out' (Err (Unwritten output.Standard)) =
     Judged old unread asked.check (λ verdict. PutsPictureAt verdict old new asked.picture × HasFailed out out'
     × (text : List ℕ) × TellsVerdict old.told asked verdict text × TakesBeginning out out' text)
-IsExplained old new unread asked out out' (Err PictureUnwritten) =
+IsExplained old new unread asked out out' (Err (Unwritten output.Picture)) =
     Judged old unread asked.check (λ verdict. HasPicture verdict × FailsPutAt old new asked.picture) × Keeps out.contents out'.contents
-IsExplained old new unread asked out out' (Err (Call OutOfMemory)) = Keeps out.contents out'.contents
-IsExplained old new unread asked out out' (Err fault) = IsChecked old.told unread asked.check (Err fault) × Keeps out.contents out'.contents
+IsExplained old new unread asked out out' (Err OutOfMemory) = Keeps out.contents out'.contents
+IsExplained old new unread asked out out' (Err fault) =
+    IsChecked old.told unread asked.check (Err fault) × IsOnlyRead old new × Keeps out.contents out'.contents

@@ -7,8 +7,7 @@ use Rattle.command_line.specs.declared.request.Inspect.{Inspect}
 use Rattle.core_program.specs.SetParts.{SetParts}
 use Rattle.litmus_test.specs.Parts.{LitmusParts}
 use Rattle.commands.specs.Tabling.{IsTestIn, IsUntested}
-use Rattle.commands.specs.declared.running_fault.RunningFault.{RunningFault}
-use Rattle.commands.specs.declared.running_fault.RunningFault.TheVariants.{Call}
+use Rattle.commands.specs.declared.refusal.Refusal.{Refusal}
 
 -- the file of this name is one of this kind, for so many cores
 abbrev pub AreCoresIn : (List ℕ → Option (List ℕ)) → FileKind → List ℕ → ℕ → Type 0
@@ -16,12 +15,11 @@ AreCoresIn told Litmus name cores = (t : LitmusParts) × IsTestIn told name t ×
 AreCoresIn told Programs name cores = (set : SetParts) × AreProgramsIn told name set × (cores ≡ length set.programs)
 
 -- Why it isn't: as the commands that run such a file say. `unread` holds of the name of a file that can't be opened or read.
-abbrev pub IsUnreadable : (List ℕ → Option (List ℕ)) → (List ℕ → Type 0) → FileKind → List ℕ → RunningFault → Type 0
+abbrev pub IsUnreadable : (List ℕ → Option (List ℕ)) → (List ℕ → Type 0) → FileKind → List ℕ → Refusal → Type 0
 IsUnreadable told unread Litmus name fault = IsUntested told unread name fault
-IsUnreadable told unread Programs name (Call fault) = IsUnprogrammed told unread name fault
-IsUnreadable told unread Programs name other = ⊥
+IsUnreadable told unread Programs name fault = IsUnprogrammed told unread name fault
 
 -- what a look at the file that was asked for answers
-abbrev pub IsInspected : (List ℕ → Option (List ℕ)) → (List ℕ → Type 0) → Inspect → Result ℕ RunningFault → Type 0
+abbrev pub IsInspected : (List ℕ → Option (List ℕ)) → (List ℕ → Type 0) → Inspect → Result ℕ Refusal → Type 0
 IsInspected told unread asked (Ok cores) = AreCoresIn told asked.kind asked.file.now cores
 IsInspected told unread asked (Err fault) = IsUnreadable told unread asked.kind asked.file.now fault

@@ -5,9 +5,9 @@ use Rattle.log_file.specs.Log.{SpellsIn}
 use Rattle.log_record.specs.declared.format.Format.{Format}
 use Rattle.log_record.specs.declared.record.Record.{Record}
 use Rattle.host_files.specs.Files.{Files}
-use Rattle.commands.specs.declared.call_fault.CallFault.{CallFault}
-use Rattle.commands.specs.declared.call_fault.CallFault.TheVariants.{LogUnwritten, OutOfMemory}
 pub use Rattle.command_line.specs.RunFiles.{log_name}
+use Rattle.commands.specs.declared.refusal.Refusal.{Refusal}
+use Rattle.commands.specs.declared.refusal.Refusal.TheVariants.{LogUnwritten, OutOfMemory}
 
 -- core c's log, of `cores`, is told under its name, in its one spelling in this format
 abbrev pub TellsLog : Format → (List ℕ → Option (List ℕ)) → List ℕ → ℕ → (ℕ → List Record) → ℕ → Type 0
@@ -55,7 +55,7 @@ performed_below made zero = 0
 performed_below made (suc c) = performed_below made c + length (made c)
 
 -- a core's log can't be written, of whose number this holds, or memory ran out
-abbrev pub IsUnwritten : (ℕ → Type 0) → CallFault → Type 0
+abbrev pub IsUnwritten : (ℕ → Type 0) → Refusal → Type 0
 IsUnwritten Holds (LogUnwritten file) = Holds file
 IsUnwritten Holds OutOfMemory = ⊤
 IsUnwritten Holds other = ⊥

@@ -1,5 +1,5 @@
 -- What a run leaves in the folder: its logs, and then its numbers.
-use Rattle.std.specs.Prelude.{◌≡◌, ◌⊎◌, ℕ, List, Option, map, take}
+use Rattle.std.specs.Prelude.{◌≡◌, ◌⊎◌, ⊤, ℕ, List, Option, map, take}
 use Rattle.std.specs.Borrow.{Bor}
 use Rattle.log_record.specs.declared.format.Format.{Format}
 use Rattle.log_record.specs.declared.record.Record.{Record}
@@ -8,12 +8,12 @@ use Rattle.core_unit.specs.Parts.{UnitParts}
 use Rattle.statistics.specs.Columns.{core_counts, slice_counts}
 use Rattle.statistics.specs.TableText.{statistics_text}
 use Rattle.host_files.specs.Files.{Files}
-use Rattle.commands.specs.declared.call_fault.CallFault.TheVariants.{OutOfMemory}
-use Rattle.commands.specs.Logs.{ArePut, ArePutAsFar, ArePutUpTo, IsUnwritten}
+use Rattle.commands.specs.Logs.{ArePut, ArePutAsFar, ArePutUpTo}
 use Rattle.commands.specs.Outputs.{FailsPutAt, IsNameOf, PutsAt}
 use Rattle.command_line.specs.RunFiles.{IsLogName}
-use Rattle.commands.specs.declared.running_fault.RunningFault.{RunningFault}
-use Rattle.commands.specs.declared.running_fault.RunningFault.TheVariants.{StatisticsUnwritten, Call}
+use Rattle.commands.specs.declared.place.Output.TheVariants as output
+use Rattle.commands.specs.declared.refusal.Refusal.{Refusal}
+use Rattle.commands.specs.declared.refusal.Refusal.TheVariants.{LogUnwritten, OutOfMemory, Unwritten}
 
 -- the numbers of so many cores and slices
 abbrev pub numbers_of : ℕ → ℕ → List UnitParts → List SliceParts → List ℕ
@@ -24,9 +24,9 @@ abbrev pub IsLeftName : List ℕ → Option (Bor (List ℕ)) → List ℕ → Ty
 IsLeftName out statistics name = IsLogName out name ⊎ IsNameOf statistics name
 
 -- why the numbers weren't put: the put failed, or memory ran out before it
-abbrev pub IsUnput : Files → Files → Option (Bor (List ℕ)) → RunningFault → Type 0
-IsUnput old new statistics StatisticsUnwritten = FailsPutAt old new statistics
-IsUnput old new statistics (Call fault) = (fault ≡ OutOfMemory) × (new ≡ old)
+abbrev pub IsUnput : Files → Files → Option (Bor (List ℕ)) → Refusal → Type 0
+IsUnput old new statistics (Unwritten output.Statistics) = FailsPutAt old new statistics
+IsUnput old new statistics OutOfMemory = new ≡ old
 IsUnput old new statistics other = ⊥
 
 -- the logs of all cores were put, and then this holds of the folder before and after
@@ -45,8 +45,9 @@ AreLeftAsFar format old new out cores made statistics text =
     ⊎ AreLeftThen format old new out cores made (λ mid after. PutsAt mid after statistics text ⊎ FailsPutAt mid after statistics)
 
 -- why not all was left: a log or the numbers can't be written, or memory ran out
-abbrev pub IsUnleft : Format → Files → Files → List ℕ → ℕ → (ℕ → List Record) → Option (Bor (List ℕ)) → RunningFault → Type 0
-IsUnleft format old new out cores made statistics (Call fault) = IsUnwritten (ArePutUpTo format old new out cores made) fault
-IsUnleft format old new out cores made statistics StatisticsUnwritten =
+abbrev pub IsUnleft : Format → Files → Files → List ℕ → ℕ → (ℕ → List Record) → Option (Bor (List ℕ)) → Refusal → Type 0
+IsUnleft format old new out cores made statistics (LogUnwritten file) = ArePutUpTo format old new out cores made file
+IsUnleft format old new out cores made statistics OutOfMemory = ⊤
+IsUnleft format old new out cores made statistics (Unwritten output.Statistics) =
     AreLeftThen format old new out cores made (λ mid after. FailsPutAt mid after statistics)
 IsUnleft format old new out cores made statistics other = ⊥

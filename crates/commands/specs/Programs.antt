@@ -5,8 +5,9 @@ use Rattle.core_program.specs.SetParts.{SetParts}
 use Rattle.core_program.specs.declared.fault.ProgramFault.{ProgramFault}
 use Rattle.core_program.specs.declared.fault.ProgramFault.TheVariants.{OutOfMemory as NoTextMemory}
 use Rattle.log_file.specs.Devices.{Tells}
-use Rattle.commands.specs.declared.call_fault.CallFault.{CallFault}
-use Rattle.commands.specs.declared.call_fault.CallFault.TheVariants.{Programs, ProgramsUnread, OutOfMemory}
+use Rattle.commands.specs.declared.place.Input.TheVariants as input
+use Rattle.commands.specs.declared.refusal.Refusal.{Refusal}
+use Rattle.commands.specs.declared.refusal.Refusal.TheVariants.{Programs, OutOfMemory, Unread}
 
 -- this is the set of programs in the file of this name
 abbrev pub AreProgramsIn : (List ℕ → Option (List ℕ)) → List ℕ → SetParts → Type 0
@@ -17,8 +18,8 @@ abbrev pub IsTextFault : (List ℕ → Option (List ℕ)) → List ℕ → Progr
 IsTextFault told name fault = (fault ≢ NoTextMemory) × (text : List ℕ) × Tells (told name) text × IsSetFault text fault
 
 -- why there are no programs: the text of their file, or it can't be read (`unread` holds of the names of such files), or memory ran out
-abbrev pub IsUnprogrammed : (List ℕ → Option (List ℕ)) → (List ℕ → Type 0) → List ℕ → CallFault → Type 0
+abbrev pub IsUnprogrammed : (List ℕ → Option (List ℕ)) → (List ℕ → Type 0) → List ℕ → Refusal → Type 0
 IsUnprogrammed told unread name (Programs fault) = IsTextFault told name fault
-IsUnprogrammed told unread name ProgramsUnread = unread name
+IsUnprogrammed told unread name (Unread input.Programs) = unread name
 IsUnprogrammed told unread name OutOfMemory = ⊤
 IsUnprogrammed told unread name other = ⊥

@@ -1,5 +1,5 @@
 -- What the running of programs in threads answers.
-use Rattle.std.specs.Prelude.{◌≡◌, ◌⊎◌, ℕ, List, [], length, None, Some, Result, Ok, Err}
+use Rattle.std.specs.Prelude.{◌≡◌, ◌⊎◌, ⊤, ℕ, List, [], length, None, Some, Result, Ok, Err}
 use Rattle.command_line.specs.declared.request.Run.{Run}
 use Rattle.lease_rule.specs.Ranges.{first_bad}
 use Rattle.core_program.specs.declared.instruction.Instruction.{Instruction}
@@ -10,13 +10,13 @@ use Rattle.audit.specs.declared.machine_fault.Cause.TheVariants.{GaveUp, Stopped
 use Rattle.machine.specs.Runs.{AreSlicesLeft, IsMachineRun}
 use Rattle.audit.specs.declared.threads_fault.ThreadsFault.{ThreadsFault}
 use Rattle.commands.specs.Programs.{IsUnprogrammed}
-use Rattle.host_files.specs.Files.{Files}
-use Rattle.commands.specs.declared.call_fault.CallFault.TheVariants.{OutOfMemory}
-use Rattle.commands.specs.Logs.{ArePutUpTo, IsUnwritten, performed_below}
+use Rattle.host_files.specs.Files.{Files, IsOnlyRead}
+use Rattle.commands.specs.Logs.{ArePutUpTo, performed_below}
 use Rattle.commands.specs.Numbers.{AreLeft, AreLeftAsFar, IsUnleft, numbers_of}
 use Rattle.commands.specs.Programmed.{Programmed, config_of, log_format}
-use Rattle.commands.specs.declared.running_fault.RunningFault.{RunningFault}
-use Rattle.commands.specs.declared.running_fault.RunningFault.TheVariants.{Config, Run as RunRefused, StatisticsUnwritten, Call}
+use Rattle.commands.specs.declared.place.Output.TheVariants as output
+use Rattle.commands.specs.declared.refusal.Refusal.{Refusal}
+use Rattle.commands.specs.declared.refusal.Refusal.TheVariants.{Config, Run as RunRefused, LogUnwritten, OutOfMemory, Unwritten}
 
 -- this holds of the units and slices of a whole run of the programs, which is one of the core machine
 abbrev pub Ended : Run → List (List Instruction) → (List UnitParts → List SliceParts → Type 0) → Type 0
@@ -36,26 +36,30 @@ pub record AreLeftShort (programs : List (List Instruction)) (n : ℕ) (fault : 
   pub slices : AreSlicesLeft n fault.cause us ss
   pub short : ((fault.cause ≡ GaveUp) ⊎ (fault.cause ≡ Stopped)) → StoppedShort programs us fault.core
 
+-- the logs, and then the numbers, of what this fault of the run left are left as far as they could be written
+abbrev pub LeavesRun : Files → Files → Run → ThreadsFault → Type 0
+LeavesRun old new asked fault =
+    Programmed old.told asked.limits asked.programs.now (λ set. (us : List UnitParts) × (ss : List SliceParts)
+    × AreLeftShort set.programs asked.limits.slices fault us ss
+    × AreLeftAsFar (log_format set.format) old new asked.out.now (length set.programs) (kept_log us) asked.statistics (numbers_in asked (length set.programs) us ss))
+
 -- The number of operations that the programs performed, or why there is none. The configuration is looked at first, then the
 -- programs; what a run is refused for is told before a log that can't be written. The folder was `old` before and is `new`
 -- after: the logs of the cores' units, and then the numbers of the units and slices where a file was given for them. After a log that
 -- can't be written they are those before it, and after a fault of the run all, or those of the first cores. `unread` holds of the name of
 -- a file that can't be opened or read.
-abbrev pub IsThreadRun : Files → Files → (List ℕ → Type 0) → Run → Result ℕ RunningFault → Type 0
+abbrev pub IsThreadRun : Files → Files → (List ℕ → Type 0) → Run → Result ℕ Refusal → Type 0
 IsThreadRun old new unread asked (Ok count) =
     Programmed old.told asked.limits asked.programs.now (λ set. Ended asked set.programs (λ us ss.
     (count ≡ performed_below (kept_log us) (length set.programs)) × AreLeft (log_format set.format) old new asked.out.now (length set.programs) (kept_log us) asked.statistics (numbers_in asked (length set.programs) us ss)))
-IsThreadRun old new unread asked (Err (Config fault)) = first_bad (config_of asked.limits) ≡ Some fault
-IsThreadRun old new unread asked (Err (RunRefused fault)) =
-    Programmed old.told asked.limits asked.programs.now (λ set. (us : List UnitParts) × (ss : List SliceParts)
-    × AreLeftShort set.programs asked.limits.slices fault us ss
-    × AreLeftAsFar (log_format set.format) old new asked.out.now (length set.programs) (kept_log us) asked.statistics (numbers_in asked (length set.programs) us ss))
-IsThreadRun old new unread asked (Err (Call fault)) =
-    (fault ≡ OutOfMemory)
-    ⊎ (((first_bad (config_of asked.limits) ≡ None) × IsUnprogrammed old.told unread asked.programs.now fault)
-    ⊎ Programmed old.told asked.limits asked.programs.now (λ set. Ended asked set.programs (λ us ss.
-    IsUnwritten (ArePutUpTo (log_format set.format) old new asked.out.now (length set.programs) (kept_log us)) fault)))
-IsThreadRun old new unread asked (Err StatisticsUnwritten) =
+IsThreadRun old new unread asked (Err (Config fault)) = (first_bad (config_of asked.limits) ≡ Some fault) × (new ≡ old)
+IsThreadRun old new unread asked (Err (RunRefused fault)) = LeavesRun old new asked fault
+IsThreadRun old new unread asked (Err (LogUnwritten file)) =
     Programmed old.told asked.limits asked.programs.now (λ set. Ended asked set.programs (λ us ss.
-    IsUnleft (log_format set.format) old new asked.out.now (length set.programs) (kept_log us) asked.statistics StatisticsUnwritten))
-IsThreadRun old new unread asked (Err other) = ⊥
+    ArePutUpTo (log_format set.format) old new asked.out.now (length set.programs) (kept_log us) file))
+IsThreadRun old new unread asked (Err (Unwritten output.Statistics)) =
+    Programmed old.told asked.limits asked.programs.now (λ set. Ended asked set.programs (λ us ss.
+    IsUnleft (log_format set.format) old new asked.out.now (length set.programs) (kept_log us) asked.statistics (Unwritten output.Statistics)))
+IsThreadRun old new unread asked (Err OutOfMemory) = ⊤
+IsThreadRun old new unread asked (Err fault) =
+    IsOnlyRead old new × (first_bad (config_of asked.limits) ≡ None) × IsUnprogrammed old.told unread asked.programs.now fault

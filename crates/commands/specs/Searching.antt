@@ -4,7 +4,6 @@ use Rattle.std.specs.Prelude.{◌≡◌, ◌⊎◌, ⊤, ℕ, ◌*◌, ◌+◌, 
 use Rattle.std.specs.Io.KnownBytes.{Appends, Keeps}
 use Rattle.host_files.specs.Files.{Files, IsOnlyRead}
 use Rattle.commands.specs.Outputs.{FailsPutAt, IsNameOf, PutsAt, PutsSuchAt}
-use Rattle.commands.specs.declared.call_fault.CallFault.TheVariants.{Output, OutOfMemory}
 use Rattle.commands.specs.Sinks.{HasFailed, Sink, TakesBeginning, line}
 use Rattle.command_line.specs.declared.request.Search.{Search}
 use Rattle.mem_op.specs.Consistency.{Operation, IsConsistent, IsSequentialOrder}
@@ -20,8 +19,9 @@ use Rattle.commands.specs.SearchAnswers.{search_text}
 use Rattle.commands.specs.Traces.{AreTraceless, TellsTrace}
 use Rattle.commands.specs.declared.search_answer.SearchAnswer.{SearchAnswer}
 use Rattle.commands.specs.declared.search_answer.SearchAnswer.TheVariants.{Yes, No}
-use Rattle.commands.specs.declared.searching_fault.SearchingFault.{SearchingFault}
-use Rattle.commands.specs.declared.searching_fault.SearchingFault.TheVariants.{Undecided, OrderUnwritten, RefutationUnwritten, PictureUnwritten, Call}
+use Rattle.commands.specs.declared.place.Output.TheVariants as output
+use Rattle.commands.specs.declared.refusal.Refusal.{Refusal}
+use Rattle.commands.specs.declared.refusal.Refusal.TheVariants.{Undecided, OutOfMemory, Unwritten}
 
 -- how many steps a search may make where nothing is said: 100,000,000, and 100 for each operation
 abbrev pub budget_or_default : Option ℕ → ℕ → ℕ
@@ -74,20 +74,20 @@ TellsAnswer (No operations) text = IsGrown (line (search_text (No operations))) 
 
 -- The answer, whose line standard output took, or why there is none. What is found is put before anything is printed. A search that gives
 -- up promises nothing of the trace. `unread` holds of the name of a file that can't be opened or read.
-abbrev pub IsSearched : Files → Files → (List ℕ → Type 0) → Search → Sink → Sink → Result SearchAnswer SearchingFault → Type 0
+abbrev pub IsSearched : Files → Files → (List ℕ → Type 0) → Search → Sink → Sink → Result SearchAnswer Refusal → Type 0
 IsSearched old new unread asked out out' (Ok answer) =
     TellsTrace old.told asked.trace (λ cores. Finds old new asked cores answer)
     × (text : List ℕ) × TellsAnswer answer text × Appends out.contents out'.contents text
-IsSearched old new unread asked out out' (Err (Call Output)) =
+IsSearched old new unread asked out out' (Err (Unwritten output.Standard)) =
     (answer : SearchAnswer) × TellsTrace old.told asked.trace (λ cores. Finds old new asked cores answer)
     × (text : List ℕ) × TellsAnswer answer text × HasFailed out out' × TakesBeginning out out' text
 IsSearched old new unread asked out out' (Err Undecided) = TellsTrace old.told asked.trace (λ cores. ⊤) × (new ≡ old) × Keeps out.contents out'.contents
-IsSearched old new unread asked out out' (Err OrderUnwritten) =
+IsSearched old new unread asked out out' (Err (Unwritten output.Order)) =
     TellsTrace old.told asked.trace IsConsistent × FailsPutAt old new asked.order × Keeps out.contents out'.contents
-IsSearched old new unread asked out out' (Err RefutationUnwritten) =
+IsSearched old new unread asked out out' (Err (Unwritten output.Refutation)) =
     TellsTrace old.told asked.trace (λ cores. ¬ (IsConsistent cores)) × FailsPutAt old new asked.refutation × Keeps out.contents out'.contents
-IsSearched old new unread asked out out' (Err PictureUnwritten) =
+IsSearched old new unread asked out out' (Err (Unwritten output.Picture)) =
     TellsTrace old.told asked.trace (FailsPicture old new asked) × Keeps out.contents out'.contents
-IsSearched old new unread asked out out' (Err (Call OutOfMemory)) = Keeps out.contents out'.contents
+IsSearched old new unread asked out out' (Err OutOfMemory) = Keeps out.contents out'.contents
 IsSearched old new unread asked out out' (Err fault) =
     AreTraceless old.told unread asked.trace fault × IsOnlyRead old new × Keeps out.contents out'.contents

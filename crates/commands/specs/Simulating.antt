@@ -1,5 +1,6 @@
 -- What the simulation of programs answers.
-use Rattle.std.specs.Prelude.{◌≡◌, ◌≢◌, ◌⊎◌, ℕ, List, [], length, map, Option, None, Some, Result, Ok, Err}
+use Rattle.std.specs.Prelude.{◌≡◌, ◌≢◌, ⊤, ℕ, List, [], length, map, Option, None, Some, Result, Ok, Err}
+use Rattle.std.specs.Option.{IsSomeAnd}
 use Rattle.std.specs.Borrow.{Bor}
 use Rattle.command_line.specs.declared.request.Sim.{Sim}
 use Rattle.lease_rule.specs.Ranges.{first_bad}
@@ -13,14 +14,16 @@ use Rattle.core_machine.specs.Opening.{opening_parts}
 use Rattle.core_machine.specs.Parts.{CoreParts, world}
 use Rattle.core_machine.specs.Works.{log_at}
 use Rattle.simulation.specs.Simulating.{IsSimulated, IsSimulationFault}
+use Rattle.simulation.specs.declared.fault.SimulationFault.{SimulationFault}
 use Rattle.commands.specs.Programs.{IsUnprogrammed}
-use Rattle.host_files.specs.Files.{Files}
-use Rattle.commands.specs.declared.call_fault.CallFault.TheVariants.{OutOfMemory}
-use Rattle.commands.specs.Logs.{ArePutUpTo, IsUnwritten, performed_below}
+use Rattle.host_files.specs.Files.{Files, IsOnlyRead}
+use Rattle.commands.specs.Logs.{ArePutUpTo, performed_below}
 use Rattle.commands.specs.Numbers.{AreLeft, AreLeftAsFar, IsUnleft, numbers_of}
 use Rattle.commands.specs.Programmed.{Programmed, config_of, log_format}
-use Rattle.commands.specs.declared.running_fault.RunningFault.{RunningFault}
-use Rattle.commands.specs.declared.running_fault.RunningFault.TheVariants.{Config, Schedule, ScheduleUnread, Simulation, StatisticsUnwritten, Call}
+use Rattle.commands.specs.declared.place.Input.TheVariants as input
+use Rattle.commands.specs.declared.place.Output.TheVariants as output
+use Rattle.commands.specs.declared.refusal.Refusal.{Refusal}
+use Rattle.commands.specs.declared.refusal.Refusal.TheVariants.{Schedule, Config, Simulation, LogUnwritten, OutOfMemory, Unread, Unwritten}
 
 -- ---- what was asked for
 
@@ -36,14 +39,13 @@ IsFaultOfSchedule told (Some name) cores fault = (fault ≢ NoScheduleMemory) ×
 
 -- the file of the schedule can't be opened or read
 abbrev pub IsUnreadSchedule : (List ℕ → Type 0) → Option (Bor (List ℕ)) → Type 0
-IsUnreadSchedule unread None = ⊥
-IsUnreadSchedule unread (Some name) = unread name.now
+IsUnreadSchedule unread given = IsSomeAnd given (λ name. unread name.now)
 
 -- why there is no schedule: the text of its file, or it can't be read, or memory ran out
-abbrev pub IsUnscheduled : (List ℕ → Option (List ℕ)) → (List ℕ → Type 0) → Option (Bor (List ℕ)) → ℕ → RunningFault → Type 0
+abbrev pub IsUnscheduled : (List ℕ → Option (List ℕ)) → (List ℕ → Type 0) → Option (Bor (List ℕ)) → ℕ → Refusal → Type 0
 IsUnscheduled told unread name cores (Schedule fault) = IsFaultOfSchedule told name cores fault
-IsUnscheduled told unread name cores ScheduleUnread = IsUnreadSchedule unread name
-IsUnscheduled told unread name cores (Call fault) = fault ≡ OutOfMemory
+IsUnscheduled told unread name cores (Unread input.Schedule) = IsUnreadSchedule unread name
+IsUnscheduled told unread name cores OutOfMemory = ⊤
 IsUnscheduled told unread name cores other = ⊥
 
 -- ---- what it came to
@@ -61,29 +63,33 @@ EndsIn asked set commands Holds = (q : CoreParts) × IsSimulated commands asked.
 abbrev pub numbers_in : Sim → ℕ → CoreParts → List ℕ
 numbers_in asked cores q = numbers_of cores asked.limits.slices (map (λ seat. seat.unit) q.seats) q.slices
 
+-- the logs, and then the numbers, of the machine in which this fault ended the simulation, are left as far as they could be written
+abbrev pub LeavesSimulation : Files → Files → Sim → SimulationFault → Type 0
+LeavesSimulation old new asked fault =
+    Scheduled old.told asked (λ set commands. (q : CoreParts)
+    × IsSimulationFault commands asked.seed (opening_parts set.programs (config_of asked.limits)) q fault
+    × AreLeftAsFar (log_format set.format) old new asked.out.now (length set.programs) (log_at (world q)) asked.statistics (numbers_in asked (length set.programs) q))
+
 -- The number of operations that the programs performed, or why there is none. The configuration is looked at first, then
 -- the programs, then the schedule; what a simulation is refused for is told before a log that can't be written. The
 -- folder was `old` before and is `new` after: the logs of the machine to which the simulation came, and then its numbers where a file
 -- was given for them. After a log that can't be written they are those before it, and after a fault of the simulation all, or those of the
 -- first cores. `unread`
 -- holds of the name of a file that can't be opened or read.
-abbrev pub IsRun : Files → Files → (List ℕ → Type 0) → Sim → Result ℕ RunningFault → Type 0
+abbrev pub IsRun : Files → Files → (List ℕ → Type 0) → Sim → Result ℕ Refusal → Type 0
 IsRun old new unread asked (Ok count) =
     Scheduled old.told asked (λ set commands. EndsIn asked set commands (λ q.
     (count ≡ performed_below (log_at (world q)) (length set.programs)) × AreLeft (log_format set.format) old new asked.out.now (length set.programs) (log_at (world q)) asked.statistics (numbers_in asked (length set.programs) q)))
-IsRun old new unread asked (Err (Config fault)) = first_bad (config_of asked.limits) ≡ Some fault
-IsRun old new unread asked (Err (Schedule fault)) = Programmed old.told asked.limits asked.programs.now (λ set. IsFaultOfSchedule old.told asked.schedule (length set.programs) fault)
-IsRun old new unread asked (Err ScheduleUnread) = Programmed old.told asked.limits asked.programs.now (λ set. IsUnreadSchedule unread asked.schedule)
-IsRun old new unread asked (Err (Simulation fault)) =
-    Scheduled old.told asked (λ set commands. (q : CoreParts)
-    × IsSimulationFault commands asked.seed (opening_parts set.programs (config_of asked.limits)) q fault
-    × AreLeftAsFar (log_format set.format) old new asked.out.now (length set.programs) (log_at (world q)) asked.statistics (numbers_in asked (length set.programs) q))
-IsRun old new unread asked (Err (Call fault)) =
-    (fault ≡ OutOfMemory)
-    ⊎ (((first_bad (config_of asked.limits) ≡ None) × IsUnprogrammed old.told unread asked.programs.now fault)
-    ⊎ Scheduled old.told asked (λ set commands. EndsIn asked set commands (λ q.
-    IsUnwritten (ArePutUpTo (log_format set.format) old new asked.out.now (length set.programs) (log_at (world q))) fault)))
-IsRun old new unread asked (Err StatisticsUnwritten) =
+IsRun old new unread asked (Err (Config fault)) = (first_bad (config_of asked.limits) ≡ Some fault) × (new ≡ old)
+IsRun old new unread asked (Err (Schedule fault)) = IsOnlyRead old new × Programmed old.told asked.limits asked.programs.now (λ set. IsFaultOfSchedule old.told asked.schedule (length set.programs) fault)
+IsRun old new unread asked (Err (Unread input.Schedule)) = IsOnlyRead old new × Programmed old.told asked.limits asked.programs.now (λ set. IsUnreadSchedule unread asked.schedule)
+IsRun old new unread asked (Err (Simulation fault)) = LeavesSimulation old new asked fault
+IsRun old new unread asked (Err (LogUnwritten file)) =
     Scheduled old.told asked (λ set commands. EndsIn asked set commands (λ q.
-    IsUnleft (log_format set.format) old new asked.out.now (length set.programs) (log_at (world q)) asked.statistics StatisticsUnwritten))
-IsRun old new unread asked (Err other) = ⊥
+    ArePutUpTo (log_format set.format) old new asked.out.now (length set.programs) (log_at (world q)) file))
+IsRun old new unread asked (Err (Unwritten output.Statistics)) =
+    Scheduled old.told asked (λ set commands. EndsIn asked set commands (λ q.
+    IsUnleft (log_format set.format) old new asked.out.now (length set.programs) (log_at (world q)) asked.statistics (Unwritten output.Statistics)))
+IsRun old new unread asked (Err OutOfMemory) = ⊤
+IsRun old new unread asked (Err fault) =
+    IsOnlyRead old new × (first_bad (config_of asked.limits) ≡ None) × IsUnprogrammed old.told unread asked.programs.now fault

@@ -1,6 +1,6 @@
 -- What the counting of a litmus test's outcomes answers, what standard output took of their table, and what the folder tells of the
 -- totals. The folder was `before` and is `after`, the sink was `old` before and is `new` after.
-use Rattle.std.specs.Prelude.{◌≡◌, ◌≢◌, ℕ, Bool, true, false, List, Option, None, Some, Result, Ok, Err}
+use Rattle.std.specs.Prelude.{◌≡◌, ◌≢◌, ⊤, ℕ, Bool, true, false, List, Option, None, Some, Result, Ok, Err}
 use Rattle.std.specs.Io.KnownBytes.{Appends, Keeps}
 use Rattle.std.specs.List.{AllByRecursion, list_any}
 use Rattle.command_line.specs.declared.request.Litmus.{Litmus}
@@ -21,10 +21,11 @@ use Rattle.commands.specs.Programmed.{config_of}
 use Rattle.statistics.specs.TableText.{totals_text}
 use Rattle.host_files.specs.Files.{Files, IsOnlyRead}
 use Rattle.commands.specs.Outputs.{FailsPutAt, PutsAt}
-use Rattle.commands.specs.declared.call_fault.CallFault.TheVariants.{Output, OutOfMemory}
 use Rattle.commands.specs.Sinks.{HasFailed, Sink, TakesBeginning}
-use Rattle.commands.specs.declared.running_fault.RunningFault.{RunningFault}
-use Rattle.commands.specs.declared.running_fault.RunningFault.TheVariants.{Config, Test, TestUnread, Collect, StatisticsUnwritten, Call}
+use Rattle.commands.specs.declared.place.Input.TheVariants as input
+use Rattle.commands.specs.declared.place.Output.TheVariants as output
+use Rattle.commands.specs.declared.refusal.Refusal.{Refusal}
+use Rattle.commands.specs.declared.refusal.Refusal.TheVariants.{Test, Config, Collect, OutOfMemory, Unread, Unwritten}
 
 -- ---- what was asked for
 
@@ -33,10 +34,10 @@ abbrev pub IsTestIn : (List ℕ → Option (List ℕ)) → List ℕ → LitmusPa
 IsTestIn told name t = (text : List ℕ) × Tells (told name) text × Spells text t × AllByRecursion IsProgram t.programs
 
 -- why there is no test: the text of its file, or it can't be read, or memory ran out
-abbrev pub IsUntested : (List ℕ → Option (List ℕ)) → (List ℕ → Type 0) → List ℕ → RunningFault → Type 0
+abbrev pub IsUntested : (List ℕ → Option (List ℕ)) → (List ℕ → Type 0) → List ℕ → Refusal → Type 0
 IsUntested told unread name (Test fault) = (fault ≢ NoTestMemory) × (text : List ℕ) × Tells (told name) text × IsFault text fault
-IsUntested told unread name TestUnread = unread name
-IsUntested told unread name (Call fault) = fault ≡ OutOfMemory
+IsUntested told unread name (Unread input.Test) = unread name
+IsUntested told unread name OutOfMemory = ⊤
 IsUntested told unread name other = ⊥
 
 -- the numbers of the machine and the number of runs are in range
@@ -72,14 +73,14 @@ has_forbidden table = list_any (λ row. row.forbidden) table.rows
 
 -- Why there is no table: the configuration is looked at first, then the number of runs, then the test. `unread` holds of the name of a file
 -- that can't be opened or read.
-abbrev pub IsUntabled : (List ℕ → Option (List ℕ)) → (List ℕ → Type 0) → Litmus → RunningFault → Type 0
+abbrev pub IsUntabled : (List ℕ → Option (List ℕ)) → (List ℕ → Type 0) → Litmus → Refusal → Type 0
 IsUntabled told unread asked (Config fault) = first_bad (config_of asked.limits) ≡ Some fault
 IsUntabled told unread asked (Collect BadRuns) = (first_bad (config_of asked.limits) ≡ None) × IsBadRunCount asked.runs
 IsUntabled told unread asked (Collect (RunFailed k cause)) =
     Tested told asked (λ t. IsFaultBy asked.threads t (config_of asked.limits) asked.runs asked.seed (RunFailed k cause))
 IsUntabled told unread asked (Test fault) = IsInOrder asked × IsUntested told unread asked.test.now (Test fault)
-IsUntabled told unread asked TestUnread = IsInOrder asked × unread asked.test.now
-IsUntabled told unread asked (Call fault) = fault ≡ OutOfMemory
+IsUntabled told unread asked (Unread input.Test) = IsInOrder asked × unread asked.test.now
+IsUntabled told unread asked OutOfMemory = ⊤
 IsUntabled told unread asked other = ⊥
 
 -- ---- its text
@@ -87,14 +88,14 @@ IsUntabled told unread asked other = ⊥
 -- Whether an outcome of the table is forbidden, whose text the sink took, and then the totals' text was put where a file was given for it;
 -- or why there is none. Where the sink failed, it took a beginning of the text; where the totals couldn't be put, all of it; and else it
 -- holds what it held.
-abbrev pub IsCounted : Files → Files → (List ℕ → Type 0) → Litmus → Sink → Sink → Result Bool RunningFault → Type 0
+abbrev pub IsCounted : Files → Files → (List ℕ → Type 0) → Litmus → Sink → Sink → Result Bool Refusal → Type 0
 IsCounted before after unread asked old new (Ok forbidden) =
     Tabled before.told asked (λ collected. (forbidden ≡ has_forbidden collected.table) × Appends old.contents new.contents (table_text collected.table)
     × PutsAt before after asked.statistics (totals_text collected.totals))
-IsCounted before after unread asked old new (Err (Call Output)) =
+IsCounted before after unread asked old new (Err (Unwritten output.Standard)) =
     Tabled before.told asked (λ collected. HasFailed old new × TakesBeginning old new (table_text collected.table)) × IsOnlyRead before after
-IsCounted before after unread asked old new (Err (Call OutOfMemory)) = Keeps old.contents new.contents × IsOnlyRead before after
-IsCounted before after unread asked old new (Err StatisticsUnwritten) =
+IsCounted before after unread asked old new (Err OutOfMemory) = Keeps old.contents new.contents × IsOnlyRead before after
+IsCounted before after unread asked old new (Err (Unwritten output.Statistics)) =
     Tabled before.told asked (λ collected. Appends old.contents new.contents (table_text collected.table)) × FailsPutAt before after asked.statistics
 IsCounted before after unread asked old new (Err fault) =
     IsUntabled before.told unread asked fault × Keeps old.contents new.contents × IsOnlyRead before after

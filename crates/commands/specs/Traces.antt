@@ -2,7 +2,6 @@
 use Rattle.std.specs.Prelude.{◌≡◌, ⊤, ℕ, List, length, Option, vec_len}
 use Rattle.std.specs.Borrow.{Bor}
 use Rattle.commands.specs.LogFiles.{AreTextsOf, IsUnreadAt, Spelled}
-use Rattle.commands.specs.declared.call_fault.CallFault.TheVariants.{OutOfMemory}
 use Rattle.command_line.specs.declared.request.TraceFiles.{TraceFiles}
 use Rattle.command_line.specs.declared.request.TraceFiles.TheVariants.{One, Logs as LogFiles}
 use Rattle.log_file.specs.Devices.{Tells}
@@ -16,8 +15,9 @@ use Rattle.verdict.specs.Counts.{IsInRange, IsOutOfRange}
 use Rattle.verdict.specs.declared.judge_fault.Count.TheVariants.{Files as FileCount}
 use Rattle.verdict.specs.declared.judge_fault.JudgeFault.{JudgeFault}
 use Rattle.verdict.specs.declared.judge_fault.JudgeFault.TheVariants.{BadConfig, Log, Read, OutOfMemory as NoLogMemory}
-use Rattle.commands.specs.declared.searching_fault.SearchingFault.{SearchingFault}
-use Rattle.commands.specs.declared.searching_fault.SearchingFault.TheVariants.{Trace, TraceUnread, Logs, Call}
+use Rattle.commands.specs.declared.place.Input.TheVariants as input
+use Rattle.commands.specs.declared.refusal.Refusal.{Refusal}
+use Rattle.commands.specs.declared.refusal.Refusal.TheVariants.{Judge, Trace, OutOfMemory, Unread}
 
 -- the text of the file of this name spells this trace
 abbrev pub SpellsTraceAt : (List ℕ → Option (List ℕ)) → List ℕ → List (List Operation) → Type 0
@@ -72,9 +72,9 @@ AreNoLogsIn told unread (One name) fault = ⊥
 AreNoLogsIn told unread (LogFiles names) fault = AreNoLogs told unread names.items fault
 
 -- why the files tell no trace
-abbrev pub AreTraceless : (List ℕ → Option (List ℕ)) → (List ℕ → Type 0) → TraceFiles → SearchingFault → Type 0
+abbrev pub AreTraceless : (List ℕ → Option (List ℕ)) → (List ℕ → Type 0) → TraceFiles → Refusal → Type 0
 AreTraceless told unread files (Trace fault) = IsTextFaultIn told files fault
-AreTraceless told unread files TraceUnread = IsUnreadIn unread files
-AreTraceless told unread files (Logs fault) = AreNoLogsIn told unread files fault
-AreTraceless told unread files (Call OutOfMemory) = ⊤
+AreTraceless told unread files (Unread input.Trace) = IsUnreadIn unread files
+AreTraceless told unread files (Judge fault) = AreNoLogsIn told unread files fault
+AreTraceless told unread files OutOfMemory = ⊤
 AreTraceless told unread files fault = ⊥

@@ -1,5 +1,5 @@
 -- What the writing of a set of logs anew answers, in format 2.
-use Rattle.std.specs.Prelude.{◌≡◌, ◌⊎◌, ℕ, List, [], Result, Ok, Err, slice_get, vec_len}
+use Rattle.std.specs.Prelude.{◌≡◌, ⊤, ℕ, List, [], Result, Ok, Err, slice_get, vec_len}
 use Rattle.std.specs.Option.{option_map_or}
 use Rattle.command_line.specs.declared.request.Upgrade.{Upgrade}
 use Rattle.log_record.specs.declared.format.Format.TheVariants.{Two}
@@ -9,18 +9,22 @@ use Rattle.verdict.specs.declared.judge_fault.Count.TheVariants.{Files as FileCo
 use Rattle.verdict.specs.declared.judge_fault.JudgeFault.TheVariants.{BadConfig, Log, Read}
 use Rattle.host_files.specs.Files.{Files}
 use Rattle.commands.specs.LogFiles.{IsUnspelled, Spelled}
-use Rattle.commands.specs.Logs.{ArePut, ArePutUpTo, IsUnwritten, performed_below}
-use Rattle.commands.specs.declared.call_fault.CallFault.TheVariants.{OutOfMemory as NoMemory}
-use Rattle.commands.specs.declared.judging_fault.JudgingFault.{JudgingFault}
-use Rattle.commands.specs.declared.judging_fault.JudgingFault.TheVariants.{Judge, Call}
+use Rattle.commands.specs.Logs.{ArePut, ArePutUpTo, TellsFirst, performed_below}
+use Rattle.commands.specs.declared.refusal.Refusal.{Refusal}
+use Rattle.commands.specs.declared.refusal.Refusal.TheVariants.{Judge, LogUnwritten, OutOfMemory as NoMemory}
 
 -- log c of a set, of no records where it has no such log
 abbrev pub log_in : List (List Record) → ℕ → List Record
 log_in logs c = option_map_or (λ log. log) (slice_get logs c) []
 
+-- the new files spell in format 2 the logs that the old ones spelled
+abbrev pub LeavesAnew : Files → Files → Upgrade → Type 0
+LeavesAnew old new asked =
+    Spelled old.told asked.files.items (λ logs. TellsFirst Two new.told asked.out.now (vec_len asked.files) (log_in logs) (vec_len asked.files))
+
 -- The number of operations of the logs, or why they weren't written. A number of files that is out of range is told before a file is
 -- opened, and a file that is refused before one is written. The folder was `old` before and is `new` after: each log in format 2.
-abbrev pub IsUpgraded : Files → Files → (List ℕ → Type 0) → Upgrade → Result ℕ JudgingFault → Type 0
+abbrev pub IsUpgraded : Files → Files → (List ℕ → Type 0) → Upgrade → Result ℕ Refusal → Type 0
 IsUpgraded old new unread asked (Ok count) =
     IsInRange (vec_len asked.files)
     × Spelled old.told asked.files.items (λ logs. (count ≡ performed_below (log_in logs) (vec_len asked.files))
@@ -30,8 +34,8 @@ IsUpgraded old new unread asked (Err (Judge (Log file line fault))) =
 IsUpgraded old new unread asked (Err (Judge (Read file))) =
     IsInRange (vec_len asked.files) × IsUnspelled old new unread asked.files.items (Read file)
 IsUpgraded old new unread asked (Err (Judge (BadConfig FileCount))) = (new ≡ old) × IsOutOfRange (vec_len asked.files)
-IsUpgraded old new unread asked (Err (Call fault)) =
-    (fault ≡ NoMemory)
-    ⊎ (IsInRange (vec_len asked.files)
-    × Spelled old.told asked.files.items (λ logs. IsUnwritten (ArePutUpTo Two old new asked.out.now (vec_len asked.files) (log_in logs)) fault))
+IsUpgraded old new unread asked (Err (LogUnwritten file)) =
+    IsInRange (vec_len asked.files)
+    × Spelled old.told asked.files.items (λ logs. ArePutUpTo Two old new asked.out.now (vec_len asked.files) (log_in logs) file)
+IsUpgraded old new unread asked (Err NoMemory) = ⊤
 IsUpgraded old new unread asked (Err other) = ⊥

@@ -3,7 +3,6 @@ pub mod Certificates
 pub mod Finding
 pub mod Looking
 pub mod Performing
-pub mod Printing
 pub mod Putting
 pub mod ReadLogs
 pub mod ReadTraces

@@ -3,8 +3,8 @@
 ghost use Rattle.std.specs.Prelude.{◌≡◌};
 ghost use Rattle.commands.specs.Answers.{answer_status};
 
-use command_line::FileKind;
 use super::search_answer::SearchAnswer;
+use command_line::FileKind;
 use std::fmt;
 use std::fmt::Display;
 use verdict::Verdict;
@@ -40,10 +40,7 @@ impl Answer {
     {
         match self {
             Answer::Judged(verdict) | Answer::Ordered(verdict) | Answer::Explained(verdict) => {
-                match verdict {
-                    Verdict::No(_) => 1,
-                    Verdict::Yes(_) => 0,
-                }
+                verdict.status()
             }
             Answer::Searched(answer) => answer.status(),
             Answer::Counted(true) => 1,
@@ -54,11 +51,6 @@ impl Answer {
 }
 
 impl Display for Answer {
-    ghost use Rattle.std.specs.Prelude.{Some};
-    ghost use Rattle.commands.specs.Answers.{answer_text};
-
-    ghost output = { λ answer. Some (answer_text answer) };
-
     fn fmt<W: fmt::Write>(&self, f: &mut fmt::Formatter<W>) -> fmt::Result {
         match self {
             Answer::Judged(verdict) | Answer::Ordered(verdict) | Answer::Explained(verdict) => {

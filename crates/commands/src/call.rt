@@ -1,31 +1,30 @@
 //! One call of the program.
 
-ghost use Rattle.std.specs.Prelude.{◌≡◌};
+ghost use Rattle.std.specs.Prelude.{◌≡◌, ◌≤◌, ◌⊎◌};
 ghost use Rattle.host_files.specs.Files.{IsUnread};
 ghost use Rattle.command_line.specs.Asking.{texts};
-ghost use Rattle.commands.specs.Endings as endings;
-ghost use Rattle.commands.specs.inner.Performing.{IsPerformed};
+ghost use Rattle.commands.specs.Promises as promises;
+ghost use Rattle.commands.specs.inner.Performing.{Came};
 
 use super::answer::Answer;
-use super::command_fault::CommandFault;
-use super::more::tell_more;
-use super::output::{print_answer, refuse, tell, tell_answer};
-use super::call_fault::CallFault;
-use command_line::{Refusal, Request, read};
-use host_files::Folder;
 use super::check_files::check;
-use super::explain_files::explain;
-use super::order_files::order;
-use super::upgrade_files::upgrade;
-use log_file::ByteSink;
-use super::watch::Watch;
-use super::litmus_files::count_outcomes;
-use super::inspect_files::inspect;
-use super::run_files::run;
-use super::sim_files::sim;
-use search::SearchWatch;
 use super::confirm_files::confirm;
+use super::explain_files::explain;
+use super::inspect_files::inspect;
+use super::litmus_files::count_outcomes;
+use super::more::tell_more;
+use super::order_files::order;
+use super::output::{print_answer, refuse, tell, tell_answer};
+use super::refusal::Refusal;
+use super::run_files::run;
 use super::search_files::search;
+use super::sim_files::sim;
+use super::upgrade_files::upgrade;
+use super::watch::Watch;
+use command_line::{Refusal as Misread, Request, read};
+use host_files::Folder;
+use log_file::ByteSink;
+use search::SearchWatch;
 use std::alloc::Global;
 use std::sync::Wait;
 use std::thread::Threads;
@@ -46,43 +45,48 @@ pub fn command<
     O: ByteSink,
     E: ByteSink,
 >(rt: &R, alloc: Global, words: &[&str], watch: &W, folder: &mut F, out: &mut O, err: &mut E) -> u8
-    ensures ends { (ending : endings.Ending) × (result ≡ endings.status_of ending)
-        × endings.EndsBy (F.files folder.old) (F.files folder.new)
+    ensures sound { result ≡ 0 → promises.AskFor (texts words.entry.now)
+        (promises.AreConsistent (F.files folder.old).told) }
+    ensures flat { result ≡ 0 → promises.AskFor (texts words.entry.now)
+        (promises.RunFlat (F.files folder.old).told) }
+    ensures no { result ≡ 1 → promises.AskFor (texts words.entry.now)
+        (promises.AreWrong (F.files folder.old).told (promises.sink_of O.contents O.failed out.old)
+        (promises.sink_of O.contents O.failed out.new)) }
+    ensures order { result ≡ 0 → promises.AskFor (texts words.entry.now)
+        (promises.AreOrdered (F.files folder.old).told (promises.sink_of O.contents O.failed out.old)
+        (promises.sink_of O.contents O.failed out.new)) }
+    ensures upgraded { result ≡ 0 → promises.AskFor (texts words.entry.now)
+        (promises.AreUpgraded (F.files folder.old) (F.files folder.new)) }
+    ensures yes { result ≡ 0 → promises.AskFor (texts words.entry.now)
+        (promises.LeaveYes (F.files folder.old).told (F.files folder.new).told) }
+    ensures files { promises.KeepsFiles (F.files folder.old).told (F.files folder.new).told
+        (λ name. promises.AskFor (texts words.entry.now) (λ asked. promises.IsPutUnread asked name)) }
+    ensures refused { 2 ≤ result → promises.AreUnasked (F.files folder.old) (F.files folder.new)
+        (texts words.entry.now) (promises.sink_of O.contents O.failed out.old)
+        (promises.sink_of O.contents O.failed out.new) result
+        ⊎ promises.AskFor (texts words.entry.now) (promises.IsRefusedCall (F.files folder.old) (F.files folder.new)
         (IsUnread F.Source.remaining F.Source.failed
-        (F.files folder.old) (F.files folder.new)) (texts words.entry.now)
-        (endings.sink_of O.contents O.failed out.old)
-        (endings.sink_of O.contents O.failed out.new)
-        (endings.sink_of E.contents E.failed err.old)
-        (endings.sink_of E.contents E.failed err.new) ending }
-    ensures files { endings.KeepsFiles (F.files folder.old).told (F.files folder.new).told
-        (λ name. endings.AskFor (texts words.entry.now) (λ asked. endings.IsPutUnread asked name)) }
-    ensures sound { result ≡ 0 → endings.AskFor (texts words.entry.now)
-        (endings.AreConsistent (F.files folder.old).told) }
-    ensures refuted { result ≡ 1 → endings.AskFor (texts words.entry.now)
-        (endings.AreRefuted (F.files folder.old).told) }
-    ensures order { result ≡ 0 → endings.AskFor (texts words.entry.now)
-        (endings.AreOrdered (F.files folder.old).told (endings.sink_of O.contents O.failed out.old)
-        (endings.sink_of O.contents O.failed out.new)) }
-    ensures flat { result ≡ 0 → endings.AskFor (texts words.entry.now)
-        (endings.RunFlat (F.files folder.old).told) }
-    ensures yes { result ≡ 0 → endings.AskFor (texts words.entry.now)
-        (endings.LeaveYes (F.files folder.old).told (F.files folder.new).told) }
+        (F.files folder.old) (F.files folder.new))
+        (promises.sink_of O.contents O.failed out.old)
+        (promises.sink_of O.contents O.failed out.new)
+        (promises.sink_of E.contents E.failed err.old)
+        (promises.sink_of E.contents E.failed err.new) result) }
 {
     let request = match read(alloc, words) {
         Ok(request) => request,
-        Err(Refusal::Usage(text)) => {
+        Err(Misread::Usage(text)) => {
             tell(err, text.as_str());
             return USAGE;
         }
-        Err(Refusal::OutOfMemory) => {
-            return refuse(alloc, err, CommandFault::Call(CallFault::OutOfMemory));
+        Err(Misread::OutOfMemory) => {
+            return refuse(alloc, err, Refusal::OutOfMemory);
         }
     };
     match perform(rt, alloc, &request, watch, folder, out) {
         Ok(answer) => tell_answer(err, &answer),
-        Err(fault) => {
-            let status = refuse(alloc, err, fault);
-            tell_more(alloc, folder, &request, &fault, out);
+        Err(refusal) => {
+            let status = refuse(alloc, err, refusal);
+            tell_more(alloc, folder, &request, &refusal, out);
             status
         }
     }
@@ -96,12 +100,12 @@ fn perform<R: Threads + Wait + Sync, W: Watch + SearchWatch + Sync, F: Folder, O
     watch: &W,
     folder: &mut F,
     out: &mut O,
-) -> Result<Answer, CommandFault>
-    ensures { IsPerformed (F.files folder.old) (F.files folder.new)
+) -> Result<Answer, Refusal>
+    ensures { Came (F.files folder.old) (F.files folder.new)
         (IsUnread F.Source.remaining F.Source.failed
-        (F.files folder.old) (F.files folder.new)) request.now
-        (endings.sink_of O.contents O.failed out.old)
-        (endings.sink_of O.contents O.failed out.new) result }
+        (F.files folder.old) (F.files folder.new))
+        (promises.sink_of O.contents O.failed out.old)
+        (promises.sink_of O.contents O.failed out.new) request.now result }
 {
     match request {
         Request::Check(asked) => {

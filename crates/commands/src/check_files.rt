@@ -8,9 +8,8 @@ ghost use Rattle.verdict.specs.CoreFaultsOf.{given};
 ghost use Rattle.verdict.specs.Judgement.{IsYes};
 ghost use Rattle.commands.specs.Checking as checking;
 
-use super::judging_fault::JudgingFault;
-use super::call_fault::CallFault;
 use super::log_files::open_all;
+use super::refusal::Refusal;
 use super::text::read_programs;
 use command_line::Check;
 use core_program::ProgramSet;
@@ -34,7 +33,7 @@ pub fn check<R: Threads + Sync, F: Folder>(
     alloc: Global,
     folder: &mut F,
     asked: &Check<'_>,
-) -> Result<Verdict, JudgingFault>
+) -> Result<Verdict, Refusal>
     ensures exact { checking.IsChecked (F.files folder.old).told
         (IsUnread F.Source.remaining F.Source.failed
         (F.files folder.old) (F.files folder.new)) asked.now result }
@@ -56,7 +55,7 @@ pub(crate) fn examine_asked<R: Threads + Sync, F: Folder>(
     alloc: Global,
     folder: &mut F,
     asked: &Check<'_>,
-) -> Result<Found, JudgingFault>
+) -> Result<Found, Refusal>
     ensures exact { MatchResult result
         (λ found. checking.IsChecked (F.files folder.old).told
         (IsUnread F.Source.remaining F.Source.failed
@@ -86,7 +85,7 @@ fn read_given<F: Folder>(
     alloc: Global,
     folder: &mut F,
     name: Option<&str>,
-) -> Result<Option<ProgramSet>, CallFault>
+) -> Result<Option<ProgramSet>, Refusal>
     ensures ok { IfOk result (λ programs. checking.AreProgramsOf (F.files folder.old).told name.entry
         (option_map (λ set. set.programs) programs)) }
     ensures quiet { OnOk result (F.files folder.new ≡ F.files folder.old) }

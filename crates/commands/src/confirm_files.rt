@@ -9,16 +9,16 @@ ghost use Rattle.refutation.specs.declared.fault.CertificateFault.TheVariants.{B
 ghost use Rattle.commands.specs.SearchAnswers.{IsRightOf};
 ghost use Rattle.commands.specs.Confirming as confirming;
 ghost use Rattle.commands.specs.Traces.{TellsTrace};
-ghost use Rattle.commands.specs.declared.searching_fault.SearchingFault.TheVariants.{Certificate};
+ghost use Rattle.commands.specs.declared.refusal.Refusal.TheVariants.{Certificate};
 ghost use Rattle.commands.specs.inner.Looking.{IsLook, IsNoCertificate};
 
-use super::search_answer::SearchAnswer;
-use super::searching_fault::SearchingFault;
 use super::order_certificate::first_bad_line_of_order;
+use super::place::Input;
 use super::printing::answer_line;
-use super::trace_files::read_files;
-use super::call_fault::CallFault;
+use super::refusal::Refusal;
+use super::search_answer::SearchAnswer;
 use super::text::read_text;
+use super::trace_files::read_files;
 use command_line::Confirm;
 use decimal_text::after_text;
 use host_files::Folder;
@@ -41,7 +41,7 @@ pub fn confirm<R: Threads + Sync, F: Folder, O: ByteSink>(
     folder: &mut F,
     asked: &Confirm<'_>,
     out: &mut O,
-) -> Result<SearchAnswer, SearchingFault>
+) -> Result<SearchAnswer, Refusal>
     ensures exact { confirming.IsConfirmed (F.files folder.old) (F.files folder.new)
         (IsUnread F.Source.remaining F.Source.failed
         (F.files folder.old) (F.files folder.new)) asked.now
@@ -64,7 +64,7 @@ fn read_certificate<F: Folder>(
     alloc: Global,
     folder: &mut F,
     name: &str,
-) -> Result<Vec<u8>, SearchingFault>
+) -> Result<Vec<u8>, Refusal>
     ensures ok { IfOk result (λ text. Tells ((F.files folder.old).told name.now) text.items) }
     ensures quiet { OnOk result (F.files folder.new ≡ F.files folder.old) }
     ensures err { IfErr result (IsNoCertificate (IsUnread F.Source.remaining F.Source.failed
@@ -73,13 +73,13 @@ fn read_certificate<F: Folder>(
 {
     match read_text(alloc, folder, name) {
         Ok(text) => Ok(text),
-        Err(ReadFault::Read) => Err(SearchingFault::CertificateUnread),
-        Err(ReadFault::OutOfMemory) => Err(SearchingFault::Call(CallFault::OutOfMemory)),
+        Err(ReadFault::Read) => Err(Refusal::Unread(Input::Certificate)),
+        Err(ReadFault::OutOfMemory) => Err(Refusal::OutOfMemory),
     }
 }
 
 /// The answer that a certificate gives of a trace, or its first line that isn't as it should be.
-fn look_at(alloc: Global, trace: &Trace, text: &[u8]) -> Result<SearchAnswer, SearchingFault>
+fn look_at(alloc: Global, trace: &Trace, text: &[u8]) -> Result<SearchAnswer, Refusal>
     ensures { IsLook trace.now text.now result }
 {
     match after_text(HEADER, text) {
@@ -89,11 +89,7 @@ fn look_at(alloc: Global, trace: &Trace, text: &[u8]) -> Result<SearchAnswer, Se
 }
 
 /// The same of a text that begins as that of a refutation.
-fn look_at_refutation(
-    alloc: Global,
-    trace: &Trace,
-    text: &[u8],
-) -> Result<SearchAnswer, SearchingFault>
+fn look_at_refutation(alloc: Global, trace: &Trace, text: &[u8]) -> Result<SearchAnswer, Refusal>
     requires { (rest : List ℕ) × (text.now ≡ header_line ++ rest) }
     ensures { IsLook trace.now text.now result }
 {
@@ -104,7 +100,7 @@ fn look_at_refutation(
 }
 
 /// The same of a text that doesn't.
-fn look_at_order(alloc: Global, trace: &Trace, text: &[u8]) -> Result<SearchAnswer, SearchingFault>
+fn look_at_order(alloc: Global, trace: &Trace, text: &[u8]) -> Result<SearchAnswer, Refusal>
     requires { (rest : List ℕ) → text.now ≢ header_line ++ rest }
     ensures { IsLook trace.now text.now result }
 {
@@ -115,8 +111,8 @@ fn look_at_order(alloc: Global, trace: &Trace, text: &[u8]) -> Result<SearchAnsw
 }
 
 /// The fault of a line of a certificate.
-fn bad_line(line: u64) -> SearchingFault
+fn bad_line(line: u64) -> Refusal
     ensures { result ≡ Certificate (BadCertificate line) }
 {
-    SearchingFault::Certificate(CertificateFault::BadCertificate { line })
+    Refusal::Certificate(CertificateFault::BadCertificate { line })
 }

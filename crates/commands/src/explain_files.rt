@@ -18,9 +18,10 @@ ghost use Rattle.commands.specs.OtherOrders.{TellsOther};
 ghost use Rattle.commands.specs.inner.ReadLogs.{AreLogsOf};
 
 use super::check_files::examine_asked;
-use super::judging_fault::JudgingFault;
 use super::other_order::other_order;
+use super::place::Output;
 use super::putting::put_under;
+use super::refusal::Refusal;
 use command_line::Explain;
 use core_program::ProgramSet;
 use explain::{Explanation, explain as explained};
@@ -55,7 +56,7 @@ pub fn explain<R: Threads + Sync, W: SearchWatch, F: Folder, O: ByteSink>(
     folder: &mut F,
     asked: &Explain<'_>,
     out: &mut O,
-) -> Result<Verdict, JudgingFault>
+) -> Result<Verdict, Refusal>
     ensures exact { explaining.IsExplained (F.files folder.old) (F.files folder.new)
         (IsUnread F.Source.remaining F.Source.failed
         (F.files folder.old) (F.files folder.new)) asked.now
@@ -75,16 +76,12 @@ pub fn explain<R: Threads + Sync, W: SearchWatch, F: Folder, O: ByteSink>(
 }
 
 /// Puts a picture under a name, where there is a name and a picture.
-fn put_picture<F: Folder>(
-    folder: &mut F,
-    name: Option<&str>,
-    told: &Told,
-) -> Result<(), JudgingFault>
+fn put_picture<F: Folder>(folder: &mut F, name: Option<&str>, told: &Told) -> Result<(), Refusal>
     requires picture { IfSome told.now.picture (λ svg. IsPicture svg.items) }
     requires drawn { IsSome name → IsSome told.now.picture ↔ HasPicture told.now.verdict }
     ensures ok { OnOk result (explaining.PutsPictureAt told.now.verdict
         (F.files folder.old) (F.files folder.new) name.entry) }
-    ensures err { IfErr result (λ fault. (fault ≡ JudgingFault.PictureUnwritten) × HasPicture told.now.verdict
+    ensures err { IfErr result (λ fault. (fault ≡ Refusal.Unwritten Output.Picture) × HasPicture told.now.verdict
         × FailsPutAt (F.files folder.old) (F.files folder.new) name.entry) }
     ensures files { KeepsFiles (F.files folder.old).told (F.files folder.new).told
         (IsNameOf name.entry) }
@@ -92,7 +89,7 @@ fn put_picture<F: Folder>(
     match (name, &told.picture) {
         (Some(name), Some(svg)) => match put_under(folder, Some(name), svg.as_slice()) {
             Ok(()) => Ok(()),
-            Err(_) => Err(JudgingFault::PictureUnwritten),
+            Err(_) => Err(Refusal::Unwritten(Output::Picture)),
         },
         _ => Ok(()),
     }
@@ -105,7 +102,7 @@ fn tell<R: Threads + Sync, W: SearchWatch, F: Folder>(
     watch: &W,
     folder: &mut F,
     asked: &Explain<'_>,
-) -> Result<Told, JudgingFault>
+) -> Result<Told, Refusal>
     ensures exact { MatchResult result
         (λ told. checking.IsChecked (F.files folder.old).told
         (IsUnread F.Source.remaining F.Source.failed

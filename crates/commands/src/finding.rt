@@ -4,8 +4,8 @@ ghost use Rattle.std.specs.Prelude.{◌≡◌, ◌≤◌, ◌^◌, IfErr, IfOk};
 ghost use Rattle.commands.specs.Searching.{AnswersBy, IsProof, budget_or_default};
 ghost use Rattle.commands.specs.inner.Finding.{IsGivenUp};
 
+use super::refusal::Refusal;
 use super::search_answer::SearchAnswer;
-use super::searching_fault::SearchingFault;
 use refutation::Answer;
 use refutation_text::count_of;
 use search::{SearchWatch, search_watched};
@@ -27,14 +27,14 @@ pub(crate) fn find<W: SearchWatch>(
     watch: &W,
     trace: &Trace,
     given: Option<u64>,
-) -> Result<Answer, SearchingFault>
+) -> Result<Answer, Refusal>
     ensures proof { IfOk result (IsProof trace.now) }
     ensures err { IfErr result IsGivenUp }
 {
     match search_watched(alloc, trace, budget(given, count_of(trace) as u64), watch)? {
         Answer::Order(order) => Ok(Answer::Order(order)),
         Answer::Refutation(steps) => Ok(Answer::Refutation(steps)),
-        Answer::Undecided => Err(SearchingFault::Undecided),
+        Answer::Undecided => Err(Refusal::Undecided),
     }
 }
 

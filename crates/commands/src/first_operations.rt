@@ -1,10 +1,6 @@
 //! What the first operations of logs that are cut off get alone.
 
-ghost use Rattle.std.specs.Prelude.{◌≡◌, ℕ, IfOk, MatchOption, string_bytes};
-ghost use Rattle.host_files.specs.Files.{IsOnlyRead, IsUnread};
-ghost use Rattle.commands.specs.LogFiles.{AreTextsOf, IsUnreadAt};
-ghost use Rattle.cut_logs.specs.Beginnings.{texts_of};
-ghost use Rattle.commands.specs.FirstOperations.{TellsFirst, first_words};
+ghost use Rattle.host_files.specs.Files.{IsOnlyRead};
 
 use super::text::read_text;
 use cut_logs::{FirstVerdict, first_verdict};
@@ -19,10 +15,7 @@ pub(crate) fn first_text<F: Folder>(
     folder: &mut F,
     names: &[&str],
 ) -> Result<String, AllocError>
-    ensures told { IfOk result (λ text. TellsFirst (F.files folder.old).told
-        (IsUnread F.Source.remaining F.Source.failed
-        (F.files folder.old) (F.files folder.new)) names.now (string_bytes text)) }
-    ensures read { IsOnlyRead (F.files folder.old) (F.files folder.new) }
+    ensures { IsOnlyRead (F.files folder.old) (F.files folder.new) }
 {
     let Some(texts) = all_again(alloc, folder, names)? else {
         return Ok(String::new(alloc));
@@ -31,9 +24,7 @@ pub(crate) fn first_text<F: Folder>(
 }
 
 /// What is told of such a verdict; nothing where there is none.
-fn words(alloc: Global, first: Option<FirstVerdict>) -> Result<String, AllocError>
-    ensures { IfOk result (λ text. string_bytes text ≡ first_words first) }
-{
+fn words(alloc: Global, first: Option<FirstVerdict>) -> Result<String, AllocError> {
     let Some(first) = first else {
         return Ok(String::new(alloc));
     };
@@ -49,11 +40,7 @@ fn all_again<F: Folder>(
     folder: &mut F,
     names: &[&str],
 ) -> Result<Option<Vec<Vec<u8>>>, AllocError>
-    ensures texts { IfOk result (λ read. MatchOption read
-        ((file : ℕ) × IsUnreadAt (IsUnread F.Source.remaining F.Source.failed
-        (F.files folder.old) (F.files folder.new)) names.now file)
-        (λ texts. AreTextsOf (F.files folder.old).told names.now (texts_of texts.items))) }
-    ensures read { IsOnlyRead (F.files folder.old) (F.files folder.new) }
+    ensures { IsOnlyRead (F.files folder.old) (F.files folder.new) }
 {
     let mut texts = Vec::new(alloc);
     for name in names {

@@ -5,8 +5,8 @@ ghost use Rattle.host_files.specs.Files.{IsOnlyRead, IsUnread};
 ghost use Rattle.command_line.specs.declared.request.FileKind.TheVariants as of_file;
 ghost use Rattle.commands.specs.Inspecting as inspecting;
 
-use super::running_fault::RunningFault;
 use super::litmus_files::read_test;
+use super::refusal::Refusal;
 use super::text::read_programs;
 use command_line::{FileKind, Inspect};
 use host_files::Folder;
@@ -17,7 +17,7 @@ pub fn inspect<F: Folder>(
     alloc: Global,
     folder: &mut F,
     asked: &Inspect<'_>,
-) -> Result<usize, RunningFault>
+) -> Result<usize, Refusal>
     ensures cores { MatchResult result
         (inspecting.AreCoresIn (F.files folder.old).told asked.now.kind asked.now.file.now)
         (inspecting.IsUnreadable (F.files folder.old).told
@@ -32,11 +32,7 @@ pub fn inspect<F: Folder>(
 }
 
 /// How many cores the test in a file is for, or why it is refused.
-fn cores_of_test<F: Folder>(
-    alloc: Global,
-    folder: &mut F,
-    name: &str,
-) -> Result<usize, RunningFault>
+fn cores_of_test<F: Folder>(alloc: Global, folder: &mut F, name: &str) -> Result<usize, Refusal>
     ensures cores { MatchResult result
         (inspecting.AreCoresIn (F.files folder.old).told of_file.Litmus name.now)
         (inspecting.IsUnreadable (F.files folder.old).told
@@ -49,11 +45,7 @@ fn cores_of_test<F: Folder>(
 }
 
 /// How many cores the programs in a file are for, or why they are refused.
-fn cores_of_programs<F: Folder>(
-    alloc: Global,
-    folder: &mut F,
-    name: &str,
-) -> Result<usize, RunningFault>
+fn cores_of_programs<F: Folder>(alloc: Global, folder: &mut F, name: &str) -> Result<usize, Refusal>
     ensures cores { MatchResult result
         (inspecting.AreCoresIn (F.files folder.old).told of_file.Programs name.now)
         (inspecting.IsUnreadable (F.files folder.old).told

@@ -6,10 +6,10 @@ ghost use Rattle.commands.specs.Logs as logs;
 ghost use Rattle.commands.specs.Outputs.{IsNameOf, PutsAt};
 ghost use Rattle.commands.specs.Numbers as numbers;
 
-use super::running_fault::RunningFault;
-use super::call_fault::CallFault;
-use super::writing::{LogsOfCores, write_logs};
+use super::place::Output;
 use super::putting::put_under;
+use super::refusal::Refusal;
+use super::writing::{LogsOfCores, write_logs};
 use host_files::Folder;
 use log_record::Format;
 use statistics::{RunParts, counts_of_cores, counts_of_slices, print_statistics};
@@ -52,7 +52,7 @@ fn put_numbers<F: Folder, R: RunParts>(
     folder: &mut F,
     leaving: &Leaving<'_>,
     of: &R,
-) -> Result<(), RunningFault>
+) -> Result<(), Refusal>
     requires { leaving.now.cores ≤ 64 }
     ensures ok { OnOk result (PutsAt (F.files folder.old) (F.files folder.new) leaving.now.statistics
         (numbers.numbers_of leaving.now.cores leaving.now.slices (R.units of.now) (R.slices of.now))) }
@@ -64,11 +64,11 @@ fn put_numbers<F: Folder, R: RunParts>(
         return Ok(());
     };
     let Ok(text) = numbers_of(alloc, of, leaving.cores, leaving.slices) else {
-        return Err(RunningFault::Call(CallFault::OutOfMemory));
+        return Err(Refusal::OutOfMemory);
     };
     match put_under(folder, Some(name), text.as_slice()) {
         Ok(()) => Ok(()),
-        Err(_) => Err(RunningFault::StatisticsUnwritten),
+        Err(_) => Err(Refusal::Unwritten(Output::Statistics)),
     }
 }
 
@@ -79,7 +79,7 @@ pub(crate) fn leave<F: Folder, R: RunParts + LogsOfCores>(
     folder: &mut F,
     leaving: &Leaving<'_>,
     of: &R,
-) -> Result<u64, RunningFault>
+) -> Result<u64, Refusal>
     requires { leaving.now.cores ≤ 64 }
     ensures ok { IfOk result (λ count. count ≡ logs.performed_below (R.made of.now) leaving.now.cores) }
     ensures left { OnOk result (numbers.AreLeft leaving.now.format (F.files folder.old) (F.files folder.new) leaving.now.out.now

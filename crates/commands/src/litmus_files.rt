@@ -8,9 +8,9 @@ ghost use Rattle.commands.specs.Tabling as tabling;
 ghost use Rattle.statistics.specs.TableText.{totals_text};
 
 use super::config::config_of;
-use super::running_fault::RunningFault;
-use super::call_fault::CallFault;
+use super::place::{Input, Output};
 use super::putting::put_under;
+use super::refusal::Refusal;
 use super::text::read_text;
 use command_line::Litmus as Asked;
 use host_files::Folder;
@@ -44,7 +44,7 @@ pub(crate) fn read_test<F: Folder>(
     alloc: Global,
     folder: &mut F,
     name: &str,
-) -> Result<Litmus, RunningFault>
+) -> Result<Litmus, Refusal>
     ensures ok { IfOk result (λ test. tabling.IsTestIn (F.files folder.old).told name.now test) }
     ensures quiet { OnOk result (F.files folder.new ≡ F.files folder.old) }
     ensures err { IfErr result (tabling.IsUntested (F.files folder.old).told
@@ -54,8 +54,8 @@ pub(crate) fn read_test<F: Folder>(
 {
     let text = match read_text(alloc, folder, name) {
         Ok(text) => text,
-        Err(ReadFault::Read) => return Err(RunningFault::TestUnread),
-        Err(ReadFault::OutOfMemory) => return Err(RunningFault::Call(CallFault::OutOfMemory)),
+        Err(ReadFault::Read) => return Err(Refusal::Unread(Input::Test)),
+        Err(ReadFault::OutOfMemory) => return Err(Refusal::OutOfMemory),
     };
     let test = Litmus::parse(alloc, text.as_slice())?;
     Ok(test)
@@ -86,7 +86,7 @@ fn collected_of<R: Threads + Wait + Sync, F: Folder>(
     alloc: Global,
     folder: &mut F,
     asked: &Asked<'_>,
-) -> Result<Collected, RunningFault>
+) -> Result<Collected, Refusal>
     ensures ok { IfOk result (λ collected.
         tabling.Tabled (F.files folder.old).told asked.now (λ made. made ≡ collected)) }
     ensures quiet { OnOk result (F.files folder.new ≡ F.files folder.old) }
@@ -97,7 +97,7 @@ fn collected_of<R: Threads + Wait + Sync, F: Folder>(
 {
     let config = config_of(&asked.limits)?;
     if asked.runs < 1 || asked.runs > RUN_LIMIT {
-        return Err(RunningFault::Collect(CollectFault::BadRuns));
+        return Err(Refusal::Collect(CollectFault::BadRuns));
     }
     let test = read_test(alloc, folder, asked.test)?;
     Ok(collect(rt, alloc, &test, &config, asked)?)
@@ -119,20 +119,16 @@ fn text_of(
 }
 
 /// Puts a text under the name that is given for it, if one is: 29 where that fails.
-fn put_text<F: Folder>(
-    folder: &mut F,
-    statistics: Option<&str>,
-    text: &[u8],
-) -> Result<(), RunningFault>
+fn put_text<F: Folder>(folder: &mut F, statistics: Option<&str>, text: &[u8]) -> Result<(), Refusal>
     ensures ok { OnOk result (PutsAt (F.files folder.old) (F.files folder.new) statistics.entry text.now) }
-    ensures err { IfErr result (λ fault. (fault ≡ RunningFault.StatisticsUnwritten)
+    ensures err { IfErr result (λ fault. (fault ≡ Refusal.Unwritten Output.Statistics)
         × FailsPutAt (F.files folder.old) (F.files folder.new) statistics.entry) }
     ensures others { KeepsFiles (F.files folder.old).told (F.files folder.new).told
         (IsNameOf statistics.entry) }
 {
     match put_under(folder, statistics, text) {
         Ok(()) => Ok(()),
-        Err(_) => Err(RunningFault::StatisticsUnwritten),
+        Err(_) => Err(Refusal::Unwritten(Output::Statistics)),
     }
 }
 
@@ -145,7 +141,7 @@ pub fn count_outcomes<R: Threads + Wait + Sync, F: Folder, O: ByteSink>(
     folder: &mut F,
     asked: &Asked<'_>,
     out: &mut O,
-) -> Result<bool, RunningFault>
+) -> Result<bool, Refusal>
     ensures exact { tabling.IsCounted (F.files folder.old) (F.files folder.new)
         (IsUnread F.Source.remaining F.Source.failed
         (F.files folder.old) (F.files folder.new)) asked.now
@@ -155,7 +151,7 @@ pub fn count_outcomes<R: Threads + Wait + Sync, F: Folder, O: ByteSink>(
 {
     let collected = collected_of(rt, alloc, folder, asked)?;
     let Ok(text) = text_of(alloc, asked.statistics, &collected.totals) else {
-        return Err(RunningFault::Call(CallFault::OutOfMemory));
+        return Err(Refusal::OutOfMemory);
     };
     write_table(alloc, out, &collected.table)?;
     put_text(folder, asked.statistics, text.as_slice())?;

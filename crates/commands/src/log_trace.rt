@@ -6,8 +6,8 @@ ghost use Rattle.verdict.specs.Counts.{IsInRange};
 ghost use Rattle.commands.specs.Traces as traces;
 ghost use Rattle.commands.specs.inner.ReadTraces.{AreLogless};
 
-use super::searching_fault::SearchingFault;
 use super::log_files::{read_log_files, trace_of};
+use super::refusal::Refusal;
 use host_files::Folder;
 use std::alloc::Global;
 use std::thread::Threads;
@@ -21,7 +21,7 @@ pub(crate) fn read_logs<R: Threads + Sync, F: Folder>(
     alloc: Global,
     folder: &mut F,
     names: &[&str],
-) -> Result<Trace, SearchingFault>
+) -> Result<Trace, Refusal>
     ensures ok { IfOk result (λ cores. IsInRange (length names.now)
         × traces.SpellLogsAt (F.files folder.old).told names.now cores) }
     ensures quiet { OnOk result (F.files folder.new ≡ F.files folder.old) }

@@ -7,8 +7,8 @@ ghost use Rattle.commands.specs.Checking as checking;
 ghost use Rattle.commands.specs.Ordering as ordering;
 ghost use Rattle.commands.specs.Sinks.{sink_of};
 
-use super::judging_fault::JudgingFault;
 use super::log_files::open_all;
+use super::refusal::Refusal;
 use command_line::Order;
 use host_files::Folder;
 use log_file::ByteSink;
@@ -24,7 +24,7 @@ pub fn order<F: Folder, O: ByteSink>(
     folder: &mut F,
     asked: &Order<'_>,
     out: &mut O,
-) -> Result<Verdict, JudgingFault>
+) -> Result<Verdict, Refusal>
     ensures exact { ordering.IsOrdered (F.files folder.old).told
         (IsUnread F.Source.remaining F.Source.failed
         (F.files folder.old) (F.files folder.new)) asked.now

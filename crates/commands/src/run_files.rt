@@ -5,11 +5,11 @@ ghost use Rattle.commands.specs.Numbers.{IsLeftName};
 ghost use Rattle.commands.specs.Running as running;
 
 use super::config::config_of;
-use super::running_fault::RunningFault;
 use super::left::{Leaving, leave};
+use super::refusal::Refusal;
 use super::run_logs::{UnitLogs, log_format};
-use super::watch::{Watch, Watched};
 use super::text::read_programs;
+use super::watch::{Watch, Watched};
 use command_line::Run;
 use host_files::Folder;
 use machine::{ThreadsFault, run_threads};
@@ -25,7 +25,7 @@ pub fn run<R: Threads + Wait + Sync, W: Watch + Sync, F: Folder>(
     watch: &W,
     folder: &mut F,
     asked: &Run<'_>,
-) -> Result<u64, RunningFault>
+) -> Result<u64, Refusal>
     ensures exact { running.IsThreadRun (F.files folder.old)
         (F.files folder.new)
         (IsUnread F.Source.remaining F.Source.failed
@@ -58,7 +58,7 @@ pub fn run<R: Threads + Wait + Sync, W: Watch + Sync, F: Folder>(
                 slices: &fault.slices,
             };
             let _left = leave(alloc, folder, &leaving, &made);
-            Err(RunningFault::Run(ThreadsFault::of(&fault)))
+            Err(Refusal::Run(ThreadsFault::of(&fault)))
         }
     }
 }

@@ -7,11 +7,11 @@ ghost use Rattle.commands.specs.SearchAnswers.{IsRightOf};
 ghost use Rattle.commands.specs.Searching as searching;
 ghost use Rattle.commands.specs.Traces.{TellsTrace};
 
-use super::search_answer::SearchAnswer;
-use super::searching_fault::SearchingFault;
 use super::finding::{answer, find};
 use super::printing::print_proof;
 use super::proof_files::put_proof;
+use super::refusal::Refusal;
+use super::search_answer::SearchAnswer;
 use super::trace_files::read_files;
 use command_line::Search;
 use host_files::Folder;
@@ -30,7 +30,7 @@ pub fn search<R: Threads + Sync, W: SearchWatch, F: Folder, O: ByteSink>(
     folder: &mut F,
     asked: &Search<'_>,
     out: &mut O,
-) -> Result<SearchAnswer, SearchingFault>
+) -> Result<SearchAnswer, Refusal>
     ensures exact { searching.IsSearched (F.files folder.old) (F.files folder.new)
         (IsUnread F.Source.remaining F.Source.failed
         (F.files folder.old) (F.files folder.new)) asked.now

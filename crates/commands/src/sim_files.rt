@@ -6,10 +6,10 @@ ghost use Rattle.commands.specs.Numbers.{IsLeftName};
 ghost use Rattle.commands.specs.Simulating as simulating;
 
 use super::config::config_of;
-use super::running_fault::RunningFault;
 use super::left::{Leaving, leave};
+use super::place::Input;
+use super::refusal::Refusal;
 use super::run_logs::{MachineLogs, log_format};
-use super::call_fault::CallFault;
 use super::text::{read_programs, read_text};
 use command_line::Sim;
 use host_files::Folder;
@@ -22,7 +22,7 @@ use tardis_core::Core;
 /// Runs the programs in a file of the folder by a schedule and then to their ends, and writes the log
 /// of each core, and then the run's numbers where a file is given for them, also where a fault ends the run. The number of operations that were performed, or
 /// why there is none.
-pub fn sim<F: Folder>(alloc: Global, folder: &mut F, asked: &Sim<'_>) -> Result<u64, RunningFault>
+pub fn sim<F: Folder>(alloc: Global, folder: &mut F, asked: &Sim<'_>) -> Result<u64, Refusal>
     ensures exact { simulating.IsRun (F.files folder.old)
         (F.files folder.new)
         (IsUnread F.Source.remaining F.Source.failed
@@ -34,7 +34,7 @@ pub fn sim<F: Folder>(alloc: Global, folder: &mut F, asked: &Sim<'_>) -> Result<
     let programs = read_programs(alloc, folder, asked.programs)?;
     let commands = read_schedule(alloc, folder, asked.schedule, programs.len())?;
     let Ok(mut machine) = Core::new(alloc, &programs, &config) else {
-        return Err(RunningFault::Call(CallFault::OutOfMemory));
+        return Err(Refusal::OutOfMemory);
     };
     let ended = simulate(alloc, &mut machine, commands.as_slice(), asked.seed);
     let leaving = Leaving {
@@ -55,7 +55,7 @@ fn read_schedule<F: Folder>(
     folder: &mut F,
     name: Option<&str>,
     cores: usize,
-) -> Result<Vec<Command>, RunningFault>
+) -> Result<Vec<Command>, Refusal>
     requires { cores ≤ 64 }
     ensures ok { IfOk result (λ commands.
         simulating.AreCommandsOf (F.files folder.old).told name.entry cores commands.items) }
@@ -70,8 +70,8 @@ fn read_schedule<F: Folder>(
     };
     let text = match read_text(alloc, folder, name) {
         Ok(text) => text,
-        Err(ReadFault::Read) => return Err(RunningFault::ScheduleUnread),
-        Err(ReadFault::OutOfMemory) => return Err(RunningFault::Call(CallFault::OutOfMemory)),
+        Err(ReadFault::Read) => return Err(Refusal::Unread(Input::Schedule)),
+        Err(ReadFault::OutOfMemory) => return Err(Refusal::OutOfMemory),
     };
     let commands = parse(alloc, text.as_slice(), cores)?;
     Ok(commands)

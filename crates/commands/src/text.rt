@@ -6,7 +6,8 @@ ghost use Rattle.host_files.specs.Files.{IsOnlyRead, IsUnread};
 ghost use Rattle.commands.specs.Programs.{AreProgramsIn, IsUnprogrammed};
 ghost use Rattle.commands.specs.inner.Texts.{IsNoText};
 
-use super::call_fault::CallFault;
+use super::place::Input;
+use super::refusal::Refusal;
 use core_program::ProgramSet;
 use host_files::Folder;
 use log_file::{ReadFault, read_all};
@@ -32,7 +33,7 @@ pub fn read_programs<F: Folder>(
     alloc: Global,
     folder: &mut F,
     name: &str,
-) -> Result<ProgramSet, CallFault>
+) -> Result<ProgramSet, Refusal>
     ensures ok { IfOk result (AreProgramsIn (F.files folder.old).told name.now) }
     ensures quiet { OnOk result (F.files folder.new ≡ F.files folder.old) }
     ensures err { IfErr result (IsUnprogrammed (F.files folder.old).told
@@ -42,8 +43,8 @@ pub fn read_programs<F: Folder>(
 {
     let text = match read_text(alloc, folder, name) {
         Ok(text) => text,
-        Err(ReadFault::Read) => return Err(CallFault::ProgramsUnread),
-        Err(ReadFault::OutOfMemory) => return Err(CallFault::OutOfMemory),
+        Err(ReadFault::Read) => return Err(Refusal::Unread(Input::Programs)),
+        Err(ReadFault::OutOfMemory) => return Err(Refusal::OutOfMemory),
     };
     Ok(ProgramSet::parse(alloc, text.as_slice())?)
 }

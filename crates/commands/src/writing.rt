@@ -8,7 +8,7 @@ ghost use Rattle.log_file.specs.Log.{SpellsIn};
 ghost use Rattle.commands.specs.Logs as logs;
 ghost use Rattle.commands.specs.inner.Putting.{IsUnput};
 
-use super::call_fault::CallFault;
+use super::refusal::Refusal;
 use host_files::Folder;
 use log_file::{MemSink, write_log};
 use log_record::{Format, Record};
@@ -35,7 +35,7 @@ pub fn write_logs<F: Folder, L: LogsOfCores>(
     format: Format,
     of: &L,
     cores: usize,
-) -> Result<u64, CallFault>
+) -> Result<u64, Refusal>
     requires { cores ≤ 64 }
     ensures ok { IfOk result (λ count.
         count ≡ logs.performed_below (L.made of.now) cores) }
@@ -67,7 +67,7 @@ fn write_log_of<F: Folder>(
     core: CoreId,
     cores: usize,
     records: &[Record],
-) -> Result<(), CallFault>
+) -> Result<(), Refusal>
     requires core { core < cores }
     requires cores { cores ≤ 64 }
     requires few { length records.now ≤ operation_limit }
@@ -80,15 +80,15 @@ fn write_log_of<F: Folder>(
         (F.files folder.new) core) }
 {
     let Ok(name) = format!(in alloc; "{out}.{}", core.get()) else {
-        return Err(CallFault::OutOfMemory);
+        return Err(Refusal::OutOfMemory);
     };
     let mut text = MemSink::new(alloc, &[]);
     if write_log(alloc, &mut text, format, core, cores as u64, records).is_err() {
-        return Err(CallFault::OutOfMemory);
+        return Err(Refusal::OutOfMemory);
     }
     match folder.put(name.as_str(), text.bytes()) {
         Ok(()) => Ok(()),
-        Err(_) => Err(CallFault::LogUnwritten {
+        Err(_) => Err(Refusal::LogUnwritten {
             file: core.get() as usize,
         }),
     }

@@ -3,7 +3,7 @@
 ghost use Rattle.std.specs.Prelude.{◌≡◌, [], IfOk};
 ghost use Rattle.command_line.specs.Asking.{texts};
 ghost use Rattle.rows.specs.Files.{told_of};
-ghost use Rattle.commands.specs.Endings.{AreConsistent, AskFor};
+ghost use Rattle.commands.specs.Promises.{AreConsistent, AskFor};
 
 use super::fault::{RowsFault, text_of};
 use super::watch::Counting;

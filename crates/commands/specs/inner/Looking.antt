@@ -1,21 +1,21 @@
 -- What a look at a certificate's text answers, and why there is none.
 use Rattle.std.specs.Prelude.{⊤, ℕ, List, Result, Ok, Err}
-use Rattle.commands.specs.declared.call_fault.CallFault.TheVariants.{OutOfMemory}
 use Rattle.mem_op.specs.Consistency.{Operation}
 use Rattle.commands.specs.Confirming.{Certifies, IsBadCertificate}
 use Rattle.commands.specs.declared.search_answer.SearchAnswer.{SearchAnswer}
-use Rattle.commands.specs.declared.searching_fault.SearchingFault.{SearchingFault}
-use Rattle.commands.specs.declared.searching_fault.SearchingFault.TheVariants.{Certificate, CertificateUnread, Call}
+use Rattle.commands.specs.declared.place.Input.TheVariants as input
+use Rattle.commands.specs.declared.refusal.Refusal.{Refusal}
+use Rattle.commands.specs.declared.refusal.Refusal.TheVariants.{Certificate, OutOfMemory, Unread}
 
 -- the answer that the text certifies, or where it goes wrong; lack of memory may come instead
-abbrev pub IsLook : List (List Operation) → List ℕ → Result SearchAnswer SearchingFault → Type 0
+abbrev pub IsLook : List (List Operation) → List ℕ → Result SearchAnswer Refusal → Type 0
 IsLook cores text (Ok answer) = Certifies cores text answer
 IsLook cores text (Err (Certificate fault)) = IsBadCertificate cores text fault
-IsLook cores text (Err (Call OutOfMemory)) = ⊤
+IsLook cores text (Err OutOfMemory) = ⊤
 IsLook cores text (Err fault) = ⊥
 
 -- the file of this name can't be read, or memory ran out
-abbrev pub IsNoCertificate : (List ℕ → Type 0) → List ℕ → SearchingFault → Type 0
-IsNoCertificate unread name CertificateUnread = unread name
-IsNoCertificate unread name (Call OutOfMemory) = ⊤
+abbrev pub IsNoCertificate : (List ℕ → Type 0) → List ℕ → Refusal → Type 0
+IsNoCertificate unread name (Unread input.Certificate) = unread name
+IsNoCertificate unread name OutOfMemory = ⊤
 IsNoCertificate unread name fault = ⊥

@@ -1,21 +1,42 @@
 -- What a request came to, before anything is told of it on standard error.
-use Rattle.std.specs.Prelude.{◌≡◌, ℕ, List, Result, IfOk}
+use Rattle.std.specs.Prelude.{◌≡◌, ⊤, ℕ, List, Result, IfErr, IfOk}
 use Rattle.host_files.specs.Files.{Files, KeepsFiles}
-use Rattle.commands.specs.Sinks.{Sink}
 use Rattle.command_line.specs.Files.{IsApart}
 use Rattle.command_line.specs.declared.request.Request.{Request}
+use Rattle.command_line.specs.declared.request.Request.TheVariants.{Explain, Inspect}
 use Rattle.commands.specs.Answers.{answer_status}
-use Rattle.commands.specs.Endings.{AreConsistent, AreOrdered, AreRefuted, Ending, IsAnswered, IsDoneBy, IsPutName, LeaveYes, RunFlat, status_in}
+use Rattle.commands.specs.Promises.{AreConsistent, AreOrdered, AreUpgraded, AreWrong, IsPutName, IsRefused, LeaveYes, RunFlat}
+use Rattle.commands.specs.Refusals.{refusal_status}
+use Rattle.commands.specs.Sinks.{Sink}
 use Rattle.commands.specs.declared.answer.Answer.{Answer}
-use Rattle.commands.specs.declared.command_fault.CommandFault.{CommandFault}
+use Rattle.commands.specs.declared.place.Output.TheVariants as output
+use Rattle.commands.specs.declared.refusal.Refusal.{Refusal}
+use Rattle.commands.specs.declared.refusal.Refusal.TheVariants.{OutOfMemory, Unwritten}
 
--- The request came to this answer or refusal, and left the folder and standard output so: how it ended, which files stay, and what its status
--- says.
-pub record IsPerformed (old new : Files) (unread : List ℕ → Type 0) (asked : Request) (out out' : Sink) (came : Result Answer CommandFault) : Type 0 where
-  pub exact : (ending : Ending) × IsAnswered ending came × IsDoneBy old new unread asked out out' ending
+-- what holds where the answer has status 0
+pub record IsRight (old new : Files) (out out' : Sink) (asked : Request) : Type 0 where
+  pub sound : AreConsistent old.told asked
+  pub flat : RunFlat old.told asked
+  pub order : AreOrdered old.told out out' asked
+  pub upgraded : AreUpgraded old new asked
+  pub yes : IsApart asked → LeaveYes old.told new.told asked
+
+-- The request came to this answer or refusal, and left the folder and standard output so.
+pub record Came (old new : Files) (Unread : List ℕ → Type 0) (out out' : Sink) (asked : Request) (came : Result Answer Refusal) : Type 0 where
   pub files : KeepsFiles old.told new.told (IsPutName asked)
-  pub sound : IfOk came (λ answer. answer_status answer ≡ 0 → AreConsistent old.told asked)
-  pub refuted : status_in came ≡ 1 → AreRefuted old.told asked
-  pub order : IfOk came (λ answer. answer_status answer ≡ 0 → AreOrdered old.told out out' asked)
-  pub flat : IfOk came (λ answer. answer_status answer ≡ 0 → RunFlat old.told asked)
-  pub yes : IfOk came (λ answer. answer_status answer ≡ 0 → IsApart asked → LeaveYes old.told new.told asked)
+  pub right : IfOk came (λ answer. answer_status answer ≡ 0 → IsRight old new out out' asked)
+  pub wrong : IfOk came (λ answer. answer_status answer ≡ 1 → AreWrong old.told out out' asked)
+  pub refused : IfErr came (IsRefused old new Unread out out' asked)
+  pub refuted : IfErr came (λ refusal. refusal_status refusal ≡ 1 → AreWrong old.told out out' asked)
+
+-- an answer isn't printed: standard output failed, or there was no memory
+abbrev pub IsUnprinted : Refusal → Type 0
+IsUnprinted (Unwritten output.Standard) = ⊤
+IsUnprinted OutOfMemory = ⊤
+IsUnprinted other = ⊥
+
+-- more is told of a refusal of what was asked, below its line
+abbrev pub IsToldMore : Request → Type 0
+IsToldMore (Explain asked) = ⊤
+IsToldMore (Inspect asked) = ⊤
+IsToldMore other = ⊥

@@ -1,14 +1,14 @@
 -- What the reading of a trace's text answers.
 use Rattle.std.specs.Prelude.{⊤, ℕ, List, Option, Result, Ok, Err}
 use Rattle.std.specs.Borrow.{Bor}
-use Rattle.commands.specs.declared.call_fault.CallFault.TheVariants.{OutOfMemory}
 use Rattle.mem_op.specs.Consistency.{Operation}
 use Rattle.trace.specs.Texts.{HasFirstFault, SpellsTrace}
 use Rattle.trace.specs.declared.fault.TraceFault.{TraceFault}
 use Rattle.trace.specs.declared.fault.TraceFault.TheVariants.{BadTraceLine, TooMany, OutOfMemory as NoTraceMemory}
-use Rattle.commands.specs.declared.searching_fault.SearchingFault.{SearchingFault}
-use Rattle.commands.specs.declared.searching_fault.SearchingFault.TheVariants.{Trace, TraceUnread, Logs, Call}
 use Rattle.commands.specs.Traces.{AreNoLogs, IsTextFault}
+use Rattle.commands.specs.declared.place.Input.TheVariants as input
+use Rattle.commands.specs.declared.refusal.Refusal.{Refusal}
+use Rattle.commands.specs.declared.refusal.Refusal.TheVariants.{Judge, Trace, OutOfMemory, Unread}
 
 -- the first fault of the bytes
 abbrev pub IsFirstFaultOf : List ℕ → TraceFault → Type 0
@@ -17,22 +17,22 @@ IsFirstFaultOf bytes (TooMany line) = HasFirstFault bytes (TooMany line)
 IsFirstFaultOf bytes NoTraceMemory = ⊥
 
 -- the trace that the bytes spell, or their first fault; a failed read or lack of memory may come instead
-abbrev pub IsReadOf : List ℕ → Result (List (List Operation)) SearchingFault → Type 0
+abbrev pub IsReadOf : List ℕ → Result (List (List Operation)) Refusal → Type 0
 IsReadOf bytes (Ok cores) = SpellsTrace bytes cores
 IsReadOf bytes (Err (Trace fault)) = IsFirstFaultOf bytes fault
-IsReadOf bytes (Err TraceUnread) = ⊤
-IsReadOf bytes (Err (Call OutOfMemory)) = ⊤
+IsReadOf bytes (Err (Unread input.Trace)) = ⊤
+IsReadOf bytes (Err OutOfMemory) = ⊤
 IsReadOf bytes (Err fault) = ⊥
 
 -- why the file of this name tells no trace
-abbrev pub IsNoTrace : (List ℕ → Option (List ℕ)) → (List ℕ → Type 0) → List ℕ → SearchingFault → Type 0
+abbrev pub IsNoTrace : (List ℕ → Option (List ℕ)) → (List ℕ → Type 0) → List ℕ → Refusal → Type 0
 IsNoTrace told unread name (Trace fault) = IsTextFault told name fault
-IsNoTrace told unread name TraceUnread = unread name
-IsNoTrace told unread name (Call OutOfMemory) = ⊤
+IsNoTrace told unread name (Unread input.Trace) = unread name
+IsNoTrace told unread name OutOfMemory = ⊤
 IsNoTrace told unread name fault = ⊥
 
 -- why there are no logs in the files of these names
-abbrev pub AreLogless : (List ℕ → Option (List ℕ)) → (List ℕ → Type 0) → List (Bor (List ℕ)) → SearchingFault → Type 0
-AreLogless told unread names (Logs fault) = AreNoLogs told unread names fault
-AreLogless told unread names (Call OutOfMemory) = ⊤
+abbrev pub AreLogless : (List ℕ → Option (List ℕ)) → (List ℕ → Type 0) → List (Bor (List ℕ)) → Refusal → Type 0
+AreLogless told unread names (Judge fault) = AreNoLogs told unread names fault
+AreLogless told unread names OutOfMemory = ⊤
 AreLogless told unread names fault = ⊥

@@ -9,9 +9,9 @@ use Rattle.host_files.specs.Files.{Files, IsUnread}
 use Rattle.commands.specs.LogFiles.{Spelled}
 use Rattle.commands.proofs.Files.{only_read_after}
 use Rattle.commands.specs.Checking as checking
-use Rattle.commands.specs.JudgingFaults.{from_judge}
-use Rattle.commands.proofs.Checks.{against}
+use Rattle.commands.proofs.Checks.{against, not_programmed}
 use Rattle.commands.proofs.Explained.{given_is}
+use Rattle.commands.specs.Refusals.{from_judge}
 use Rattle.commands.proofs.check_files.examine_asked.Goals as goal
 
 -- the reading of the programs left the folder as it was, and these are the programs
@@ -26,6 +26,12 @@ as_it_was remaining failed old now new asked lent programs answer is same checke
 flat_as_it_was : (old now : Files) (asked : Check) (lent programs : Option (List (List Instruction))) → now ≡ old → lent ≡ programs → checking.FilesRunFlatBy now.told asked lent → checking.FilesRunFlatBy old.told asked programs
 flat_as_it_was old now asked lent programs is same flat =
     subst (λ (files : Files). checking.FilesRunFlatBy files.told asked programs) is (subst (λ given. checking.FilesRunFlatBy now.told asked given) same flat)
+
+pub returns-in_err-programs-clause-exact : goal.returns-in_err-programs-clause-exact
+returns-in_err-programs-clause-exact g c =
+    let range : checking.AreInRange c.args.asked.now = search rules in
+    let is : c.from_residual-in_err-programs.result ≡ Err c.in_err-programs.field-0.0 = search rules in
+    rw is (not_programmed _ _ c.args.asked.now c.in_err-programs.field-0.0 range c.in_err-programs.ensures.err)
 
 pub returns-in_err-examined-clause-exact : goal.returns-in_err-examined-clause-exact
 returns-in_err-examined-clause-exact g c =

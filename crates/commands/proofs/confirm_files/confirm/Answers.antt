@@ -8,9 +8,9 @@ use Rattle.commands.specs.SearchAnswers.{search_text}
 use Rattle.commands.specs.Confirming.{Certifies}
 use Rattle.log_file.specs.Devices.{Tells}
 use Rattle.commands.specs.inner.Looking.{IsLook, IsNoCertificate}
-use Rattle.commands.specs.declared.searching_fault.SearchingFault.TheVariants.{Call}
-use Rattle.commands.specs.declared.call_fault.CallFault.TheVariants.{OutOfMemory, Output}
 use Rattle.commands.proofs.Confirms.{refused, right, traceless, uncertified}
+use Rattle.commands.specs.declared.place.Output.TheVariants as output
+use Rattle.commands.specs.declared.refusal.Refusal.TheVariants.{OutOfMemory, Unwritten}
 use Rattle.commands.proofs.confirm_files.confirm.Goals as goal
 
 pub returns-in_err-trace-clause-exact : goal.returns-in_err-trace-clause-exact
@@ -56,7 +56,7 @@ returns-in_err-answer-clause-exact g c =
 
 pub returns-in_err-line-clause-exact : goal.returns-in_err-line-clause-exact
 returns-in_err-line-clause-exact g c =
-    let is : c.from_residual-in_err-line.result ≡ Err (Call OutOfMemory) = search rules in
+    let is : c.from_residual-in_err-line.result ≡ Err OutOfMemory = search rules in
     rw is (Keeps-refl (g.O.ByteSink.contents c.args.out.now))
 
 pub returns-in_err-write_all-clause-exact : goal.returns-in_err-write_all-clause-exact
@@ -65,7 +65,7 @@ returns-in_err-write_all-clause-exact g c =
     let sink = sink_of g.O.ByteSink.contents g.O.ByteSink.failed in
     let tells = subst (λ (f : Files). Tells (f.told asked.certificate.now) c.in_ok-text.text.items) c.in_ok-trace.ensures.quiet c.in_ok-text.ensures.ok in
     let look = subst (λ (t : List ℕ). Certifies c.in_ok-trace.trace t c.in_ok-answer.answer) c.as_slice.ensures.value c.in_ok-answer.ensures in
-    let is : c.from_residual-in_err-write_all.result ≡ Err (Call Output) = search rules in
+    let is : c.from_residual-in_err-write_all.result ≡ Err (Unwritten output.Standard) = search rules in
     let failed : HasFailed (sink c.args.out.now) (sink c.write_all.new.sink) = search rules in
     let begun : TakesBeginning (sink c.args.out.now) (sink c.write_all.new.sink) (line (search_text c.in_ok-answer.answer)) = search rules in
     rw is (

@@ -1,12 +1,11 @@
 use Rattle.std.proofs.Common.{◌≡◌, inl, inr, [], Err, rules}
-use Rattle.commands.proofs.Numbers.{far_after, keeps_both, keeps_first, unleft_after}
-use Rattle.commands.specs.declared.running_fault.RunningFault.TheVariants.{Call}
+use Rattle.commands.proofs.Numbers.{far_after, keeps_both, keeps_first, unleft_after, unleft_first}
 use Rattle.commands.proofs.left.leave.Goals as goal
 
 pub returns-in_err-count-clause-err : goal.returns-in_err-count-clause-err
 returns-in_err-count-clause-err g c =
-    let is : c.from_residual.result ≡ Err (Call c.in_err-count.field-0.0) = search rules in
-    rw is c.in_err-count.ensures.err
+    let is : c.from_residual.result ≡ Err c.in_err-count.field-0.0 = search rules in
+    rw is (unleft_first _ _ _ _ _ _ _ c.in_err-count.field-0.0 c.in_err-count.ensures.err)
 
 pub returns-in_err-count-clause-far : goal.returns-in_err-count-clause-far
 returns-in_err-count-clause-far g c = inl c.write_logs.ensures.far

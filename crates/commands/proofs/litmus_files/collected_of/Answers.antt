@@ -8,9 +8,9 @@ use Rattle.litmus.specs.declared.run_fault.CollectFault.{CollectFault}
 use Rattle.litmus.specs.declared.run_fault.CollectFault.TheVariants.{BadRuns, Run, OutOfMemory}
 use Rattle.litmus_test.specs.Parts.{LitmusParts}
 use Rattle.host_files.specs.Files.{IsUnread}
-use Rattle.commands.specs.RunningFaults.{from_collect}
 use Rattle.commands.specs.Programmed.{config_of}
 use Rattle.commands.specs.Tabling.{IsFaultBy, IsInOrder, IsTestIn, IsUntabled}
+use Rattle.commands.specs.Refusals.{from_collect}
 use Rattle.commands.proofs.litmus_files.collected_of.Goals as goal
 
 bad_runs : (threads : Bool) (t : LitmusParts) (g : ConfigParts) (runs seed : ℕ) → IsFaultBy threads t g runs seed BadRuns → IsBadRunCount runs
@@ -21,7 +21,7 @@ untabled : (told : List ℕ → Option (List ℕ)) (unread : List ℕ → Type 0
     → IsFaultBy asked.threads t (config_of asked.limits) asked.runs asked.seed fault → IsUntabled told unread asked (from_collect fault)
 untabled told unread asked t BadRuns order test is = (order.config, bad_runs asked.threads t (config_of asked.limits) asked.runs asked.seed is)
 untabled told unread asked t (Run k cause) order test is = (order, t, test, is)
-untabled told unread asked t OutOfMemory order test is = refl
+untabled told unread asked t OutOfMemory order test is = tt
 
 pub returns-in_err-collect-clause-err : goal.returns-in_err-collect-clause-err
 returns-in_err-collect-clause-err g c =

@@ -6,20 +6,20 @@ use Rattle.command_line.specs.declared.request.Litmus.{Litmus}
 use Rattle.host_files.specs.Files.{Files, IsOnlyRead, IsUnread}
 use Rattle.commands.specs.Outputs.{PutsAt}
 use Rattle.commands.specs.Sinks.{Sink, sink_of}
-use Rattle.commands.specs.declared.call_fault.CallFault.TheVariants.{Output, OutOfMemory}
 use Rattle.litmus.specs.declared.collecting.Collected.{Collected}
 use Rattle.commands.specs.Programmed.{config_of}
 use Rattle.commands.specs.Tabling.{IsCounted, IsTableBy, IsUntabled}
-use Rattle.commands.specs.declared.running_fault.RunningFault.{RunningFault}
-use Rattle.commands.specs.declared.running_fault.RunningFault.TheVariants.{Call, StatisticsUnwritten}
 use Rattle.statistics.specs.TableText.{totals_text}
+use Rattle.commands.specs.declared.place.Output.TheVariants as output
+use Rattle.commands.specs.declared.refusal.Refusal.{Refusal}
+use Rattle.commands.specs.declared.refusal.Refusal.TheVariants.{OutOfMemory, Unwritten}
 use Rattle.commands.proofs.litmus_files.count_outcomes.Goals as goal
 
-untabled : (before after : Files) (unread : List ℕ → Type 0) (asked : Litmus) (sink : Sink) (fault : RunningFault) → IsUntabled before.told unread asked fault
+untabled : (before after : Files) (unread : List ℕ → Type 0) (asked : Litmus) (sink : Sink) (fault : Refusal) → IsUntabled before.told unread asked fault
     → IsOnlyRead before after → IsCounted before after unread asked sink sink (Err fault)
-untabled before after unread asked sink (Call Output) why read = cc
-untabled before after unread asked sink (Call OutOfMemory) why read = (Keeps-refl sink.contents, read)
-untabled before after unread asked sink StatisticsUnwritten why read = absurd why
+untabled before after unread asked sink (Unwritten output.Standard) why read = absurd why
+untabled before after unread asked sink OutOfMemory why read = (Keeps-refl sink.contents, read)
+untabled before after unread asked sink (Unwritten output.Statistics) why read = absurd why
 untabled before after unread asked sink other why read = (why, Keeps-refl sink.contents, read)
 
 -- the same text put

@@ -5,13 +5,13 @@ use Rattle.litmus_test.specs.Answers.{IsFault}
 use Rattle.litmus_test.specs.declared.fault.LitmusFault.{LitmusFault}
 use Rattle.litmus_test.specs.declared.fault.LitmusFault.TheVariants.{BadLitmusLine, BadLine, TooLong, SkipPastEnd, OutOfMemory}
 use Rattle.host_files.specs.Files.{IsUnread}
-use Rattle.commands.specs.RunningFaults.{from_test}
 use Rattle.commands.specs.Tabling.{IsUntested}
+use Rattle.commands.specs.Refusals.{from_test}
 use Rattle.commands.proofs.litmus_files.read_test.Goals as goal
 
 untested : (told : List ℕ → Option (List ℕ)) (unread : List ℕ → Type 0) (name text : List ℕ) (fault : LitmusFault) → Tells (told name) text → IsFault text fault
     → IsUntested told unread name (from_test fault)
-untested told unread name text OutOfMemory tells is = refl
+untested told unread name text OutOfMemory tells is = tt
 untested told unread name text (BadLitmusLine line) tells is = (λ same. cc, text, tells, is)
 untested told unread name text (BadLine line) tells is = (λ same. cc, text, tells, is)
 untested told unread name text (TooLong line) tells is = (λ same. cc, text, tells, is)

@@ -5,8 +5,8 @@ use Rattle.host_files.specs.Files.{IsUnread}
 use Rattle.commands.specs.Sinks.{sink_of}
 use Rattle.commands.specs.LogFiles.{AreSourcesOf}
 use Rattle.commands.proofs.LogFiles.{files_refused, only_opened, told_by_sources}
-use Rattle.commands.specs.JudgingFaults.{from_judge, from_merge}
 use Rattle.commands.proofs.Orders.{consistent_if, merged, not_counted, not_opened, reads_at, taken}
+use Rattle.commands.specs.Refusals.{from_judge, from_merge}
 use Rattle.commands.proofs.order_files.order.Goals as goal
 
 pub returns-in_err-check_counts-clause-exact : goal.returns-in_err-check_counts-clause-exact

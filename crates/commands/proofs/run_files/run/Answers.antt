@@ -1,4 +1,4 @@
-use Rattle.std.proofs.Common.{◌≡◌, inl, inr, ℕ, List, [], length, Option, None, Err, subst, rules}
+use Rattle.std.proofs.Common.{◌≡◌, ℕ, List, [], length, Option, None, Err, subst, rules}
 use Rattle.std.specs.Prelude.{IfErr, OnOk}
 use Rattle.lease_rule.specs.Ranges.{first_bad}
 use Rattle.audit.specs.Runs.{IsRun, kept_log}
@@ -6,17 +6,16 @@ use Rattle.machine.specs.Runs.{AreSlicesLeft, IsMachineRun}
 use Rattle.host_files.specs.Files.{Files, IsUnread, KeepsFiles}
 use Rattle.commands.specs.Programs.{AreProgramsIn}
 use Rattle.commands.proofs.Files.{keeps_files}
-use Rattle.commands.proofs.ThreadRuns.{came, left, left_by}
+use Rattle.commands.proofs.ThreadRuns.{came, left, left_by, unprogrammed}
 use Rattle.commands.specs.Numbers.{AreLeft, AreLeftAsFar, IsUnleft, numbers_of}
 use Rattle.commands.specs.Programmed.{config_of, log_format}
-use Rattle.commands.specs.declared.running_fault.RunningFault.TheVariants.{Call}
 use Rattle.commands.proofs.run_files.run.Goals as goal
 
 pub returns-in_err-programs-clause-exact : goal.returns-in_err-programs-clause-exact
 returns-in_err-programs-clause-exact g c =
     let sound : first_bad (config_of c.args.asked.now.limits) ≡ None = search rules in
-    let is : c.from_residual-in_err-programs.result ≡ Err (Call c.in_err-programs.field-0.0) = search rules in
-    rw is (inr (inl (sound, c.in_err-programs.ensures.err)))
+    let is : c.from_residual-in_err-programs.result ≡ Err c.in_err-programs.field-0.0 = search rules in
+    rw is (unprogrammed _ _ _ c.args.asked.now c.in_err-programs.field-0.0 sound c.in_err-programs.ensures.err c.in_err-programs.ensures.read)
 
 pub returns-in_err-programs-clause-files : goal.returns-in_err-programs-clause-files
 returns-in_err-programs-clause-files g c = keeps_files _ _ _ c.in_err-programs.ensures.read

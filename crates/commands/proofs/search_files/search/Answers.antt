@@ -6,9 +6,9 @@ use Rattle.commands.proofs.Files.{keeps_files}
 use Rattle.commands.specs.Sinks.{HasFailed, TakesBeginning, sink_of}
 use Rattle.commands.specs.Searching.{IsOutputName}
 use Rattle.commands.specs.inner.Finding.{IsUnput}
-use Rattle.commands.specs.declared.searching_fault.SearchingFault.TheVariants.{Call}
-use Rattle.commands.specs.declared.call_fault.CallFault.TheVariants.{OutOfMemory, Output}
 use Rattle.commands.proofs.Searches.{finds, given_up, right, traceless, unput}
+use Rattle.commands.specs.declared.place.Output.TheVariants as output
+use Rattle.commands.specs.declared.refusal.Refusal.TheVariants.{OutOfMemory, Unwritten}
 use Rattle.commands.proofs.search_files.search.Goals as goal
 
 pub returns-in_err-trace-clause-exact : goal.returns-in_err-trace-clause-exact
@@ -37,7 +37,7 @@ returns-in_err-proof-clause-exact g c =
 
 pub returns-in_err-text-clause-exact : goal.returns-in_err-text-clause-exact
 returns-in_err-text-clause-exact g c =
-    let is : c.from_residual-in_err-text.result ≡ Err (Call OutOfMemory) = search rules in
+    let is : c.from_residual-in_err-text.result ≡ Err OutOfMemory = search rules in
     rw is (Keeps-refl (g.O.ByteSink.contents c.args.out.now))
 
 pub returns-in_err-put_proof-clause-exact : goal.returns-in_err-put_proof-clause-exact
@@ -64,7 +64,7 @@ returns-in_err-write_all-clause-exact g c =
     let now = files c.read_files.new.folder in
     let new = files c.put_proof.new.folder in
     let sink = sink_of g.O.ByteSink.contents g.O.ByteSink.failed in
-    let is : c.from_residual-in_err-write_all.result ≡ Err (Call Output) = search rules in
+    let is : c.from_residual-in_err-write_all.result ≡ Err (Unwritten output.Standard) = search rules in
     let failed : HasFailed (sink c.args.out.now) (sink c.write_all.new.sink) = search rules in
     let begun : TakesBeginning (sink c.args.out.now) (sink c.write_all.new.sink) (string_bytes c.in_ok-text.text) = search rules in
     rw is (

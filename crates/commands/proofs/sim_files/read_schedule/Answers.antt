@@ -6,14 +6,14 @@ use Rattle.schedule.specs.Answers.{IsFault}
 use Rattle.schedule.specs.declared.fault.ScheduleFault.{ScheduleFault}
 use Rattle.schedule.specs.declared.fault.ScheduleFault.TheVariants.{BadScheduleLine, OutOfMemory}
 use Rattle.host_files.specs.Files.{IsUnread}
-use Rattle.commands.specs.RunningFaults.{from_schedule}
 use Rattle.commands.specs.Simulating.{IsUnscheduled}
+use Rattle.commands.specs.Refusals.{from_schedule}
 use Rattle.commands.proofs.sim_files.read_schedule.Goals as goal
 
 unscheduled : (told : List ℕ → Option (List ℕ)) (unread : List ℕ → Type 0) (name : Bor (List ℕ)) (cores : ℕ) (text : List ℕ) (fault : ScheduleFault) → Tells (told name.now) text
     → IsFault cores text fault → IsUnscheduled told unread (Some name) cores (from_schedule fault)
 unscheduled told unread name cores text (BadScheduleLine line) tells is = (λ same. cc, text, tells, is)
-unscheduled told unread name cores text OutOfMemory tells is = refl
+unscheduled told unread name cores text OutOfMemory tells is = tt
 
 pub returns-in_err-commands-clause-err : goal.returns-in_err-commands-clause-err
 returns-in_err-commands-clause-err g c =

@@ -1,4 +1,4 @@
-use Rattle.std.proofs.Common.{◌≡◌, ◌∙◌, inl, inr, ℕ, List, length, map, Option, None, Err, subst, rules}
+use Rattle.std.proofs.Common.{◌≡◌, ◌∙◌, ℕ, List, length, map, Option, None, Err, subst, rules}
 use Rattle.std.specs.Prelude.{IfErr, OnOk}
 use Rattle.lease_rule.specs.Ranges.{first_bad}
 use Rattle.simulation.specs.Simulating.{IsSimulated, IsSimulationFault}
@@ -8,18 +8,18 @@ use Rattle.core_machine.specs.Works.{log_at}
 use Rattle.host_files.specs.Files.{Files, IsUnread, KeepsFiles}
 use Rattle.commands.specs.Programs.{AreProgramsIn}
 use Rattle.commands.proofs.Files.{keeps_files, only_read_after}
-use Rattle.commands.proofs.Runs.{came, faulted, unscheduled}
+use Rattle.commands.proofs.Runs.{came, faulted, unprogrammed, unscheduled}
 use Rattle.commands.specs.Numbers.{AreLeft, AreLeftAsFar, IsUnleft, numbers_of}
 use Rattle.commands.specs.Programmed.{config_of, log_format}
 use Rattle.commands.specs.Simulating.{AreCommandsOf}
-use Rattle.commands.specs.declared.running_fault.RunningFault.TheVariants.{Call, Simulation}
+use Rattle.commands.specs.declared.refusal.Refusal.TheVariants.{Simulation}
 use Rattle.commands.proofs.sim_files.sim.Goals as goal
 
 pub returns-in_err-programs-clause-exact : goal.returns-in_err-programs-clause-exact
 returns-in_err-programs-clause-exact g c =
     let sound : first_bad (config_of c.args.asked.now.limits) ≡ None = search rules in
-    let is : c.from_residual-in_err-programs.result ≡ Err (Call c.in_err-programs.field-0.0) = search rules in
-    rw is (inr (inl (sound, c.in_err-programs.ensures.err)))
+    let is : c.from_residual-in_err-programs.result ≡ Err c.in_err-programs.field-0.0 = search rules in
+    rw is (unprogrammed _ _ _ c.args.asked.now c.in_err-programs.field-0.0 sound c.in_err-programs.ensures.err c.in_err-programs.ensures.read)
 
 pub returns-in_err-programs-clause-files : goal.returns-in_err-programs-clause-files
 returns-in_err-programs-clause-files g c = keeps_files _ _ _ c.in_err-programs.ensures.read
@@ -35,7 +35,8 @@ returns-in_err-commands-clause-exact g c =
     let sound : first_bad (config_of asked.limits) ≡ None = search rules in
     let read : AreProgramsIn old.told asked.programs.now set = search rules in
     let is : c.from_residual-in_err-commands.result ≡ Err c.in_err-commands.field-0.0 = search rules in
-    rw is (unscheduled g.F.Source.ByteSource.remaining g.F.Source.ByteSource.failed old now new asked set c.in_err-commands.field-0.0 sound read c.in_ok-programs.ensures.quiet (search rules))
+    rw is (unscheduled g.F.Source.ByteSource.remaining g.F.Source.ByteSource.failed old now new asked set c.in_err-commands.field-0.0 sound read c.in_ok-programs.ensures.quiet (search rules)
+    (only_read_after _ _ _ c.in_ok-programs.ensures.quiet c.in_err-commands.ensures.read))
 
 pub returns-in_err-commands-clause-files : goal.returns-in_err-commands-clause-files
 returns-in_err-commands-clause-files g c = keeps_files _ _ _ (only_read_after _ _ _ c.in_ok-programs.ensures.quiet c.in_err-commands.ensures.read)

@@ -4,9 +4,9 @@ use Rattle.core_program.specs.Answers.{IsSetFault}
 use Rattle.core_program.specs.declared.fault.ProgramFault.{ProgramFault}
 use Rattle.core_program.specs.declared.fault.ProgramFault.TheVariants.{BadLine, TooLong, SkipPastEnd, OutOfMemory}
 use Rattle.log_file.specs.Devices.{Tells}
-use Rattle.commands.specs.CallFaults.{from_program}
 use Rattle.host_files.specs.Files.{IsUnread}
 use Rattle.commands.specs.Programs.{IsUnprogrammed}
+use Rattle.commands.specs.Refusals.{from_program}
 use Rattle.commands.proofs.text.read_programs.Goals as goal
 
 unprogrammed : (told : List ℕ → Option (List ℕ)) (unread : List ℕ → Type 0) (name text : List ℕ) (fault : ProgramFault) → Tells (told name) text → IsSetFault text fault

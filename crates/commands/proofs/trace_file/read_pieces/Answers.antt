@@ -4,16 +4,15 @@ use Rattle.std.specs.Io.KnownBytes.{Consumes, IsAtEnd}
 use Rattle.log_file.proofs.Devices.{consumes_end, tells_told, told}
 use Rattle.trace.specs.Reading.{IsSettled}
 use Rattle.trace.specs.Texts.{IsFault}
-use Rattle.commands.specs.SearchingFaults.{from_trace}
-use Rattle.commands.specs.declared.searching_fault.SearchingFault.TheVariants.{Call}
-use Rattle.commands.specs.declared.call_fault.CallFault.TheVariants.{OutOfMemory}
 use Rattle.commands.proofs.Readings.{failed_read, fault_answered, not_unread, settled_answered}
+use Rattle.commands.specs.Refusals.{from_trace}
+use Rattle.commands.specs.declared.refusal.Refusal.TheVariants.{OutOfMemory}
 use Rattle.commands.proofs.trace_file.read_pieces.Goals as goal
 
 pub returns-in_err-buffer-clause-answer : goal.returns-in_err-buffer-clause-answer
 returns-in_err-buffer-clause-answer g c =
     let before = g.S.ByteSource.remaining c.args.source.now in
-    let is : c.from_residual.result ≡ Err (Call OutOfMemory) = search rules in
+    let is : c.from_residual.result ≡ Err OutOfMemory = search rules in
     (told before, tells_told before, rw is tt)
 
 pub pieces-init : goal.pieces-init

@@ -4,7 +4,6 @@ use Rattle.std.specs.Global.{Vec}
 use Rattle.log_record.specs.Entries.{record_lists}
 use Rattle.log_record.specs.declared.record.Record.{Record}
 use Rattle.verdict.specs.Counts.{IsInRange}
-use Rattle.commands.specs.JudgingFaults.{from_judge}
 use Rattle.host_files.specs.Files.{Files, IsUnread}
 use Rattle.commands.specs.LogFiles.{IsUnspelled, Spelled}
 use Rattle.commands.proofs.Files.{keeps_told}
@@ -13,7 +12,7 @@ use Rattle.commands.specs.Logs.{ArePut, ArePutUpTo, IsUnwritten, KeepsOthers}
 use Rattle.log_record.specs.declared.format.Format.TheVariants.{Two}
 use Rattle.commands.specs.inner.ReadLogs.{read_log_of}
 use Rattle.commands.proofs.Upgrades.{not_counted, not_read, not_written, written}
-use Rattle.commands.specs.declared.judging_fault.JudgingFault.TheVariants.{Call}
+use Rattle.commands.specs.Refusals.{from_judge}
 use Rattle.commands.proofs.upgrade_files.upgrade.Goals as goal
 
 pub returns-in_err-check_counts-clause-exact : goal.returns-in_err-check_counts-clause-exact
@@ -60,7 +59,7 @@ returns-in_err-write_logs-clause-exact g c =
     let read = read_logs old.told _ _ _ _ c.as_slice.ensures.value (sym c.as_slice-logs.ensures.value) c.in_ok-read.ensures.ok in
     let unwritten = subst (λ (f : Files). IsUnwritten (ArePutUpTo Two f new c.args.asked.now.out.now (length c.as_slice-logs.result.now) (read_log_of c.as_slice-logs.result.now)) c.in_err-write_logs.field-0.0)
     c.in_ok-read.ensures.quiet c.in_err-write_logs.ensures.err in
-    let is : c.from_residual-in_err-write_logs.result ≡ Err (Call c.in_err-write_logs.field-0.0) = search rules in
+    let is : c.from_residual-in_err-write_logs.result ≡ Err c.in_err-write_logs.field-0.0 = search rules in
     rw is (not_written old new (IsUnread g.F.Source.ByteSource.remaining g.F.Source.ByteSource.failed old new) c.args.asked.now c.as_slice-logs.result.now (length c.as_slice-logs.result.now) many range read
     c.in_err-write_logs.field-0.0 unwritten)
 

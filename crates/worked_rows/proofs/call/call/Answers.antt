@@ -2,7 +2,7 @@
 use Rattle.std.proofs.Common.{subst}
 use Rattle.host_files.specs.Files.{Files}
 use Rattle.command_line.specs.Asking.{texts}
-use Rattle.commands.specs.Endings.{AreConsistent, AskFor}
+use Rattle.commands.specs.Promises.{AreConsistent, AskFor}
 use Rattle.worked_rows.proofs.call.call.Goals as goal
 
 pub returns : goal.returns

@@ -1,0 +1,189 @@
+-- What a call of the program promises. The folder and standard output were `old` and `out` before, and are `new` and `out'` after.
+use Rattle.std.specs.Prelude.{◌≡◌, ◌⊎◌, ⊤, ℕ, List, [], Contains, Option, None, Some}
+use Rattle.std.specs.Borrow.{Bor}
+use Rattle.std.specs.Option.{IsSomeAnd}
+use Rattle.command_line.specs.Asking.{AreRefused, Asks}
+use Rattle.command_line.specs.Files.{files_read}
+use Rattle.command_line.specs.RunFiles.{IsLogName}
+use Rattle.command_line.specs.declared.request.Request.{Request}
+use Rattle.command_line.specs.declared.request.Request.TheVariants.{Check, Order, Explain, Inspect, Upgrade, Sim, Run, Litmus, Search, Confirm, Version}
+use Rattle.command_line.specs.declared.request.TraceFiles.{TraceFiles}
+use Rattle.command_line.specs.declared.request.TraceFiles.TheVariants.{One, Logs}
+use Rattle.host_files.specs.Files.{Files}
+use Rattle.mem_op.specs.Consistency.{IsConsistent}
+use Rattle.merge_judge.specs.OrderText.{LacksEnd}
+use Rattle.verdict.specs.declared.judge_fault.JudgeFault.TheVariants.{Read}
+use Rattle.commands.specs.Checking.{FilesAreConsistent, FilesGetNo, FilesRunFlat, TextsAreConsistent}
+use Rattle.commands.specs.Leaving.{LeavesYes}
+use Rattle.commands.specs.LogFiles.{IsUnreadAt}
+use Rattle.commands.specs.Numbers.{IsLeftName}
+use Rattle.commands.specs.Ordering.{TakesOrder, TextsGetNo}
+use Rattle.commands.specs.Outputs.{IsNameOf}
+use Rattle.commands.specs.Refusals.{refusal_status, refusal_text}
+use Rattle.commands.specs.Running.{LeavesRun}
+use Rattle.commands.specs.Searching.{IsOutputName}
+use Rattle.commands.specs.Simulating.{LeavesSimulation}
+use Rattle.commands.specs.Sinks.{Sink, Takes, Took, line}
+use Rattle.commands.specs.Traces.{TellsTrace}
+use Rattle.commands.specs.Upgrading.{LeavesAnew}
+use Rattle.commands.specs.declared.place.Input.{Input}
+use Rattle.commands.specs.declared.place.Input.TheVariants as input
+use Rattle.commands.specs.declared.refusal.Refusal.{Refusal}
+use Rattle.commands.specs.declared.refusal.Refusal.TheVariants as refused
+pub use Rattle.host_files.specs.Files.{KeepsFiles}
+pub use Rattle.commands.specs.Sinks.{sink_of}
+
+-- the words are a command line, and this holds of what they ask for
+abbrev pub AskFor : List (List ℕ) → (Request → Type 0) → Type 0
+AskFor words Holds = (asked : Request) × Asks words asked × Holds asked
+
+-- ---- after 0
+
+-- where a verdict was asked for, its files spell a set whose operations are sequentially consistent, and where a trace was looked at, so are
+-- its operations
+abbrev pub AreConsistent : (List ℕ → Option (List ℕ)) → Request → Type 0
+AreConsistent told (Check asked) = FilesAreConsistent told asked
+AreConsistent told (Order asked) = TextsAreConsistent told asked.files.items
+AreConsistent told (Explain asked) = FilesAreConsistent told asked.check
+AreConsistent told (Search asked) = TellsTrace told asked.trace IsConsistent
+AreConsistent told (Confirm asked) = TellsTrace told asked.trace IsConsistent
+AreConsistent told other = ⊤
+
+-- and, where they were checked against programs, some whole run of these on the flat machine performs just its operations
+abbrev pub RunFlat : (List ℕ → Option (List ℕ)) → Request → Type 0
+RunFlat told (Check asked) = FilesRunFlat told asked
+RunFlat told (Explain asked) = FilesRunFlat told asked.check
+RunFlat told other = ⊤
+
+-- where an order was asked for, standard output took the order text of a sequential order of that set
+abbrev pub AreOrdered : (List ℕ → Option (List ℕ)) → Sink → Sink → Request → Type 0
+AreOrdered told out out' (Order asked) = TakesOrder told asked.files.items out out'
+AreOrdered told out out' other = ⊤
+
+-- where logs were to be written anew, the new files spell in format 2 the logs that the old ones spelled
+abbrev pub AreUpgraded : Files → Files → Request → Type 0
+AreUpgraded old new (Upgrade asked) = LeavesAnew old new asked
+AreUpgraded old new other = ⊤
+
+-- where a run was asked for, the judge says Yes to the logs that it leaves, against its programs
+abbrev pub LeaveYes : (List ℕ → Option (List ℕ)) → (List ℕ → Option (List ℕ)) → Request → Type 0
+LeaveYes told told' (Sim asked) = LeavesYes told told' asked.programs.now asked.out.now
+LeaveYes told told' (Run asked) = LeavesYes told told' asked.programs.now asked.out.now
+LeaveYes told told' other = ⊤
+
+-- ---- after 1
+
+-- where a verdict was asked for, that on the set of its files is a No, and what standard output took of an order lacks the `end` line; where
+-- a trace was looked at, its operations aren't sequentially consistent
+abbrev pub AreWrong : (List ℕ → Option (List ℕ)) → Sink → Sink → Request → Type 0
+AreWrong told out out' (Check asked) = FilesGetNo told asked
+AreWrong told out out' (Order asked) = TextsGetNo told asked.files.items × Took out out' LacksEnd
+AreWrong told out out' (Explain asked) = FilesGetNo told asked.check
+AreWrong told out out' (Search asked) = TellsTrace told asked.trace (λ cores. ¬ (IsConsistent cores))
+AreWrong told out out' (Confirm asked) = TellsTrace told asked.trace (λ cores. ¬ (IsConsistent cores))
+AreWrong told out out' other = ⊤
+
+-- ---- which files are put
+
+-- a name under which what was asked for may put a file: that of a log, of a run's numbers, of the totals of a litmus test's runs, of a
+-- picture or of a certificate
+abbrev pub IsPutName : Request → List ℕ → Type 0
+IsPutName (Explain asked) name = IsNameOf asked.picture name
+IsPutName (Upgrade asked) name = IsLogName asked.out.now name
+IsPutName (Sim asked) name = IsLeftName asked.out.now asked.statistics name
+IsPutName (Run asked) name = IsLeftName asked.out.now asked.statistics name
+IsPutName (Litmus asked) name = IsNameOf asked.statistics name
+IsPutName (Search asked) name = IsOutputName asked name
+IsPutName other name = ⊥
+
+-- such a name, under which no file is read
+abbrev pub IsPutUnread : Request → List ℕ → Type 0
+IsPutUnread asked name = IsPutName asked name × ¬ (Contains (files_read asked) name)
+
+-- ---- after a refusal
+
+-- it is for what was read, for a number or since a search gave up: no run, no upgrade and no search has put anything yet. So is each that ends
+-- with 2 or 3.
+abbrev pub ComesFirst : Refusal → Type 0
+ComesFirst (refused.Simulation fault) = ⊥
+ComesFirst (refused.Run fault) = ⊥
+ComesFirst (refused.Unwritten place) = ⊥
+ComesFirst (refused.LogUnwritten file) = ⊥
+ComesFirst refused.OutOfMemory = ⊥
+ComesFirst refusal = ⊤
+
+-- after a fault of a run its logs as far as the fault are left
+abbrev pub LeavesSoFar : Files → Files → Request → Refusal → Type 0
+LeavesSoFar old new (Sim asked) (refused.Simulation fault) = LeavesSimulation old new asked fault
+LeavesSoFar old new (Run asked) (refused.Run fault) = LeavesRun old new asked fault
+LeavesSoFar old new asked refusal = ⊤
+
+-- the only file of a trace
+abbrev pub trace_file : TraceFiles → Option (Bor (List ℕ))
+trace_file (One name) = Some name
+trace_file (Logs names) = None
+
+-- the logs whose trace it is
+abbrev pub trace_logs : TraceFiles → List (Bor (List ℕ))
+trace_logs (One name) = []
+trace_logs (Logs names) = names.items
+
+-- the name of a file that is read alone
+abbrev pub file_at : Request → Input → Option (Bor (List ℕ))
+file_at (Check asked) input.Programs = asked.program
+file_at (Explain asked) input.Programs = asked.check.program
+file_at (Inspect asked) input.Programs = Some asked.file
+file_at (Inspect asked) input.Test = Some asked.file
+file_at (Sim asked) input.Programs = Some asked.programs
+file_at (Sim asked) input.Schedule = asked.schedule
+file_at (Run asked) input.Programs = Some asked.programs
+file_at (Litmus asked) input.Test = Some asked.test
+file_at (Search asked) input.Trace = trace_file asked.trace
+file_at (Confirm asked) input.Trace = trace_file asked.trace
+file_at (Confirm asked) input.Certificate = Some asked.certificate
+file_at asked place = None
+
+-- the names of the files of a set of logs
+abbrev pub logs_read : Request → List (Bor (List ℕ))
+logs_read (Check asked) = asked.files.items
+logs_read (Order asked) = asked.files.items
+logs_read (Explain asked) = asked.check.files.items
+logs_read (Upgrade asked) = asked.files.items
+logs_read (Search asked) = trace_logs asked.trace
+logs_read (Confirm asked) = trace_logs asked.trace
+logs_read other = []
+
+-- a file of which 28 is told is one that couldn't be opened or read
+abbrev pub IsUnreadThere : (List ℕ → Type 0) → Request → Refusal → Type 0
+IsUnreadThere unread asked (refused.Judge (Read file)) = IsUnreadAt unread (logs_read asked) file
+IsUnreadThere unread asked (refused.Unread place) = IsSomeAnd (file_at asked place) (λ name. unread name.now)
+IsUnreadThere unread asked refusal = ⊤
+
+-- what standard output took of an order lacks the `end` line
+abbrev pub IsUnended : Sink → Sink → Request → Type 0
+IsUnended out out' (Order asked) = Took out out' LacksEnd
+IsUnended out out' other = ⊤
+
+-- What holds after this refusal of what was asked; `Unread` holds of the name of a file that couldn't be opened or read. Where it comes first, no
+-- file is changed.
+pub record IsRefused (old new : Files) (Unread : List ℕ → Type 0) (out out' : Sink) (asked : Request) (refusal : Refusal) : Type 0 where
+  pub kept : ComesFirst refusal → new.told ≡ old.told
+  pub left : LeavesSoFar old new asked refusal
+  pub unread : IsUnreadThere Unread asked refusal
+  pub unended : IsUnended out out' asked
+
+-- standard error was told of this refusal, and it has this exit status
+pub record IsTold (err err' : Sink) (status : ℕ) (refusal : Refusal) : Type 0 where
+  pub text : Takes err err' (line (refusal_text refusal))
+  pub status : status ≡ refusal_status refusal
+
+-- a call that was refused: standard error was told why
+abbrev pub IsRefusedCall : Files → Files → (List ℕ → Type 0) → Sink → Sink → Sink → Sink → ℕ → Request → Type 0
+IsRefusedCall old new unread out out' err err' status asked =
+    (refusal : Refusal) × IsTold err err' status refusal × IsRefused old new unread out out' asked refusal
+
+-- Words that are no command line, or for which there was no memory: nothing is read, put or printed.
+pub record AreUnasked (old new : Files) (words : List (List ℕ)) (out out' : Sink) (status : ℕ) : Type 0 where
+  pub files : new ≡ old
+  pub output : out' ≡ out
+  pub reason : ((status ≡ 3) × AreRefused words) ⊎ (status ≡ 4)

@@ -1,0 +1,148 @@
+-- What is told of refusals, and their exit statuses.
+use Rattle.std.specs.Prelude.{ℕ, List, ◌++◌, codes}
+use Rattle.std.specs.Fmt.{decimal}
+use Rattle.mem_op.specs.Names.{name_text}
+use Rattle.mem_op.specs.declared.fault_name.FaultName.TheVariants as named
+use Rattle.core_program.specs.FaultTexts.{fault_text as program_fault_text}
+use Rattle.core_program.specs.declared.fault.ProgramFault.{ProgramFault}
+use Rattle.core_program.specs.declared.fault.ProgramFault.TheVariants as program
+use Rattle.lease_rule.specs.Faults.{fault_text as config_fault_text}
+use Rattle.litmus_test.specs.FaultTexts.{fault_text as test_fault_text}
+use Rattle.litmus_test.specs.declared.fault.LitmusFault.{LitmusFault}
+use Rattle.litmus_test.specs.declared.fault.LitmusFault.TheVariants as test
+use Rattle.litmus.specs.declared.run_cause.RunCause.{RunCause}
+use Rattle.litmus.specs.declared.run_cause.RunCause.TheVariants as cause
+use Rattle.litmus.specs.RunFaults.{cause_text, fault_text as table_fault_text}
+use Rattle.litmus.specs.declared.run_fault.CollectFault.{CollectFault}
+use Rattle.litmus.specs.declared.run_fault.CollectFault.TheVariants as table
+use Rattle.log_file.specs.declared.device_fault.WriteFault.{WriteFault}
+use Rattle.log_file.specs.declared.device_fault.WriteFault.TheVariants as write
+use Rattle.machine.specs.Faults.{fault_text as run_fault_text}
+use Rattle.merge_judge.specs.declared.merge_fault.MergeFault.{MergeFault}
+use Rattle.merge_judge.specs.declared.merge_fault.MergeFault.TheVariants as merge
+use Rattle.refutation.specs.FaultTexts.{fault_text as certificate_fault_text}
+use Rattle.schedule.specs.FaultTexts.{fault_text as schedule_fault_text}
+use Rattle.schedule.specs.declared.fault.ScheduleFault.{ScheduleFault}
+use Rattle.schedule.specs.declared.fault.ScheduleFault.TheVariants as schedule
+use Rattle.simulation.specs.Faults.{fault_text as simulation_fault_text}
+use Rattle.trace.specs.FaultTexts.{fault_text as trace_fault_text}
+use Rattle.trace.specs.declared.fault.TraceFault.{TraceFault}
+use Rattle.trace.specs.declared.fault.TraceFault.TheVariants as trace
+use Rattle.verdict.specs.Texts.{judge_fault_text}
+use Rattle.verdict.specs.declared.judge_fault.JudgeFault.{JudgeFault}
+use Rattle.verdict.specs.declared.judge_fault.JudgeFault.TheVariants as judge
+use Rattle.commands.specs.declared.place.Input.{Input}
+use Rattle.commands.specs.declared.place.Input.TheVariants as input
+use Rattle.commands.specs.declared.place.Output.{Output}
+use Rattle.commands.specs.declared.place.Output.TheVariants as output
+use Rattle.commands.specs.declared.refusal.Refusal.{Refusal}
+use Rattle.commands.specs.declared.refusal.Refusal.TheVariants.{Judge, Programs, Schedule, Test, Trace, Certificate, Config, Simulation, Run, Collect, Undecided, Unread, Unwritten, LogUnwritten, OutOfMemory}
+
+-- ---- the faults of the library, as refusals
+
+abbrev pub from_judge : JudgeFault → Refusal
+from_judge (judge.BadConfig count) = Judge (judge.BadConfig count)
+from_judge (judge.Log file line fault) = Judge (judge.Log file line fault)
+from_judge (judge.Read file) = Judge (judge.Read file)
+from_judge judge.OutOfMemory = OutOfMemory
+
+abbrev pub from_merge : MergeFault → Refusal
+from_merge (merge.Judge fault) = from_judge fault
+from_merge merge.Write = Unwritten output.Standard
+
+abbrev pub from_program : ProgramFault → Refusal
+from_program (program.BadLine line) = Programs (program.BadLine line)
+from_program (program.TooLong line) = Programs (program.TooLong line)
+from_program (program.SkipPastEnd line) = Programs (program.SkipPastEnd line)
+from_program program.OutOfMemory = OutOfMemory
+
+abbrev pub from_trace : TraceFault → Refusal
+from_trace (trace.BadTraceLine line) = Trace (trace.BadTraceLine line)
+from_trace (trace.TooMany line) = Trace (trace.TooMany line)
+from_trace trace.OutOfMemory = OutOfMemory
+
+abbrev pub from_schedule : ScheduleFault → Refusal
+from_schedule (schedule.BadScheduleLine line) = Schedule (schedule.BadScheduleLine line)
+from_schedule schedule.OutOfMemory = OutOfMemory
+
+abbrev pub from_test : LitmusFault → Refusal
+from_test test.OutOfMemory = OutOfMemory
+from_test fault = Test fault
+
+abbrev pub from_collect : CollectFault → Refusal
+from_collect table.OutOfMemory = OutOfMemory
+from_collect fault = Collect fault
+
+abbrev pub from_write : WriteFault → Refusal
+from_write write.OutOfMemory = OutOfMemory
+from_write write.Write = Unwritten output.Standard
+
+-- ---- texts
+
+abbrev pub input_text : Input → List ℕ
+input_text input.Programs = codes "programs"
+input_text input.Schedule = codes "schedule"
+input_text input.Test = codes "litmus"
+input_text input.Trace = codes "trace"
+input_text input.Certificate = codes "certificate"
+
+abbrev pub output_text : Output → List ℕ
+output_text output.Standard = codes "output"
+output_text output.Picture = codes "picture"
+output_text output.Order = codes "order"
+output_text output.Refutation = codes "refutation"
+output_text output.Statistics = codes "statistics"
+
+-- a No is told as one
+abbrev pub run_cause_text : ℕ → RunCause → List ℕ
+run_cause_text k (cause.No fault) = codes "no: " ++ cause_text k (cause.No fault)
+run_cause_text k why = codes "refused: " ++ cause_text k why
+
+abbrev pub collect_fault_text : CollectFault → List ℕ
+collect_fault_text (table.Run k why) = run_cause_text k why
+collect_fault_text fault = codes "refused: " ++ table_fault_text fault
+
+abbrev pub refusal_text : Refusal → List ℕ
+refusal_text (Judge fault) = codes "refused: " ++ judge_fault_text fault
+refusal_text (Programs fault) = codes "refused: programs " ++ program_fault_text fault
+refusal_text (Schedule fault) = codes "refused: schedule " ++ schedule_fault_text fault
+refusal_text (Test fault) = codes "refused: litmus " ++ test_fault_text fault
+refusal_text (Trace fault) = codes "refused: trace " ++ trace_fault_text fault
+refusal_text (Certificate fault) = codes "refused: certificate " ++ certificate_fault_text fault
+refusal_text (Config fault) = codes "refused: " ++ config_fault_text fault
+refusal_text (Simulation fault) = codes "refused: " ++ simulation_fault_text fault
+refusal_text (Run fault) = codes "refused: " ++ run_fault_text fault.core fault.cause
+refusal_text (Collect fault) = collect_fault_text fault
+refusal_text Undecided = codes "refused: " ++ name_text named.Undecided
+refusal_text (Unread place) = codes "refused: " ++ (input_text place ++ (codes ": " ++ name_text named.Read))
+refusal_text (Unwritten place) = codes "refused: " ++ (output_text place ++ (codes ": " ++ name_text named.Write))
+refusal_text (LogUnwritten file) = codes "refused: file " ++ (decimal file ++ (codes ": " ++ name_text named.Write))
+refusal_text OutOfMemory = codes "refused: " ++ name_text named.OutOfMemory
+
+-- ---- exit statuses
+
+abbrev pub judge_fault_status : JudgeFault → ℕ
+judge_fault_status (judge.Log file line fault) = 2
+judge_fault_status (judge.BadConfig count) = 3
+judge_fault_status (judge.Read file) = 4
+judge_fault_status judge.OutOfMemory = 4
+
+abbrev pub run_cause_status : RunCause → ℕ
+run_cause_status (cause.No fault) = 1
+run_cause_status why = 4
+
+abbrev pub collect_fault_status : CollectFault → ℕ
+collect_fault_status table.BadRuns = 3
+collect_fault_status (table.Run k why) = run_cause_status why
+collect_fault_status table.OutOfMemory = 4
+
+abbrev pub refusal_status : Refusal → ℕ
+refusal_status (Judge fault) = judge_fault_status fault
+refusal_status (Programs fault) = 2
+refusal_status (Schedule fault) = 2
+refusal_status (Test fault) = 2
+refusal_status (Trace fault) = 2
+refusal_status (Certificate fault) = 2
+refusal_status (Config fault) = 3
+refusal_status (Collect fault) = collect_fault_status fault
+refusal_status other = 4
