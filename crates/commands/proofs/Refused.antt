@@ -209,37 +209,37 @@ module _ (old new : Files) (Unreadable : List ℕ → Type 0) (out out' : Sink) 
   file_unread (One name) is = is
   file_unread (Logs names) is = absurd is
 
-  search_kept : (asked : Search) (refusal : Refusal) → IsSearched old new Unreadable asked out out' (Err refusal) → ComesFirst refusal → new.told ≡ old.told
-  search_kept asked Undecided is first = same_told is.1.0
+  search_kept : (asked : Search) (refusal : Refusal) → IsSearched old new Unreadable asked (Err refusal) → ComesFirst refusal → new.told ≡ old.told
+  search_kept asked Undecided is first = same_told is.1
   search_kept asked (Unwritten place) is first = absurd first
   search_kept asked OutOfMemory is first = absurd first
-  search_kept asked other is first = keeps_told old new is.1.0
+  search_kept asked other is first = keeps_told old new is.1
 
-  search_unread : (asked : Search) (refusal : Refusal) → IsSearched old new Unreadable asked out out' (Err refusal) → IsUnreadThere Unreadable (request.Search asked) refusal
+  search_unread : (asked : Search) (refusal : Refusal) → IsSearched old new Unreadable asked (Err refusal) → IsUnreadThere Unreadable (request.Search asked) refusal
   search_unread asked (Judge (Read file)) is = logs_unread asked.trace file is.0
   search_unread asked (Unread input.Trace) is = file_unread asked.trace is.0
   search_unread asked (Unread place) is = absurd is.0
   search_unread asked other is = tt
 
-  pub search_refused : (asked : Search) (refusal : Refusal) → IsSearched old new Unreadable asked out out' (Err refusal)
+  pub search_refused : (asked : Search) (refusal : Refusal) → IsSearched old new Unreadable asked (Err refusal)
       → IsRefused old new Unreadable out out' (request.Search asked) refusal
   search_refused asked refusal is = record { kept = search_kept asked refusal is; left = tt; unread = search_unread asked refusal is; unended = tt }
 
-  pub search_no_table : (asked : Search) (refusal : Refusal) → IsSearched old new Unreadable asked out out' (Err refusal) → IsOfTable refusal → ⊥
+  pub search_no_table : (asked : Search) (refusal : Refusal) → IsSearched old new Unreadable asked (Err refusal) → IsOfTable refusal → ⊥
   search_no_table asked (Collect fault) is of = is.0
   search_no_table asked other is of = of
 
-  confirm_unread : (asked : Confirm) (refusal : Refusal) → IsConfirmed old new Unreadable asked out out' (Err refusal) → IsUnreadThere Unreadable (request.Confirm asked) refusal
-  confirm_unread asked (Judge (Read file)) is = logs_unread asked.trace file is.0
-  confirm_unread asked (Unread input.Trace) is = file_unread asked.trace is.0
-  confirm_unread asked (Unread input.Certificate) is = is.1.0
-  confirm_unread asked (Unread place) is = absurd is.0
+  confirm_unread : (asked : Confirm) (refusal : Refusal) → IsConfirmed old new Unreadable asked (Err refusal) → IsUnreadThere Unreadable (request.Confirm asked) refusal
+  confirm_unread asked (Judge (Read file)) is = logs_unread asked.trace file is
+  confirm_unread asked (Unread input.Trace) is = file_unread asked.trace is
+  confirm_unread asked (Unread input.Certificate) is = is.1
+  confirm_unread asked (Unread place) is = absurd is
   confirm_unread asked other is = tt
 
-  pub confirm_refused : (asked : Confirm) (refusal : Refusal) → IsConfirmed old new Unreadable asked out out' (Err refusal) → IsOnlyRead old new
+  pub confirm_refused : (asked : Confirm) (refusal : Refusal) → IsConfirmed old new Unreadable asked (Err refusal) → IsOnlyRead old new
       → IsRefused old new Unreadable out out' (request.Confirm asked) refusal
   confirm_refused asked refusal is read = record { kept = λ first. keeps_told old new read; left = tt; unread = confirm_unread asked refusal is; unended = tt }
 
-  pub confirm_no_table : (asked : Confirm) (refusal : Refusal) → IsConfirmed old new Unreadable asked out out' (Err refusal) → IsOfTable refusal → ⊥
-  confirm_no_table asked (Collect fault) is of = is.0
+  pub confirm_no_table : (asked : Confirm) (refusal : Refusal) → IsConfirmed old new Unreadable asked (Err refusal) → IsOfTable refusal → ⊥
+  confirm_no_table asked (Collect fault) is of = is
   confirm_no_table asked other is of = of

@@ -1,10 +1,8 @@
 -- What a search comes to, from what its parts answer.
 use Rattle.std.proofs.Common.{◌≡◌, subst, sym, inl, inr, ℕ, Bor, List, Option, Result, Ok, Err}
 use Rattle.std.specs.Prelude.{IfOk}
-use Rattle.std.specs.Io.KnownBytes.{Keeps}
 use Rattle.host_files.specs.Files.{Files, IsOnlyRead}
 use Rattle.commands.specs.Outputs.{FailsPutAt}
-use Rattle.commands.specs.Sinks.{Sink}
 use Rattle.command_line.specs.declared.request.Search.{Search}
 use Rattle.mem_op.specs.Consistency.{Operation}
 use Rattle.refutation.specs.declared.answer.Answer.{Answer}
@@ -34,20 +32,20 @@ right_of cores found.Undecided answer is by = absurd is
 -- ---- the whole
 
 -- the files tell no trace
-pub traceless : (old new : Files) (unread : List ℕ → Type 0) (asked : Search) (out : Sink) (fault : Refusal) → AreTraceless old.told unread asked.trace fault
-    → IsOnlyRead old new → Keeps out.contents out.contents → IsSearched old new unread asked out out (Err fault)
-traceless old new unread asked out (Trace fault) is read keeps = (is, read, keeps)
-traceless old new unread asked out (Unread input.Trace) is read keeps = (is, read, keeps)
-traceless old new unread asked out (Judge fault) is read keeps = (is, read, keeps)
-traceless old new unread asked out OutOfMemory is read keeps = keeps
-traceless old new unread asked out other is read keeps = absurd is
+pub traceless : (old new : Files) (unread : List ℕ → Type 0) (asked : Search) (fault : Refusal) → AreTraceless old.told unread asked.trace fault
+    → IsOnlyRead old new → IsSearched old new unread asked (Err fault)
+traceless old new unread asked (Trace fault) is read = (is, read)
+traceless old new unread asked (Unread input.Trace) is read = (is, read)
+traceless old new unread asked (Judge fault) is read = (is, read)
+traceless old new unread asked OutOfMemory is read = tt
+traceless old new unread asked other is read = absurd is
 
 -- the search gives up, in a folder that is as it was
-pub given_up : (old new : Files) (unread : List ℕ → Type 0) (asked : Search) (out : Sink) (cores : List (List Operation)) (fault : Refusal) → IsTraceIn old.told asked.trace cores
-    → new ≡ old → Keeps out.contents out.contents → IsGivenUp fault → IsSearched old new unread asked out out (Err fault)
-given_up old new unread asked out cores Undecided is same keeps why = ((cores, is, tt), same, keeps)
-given_up old new unread asked out cores OutOfMemory is same keeps why = keeps
-given_up old new unread asked out cores other is same keeps why = absurd why
+pub given_up : (old new : Files) (unread : List ℕ → Type 0) (asked : Search) (cores : List (List Operation)) (fault : Refusal) → IsTraceIn old.told asked.trace cores
+    → new ≡ old → IsGivenUp fault → IsSearched old new unread asked (Err fault)
+given_up old new unread asked cores Undecided is same why = ((cores, is, tt), same)
+given_up old new unread asked cores OutOfMemory is same why = tt
+given_up old new unread asked cores other is same why = absurd why
 
 -- what holds where a put failed and where memory ran out holds of the fault that tells it
 unput_at : (P : Refusal → Type 0) (unwritten : Refusal) (old new : Files) (name : Option (Bor (List ℕ))) (fault : Refusal) → IsUnputAt unwritten old new name fault
@@ -56,15 +54,15 @@ unput_at P unwritten old new name OutOfMemory why failed memory = memory
 unput_at P unwritten old new name fault why failed memory = subst P (sym why.0) (failed why.1)
 
 -- what was found isn't put
-pub unput : (old new : Files) (unread : List ℕ → Type 0) (asked : Search) (out : Sink) (cores : List (List Operation)) (proof : Answer) (fault : Refusal)
-    → IsTraceIn old.told asked.trace cores → IsProof cores proof → Keeps out.contents out.contents → IsUnput old new asked proof fault → IsSearched old new unread asked out out (Err fault)
-unput old new unread asked out cores (found.Order order) fault is proves keeps why =
-    unput_at (λ f. IsSearched old new unread asked out out (Err f)) (Unwritten output.Order) old new asked.order fault why (λ fails. ((cores, is, (order.items, proves)), fails, keeps)) keeps
-unput old new unread asked out cores (found.Refutation steps) fault is proves keeps (inl why) =
-    unput_at (λ f. IsSearched old new unread asked out out (Err f)) (Unwritten output.Refutation) old new asked.refutation fault why (λ fails. ((cores, is, refutations-hold cores steps proves), fails, keeps)) keeps
-unput old new unread asked out cores (found.Refutation steps) fault is proves keeps (inr (between, puts, why)) =
-    unput_at (λ f. IsSearched old new unread asked out out (Err f)) (Unwritten output.Picture) between new asked.picture fault why (λ fails. ((cores, is, (steps, proves, (between, puts, fails))), keeps)) keeps
-unput old new unread asked out cores found.Undecided fault is proves keeps why = absurd proves
+pub unput : (old new : Files) (unread : List ℕ → Type 0) (asked : Search) (cores : List (List Operation)) (proof : Answer) (fault : Refusal)
+    → IsTraceIn old.told asked.trace cores → IsProof cores proof → IsUnput old new asked proof fault → IsSearched old new unread asked (Err fault)
+unput old new unread asked cores (found.Order order) fault is proves why =
+    unput_at (λ f. IsSearched old new unread asked (Err f)) (Unwritten output.Order) old new asked.order fault why (λ fails. ((cores, is, (order.items, proves)), fails)) tt
+unput old new unread asked cores (found.Refutation steps) fault is proves (inl why) =
+    unput_at (λ f. IsSearched old new unread asked (Err f)) (Unwritten output.Refutation) old new asked.refutation fault why (λ fails. ((cores, is, refutations-hold cores steps proves), fails)) tt
+unput old new unread asked cores (found.Refutation steps) fault is proves (inr (between, puts, why)) =
+    unput_at (λ f. IsSearched old new unread asked (Err f)) (Unwritten output.Picture) between new asked.picture fault why (λ fails. (cores, is, (steps, proves, (between, puts, fails)))) tt
+unput old new unread asked cores found.Undecided fault is proves why = absurd proves
 
 -- it was put
 pub finds : (old now new : Files) (asked : Search) (cores : List (List Operation)) (proof : Answer) (answer : SearchAnswer) → IsTraceIn old.told asked.trace cores → now ≡ old
@@ -73,7 +71,7 @@ finds old now new asked cores proof answer is same proves by puts =
     (cores, is, record { proof = proof; is_proof = proves; answers = by; puts = subst (λ (files : Files). PutsProof files new asked proof) same puts })
 
 -- and so the answer is right
-pub right : (old new : Files) (unread : List ℕ → Type 0) (asked : Search) (out out' : Sink) (result : Result SearchAnswer Refusal) → IsSearched old new unread asked out out' result
+pub right : (old new : Files) (unread : List ℕ → Type 0) (asked : Search) (result : Result SearchAnswer Refusal) → IsSearched old new unread asked result
     → IfOk result (λ answer. TellsTrace old.told asked.trace (λ cores. IsRightOf cores answer))
-right old new unread asked out out' (Err fault) is = tt
-right old new unread asked out out' (Ok answer) ((cores, there, finds), text, tells, appends) = (cores, there, right_of cores finds.proof answer finds.is_proof finds.answers)
+right old new unread asked (Err fault) is = tt
+right old new unread asked (Ok answer) (cores, there, finds) = (cores, there, right_of cores finds.proof answer finds.is_proof finds.answers)

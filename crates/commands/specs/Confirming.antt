@@ -1,8 +1,6 @@
--- What a look at a certificate answers, and what standard output took of it. The folder and the sink were `old` before and are `new` after.
+-- What a look at a certificate answers. The folder was `old` before and is `new` after.
 use Rattle.std.specs.Prelude.{◌≡◌, ◌≢◌, ◌⊎◌, ⊤, ℕ, List, ◌++◌, Option, Result, Ok, Err}
-use Rattle.std.specs.Io.KnownBytes.{Appends, Keeps}
 use Rattle.host_files.specs.Files.{Files}
-use Rattle.commands.specs.Sinks.{HasFailed, Sink, TakesBeginning, line}
 use Rattle.command_line.specs.declared.request.Confirm.{Confirm}
 use Rattle.log_file.specs.Devices.{Tells}
 use Rattle.mem_op.specs.Consistency.{Operation}
@@ -11,7 +9,6 @@ use Rattle.refutation.specs.Texts.{IsFirstBad, SpellsRefutation}
 use Rattle.refutation.specs.declared.fault.CertificateFault.{CertificateFault}
 use Rattle.refutation.specs.declared.fault.CertificateFault.TheVariants.{BadCertificate, OutOfMemory as NoCertificateMemory}
 use Rattle.refutation_text.specs.FirstLines.{operation_count}
-use Rattle.commands.specs.SearchAnswers.{search_text}
 use Rattle.commands.specs.OrderTexts.{IsFirstBadOfOrder, SpellsOrder}
 use Rattle.commands.specs.Traces.{AreTraceless, TellsTrace}
 use Rattle.commands.specs.declared.search_answer.SearchAnswer.{SearchAnswer}
@@ -43,18 +40,13 @@ abbrev pub TellsBoth : (List ℕ → Option (List ℕ)) → Confirm → (List (L
 TellsBoth told asked Holds =
     TellsTrace told asked.trace (λ cores. (text : List ℕ) × Tells (told asked.certificate.now) text × Holds cores text)
 
--- The answer that the certificate gives, whose line standard output took, or why there is none. The trace is read first. `unread` holds of
--- the name of a file that can't be opened or read.
-abbrev pub IsConfirmed : Files → Files → (List ℕ → Type 0) → Confirm → Sink → Sink → Result SearchAnswer Refusal → Type 0
-IsConfirmed old new unread asked out out' (Ok answer) =
-    TellsBoth old.told asked (λ cores text. Certifies cores text answer) × (new ≡ old)
-    × Appends out.contents out'.contents (line (search_text answer))
-IsConfirmed old new unread asked out out' (Err (Unwritten output.Standard)) =
-    (answer : SearchAnswer) × TellsBoth old.told asked (λ cores text. Certifies cores text answer) × (new ≡ old)
-    × HasFailed out out' × TakesBeginning out out' (line (search_text answer))
-IsConfirmed old new unread asked out out' (Err (Certificate fault)) =
-    TellsBoth old.told asked (λ cores text. IsBadCertificate cores text fault) × (new ≡ old) × Keeps out.contents out'.contents
-IsConfirmed old new unread asked out out' (Err (Unread input.Certificate)) =
-    TellsTrace old.told asked.trace (λ cores. ⊤) × unread asked.certificate.now × Keeps out.contents out'.contents
-IsConfirmed old new unread asked out out' (Err OutOfMemory) = Keeps out.contents out'.contents
-IsConfirmed old new unread asked out out' (Err fault) = AreTraceless old.told unread asked.trace fault × Keeps out.contents out'.contents
+-- The answer that the certificate gives, or why there is none. The trace is read first. `unread` holds of the name of a file that can't be
+-- opened or read.
+abbrev pub IsConfirmed : Files → Files → (List ℕ → Type 0) → Confirm → Result SearchAnswer Refusal → Type 0
+IsConfirmed old new unread asked (Ok answer) = TellsBoth old.told asked (λ cores text. Certifies cores text answer) × (new ≡ old)
+IsConfirmed old new unread asked (Err (Unwritten output.Standard)) =
+    TellsBoth old.told asked (λ cores text. (answer : SearchAnswer) × Certifies cores text answer) × (new ≡ old)
+IsConfirmed old new unread asked (Err (Certificate fault)) = TellsBoth old.told asked (λ cores text. IsBadCertificate cores text fault) × (new ≡ old)
+IsConfirmed old new unread asked (Err (Unread input.Certificate)) = TellsTrace old.told asked.trace (λ cores. ⊤) × unread asked.certificate.now
+IsConfirmed old new unread asked (Err OutOfMemory) = ⊤
+IsConfirmed old new unread asked (Err fault) = AreTraceless old.told unread asked.trace fault

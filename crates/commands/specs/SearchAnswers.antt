@@ -1,14 +1,9 @@
--- The texts and the exit statuses of answers, and what they say.
-use Rattle.std.specs.Prelude.{◌≡◌, ℕ, List, ◌++◌, codes}
-use Rattle.std.specs.Fmt.{decimal}
+-- The exit statuses of answers to searches, and what they say.
+use Rattle.std.specs.Prelude.{◌≡◌, ℕ, List}
 use Rattle.mem_op.specs.Consistency.{Operation, IsConsistent}
 use Rattle.refutation_text.specs.FirstLines.{operation_count}
 use Rattle.commands.specs.declared.search_answer.SearchAnswer.{SearchAnswer}
 use Rattle.commands.specs.declared.search_answer.SearchAnswer.TheVariants.{Yes, No}
-
-abbrev pub search_text : SearchAnswer → List ℕ
-search_text (Yes operations) = codes "yes: " ++ (decimal operations ++ codes " operations")
-search_text (No operations) = codes "no: no order of " ++ (decimal operations ++ codes " operations")
 
 abbrev pub search_status : SearchAnswer → ℕ
 search_status (Yes operations) = 0

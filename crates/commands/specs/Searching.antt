@@ -1,10 +1,7 @@
--- What a search of a trace answers, what standard output took of it, and which files were put. The folder and the sink were `old` before
--- and are `new` after.
+-- What a search of a trace answers, and which files were put. The folder was `old` before and is `new` after.
 use Rattle.std.specs.Prelude.{◌≡◌, ◌⊎◌, ⊤, ℕ, ◌*◌, ◌+◌, List, Option, Result, Ok, Err, unwrap_or}
-use Rattle.std.specs.Io.KnownBytes.{Appends, Keeps}
 use Rattle.host_files.specs.Files.{Files, IsOnlyRead}
 use Rattle.commands.specs.Outputs.{FailsPutAt, IsNameOf, PutsAt, PutsSuchAt}
-use Rattle.commands.specs.Sinks.{HasFailed, Sink, TakesBeginning, line}
 use Rattle.command_line.specs.declared.request.Search.{Search}
 use Rattle.mem_op.specs.Consistency.{Operation, IsConsistent, IsSequentialOrder}
 use Rattle.merge_judge.specs.OrderText.{order_text}
@@ -14,8 +11,7 @@ use Rattle.refutation.specs.declared.answer.Answer.{Answer}
 use Rattle.refutation.specs.declared.answer.Answer.TheVariants as found
 use Rattle.refutation.specs.declared.step.Step.{Step}
 use Rattle.refutation_picture.specs.Pictures.{IsPicture}
-use Rattle.refutation_text.specs.FirstLines.{IsGrown, operation_count}
-use Rattle.commands.specs.SearchAnswers.{search_text}
+use Rattle.refutation_text.specs.FirstLines.{operation_count}
 use Rattle.commands.specs.Traces.{AreTraceless, TellsTrace}
 use Rattle.commands.specs.declared.search_answer.SearchAnswer.{SearchAnswer}
 use Rattle.commands.specs.declared.search_answer.SearchAnswer.TheVariants.{Yes, No}
@@ -67,27 +63,16 @@ pub record Finds (old new : Files) (asked : Search) (cores : List (List Operatio
   pub answers : AnswersBy cores proof answer
   pub puts : PutsProof old new asked proof
 
--- the text begins with the line of an answer; that of a yes is the line
-abbrev pub TellsAnswer : SearchAnswer → List ℕ → Type 0
-TellsAnswer (Yes operations) text = text ≡ line (search_text (Yes operations))
-TellsAnswer (No operations) text = IsGrown (line (search_text (No operations))) text
-
--- The answer, whose line standard output took, or why there is none. What is found is put before anything is printed. A search that gives
--- up promises nothing of the trace. `unread` holds of the name of a file that can't be opened or read.
-abbrev pub IsSearched : Files → Files → (List ℕ → Type 0) → Search → Sink → Sink → Result SearchAnswer Refusal → Type 0
-IsSearched old new unread asked out out' (Ok answer) =
-    TellsTrace old.told asked.trace (λ cores. Finds old new asked cores answer)
-    × (text : List ℕ) × TellsAnswer answer text × Appends out.contents out'.contents text
-IsSearched old new unread asked out out' (Err (Unwritten output.Standard)) =
-    (answer : SearchAnswer) × TellsTrace old.told asked.trace (λ cores. Finds old new asked cores answer)
-    × (text : List ℕ) × TellsAnswer answer text × HasFailed out out' × TakesBeginning out out' text
-IsSearched old new unread asked out out' (Err Undecided) = TellsTrace old.told asked.trace (λ cores. ⊤) × (new ≡ old) × Keeps out.contents out'.contents
-IsSearched old new unread asked out out' (Err (Unwritten output.Order)) =
-    TellsTrace old.told asked.trace IsConsistent × FailsPutAt old new asked.order × Keeps out.contents out'.contents
-IsSearched old new unread asked out out' (Err (Unwritten output.Refutation)) =
-    TellsTrace old.told asked.trace (λ cores. ¬ (IsConsistent cores)) × FailsPutAt old new asked.refutation × Keeps out.contents out'.contents
-IsSearched old new unread asked out out' (Err (Unwritten output.Picture)) =
-    TellsTrace old.told asked.trace (FailsPicture old new asked) × Keeps out.contents out'.contents
-IsSearched old new unread asked out out' (Err OutOfMemory) = Keeps out.contents out'.contents
-IsSearched old new unread asked out out' (Err fault) =
-    AreTraceless old.told unread asked.trace fault × IsOnlyRead old new × Keeps out.contents out'.contents
+-- The answer, or why there is none: what is found is put before anything is printed. A search that gives up promises nothing of the trace.
+-- `unread` holds of the name of a file that can't be opened or read.
+abbrev pub IsSearched : Files → Files → (List ℕ → Type 0) → Search → Result SearchAnswer Refusal → Type 0
+IsSearched old new unread asked (Ok answer) = TellsTrace old.told asked.trace (λ cores. Finds old new asked cores answer)
+IsSearched old new unread asked (Err (Unwritten output.Standard)) =
+    TellsTrace old.told asked.trace (λ cores. (answer : SearchAnswer) × Finds old new asked cores answer)
+IsSearched old new unread asked (Err Undecided) = TellsTrace old.told asked.trace (λ cores. ⊤) × (new ≡ old)
+IsSearched old new unread asked (Err (Unwritten output.Order)) = TellsTrace old.told asked.trace IsConsistent × FailsPutAt old new asked.order
+IsSearched old new unread asked (Err (Unwritten output.Refutation)) =
+    TellsTrace old.told asked.trace (λ cores. ¬ (IsConsistent cores)) × FailsPutAt old new asked.refutation
+IsSearched old new unread asked (Err (Unwritten output.Picture)) = TellsTrace old.told asked.trace (FailsPicture old new asked)
+IsSearched old new unread asked (Err OutOfMemory) = ⊤
+IsSearched old new unread asked (Err fault) = AreTraceless old.told unread asked.trace fault × IsOnlyRead old new

