@@ -17,6 +17,7 @@ mod Performed
 mod Puts
 mod Readings
 mod Refused
+mod Replays
 mod Runs
 mod Searches
 mod Tables

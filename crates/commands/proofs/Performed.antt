@@ -6,6 +6,7 @@ use Rattle.std.specs.Option.{IsSomeAnd}
 use Rattle.std.proofs.lemmas.Bool.{cases_lt}
 use Rattle.command_line.specs.declared.request.Check.{Check}
 use Rattle.command_line.specs.declared.request.Order.{Order}
+use Rattle.command_line.specs.declared.request.Replay.{Replay}
 use Rattle.command_line.specs.declared.request.Request.{Request}
 use Rattle.command_line.specs.declared.request.Request.TheVariants as request
 use Rattle.command_line.specs.declared.request.TraceFiles.{TraceFiles}
@@ -26,12 +27,16 @@ use Rattle.commands.specs.Checking.{FilesGetNo, IsChecked}
 use Rattle.commands.specs.Ordering.{IsOrdered, TextsGetNo}
 use Rattle.commands.specs.Promises.{AreWrong, IsPutName, IsRefused, IsRefusedCall, IsTold, IsUnended, IsUnreadThere, LeavesSoFar, file_at}
 use Rattle.commands.specs.Refusals.{judge_fault_status, refusal_status, refusal_text}
+use Rattle.commands.specs.Replaying.{IsOutOfOrder, IsReplayedBy, TellsText}
 use Rattle.commands.specs.SearchAnswers.{IsRightOf, search_status}
+use Rattle.trace_replay.specs.Texts.{verdict_status as replay_status}
+use Rattle.trace_replay.specs.declared.verdict.ReplayVerdict.{ReplayVerdict}
+use Rattle.trace_replay.specs.declared.verdict.ReplayVerdict.TheVariants as replayed
 use Rattle.commands.specs.Sinks.{Sink, Takes, Took, line}
 use Rattle.commands.specs.Traces.{TellsTrace}
 use Rattle.commands.specs.Upgrading.{IsUpgraded, LeavesAnew}
 use Rattle.commands.specs.declared.answer.Answer.{Answer}
-use Rattle.commands.specs.declared.answer.Answer.TheVariants.{Judged, Ordered, Explained, Readable, Searched, Counted, Done, Version}
+use Rattle.commands.specs.declared.answer.Answer.TheVariants.{Judged, Ordered, Explained, Readable, Searched, Replayed, Counted, Done, Version}
 use Rattle.commands.specs.declared.place.Output.TheVariants as output
 use Rattle.commands.specs.declared.refusal.Refusal.{Refusal}
 use Rattle.commands.specs.declared.refusal.Refusal.TheVariants.{Judge, Collect, Unread, Unwritten, OutOfMemory}
@@ -66,6 +71,11 @@ pub right_no : (told : List ℕ → Option (List ℕ)) (files : TraceFiles) (ans
 right_no told files (searched.Yes operations) tells one = cc
 right_no told files (searched.No operations) tells one = let (cores, is, right) = tells in (cores, is, right.0)
 
+pub replayed_no : (old new : Files) (Unreadable : List ℕ → Type 0) (asked : Replay) (verdict : ReplayVerdict) → IsReplayedBy old new Unreadable asked (Ok verdict)
+    → replay_status verdict ≡ 1 → TellsText old.told asked.trace.now IsOutOfOrder
+replayed_no old new Unreadable asked (replayed.Yes count) is one = cc
+replayed_no old new Unreadable asked (replayed.No wrong) ((text, tells, stops), same) one = (text, tells, (wrong, stops))
+
 pub anew : (old new : Files) (Unreadable : List ℕ → Type 0) (asked : Upgrade) (count : ℕ) → IsUpgraded old new Unreadable asked (Ok count) → LeavesAnew old new asked
 anew old new Unreadable asked count (range, (texts, tell, (logs, spell, (counted, put)))) = (texts, tell, (logs, spell, put.0.logs))
 
@@ -81,6 +91,8 @@ low (Explained verdict) two = verdict_low verdict two
 low (Readable kind cores) two = absurd (omega (arith, two))
 low (Searched (searched.Yes operations)) two = absurd (omega (arith, two))
 low (Searched (searched.No operations)) two = absurd (omega (arith, two))
+low (Replayed (replayed.Yes count)) two = absurd (omega (arith, two))
+low (Replayed (replayed.No wrong)) two = absurd (omega (arith, two))
 low (Counted true) two = absurd (omega (arith, two))
 low (Counted false) two = absurd (omega (arith, two))
 low (Done operations) two = absurd (omega (arith, two))

@@ -9,6 +9,7 @@ use Rattle.command_line.specs.declared.request.FileKind.TheVariants as of_file
 use Rattle.command_line.specs.declared.request.Inspect.{Inspect}
 use Rattle.command_line.specs.declared.request.Litmus.{Litmus}
 use Rattle.command_line.specs.declared.request.Order.{Order}
+use Rattle.command_line.specs.declared.request.Replay.{Replay}
 use Rattle.command_line.specs.declared.request.Request.TheVariants as request
 use Rattle.command_line.specs.declared.request.Run.{Run as AskedRun}
 use Rattle.command_line.specs.declared.request.Search.{Search}
@@ -28,6 +29,7 @@ use Rattle.commands.specs.Inspecting.{IsUnreadable}
 use Rattle.commands.specs.LogFiles.{IsUnreadAt}
 use Rattle.commands.specs.Ordering.{IsOrdered, IsUnordered}
 use Rattle.commands.specs.Promises.{ComesFirst, IsRefused, IsUnreadThere, LeavesSoFar, trace_file, trace_logs}
+use Rattle.commands.specs.Replaying.{IsReplayedBy}
 use Rattle.commands.specs.Running.{IsThreadRun}
 use Rattle.commands.specs.Searching.{IsSearched}
 use Rattle.commands.specs.Simulating.{IsRun}
@@ -243,3 +245,17 @@ module _ (old new : Files) (Unreadable : List ℕ → Type 0) (out out' : Sink) 
   pub confirm_no_table : (asked : Confirm) (refusal : Refusal) → IsConfirmed old new Unreadable asked (Err refusal) → IsOfTable refusal → ⊥
   confirm_no_table asked (Collect fault) is of = is
   confirm_no_table asked other is of = of
+
+  replay_unread : (asked : Replay) (refusal : Refusal) → IsReplayedBy old new Unreadable asked (Err refusal) → IsUnreadThere Unreadable (request.Replay asked) refusal
+  replay_unread asked (Judge fault) is = absurd is
+  replay_unread asked (Unread input.Trace) is = is
+  replay_unread asked (Unread place) is = absurd is
+  replay_unread asked other is = tt
+
+  pub replay_refused : (asked : Replay) (refusal : Refusal) → IsReplayedBy old new Unreadable asked (Err refusal) → IsOnlyRead old new
+      → IsRefused old new Unreadable out out' (request.Replay asked) refusal
+  replay_refused asked refusal is read = record { kept = λ first. keeps_told old new read; left = tt; unread = replay_unread asked refusal is; unended = tt }
+
+  pub replay_no_table : (asked : Replay) (refusal : Refusal) → IsReplayedBy old new Unreadable asked (Err refusal) → IsOfTable refusal → ⊥
+  replay_no_table asked (Collect fault) is of = is
+  replay_no_table asked other is of = of

@@ -1,9 +1,10 @@
 -- The exit statuses of answers.
 use Rattle.std.specs.Prelude.{ℕ, if◌then◌else◌}
+use Rattle.trace_replay.specs.Texts.{verdict_status as replay_status}
 use Rattle.verdict.specs.Statuses.{verdict_status}
 use Rattle.commands.specs.SearchAnswers.{search_status}
 use Rattle.commands.specs.declared.answer.Answer.{Answer}
-use Rattle.commands.specs.declared.answer.Answer.TheVariants.{Judged, Ordered, Explained, Readable, Searched, Counted, Done, Version}
+use Rattle.commands.specs.declared.answer.Answer.TheVariants.{Judged, Ordered, Explained, Readable, Searched, Replayed, Counted, Done, Version}
 
 abbrev pub answer_status : Answer → ℕ
 answer_status (Judged verdict) = verdict_status verdict
@@ -11,6 +12,7 @@ answer_status (Ordered verdict) = verdict_status verdict
 answer_status (Explained verdict) = verdict_status verdict
 answer_status (Readable kind cores) = 0
 answer_status (Searched answer) = search_status answer
+answer_status (Replayed verdict) = replay_status verdict
 answer_status (Counted forbidden) = if forbidden then 1 else 0
 answer_status (Done operations) = 0
 answer_status Version = 0

@@ -15,6 +15,7 @@ pub mod Programmed
 pub mod Programs
 pub mod Promises
 pub mod Refusals
+pub mod Replaying
 pub mod Running
 pub mod SearchAnswers
 pub mod Searching

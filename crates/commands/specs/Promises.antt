@@ -6,7 +6,7 @@ use Rattle.command_line.specs.Asking.{AreRefused, Asks}
 use Rattle.command_line.specs.Files.{files_read}
 use Rattle.command_line.specs.RunFiles.{IsLogName}
 use Rattle.command_line.specs.declared.request.Request.{Request}
-use Rattle.command_line.specs.declared.request.Request.TheVariants.{Check, Order, Explain, Inspect, Upgrade, Sim, Run, Litmus, Search, Confirm, Version}
+use Rattle.command_line.specs.declared.request.Request.TheVariants.{Check, Order, Explain, Inspect, Upgrade, Sim, Run, Litmus, Search, Confirm, Replay, Version}
 use Rattle.command_line.specs.declared.request.TraceFiles.{TraceFiles}
 use Rattle.command_line.specs.declared.request.TraceFiles.TheVariants.{One, Logs}
 use Rattle.host_files.specs.Files.{Files}
@@ -20,6 +20,7 @@ use Rattle.commands.specs.Numbers.{IsLeftName}
 use Rattle.commands.specs.Ordering.{TakesOrder, TextsGetNo}
 use Rattle.commands.specs.Outputs.{IsNameOf}
 use Rattle.commands.specs.Refusals.{refusal_status, refusal_text}
+use Rattle.commands.specs.Replaying.{IsConsistentText, IsOutOfOrder, TellsText}
 use Rattle.commands.specs.Running.{LeavesRun}
 use Rattle.commands.specs.Searching.{IsOutputName}
 use Rattle.commands.specs.Simulating.{LeavesSimulation}
@@ -47,6 +48,7 @@ AreConsistent told (Order asked) = TextsAreConsistent told asked.files.items
 AreConsistent told (Explain asked) = FilesAreConsistent told asked.check
 AreConsistent told (Search asked) = TellsTrace told asked.trace IsConsistent
 AreConsistent told (Confirm asked) = TellsTrace told asked.trace IsConsistent
+AreConsistent told (Replay asked) = TellsText told asked.trace.now IsConsistentText
 AreConsistent told other = ⊤
 
 -- and, where they were checked against programs, some whole run of these on the flat machine performs just its operations
@@ -74,13 +76,14 @@ LeaveYes told told' other = ⊤
 -- ---- after 1
 
 -- where a verdict was asked for, that on the set of its files is a No, and what standard output took of an order lacks the `end` line; where
--- a trace was looked at, its operations aren't sequentially consistent
+-- a trace was looked at, its operations aren't sequentially consistent, and where one was replayed, the order of its lines isn't sequential
 abbrev pub AreWrong : (List ℕ → Option (List ℕ)) → Sink → Sink → Request → Type 0
 AreWrong told out out' (Check asked) = FilesGetNo told asked
 AreWrong told out out' (Order asked) = TextsGetNo told asked.files.items × Took out out' LacksEnd
 AreWrong told out out' (Explain asked) = FilesGetNo told asked.check
 AreWrong told out out' (Search asked) = TellsTrace told asked.trace (λ cores. ¬ (IsConsistent cores))
 AreWrong told out out' (Confirm asked) = TellsTrace told asked.trace (λ cores. ¬ (IsConsistent cores))
+AreWrong told out out' (Replay asked) = TellsText told asked.trace.now IsOutOfOrder
 AreWrong told out out' other = ⊤
 
 -- ---- which files are put
@@ -141,6 +144,7 @@ file_at (Litmus asked) input.Test = Some asked.test
 file_at (Search asked) input.Trace = trace_file asked.trace
 file_at (Confirm asked) input.Trace = trace_file asked.trace
 file_at (Confirm asked) input.Certificate = Some asked.certificate
+file_at (Replay asked) input.Trace = Some asked.trace
 file_at asked place = None
 
 -- the names of the files of a set of logs

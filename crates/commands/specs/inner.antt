@@ -7,3 +7,4 @@ pub mod Putting
 pub mod ReadLogs
 pub mod ReadTraces
 pub mod Texts
+pub mod Replays

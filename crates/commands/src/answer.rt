@@ -7,6 +7,7 @@ use super::search_answer::SearchAnswer;
 use command_line::FileKind;
 use std::fmt;
 use std::fmt::Display;
+use trace_replay::ReplayVerdict;
 use verdict::Verdict;
 
 /// What a command answers.
@@ -22,6 +23,8 @@ pub enum Answer {
     Readable(FileKind, usize),
     /// Whether a trace is consistent, by a search or by a certificate.
     Searched(SearchAnswer),
+    /// Whether a trace is right in the order of its lines.
+    Replayed(ReplayVerdict),
     /// A table of the outcomes of a litmus test was written, and whether one of them is forbidden.
     Counted(bool),
     /// Programs were run to their ends, and have performed this number of operations.
@@ -43,6 +46,7 @@ impl Answer {
                 verdict.status()
             }
             Answer::Searched(answer) => answer.status(),
+            Answer::Replayed(verdict) => verdict.status(),
             Answer::Counted(true) => 1,
             Answer::Counted(false) | Answer::Readable(_, _) | Answer::Done(_) | Answer::Version =>
                 0,
@@ -63,6 +67,7 @@ impl Display for Answer {
                 write!(f, "right: programs of {cores} cores")
             }
             Answer::Searched(answer) => write!(f, "{answer}"),
+            Answer::Replayed(verdict) => write!(f, "{verdict}"),
             Answer::Counted(_) => f.write_str(""),
             Answer::Done(operations) => write!(f, "done: {operations} operations"),
             Answer::Version => f.write_str(VERSION),

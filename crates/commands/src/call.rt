@@ -16,6 +16,7 @@ use super::more::tell_more;
 use super::order_files::order;
 use super::output::{print_answer, refuse, tell, tell_answer};
 use super::refusal::Refusal;
+use super::replay_file::{ReplayWatch, replay};
 use super::run_files::run;
 use super::search_files::search;
 use super::sim_files::sim;
@@ -40,7 +41,7 @@ const USAGE: u8 = 3;
 /// upgrade, a run's numbers, the totals of a litmus test's runs, the picture of an explanation, and what a search finds.
 pub fn command<
     R: Threads + Wait + Sync,
-    W: Watch + SearchWatch + Sync,
+    W: Watch + SearchWatch + ReplayWatch + Sync,
     F: Folder,
     O: ByteSink,
     E: ByteSink,
@@ -93,7 +94,12 @@ pub fn command<
 }
 
 /// Does what was asked, and prints the answer.
-fn perform<R: Threads + Wait + Sync, W: Watch + SearchWatch + Sync, F: Folder, O: ByteSink>(
+fn perform<
+    R: Threads + Wait + Sync,
+    W: Watch + SearchWatch + ReplayWatch + Sync,
+    F: Folder,
+    O: ByteSink,
+>(
     rt: &R,
     alloc: Global,
     request: &Request<'_>,
@@ -136,6 +142,7 @@ fn perform<R: Threads + Wait + Sync, W: Watch + SearchWatch + Sync, F: Folder, O
             rt, alloc, watch, folder, asked, out,
         )?)),
         Request::Confirm(asked) => Ok(Answer::Searched(confirm(rt, alloc, folder, asked, out)?)),
+        Request::Replay(asked) => Ok(Answer::Replayed(replay(alloc, watch, folder, asked, out)?)),
         Request::Version => print_answer(alloc, out, Answer::Version),
         Request::Litmus(asked) => Ok(Answer::Counted(count_outcomes(
             rt, alloc, folder, asked, out,

@@ -29,6 +29,7 @@ mod refusal;
 mod refusal_telling;
 mod refused_again;
 mod refused_file;
+mod replay_file;
 mod run_files;
 mod run_logs;
 mod search_answer;
@@ -44,5 +45,6 @@ mod writing;
 
 pub use call::command;
 pub use log_files::open_all;
+pub use replay_file::ReplayWatch;
 pub use search::SearchWatch;
 pub use watch::Watch;

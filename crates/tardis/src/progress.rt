@@ -5,7 +5,8 @@ use memchr::memchr_iter;
 use std::io::IsTerminal;
 use std::sync::atomic::{AtomicBool, AtomicU64, Ordering};
 use std::time::Clock;
-use commands::{SearchWatch, Watch};
+use commands::{ReplayWatch, SearchWatch, Watch};
+use trace_replay::WrongLoad;
 
 /// As many operations of a core are counted at once, so that cores seldom meet at the count.
 const OPERATIONS: u64 = 64;
@@ -14,7 +15,8 @@ const OPERATIONS: u64 = 64;
 const TURNS: u64 = 65_536;
 
 /// Tells on standard error how many lines were read so far, how many operations a run has performed, or how many steps a search has made,
-/// in one line that is written anew each second; nothing where standard error is no terminal, or the work takes less than a second.
+/// in one line that is written anew each second; nothing where standard error is no terminal, or the work takes less than a second. A terminal is
+/// told of a wrong load too.
 #[derive(Drop)]
 pub(crate) struct Progress<'a> {
     rt: &'a HostRuntime,
@@ -96,6 +98,14 @@ impl<'a> Watch for Progress<'a> {
 
     fn over(&self) {
         self.wipe();
+    }
+}
+
+impl<'a> ReplayWatch for Progress<'a> {
+    fn wrong(&self, wrong: &WrongLoad) {
+        if self.is_terminal {
+            let _ = eprintln!(self.rt; "{wrong}");
+        }
     }
 }
 

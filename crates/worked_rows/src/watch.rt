@@ -2,9 +2,10 @@
 
 use mem_op::CoreId;
 use std::sync::atomic::{AtomicU64, Ordering};
-use commands::{SearchWatch, Watch};
+use commands::{ReplayWatch, SearchWatch, Watch};
+use trace_replay::WrongLoad;
 
-/// Counts the turns of runs, and the runs that are over. Nothing is counted of a search.
+/// Counts the turns of runs, and the runs that are over. Nothing is counted of a search or a replay.
 #[derive(Drop)]
 pub(crate) struct Counting {
     turns: AtomicU64,
@@ -37,6 +38,10 @@ impl Watch for Counting {
     fn over(&self) {
         let _ = self.over.fetch_add(1, Ordering::SeqCst);
     }
+}
+
+impl ReplayWatch for Counting {
+    fn wrong(&self, _wrong: &WrongLoad) {}
 }
 
 impl SearchWatch for Counting {

@@ -2,9 +2,9 @@ use Rattle.std.proofs.Common.{rules, ◌≡◌, refl, Err}
 use Rattle.host_files.specs.Files.{IsUnread}
 use Rattle.commands.proofs.Files.{keeps_files}
 use Rattle.commands.proofs.Leaving.{run_leaves, sim_leaves}
-use Rattle.commands.proofs.Performed.{answered, anew, check_no, of_table, order_no, printed, refused, right_no, right_yes, yes_of}
-use Rattle.commands.proofs.Refused.{check_no_table, check_refused, confirm_no_table, confirm_refused, explain_no_table, explain_refused, inspect_refused, litmus_refused, order_no_table, order_refused, run_refused, search_no_table, search_refused, sim_refused, upgrade_refused}
-use Rattle.commands.specs.declared.answer.Answer.TheVariants.{Judged, Ordered, Explained, Readable, Searched, Counted, Done, Version}
+use Rattle.commands.proofs.Performed.{answered, anew, check_no, of_table, order_no, printed, refused, replayed_no, right_no, right_yes, yes_of}
+use Rattle.commands.proofs.Refused.{check_no_table, check_refused, confirm_no_table, confirm_refused, explain_no_table, explain_refused, inspect_refused, litmus_refused, order_no_table, order_refused, replay_no_table, replay_refused, run_refused, search_no_table, search_refused, sim_refused, upgrade_refused}
+use Rattle.commands.specs.declared.answer.Answer.TheVariants.{Judged, Ordered, Explained, Readable, Searched, Replayed, Counted, Done, Version}
 use Rattle.commands.proofs.call.perform.Goals as goal
 
 pub returns-in_err-verdict-in-Check : goal.returns-in_err-verdict-in-Check
@@ -121,3 +121,14 @@ pub returns-in-Version : goal.returns-in-Version
 returns-in-Version g c =
     rw c.in-Version.is (printed _ _ _ _ _ _ Version _ c.print_answer-in-Version.ensures.ok c.print_answer-in-Version.ensures.err (λ name none. refl)
     (λ zero. record { sound = tt; flat = tt; order = tt; upgraded = tt; yes = λ apart. tt }) (λ one. tt) tt)
+
+pub returns-in_err-replay-in-Replay : goal.returns-in_err-replay-in-Replay
+returns-in_err-replay-in-Replay g c =
+    let refusal = c.in_err-replay-in-Replay.field-0.0 in
+    let is : c.from_residual-in_err-replay-in-Replay.result ≡ Err refusal = search rules in
+    rw c.in-Replay.is (refused _ _ _ _ _ _ refusal _ is (keeps_files _ _ _ c.in_err-replay-in-Replay.ensures.read) (replay_refused _ _ _ _ _ c.in-Replay.asked refusal c.in_err-replay-in-Replay.ensures.exact c.in_err-replay-in-Replay.ensures.read) (λ one. absurd (replay_no_table _ _ _ _ _ c.in-Replay.asked refusal c.in_err-replay-in-Replay.ensures.exact (of_table refusal one))))
+
+pub returns-in_ok-replay-in-Replay : goal.returns-in_ok-replay-in-Replay
+returns-in_ok-replay-in-Replay g c =
+    rw c.in-Replay.is (answered _ _ _ _ _ _ (Replayed c.in_ok-replay-in-Replay.field-0) (keeps_files _ _ _ c.in_ok-replay-in-Replay.ensures.read)
+    (λ zero. record { sound = c.in_ok-replay-in-Replay.ensures.sound zero; flat = tt; order = tt; upgraded = tt; yes = λ apart. tt }) (replayed_no _ _ (IsUnread g.F.Source.ByteSource.remaining g.F.Source.ByteSource.failed (g.F.Folder.files c.args.folder.now) (g.F.Folder.files c.replay.new.folder)) c.in-Replay.asked _ c.in_ok-replay-in-Replay.ensures.exact))
