@@ -304,18 +304,20 @@ impl<'a, R: Threads + Wait + Sync + Print> Again<'a, R> {
         Ok(is_good)
     }
 
-    /// Where a read of a file fails, up to the one that finds its end, 28 is told.
+    /// Where a read of a file fails, up to the one that finds its end, 28 is told; a replay with a no may end before that.
     fn failing_reads(&self) -> Result<bool, RowsFault> {
         if self.expected.status > 1 {
             return Ok(true);
         }
+        let may_stop = have_word(self.words, "replay") && self.expected.status == 1;
         let mut is_good = true;
         for file in self.given.files {
             let reads = file.bytes.len().div_ceil(10).saturating_add(1);
             if have_word(self.words, file.name.as_str()) && reads < READS {
                 for good in 0..=reads {
                     let is_due = self.failing_read(file, good)?;
-                    is_good = is_good && is_due == (good < reads);
+                    let has_stopped = may_stop && good > 0 && !is_due;
+                    is_good = is_good && (has_stopped || is_due == (good < reads));
                 }
             }
         }
