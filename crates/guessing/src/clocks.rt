@@ -3,21 +3,11 @@
 use numbered_trace::{CoreSet, Operations, Place, Stop, Tried, at};
 use std::alloc::Global;
 
-/// An entry of the clocks that rose, with what it was before.
-#[derive(Clone, Copy)]
-pub(crate) struct Rise {
-    entry: usize,
-    before: Place,
-}
-
 /// Of each operation and each core a place: the core's operations below it are the operation itself or before it.
 #[derive(Drop)]
 pub(crate) struct Clocks {
     cores: u32,
     entries: Vec<Place>,
-    /// The entries that rose since the trail is kept.
-    pub(crate) trail: Vec<Rise>,
-    pub(crate) is_trailed: bool,
 }
 
 impl Clocks {
@@ -31,12 +21,7 @@ impl Clocks {
             let own = operation.core();
             entries.extend(starts.map(|(start, core)| if core == own { next } else { *start }))?;
         }
-        Ok(Clocks {
-            cores,
-            entries,
-            trail: Vec::new(alloc),
-            is_trailed: false,
-        })
+        Ok(Clocks { cores, entries })
     }
 
     /// Where the clock of an operation begins.
@@ -67,10 +52,6 @@ impl Clocks {
             let before = self.entries.get_mut(entry).ok_or(Stop::GivenUp)?;
             if *before < least {
                 risen.insert(core);
-                if self.is_trailed {
-                    let before = *before;
-                    self.trail.push(Rise { entry, before })?;
-                }
                 *before = least;
             }
         }
@@ -80,14 +61,5 @@ impl Clocks {
     /// The entries of all operations, one after the other.
     pub(crate) fn into_entries(self) -> Vec<Place> {
         self.entries
-    }
-
-    /// Takes back what rose since the trail had this many rises.
-    pub(crate) fn undo(&mut self, mark: usize) -> Tried<()> {
-        for rise in self.trail.iter().skip(mark).rev() {
-            *self.entries.get_mut(rise.entry).ok_or(Stop::GivenUp)? = rise.before;
-        }
-        self.trail.truncate(mark);
-        Ok(())
     }
 }

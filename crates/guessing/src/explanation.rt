@@ -3,7 +3,8 @@
 use super::facts::{Fact, Reason};
 use super::knowledge::Knowledge;
 use super::proof::{Derived, Line, Proof, Rule};
-use numbered_trace::{Conflict, Place, Stop, Tried, short};
+use super::saturation::cut;
+use numbered_trace::{Conflict, Place, SearchWatch, Stop, Tried, short};
 
 /// The number of the from-read in the case of a candidate that another store hides from a read.
 const CASE_FROM_READ: u32 = u32::MAX - 1;
@@ -16,6 +17,8 @@ type Hiding = (Derived, Vec<u32>);
 #[derive(Drop)]
 struct Closing {
     read: Place,
+    /// The range of its candidates that isn't excluded.
+    kept: Option<(Place, Place)>,
     /// The number of the fact that each case begins with. Facts of this number and above aren't used.
     fact: u32,
     ranges: Vec<(Place, Place)>,
@@ -24,12 +27,24 @@ struct Closing {
 }
 
 impl Knowledge<'_> {
-    /// The proof that a case is closed, which needs the facts of the conflict.
-    pub(crate) fn explain(&mut self, conflict: Conflict) -> Tried<Proof> {
+    /// Concludes what follows. Where there is a conflict it gives the proof of it: its lines, last one first.
+    pub(crate) fn refute<W: SearchWatch>(&mut self, watch: &W) -> Tried<Option<Vec<Line>>> {
+        match self.saturate(watch) {
+            Ok(()) => Ok(None),
+            Err(Stop::Closed(conflict)) => {
+                self.budget.allow(u64::MAX);
+                Ok(Some(self.explain(conflict)?.reversed))
+            }
+            Err(stop) => Err(stop),
+        }
+    }
+
+    /// The proof of a conflict.
+    fn explain(&mut self, conflict: Conflict) -> Tried<Proof> {
         let mut proof = Proof::new(self.alloc);
         let mark = short(self.facts.all.len())?;
         match conflict {
-            Conflict::NoSource(read) => self.close_read(&mut proof, read, &[], mark)?,
+            Conflict::NoSource(read) => self.close_read(&mut proof, read, None, mark)?,
             Conflict::Cycle(number) => {
                 let (_, fact) = self.facts.get(number).ok_or(Stop::GivenUp)?;
                 proof.need(&[number])?;
@@ -37,25 +52,19 @@ impl Knowledge<'_> {
                 proof.close(number, path.ok_or(Stop::GivenUp)?)?;
             }
         }
-        Ok(proof)
-    }
-
-    /// Puts before a proof the steps that show the facts from `least` on that it needs.
-    pub(crate) fn show(&mut self, proof: &mut Proof, least: u32) -> Tried<()> {
         for _ in 0..self.facts.all.len() {
-            let Some(number) = proof.take_need(least) else {
+            let Some(number) = proof.take_need() else {
                 break;
             };
             let (_, fact) = self.facts.get(number).ok_or(Stop::GivenUp)?;
             match fact.reason {
-                Reason::Rule(source) => self.derive(proof, number, fact, source)?,
+                Reason::Rule(source) => self.derive(&mut proof, number, fact, source)?,
                 Reason::Source(last) => {
-                    self.close_read(proof, fact.later, &[(fact.earlier, last)], number)?;
+                    self.close_read(&mut proof, fact.later, Some((fact.earlier, last)), number)?;
                 }
-                Reason::Case => return Err(Stop::GivenUp),
             }
         }
-        Ok(())
+        Ok(proof)
     }
 
     /// Puts before a proof the step of from-read or of write-order that shows a fact.
@@ -79,70 +88,52 @@ impl Knowledge<'_> {
     }
 
     /// Puts before a proof the cases of a read, each of which begins with a fact of this number: those of all candidates
-    /// but the kept ones, with the steps that close them by facts before it, and those of the kept ones.
-    pub(crate) fn close_read(
+    /// but the range that is kept, with the steps that close them by facts before it, and the one of that range.
+    fn close_read(
         &mut self,
         proof: &mut Proof,
         read: Place,
-        kept: &[(Place, Place)],
+        kept: Option<(Place, Place)>,
         fact: u32,
     ) -> Tried<()> {
         let mut closing = Closing {
             read,
+            kept,
             fact,
             ranges: Vec::new(self.alloc),
             steps: Proof::new(self.alloc),
         };
         for core in self.operations.cores() {
-            self.close_core(&mut closing, kept, core)?;
+            self.close_core(&mut closing, core)?;
         }
-        closing.ranges.extend_from_slice(kept)?;
+        closing.ranges.extend(kept)?;
         closing.steps.reversed.reverse();
         proof.prepend_proof(&mut closing.steps)?;
         Ok(proof.reversed.push(Line::Read(read, closing.ranges, fact))?)
     }
 
     /// Closes the cases of one core's candidates: a range for all that are after the read, and one for each run of others that are
-    /// hidden from it. What hides the last one of a run hides them all.
-    fn close_core(
-        &mut self,
-        closing: &mut Closing,
-        kept: &[(Place, Place)],
-        core: u32,
-    ) -> Tried<()> {
+    /// hidden from it, before those that are kept and behind them. What hides the last one of a run hides them all.
+    fn close_core(&mut self, closing: &mut Closing, core: u32) -> Tried<()> {
         let operation = self.operations.get(closing.read);
         let stores = self
             .classes
             .candidates_of(&operation, self.operations, core);
         let count = self.count_not_after(closing, stores)?;
-        let mut rest = stores.get(..count).unwrap_or(&[]);
-        for _ in 0..=kept.len() {
-            let run = self.first_that(rest, kept, false);
-            self.close_hidden(closing, run)?;
-            rest = rest.get(run.len()..).unwrap_or(&[]);
-            let run = self.first_that(rest, kept, true);
-            rest = rest.get(run.len()..).unwrap_or(&[]);
-        }
-        self.close_after(closing, kept, stores.get(count..).unwrap_or(&[]))
+        let rest = cut(stores, 0, count);
+        let first = rest.iter().position(|store| self.is_kept(closing, *store));
+        let first = first.unwrap_or(count);
+        let behind = cut(rest, first, count);
+        let kept = behind.partition_point(|store| self.is_kept(closing, *store));
+        self.close_hidden(closing, cut(rest, 0, first))?;
+        self.close_hidden(closing, cut(behind, kept, behind.len()))?;
+        self.close_after(closing, cut(stores, count, stores.len()))
     }
 
-    /// Whether a candidate lies in one of the ranges that are kept.
-    fn is_kept(&self, kept: &[(Place, Place)], store: Place) -> bool {
-        kept.iter()
-            .any(|(first, last)| self.lies_in(store, *first, *last))
-    }
-
-    /// The first of some stores that are kept, or aren't.
-    fn first_that<'b>(
-        &self,
-        stores: &'b [Place],
-        kept: &[(Place, Place)],
-        are_kept: bool,
-    ) -> &'b [Place] {
-        let count = stores
-            .iter()
-            .position(|store| self.is_kept(kept, *store) != are_kept);
-        stores.get(..count.unwrap_or(stores.len())).unwrap_or(&[])
+    /// Whether a candidate lies in the range that is kept.
+    fn is_kept(&self, closing: &Closing, store: Place) -> bool {
+        let kept = closing.kept;
+        kept.is_some_and(|(first, last)| self.lies_in(store, first, last))
     }
 
     /// How many of one core's candidates, the first ones, aren't the read itself and aren't known to be after it.
@@ -164,15 +155,10 @@ impl Knowledge<'_> {
     }
 
     /// Closes the cases of one core's candidates that are after the read, but for those that are kept and for the read itself.
-    fn close_after(
-        &mut self,
-        closing: &mut Closing,
-        kept: &[(Place, Place)],
-        stores: &[Place],
-    ) -> Tried<()> {
+    fn close_after(&mut self, closing: &mut Closing, stores: &[Place]) -> Tried<()> {
         let (mut first, mut last) = (closing.read, closing.read);
         for store in stores {
-            if *store != closing.read && !self.is_kept(kept, *store) {
+            if *store != closing.read && !self.is_kept(closing, *store) {
                 last = *store;
                 if first == closing.read {
                     first = *store;

@@ -1,13 +1,11 @@
 //! What is known to be before what, and why.
 
-use numbered_trace::{NONE, Place, Stop, Tried, at, put, short};
+use numbered_trace::{NONE, Place, Tried, at, put, short};
 use std::alloc::Global;
 
 /// Why a fact holds.
 #[derive(Clone, Copy)]
 pub(crate) enum Reason {
-    /// A case assumes it.
-    Case,
     /// The source of the later operation, a read, lies from the earlier one to this one of the same core.
     Source(Place),
     /// By a rule, from the fact of this number, which says where the source of a read lies.
@@ -91,17 +89,5 @@ impl Facts {
         })?;
         put(&mut self.latest, earlier, number)?;
         Ok(number)
-    }
-
-    /// Takes back the facts from this one on.
-    pub(crate) fn undo(&mut self, mark: u32) -> Tried<()> {
-        for number in (mark..short(self.all.len())?).rev() {
-            let fact = self.all.pop().ok_or(Stop::GivenUp)?;
-            put(&mut self.latest, fact.earlier, fact.next)?;
-            if self.is_source(number, &fact) {
-                put(&mut self.sources, fact.later, NONE)?;
-            }
-        }
-        Ok(())
     }
 }

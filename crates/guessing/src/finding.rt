@@ -1,10 +1,10 @@
 //! What is found of a trace: the ways to search are tried one after the other.
 
+use super::closing::Closing;
+use super::knowledge::Knowledge;
 use super::numbering::refutation;
 use super::shrinking::shrink;
-use super::splits::Search;
 use super::walks::Walks;
-use mem_op::OpId;
 use numbered_trace::{Budget, Classes, Operations, Place, SearchWatch, Stop, Tried, id, number};
 use refutation::Answer;
 use state_walk::Walked;
@@ -28,66 +28,25 @@ pub fn guess<W: SearchWatch>(
 /// An order, or a refutation. The search may give up.
 fn find<W: SearchWatch>(alloc: Global, trace: &Trace, budget: Budget, watch: &W) -> Tried<Answer> {
     let (operations, classes) = number(alloc, trace.cores())?;
-    find_numbered(alloc, trace, &operations, &classes, budget, watch)
+    let are_distinct = are_distinct(&operations, &classes);
+    let walks = Walks::new(alloc, &operations, &classes, are_distinct)?;
+    let mut finding = Finding {
+        alloc,
+        trace,
+        operations: &operations,
+        classes: &classes,
+        walks,
+        clocks: Vec::new(alloc),
+        budget,
+    };
+    if !are_distinct {
+        finding.walk(budget.left() / 4, watch)?;
+    }
+    finding.run(watch)
 }
 
-/// The same. Where words repeat, a walk comes first that knows of no fact: it finds most orders. In the end it goes on with all
-/// facts.
-fn find_numbered<W: SearchWatch>(
-    alloc: Global,
-    trace: &Trace,
-    operations: &Operations,
-    classes: &Classes,
-    mut budget: Budget,
-    watch: &W,
-) -> Tried<Answer> {
-    let mut walks = Walks::new(alloc, operations, classes)?;
-    let mut walked = Walked::GivenUp;
-    if words_repeat(operations, classes) {
-        budget.allow(budget.left() / 4);
-        walked = walks.run(&mut Vec::new(alloc), &mut budget, watch)?;
-        if walked == Walked::Order {
-            return Ok(Answer::Order(ids(alloc, operations, &walks.order)?));
-        }
-        budget.allow(u64::MAX);
-    }
-    if walked != Walked::Closed {
-        budget.allow(budget.left() / 2);
-    }
-    let mut search = Search::new(alloc, operations, classes, budget)?;
-    if let Some(answer) = by_cases(&mut search, trace, watch)? {
-        return Ok(answer);
-    }
-    budget = search.known.budget;
-    budget.allow(u64::MAX);
-    let mut clocks = search.into_clocks()?;
-    if walked == Walked::Closed || walks.run(&mut clocks, &mut budget, watch)? != Walked::Order {
-        return Err(Stop::GivenUp);
-    }
-    Ok(Answer::Order(ids(alloc, operations, &walks.order)?))
-}
-
-/// What a search by cases finds. None where it gives up.
-fn by_cases<W: SearchWatch>(
-    search: &mut Search,
-    trace: &Trace,
-    watch: &W,
-) -> Tried<Option<Answer>> {
-    let (alloc, operations) = (search.known.alloc, search.known.operations);
-    match search.run(watch) {
-        Ok(None) => Ok(Some(Answer::Order(ids(alloc, operations, search.order())?))),
-        Ok(Some(reversed)) => {
-            let (lines, places) = shrink(trace.cores(), &mut search.known, reversed)?;
-            let found = refutation(alloc, operations, &places, &lines)?;
-            Ok(Some(Answer::Refutation(found)))
-        }
-        Err(Stop::GivenUp) => Ok(None),
-        Err(stop) => Err(stop),
-    }
-}
-
-/// Whether many reads have more than one candidate: one of eight.
-fn words_repeat(operations: &Operations, classes: &Classes) -> bool {
+/// Whether nearly each read has one candidate: of eight no more than one has others.
+fn are_distinct(operations: &Operations, classes: &Classes) -> bool {
     let (mut reads, mut open) = (0usize, 0usize);
     for operation in operations.all.iter().filter(|operation| operation.reads()) {
         reads = reads.saturating_add(1);
@@ -95,13 +54,94 @@ fn words_repeat(operations: &Operations, classes: &Classes) -> bool {
             open = open.saturating_add(1);
         }
     }
-    open > reads / 8
+    open <= reads / 8
 }
 
-/// The operations at these places.
-fn ids(alloc: Global, operations: &Operations, places: &[Place]) -> Tried<Vec<OpId>> {
-    places
-        .iter()
-        .map(|place| id(operations, *place))
-        .try_collect(alloc)
+/// How far the search is.
+#[derive(Drop)]
+struct Finding<'a> {
+    alloc: Global,
+    trace: &'a Trace,
+    operations: &'a Operations,
+    classes: &'a Classes,
+    walks: Walks<'a>,
+    /// What is known to be before each operation; empty where nothing is.
+    clocks: Vec<Place>,
+    budget: Budget,
+}
+
+impl Finding<'_> {
+    /// Goes on after a walk that knew of no fact. What follows without cases comes first; then the walk goes on with all facts.
+    fn run<W: SearchWatch>(&mut self, watch: &W) -> Tried<Answer> {
+        if self.walks.walked != Walked::Order
+            && let Some(answer) = self.by_rules(watch)?
+        {
+            return Ok(answer);
+        }
+        let steps = self.budget.left() / 2;
+        self.walk(steps, watch)?;
+        if self.walks.walked != Walked::Order
+            && let Some(answer) = self.by_states(watch)?
+        {
+            return Ok(answer);
+        }
+        self.walk(u64::MAX, watch)?;
+        self.order()
+    }
+
+    /// Walks on for so many steps, at most, unless it is known what the walk comes to.
+    fn walk<W: SearchWatch>(&mut self, steps: u64, watch: &W) -> Tried<()> {
+        self.budget.allow(steps);
+        self.walks.run(&mut self.clocks, &mut self.budget, watch)?;
+        self.budget.allow(u64::MAX);
+        Ok(())
+    }
+
+    /// A refutation by what follows without cases, if there is one. It may take half of the steps to find it.
+    fn by_rules<W: SearchWatch>(&mut self, watch: &W) -> Tried<Option<Answer>> {
+        self.budget.allow(self.budget.left() / 2);
+        let mut known = Knowledge::new(self.alloc, self.operations, self.classes, self.budget)?;
+        match known.refute(watch) {
+            Ok(Some(reversed)) => {
+                let (lines, places) = shrink(self.trace.cores(), &mut known, reversed, watch)?;
+                let found = refutation(self.alloc, self.operations, &places, &lines)?;
+                return Ok(Some(Answer::Refutation(found)));
+            }
+            Ok(None) | Err(Stop::GivenUp) => {}
+            Err(stop) => return Err(stop),
+        }
+        self.budget = known.budget;
+        self.budget.allow(u64::MAX);
+        self.clocks = known.clocks.into_entries();
+        Ok(None)
+    }
+
+    /// A refutation by a closed set of states, if one is found where the walk stopped. Where it came to all states nothing else is
+    /// left to be done.
+    fn by_states<W: SearchWatch>(&mut self, watch: &W) -> Tried<Option<Answer>> {
+        let is_closed = self.walks.walked == Walked::Closed;
+        let closing = Closing {
+            alloc: self.alloc,
+            operations: self.operations,
+            classes: self.classes,
+            share: if is_closed { 2 } else { 16 },
+        };
+        let Some(walk) = &mut self.walks.stopped else {
+            return Ok(None);
+        };
+        match closing.refutation(walk, &mut self.budget, watch)? {
+            Some(found) => Ok(Some(Answer::Refutation(found))),
+            None => Ok(None),
+        }
+    }
+
+    /// The order that the walk came to.
+    fn order(&self) -> Tried<Answer> {
+        if self.walks.walked != Walked::Order {
+            return Err(Stop::GivenUp);
+        }
+        let places = self.walks.order.iter();
+        let order = places.map(|place| id(self.operations, *place));
+        Ok(Answer::Order(order.try_collect(self.alloc)?))
+    }
 }

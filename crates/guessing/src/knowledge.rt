@@ -42,7 +42,7 @@ impl<'a> Knowledge<'a> {
     ) -> Tried<Knowledge<'a>> {
         Ok(Knowledge {
             alloc,
-            stores: Stores::new(alloc, operations, classes.addresses())?,
+            stores: Stores::new(alloc, operations, classes.count_addresses())?,
             clocks: Clocks::new(alloc, operations)?,
             facts: Facts::new(alloc, operations.all.len())?,
             entered: operations.starts.to_vec(alloc)?,
@@ -82,20 +82,6 @@ impl<'a> Knowledge<'a> {
     /// Whether one store is after another, so that it hides it from what comes later.
     pub(crate) fn hides(&self, hiding: Place, hidden: Place) -> bool {
         hiding != hidden && self.is_before(hidden, hiding)
-    }
-
-    /// Whether an operation reads, and can have its word from a store to its address.
-    pub(crate) fn can_read(&self, read: Place, store: Place) -> bool {
-        let operation = self.operations.get(read);
-        match self.facts.source(read) {
-            Some((_, first, last)) if first == last => first == store,
-            Some((_, first, last)) if !self.lies_in(store, first, last) => false,
-            _ => self
-                .classes
-                .candidates(&operation)
-                .binary_search(&store)
-                .is_ok(),
-        }
     }
 
     /// Whether a place lies from one to another, which is of the same core unless the first one is the START.
@@ -142,12 +128,5 @@ impl<'a> Knowledge<'a> {
             _ => self.risen.push_back(Risen { place, cores })?,
         }
         Ok(())
-    }
-
-    /// Takes back what was found since the trail of the clocks and the facts were as long as this.
-    pub(crate) fn undo(&mut self, trail: usize, facts: u32) -> Tried<()> {
-        self.risen.clear();
-        self.clocks.undo(trail)?;
-        self.facts.undo(facts)
     }
 }

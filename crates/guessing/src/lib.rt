@@ -3,6 +3,7 @@
 
 mod chains;
 mod clocks;
+mod closing;
 mod explanation;
 mod facts;
 mod finding;
@@ -11,9 +12,7 @@ mod numbering;
 mod proof;
 mod rules;
 mod saturation;
-mod schedule;
 mod shrinking;
-mod splits;
 mod stores;
 mod walks;
 

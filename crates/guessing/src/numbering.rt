@@ -50,13 +50,6 @@ impl Numbering<'_> {
                     ranges: Ranges::new(ranges.try_collect(self.alloc)?),
                 }
             }
-            Line::Order(one, other, fact) => {
-                self.wait(2, *fact)?;
-                Step::Order {
-                    one: self.id(*one)?,
-                    other: self.id(*other)?,
-                }
-            }
             Line::Cycle(path) => Step::Cycle {
                 path: self.path(path)?,
             },

@@ -31,8 +31,6 @@ pub(crate) struct Derived {
 pub(crate) enum Line {
     /// The source of a read lies in one of these ranges: a case for each, which begins with a fact of this number.
     Read(Place, Vec<(Place, Place)>, u32),
-    /// One of two operations is before the other: two cases, each of which begins with a fact of this number.
-    Order(Place, Place, u32),
     /// A fact follows.
     Derived(Derived),
     /// These facts lead back to where they begin, so the case is closed.
@@ -79,11 +77,8 @@ impl Proof {
         Ok(self.needs.extend(facts)?)
     }
 
-    /// Takes the last fact that is needed away, where its number isn't below this one.
-    pub(crate) fn take_need(&mut self, least: u32) -> Option<u32> {
-        if *self.needs.last()? < least {
-            return None;
-        }
+    /// Takes the last fact that is needed away.
+    pub(crate) fn take_need(&mut self) -> Option<u32> {
         self.needs.pop_last()
     }
 }

@@ -86,6 +86,7 @@ impl Knowledge<'_> {
             let Some((number, fact)) = next else {
                 break;
             };
+            self.budget.spend(1)?;
             if self.facts.is_source(number, &fact) {
                 self.learn(fact.later, store, number)?;
             }

@@ -28,10 +28,7 @@ impl Knowledge<'_> {
                 break;
             }
         }
-        self.settle_sources(watch)?;
-        let facts = &self.facts;
-        self.open.retain(|read| at(&facts.sources, *read) == NONE);
-        Ok(())
+        self.settle_sources(watch)
     }
 
     /// Lets some operations of each core come in that don't wait for their source. Says whether any came.
@@ -89,7 +86,7 @@ impl Knowledge<'_> {
     }
 
     /// Concludes what follows from the clocks that rose, until nothing more does.
-    pub(crate) fn conclude(&mut self) -> Tried<()> {
+    fn conclude(&mut self) -> Tried<()> {
         for _ in 0..u64::MAX {
             let Some(Risen { place, cores }) = self.risen.pop_front() else {
                 return Ok(());
@@ -113,6 +110,7 @@ impl Knowledge<'_> {
             let Some((number, fact)) = next else {
                 break;
             };
+            self.budget.spend(1)?;
             self.flow(place, fact.later, number)?;
             next = self.facts.get(fact.next);
         }
@@ -121,7 +119,7 @@ impl Knowledge<'_> {
     }
 
     /// Gives each open read its source of which all candidates but one are excluded, until there is none.
-    pub(crate) fn settle_sources<W: SearchWatch>(&mut self, watch: &W) -> Tried<()> {
+    fn settle_sources<W: SearchWatch>(&mut self, watch: &W) -> Tried<()> {
         let count = self.open.len().max(1);
         let mut idle = 0usize;
         for turn in 0..count.saturating_mul(count) {
@@ -149,8 +147,8 @@ impl Knowledge<'_> {
         match self.left(read)? {
             Left::Nothing => return Err(Stop::Closed(Conflict::NoSource(read))),
             Left::Range(first, last) if first == last => self.set_source(read, first)?,
-            Left::Range(first, last) if !self.clocks.is_trailed => self.narrow(read, first, last)?,
-            _ => {}
+            Left::Range(first, last) => self.narrow(read, first, last)?,
+            Left::Several => {}
         }
         self.conclude()?;
         Ok(self.facts.all.len() > facts)
@@ -195,19 +193,9 @@ impl Knowledge<'_> {
         let to = stores.partition_point(|store| !self.is_before(read, *store));
         cut(stores, from, to)
     }
-
-    /// The candidates of a read that aren't excluded.
-    pub(crate) fn candidates_left(&self, read: Place) -> Tried<Vec<Place>> {
-        let hiding = self.last_stores(read)?;
-        let mut left = Vec::new(self.alloc);
-        for core in self.operations.cores() {
-            left.extend_from_slice(self.left_of(read, core, &hiding))?;
-        }
-        Ok(left)
-    }
 }
 
 /// The places of a list from one number up to another; none where it has not so many.
-fn cut(places: &[Place], from: usize, to: usize) -> &[Place] {
+pub(crate) fn cut(places: &[Place], from: usize, to: usize) -> &[Place] {
     places.get(from..to).unwrap_or(&[])
 }

@@ -4,9 +4,9 @@
 
 use super::knowledge::Knowledge;
 use super::proof::Line;
-use super::splits::Search;
 use numbered_trace::{
-    Budget, Classes, Operations, Place, START, Stop, Tried, Unwatched, at, number, short,
+    Budget, Classes, Operations, Place, START, SearchWatch, Stop, Tried, Unwatched, at, number,
+    short,
 };
 use std::alloc::Global;
 use trace::Access;
@@ -37,10 +37,11 @@ struct Shrinking<'a> {
 
 /// A proof that isn't longer than this one, of the trace of these cores: its lines, last one first, and the list by whose
 /// numbers they name operations.
-pub(crate) fn shrink(
+pub(crate) fn shrink<W: SearchWatch>(
     cores: &[Vec<Access>],
     known: &mut Knowledge,
     best: Vec<Line>,
+    watch: &W,
 ) -> Tried<(Vec<Line>, Vec<Place>)> {
     let places = 0..short(known.operations.all.len())?;
     let places: Vec<Place> = places.collect(known.alloc)?;
@@ -55,7 +56,7 @@ pub(crate) fn shrink(
         places,
     };
     for _ in 0..shrinking.best.len() {
-        if !shrinking.leave_out_each()? {
+        if !shrinking.leave_out_each(watch)? {
             break;
         }
     }
@@ -69,9 +70,6 @@ fn named(alloc: Global, proof: &[Line], places: &[Place]) -> Tried<Vec<Place>> {
         match line {
             Line::Read(read, _, _) => named.push(at(places, *read))?,
             Line::Derived(derived) => named.push(at(places, derived.store))?,
-            Line::Order(one, other, _) => {
-                named.extend_from_slice(&[at(places, *one), at(places, *other)])?;
-            }
             Line::Cycle(_) => {}
         }
     }
@@ -83,11 +81,14 @@ fn named(alloc: Global, proof: &[Line], places: &[Place]) -> Tried<Vec<Place>> {
 impl Shrinking<'_> {
     /// Leaves out each operation that is named, where the rest has a proof that isn't longer; first it leaves out
     /// all that aren't named. Says whether some proof was shorter.
-    fn leave_out_each(&mut self) -> Tried<bool> {
+    fn leave_out_each<W: SearchWatch>(&mut self, watch: &W) -> Tried<bool> {
         let length = self.best.len();
         let before = self.named.to_vec(self.alloc)?;
         self.attempt(&before)?;
         for place in &before {
+            if self.budget.tell(watch).is_err() {
+                return Ok(false);
+            }
             if self.named.contains(place) {
                 let mut others = self.named.to_vec(self.alloc)?;
                 others.retain(|other| *other != *place);
@@ -108,10 +109,11 @@ impl Shrinking<'_> {
         }
         let trace = self.small_trace(&places, kept)?;
         let (operations, classes) = number(self.alloc, &trace)?;
-        let mut search = Search::new(self.alloc, &operations, &classes, Budget::new(steps))?;
-        let found = search.run(&Unwatched);
+        let budget = Budget::new(steps);
+        let mut known = Knowledge::new(self.alloc, &operations, &classes, budget)?;
+        let found = known.refute(&Unwatched);
         self.budget
-            .use_up(steps.saturating_sub(search.known.budget.left()));
+            .use_up(steps.saturating_sub(known.budget.left()));
         match found {
             Ok(Some(lines)) if lines.len() <= self.best.len() => {
                 self.named = named(self.alloc, &lines, &places)?;

@@ -11,8 +11,11 @@ pub(crate) struct Walks<'a> {
     operations: &'a Operations,
     classes: &'a Classes,
     groups: Vec<Vec<u32>>,
+    are_distinct: bool,
     /// The walk that stopped before it came to an order.
-    stopped: Option<Walk<'a>>,
+    pub(crate) stopped: Option<Walk<'a>>,
+    /// What was come to.
+    pub(crate) walked: Walked,
     pub(crate) order: Vec<Place>,
 }
 
@@ -22,13 +25,16 @@ impl<'a> Walks<'a> {
         alloc: Global,
         operations: &'a Operations,
         classes: &'a Classes,
+        are_distinct: bool,
     ) -> Tried<Walks<'a>> {
         Ok(Walks {
             alloc,
             operations,
             classes,
-            groups: groups_of(alloc, operations, classes.addresses())?,
+            groups: groups_of(alloc, operations, classes.count_addresses())?,
+            are_distinct,
             stopped: None,
+            walked: Walked::GivenUp,
             order: Vec::new(alloc),
         })
     }
@@ -39,21 +45,26 @@ impl<'a> Walks<'a> {
         clocks: &mut Vec<Place>,
         budget: &mut Budget,
         watch: &W,
-    ) -> Tried<Walked> {
-        for _ in 0..=self.groups.len() {
+    ) -> Tried<()> {
+        if self.walked != Walked::GivenUp {
+            return Ok(());
+        }
+        for _ in 0..u64::MAX {
             let Some(mut walk) = self.next()? else {
+                self.walked = Walked::Order;
                 break;
             };
             walk.exchange_clocks(clocks);
             let walked = walk.run(budget, watch)?;
             walk.exchange_clocks(clocks);
             if walked != Walked::Order {
+                self.walked = walked;
                 self.stopped = Some(walk);
-                return Ok(walked);
+                break;
             }
             self.order.extend_from_slice(walk.order())?;
         }
-        Ok(Walked::Order)
+        Ok(())
     }
 
     /// The walk that stopped, or else one over the next group.
@@ -64,7 +75,13 @@ impl<'a> Walks<'a> {
         let Some(cores) = self.groups.pop() else {
             return Ok(None);
         };
-        let walk = Walk::new(self.alloc, self.operations, self.classes, cores)?;
+        let walk = Walk::new(
+            self.alloc,
+            self.operations,
+            self.classes,
+            cores,
+            self.are_distinct,
+        )?;
         Ok(Some(walk))
     }
 }

@@ -15,6 +15,10 @@ pub struct Classes {
     stores: Vec<Place>,
     /// Of each address its class of the word 0.
     pub zeros: Vec<u32>,
+    /// What each address is.
+    pub addresses: Vec<Address>,
+    /// The word of each class.
+    pub words: Vec<Word>,
 }
 
 /// A word that an operation read at an address, or stored there. The order is that of addresses, words and places.
@@ -33,6 +37,8 @@ pub fn number(alloc: Global, cores: &[Vec<Access>]) -> Tried<(Operations, Classe
         starts: Vec::new(alloc),
         stores: Vec::new(alloc),
         zeros: Vec::new(alloc),
+        addresses: Vec::new(alloc),
+        words: Vec::new(alloc),
     };
     let touches = touches(alloc, cores)?;
     for of_address in touches.chunk_by(|one, other| one.addr == other.addr) {
@@ -98,7 +104,7 @@ impl Classes {
     }
 
     /// How many addresses there are.
-    pub fn addresses(&self) -> u32 {
+    pub fn count_addresses(&self) -> u32 {
         u32::try_from(self.zeros.len()).unwrap_or(0)
     }
 
@@ -111,10 +117,12 @@ impl Classes {
 
     /// Enters what read or stored at the next address.
     fn enter_address(&mut self, touches: &[Touch], operations: &mut Operations) -> Tried<()> {
-        let has_zero = touches.first().is_some_and(|touch| touch.word == 0);
+        let first = *touches.first().ok_or(Stop::GivenUp)?;
         self.zeros.push(short(self.starts.len())?)?;
-        if !has_zero {
+        self.addresses.push(first.addr)?;
+        if first.word != 0 {
             self.bound()?;
+            self.words.push(0)?;
             self.stores.push(START)?;
         }
         for class in touches.chunk_by(|one, other| one.word == other.word) {
@@ -126,8 +134,10 @@ impl Classes {
     /// Enters what read or stored the next word at the last address.
     fn enter_class(&mut self, touches: &[Touch], operations: &mut Operations) -> Tried<()> {
         let class = self.bound()?;
-        let address = self.addresses().saturating_sub(1);
-        if touches.first().is_some_and(|touch| touch.word == 0) {
+        let address = self.count_addresses().saturating_sub(1);
+        let word = touches.first().ok_or(Stop::GivenUp)?.word;
+        self.words.push(word)?;
+        if word == 0 {
             self.stores.push(START)?;
         }
         for touch in touches {

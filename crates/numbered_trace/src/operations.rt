@@ -93,6 +93,23 @@ impl Operations {
         Ok(Operations { all, starts })
     }
 
+    /// The same operations, of which those at other addresses than these neither read nor store.
+    pub fn only(&self, alloc: Global, addresses: &[u32]) -> Tried<Operations> {
+        let operations = self.all.iter().map(|operation| {
+            match addresses.binary_search(&operation.address) {
+                Ok(_) => *operation,
+                Err(_) => Operation {
+                    core: operation.core,
+                    ..BEGINNING
+                },
+            }
+        });
+        Ok(Operations {
+            all: operations.collect(alloc)?,
+            starts: self.starts.to_vec(alloc)?,
+        })
+    }
+
     /// The numbers of the cores.
     pub fn cores(&self) -> Range<u32> {
         0..u32::try_from(self.starts.len()).unwrap_or(0)

@@ -1,19 +1,37 @@
 //! States from which nothing leads to the end, as a look at what is left tells.
 
 use super::state::State;
-use numbered_trace::{CoreSet, at};
+use numbered_trace::{CoreSet, Place, at};
+
+/// Why nothing leads from a state to the end.
+#[derive(Clone, Copy)]
+pub(crate) enum Dead {
+    /// The word of this read was written over, and nothing stores it from here on.
+    Starved(Place),
+    /// These cores wait for words which none but they store from here on.
+    Deadlocked(CoreSet),
+}
 
 impl State<'_> {
-    /// Whether nothing leads from here to the end, after the store of this number in the order: a word that it wrote over is
-    /// still read and never stored again, or cores wait for each other.
-    pub(crate) fn is_dead(&self, number: usize) -> bool {
+    /// Why nothing leads from here to the end, after the store of this number in the order, where something tells it.
+    pub(crate) fn dead(&self, number: usize) -> Option<Dead> {
         let ruined = self.ruined_by(number);
-        ruined.is_some_and(|class| self.is_starved(class)) || self.is_deadlocked()
+        let starved = ruined.and_then(|class| self.starved(class));
+        starved.or_else(|| self.deadlocked())
     }
 
-    /// Whether a class that memory doesn't have is still read, and nothing stores it from here on.
-    fn is_starved(&self, class: u32) -> bool {
-        let mut is_read = false;
+    /// The place at which a core waits in a state that is dead, or where its operations end.
+    pub(crate) fn limit(&self, dead: Dead, core: u32) -> Place {
+        match dead {
+            Dead::Starved(read) if self.operations.core(read) == core => read,
+            Dead::Deadlocked(cores) if cores.contains(core) => at(&self.positions, core),
+            _ => self.operations.end(core),
+        }
+    }
+
+    /// A read of a class that memory doesn't have, where nothing stores it from here on.
+    fn starved(&self, class: u32) -> Option<Dead> {
+        let mut read = None;
         let mut next = self.touches.first(class);
         for _ in 0..self.positions.len() {
             let Some(touched) = next else {
@@ -21,16 +39,18 @@ impl State<'_> {
             };
             let position = at(&self.positions, touched.core);
             if touched.last_store >= position {
-                return false;
+                return None;
             }
-            is_read |= touched.last_read >= position;
+            if touched.last_read >= position {
+                read = Some(Dead::Starved(touched.last_read));
+            }
             next = self.touches.next(&touched);
         }
-        is_read
+        read
     }
 
-    /// Whether some cores wait for words which none but these cores store from here on.
-    fn is_deadlocked(&self) -> bool {
+    /// Some cores that wait for words which none but these cores store from here on.
+    fn deadlocked(&self) -> Option<Dead> {
         let mut waiting = CoreSet::NONE;
         for core in &self.cores {
             if self.awaits(*core).is_some() {
@@ -44,7 +64,7 @@ impl State<'_> {
                 break;
             }
         }
-        waiting != CoreSet::NONE
+        (waiting != CoreSet::NONE).then_some(Dead::Deadlocked(waiting))
     }
 
     /// Takes the cores out of a set that wait for a word which others store from here on.

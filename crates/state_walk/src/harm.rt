@@ -39,6 +39,25 @@ impl State<'_> {
         false
     }
 
+    /// How long a core's next operation, a store, keeps others from its address: how many operations a core has to perform until it has
+    /// read for the last time what it stores. None where what it writes over is still read.
+    pub(crate) fn hold(&self, core: u32, store: &Operation) -> Option<u32> {
+        if self.is_read_after(core, at(&self.memory, store.address)) {
+            return None;
+        }
+        let mut hold = 0;
+        let mut next = store.stored().and_then(|class| self.touches.first(class));
+        for _ in 0..self.positions.len() {
+            let Some(touched) = next else {
+                break;
+            };
+            let position = at(&self.positions, touched.core);
+            hold = hold.max(touched.last_read.saturating_add(1).saturating_sub(position));
+            next = self.touches.next(&touched);
+        }
+        Some(hold)
+    }
+
     /// Whether a core's next operation, a store, seems to harm nobody: no other core touches its address soon, but to read
     /// another word than the one that is there.
     pub(crate) fn seems_harmless(&self, core: u32, store: &Operation) -> bool {

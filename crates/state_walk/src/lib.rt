@@ -1,6 +1,7 @@
 //! A walk over the states of a trace: how far each core is, and what memory holds. Each state is visited once.
 #![tactic(auto)]
 
+mod closed;
 mod dead;
 mod groups;
 mod harm;
@@ -11,5 +12,6 @@ mod tree;
 mod visited;
 mod walk;
 
+pub use closed::ClosedSet;
 pub use groups::groups_of;
 pub use walk::{Walk, Walked};

@@ -37,6 +37,8 @@ pub(crate) struct Tree {
     layers: Vec<Layer>,
     /// The layers with open states, foremost ones first: a layer stands back by one for each state that was left in it.
     queue: BinaryHeap<(u64, u32)>,
+    /// The state from which the walk goes on before any of them.
+    next: Option<u32>,
 }
 
 impl Tree {
@@ -47,6 +49,7 @@ impl Tree {
             nodes: Vec::new(alloc),
             layers: Vec::new(alloc),
             queue: BinaryHeap::new(alloc),
+            next: None,
         };
         let root = Node {
             parent: 0,
@@ -81,6 +84,21 @@ impl Tree {
         Ok(number)
     }
 
+    /// Adds a state beside which its parent has no other yet, and gives its number. The walk goes on from it where no state is as deep.
+    pub(crate) fn add_only(&mut self, node: Node) -> Tried<u32> {
+        if self.layers.len() > node.depth as usize {
+            return self.add(node, EVEN);
+        }
+        let number = short(self.nodes.len())?;
+        self.nodes.push(node)?;
+        self.layers.push(Layer {
+            open: BinaryHeap::new(self.alloc),
+            left: 1,
+        })?;
+        self.next = Some(number);
+        Ok(number)
+    }
+
     /// Opens a state again whose likeliest child was taken, behind all others of its layer.
     pub(crate) fn open_half(&mut self, number: u32) -> Tried<()> {
         let node = self.nodes.get_mut(number as usize).ok_or(Stop::GivenUp)?;
@@ -111,6 +129,9 @@ impl Tree {
 
     /// Takes the open state from which the walk goes on: the likeliest one of the foremost layer. None where no state is open.
     pub(crate) fn take(&mut self) -> Tried<Option<u32>> {
+        if let Some(number) = self.next.take() {
+            return Ok(Some(number));
+        }
         let Some((_, depth)) = self.queue.pop() else {
             return Ok(None);
         };

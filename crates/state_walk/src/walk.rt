@@ -4,7 +4,7 @@ use super::outlook::EVEN;
 use super::state::State;
 use super::tree::{Node, Tree};
 use super::visited::Visited;
-use numbered_trace::{Budget, Classes, Operations, Place, SearchWatch, Tried, short};
+use numbered_trace::{Budget, Classes, Operation, Operations, Place, SearchWatch, Tried, short};
 use std::alloc::Global;
 use std::mem::swap;
 
@@ -45,15 +45,21 @@ pub struct Walk<'a> {
     visited: Visited,
     /// The nodes on the way down to a node.
     path: Vec<u32>,
+    /// The node to which the most stores lead.
+    deepest: u32,
+    /// Whether nearly each word is stored once.
+    are_distinct: bool,
 }
 
 impl<'a> Walk<'a> {
-    /// A walk over the states of the operations of these cores, which share no address with others.
+    /// A walk over the states of the operations of these cores, which share no address with others. It does better where it is told
+    /// whether nearly each word is stored once.
     pub fn new(
         alloc: Global,
         operations: &'a Operations,
         classes: &'a Classes,
         cores: Vec<u32>,
+        are_distinct: bool,
     ) -> Tried<Walk<'a>> {
         let mut state = State::new(alloc, operations, classes, cores)?;
         state.settle()?;
@@ -65,12 +71,39 @@ impl<'a> Walk<'a> {
             at: 0,
             visited,
             path: Vec::new(alloc),
+            deepest: 0,
+            are_distinct,
         })
     }
 
     /// The operations that were performed in the order that was found.
     pub fn order(&self) -> &[Place] {
         &self.state.order
+    }
+
+    /// The numbers, in order, of the addresses that each core touches by its next operations, at most so many, in the state to which the
+    /// most stores lead.
+    pub fn deepest_addresses(&mut self, alloc: Global, count: u32) -> Tried<Vec<u32>> {
+        self.go_to(self.deepest)?;
+        self.addresses_ahead(alloc, count)
+    }
+
+    /// The numbers, in order, of all addresses that are touched from the first state on.
+    pub fn all_addresses(&mut self, alloc: Global) -> Tried<Vec<u32>> {
+        self.go_to(0)?;
+        self.addresses_ahead(alloc, u32::MAX)
+    }
+
+    /// The numbers, in order, of the addresses that each core touches by its next operations, at most so many.
+    fn addresses_ahead(&self, alloc: Global, count: u32) -> Tried<Vec<u32>> {
+        let mut addresses = Vec::new(alloc);
+        for core in &self.state.cores {
+            let ahead = self.state.ahead(*core, count).iter();
+            addresses.extend(ahead.map(|operation| operation.address))?;
+        }
+        addresses.sort_unstable();
+        addresses.dedup();
+        Ok(addresses)
     }
 
     /// Exchanges what is known to be before each operation: of each, one after the other, a place for each core. No list is needed
@@ -177,17 +210,29 @@ impl<'a> Walk<'a> {
     /// Which store is tried first.
     fn first(&self) -> First {
         let mut likely = First::Any;
+        let mut least = u32::MAX;
         for core in &self.state.cores {
             if let Some(store) = self.state.able(*core) {
                 if self.state.is_harmless(*core, &store) {
                     return First::Harmless(*core);
                 }
-                if likely == First::Any && self.state.seems_harmless(*core, &store) {
-                    likely = First::Likely(*core);
+                if let Some(harm) = self.harm(*core, &store)
+                    && harm < least
+                {
+                    (likely, least) = (First::Likely(*core), harm);
                 }
             }
         }
         likely
+    }
+
+    /// How much harm a core's next operation, a store, seems to do; None where it is too much for a first choice.
+    fn harm(&self, core: u32, store: &Operation) -> Option<u32> {
+        if self.are_distinct {
+            self.state.hold(core, store)
+        } else {
+            self.state.seems_harmless(core, store).then_some(0)
+        }
     }
 
     /// Adds the state behind a core's store, unless it was visited. Says whether it is final. The walk stays there if it is the only
@@ -198,14 +243,16 @@ impl<'a> Walk<'a> {
         if self.state.is_final() {
             return Ok(true);
         }
-        if self.visited.insert(self.state.number)? && !self.state.is_dead(length as usize) {
-            let outlook = if is_only { EVEN } else { self.state.outlook() };
+        if self.visited.insert(self.state.number)? && self.state.dead(length as usize).is_none() {
             let child = self.child(parent, core, depth)?;
-            let number = self.tree.add(child, outlook)?;
+            if self.tree.node(self.deepest)?.depth < child.depth {
+                self.deepest = short(self.tree.nodes.len())?;
+            }
             if is_only {
-                self.at = number;
+                self.at = self.tree.add_only(child)?;
                 return Ok(false);
             }
+            self.tree.add(child, self.state.outlook())?;
         }
         self.state.undo(length as usize)?;
         Ok(false)

@@ -1,0 +1,133 @@
+//! Sets of states that are closed: no state of them is final, and what can be reached from one is one of them.
+
+use super::dead::Dead;
+use super::state::State;
+use super::visited::Visited;
+use numbered_trace::{Budget, Classes, Operations, Place, SearchWatch, Tried, at};
+use refutation::Numbers;
+use std::alloc::Global;
+
+/// All states of some operations that can be reached, as a walk comes to them.
+#[derive(Drop)]
+pub struct ClosedSet<'a> {
+    alloc: Global,
+    classes: &'a Classes,
+    /// The addresses that are looked at.
+    addresses: &'a [u32],
+    state: State<'a>,
+    visited: Visited,
+    /// The moves that weren't made: how many operations led to the state from which it leads, and its core.
+    moves: Vec<(usize, u32)>,
+    /// The states, as a refutation tells them.
+    pub states: Vec<refutation::State>,
+}
+
+impl<'a> ClosedSet<'a> {
+    /// A walk over the states of operations of which those at other addresses than these neither read nor store.
+    pub fn new(
+        alloc: Global,
+        operations: &'a Operations,
+        classes: &'a Classes,
+        addresses: &'a [u32],
+    ) -> Tried<ClosedSet<'a>> {
+        let cores: Vec<u32> = operations.cores().collect(alloc)?;
+        Ok(ClosedSet {
+            alloc,
+            classes,
+            addresses,
+            state: State::new(alloc, operations, classes, cores)?,
+            visited: Visited::new(alloc)?,
+            moves: Vec::new(alloc),
+            states: Vec::new(alloc),
+        })
+    }
+
+    /// Comes to all states that can be reached. Says whether they are no more than so many, and none is final; else it may stop before.
+    pub fn close<W: SearchWatch>(
+        &mut self,
+        most: usize,
+        budget: &mut Budget,
+        watch: &W,
+    ) -> Tried<bool> {
+        self.state.settle()?;
+        self.enter(0)?;
+        for _ in 0..u64::MAX {
+            if self.state.is_final() || self.states.len() > most || budget.left() == 0 {
+                return Ok(false);
+            }
+            let Some((length, core)) = self.moves.pop() else {
+                break;
+            };
+            let performed = self.state.performed;
+            self.state.undo(length)?;
+            self.state.perform(core)?;
+            self.state.settle()?;
+            self.enter(length)?;
+            budget.use_up(self.state.performed.saturating_sub(performed));
+            budget.tell(watch)?;
+        }
+        Ok(true)
+    }
+
+    /// Enters the state behind the store of this number in the order, unless it was entered, and its moves, unless it is dead.
+    fn enter(&mut self, number: usize) -> Tried<()> {
+        if !self.visited.insert(self.state.number)? {
+            return Ok(());
+        }
+        let words = self.words()?;
+        let next = self.next()?;
+        let Some(dead) = self.state.dead(number) else {
+            self.states.push(refutation::State::Open { next, words })?;
+            return self.enter_moves();
+        };
+        let limits = self.limits(dead)?;
+        Ok(
+            self.states.push(refutation::State::Dead {
+                next,
+                words,
+                limits,
+            })?,
+        )
+    }
+
+    /// Enters the moves from the state.
+    fn enter_moves(&mut self) -> Tried<()> {
+        let length = self.state.order.len();
+        for place in 0..self.state.cores.len() {
+            let core = self.state.cores.get(place).copied().unwrap_or(0);
+            if self.state.able(core).is_some() {
+                self.moves.push((length, core))?;
+            }
+        }
+        Ok(())
+    }
+
+    /// The words at the addresses that are looked at.
+    fn words(&self) -> Tried<Numbers> {
+        let words = self.addresses.iter().map(|address| {
+            let class = at(&self.state.memory, *address);
+            self.classes.words.get(class as usize).copied().unwrap_or(0)
+        });
+        Ok(Numbers::new(words.collect(self.alloc)?))
+    }
+
+    /// Of each core the index of its next operation.
+    fn next(&self) -> Tried<Numbers> {
+        let cores = self.state.cores.iter();
+        let next = cores.map(|core| self.index(*core, at(&self.state.positions, *core)));
+        Ok(Numbers::new(next.collect(self.alloc)?))
+    }
+
+    /// Of each core the index at which it waits in a state that is dead, or how many operations it has.
+    fn limits(&self, dead: Dead) -> Tried<Numbers> {
+        let cores = self.state.cores.iter();
+        let limits = cores.map(|core| self.index(*core, self.state.limit(dead, *core)));
+        Ok(Numbers::new(limits.collect(self.alloc)?))
+    }
+
+    /// The index of a core's operation at a place.
+    fn index(&self, core: u32, place: Place) -> u64 {
+        let start = at(&self.state.operations.starts, core);
+        u64::from(place.saturating_sub(start))
+    }
+}
