@@ -59,7 +59,7 @@ check_no told Unreadable asked (No fault) (programs, are, (range, judged)) one =
 pub order_no : (told : List ℕ → Option (List ℕ)) (Unreadable : List ℕ → Type 0) (asked : Order) (out out' : Sink) (verdict : Verdict)
     → IsOrdered told Unreadable asked out out' (Ok verdict) → verdict_status verdict ≡ 1 → TextsGetNo told asked.files.items × Took out out' LacksEnd
 order_no told Unreadable asked out out' (Yes count) is one = cc
-order_no told Unreadable asked out out' (No fault) (range, quiet, (texts, tell, answers, took)) one = ((texts, tell, (fault, answers)), took)
+order_no told Unreadable asked out out' (No fault) (range, quiet, (texts, tell, answers, took)) one = ((texts, tell, fault, answers), took)
 
 pub right_yes : (told : List ℕ → Option (List ℕ)) (files : TraceFiles) (answer : SearchAnswer) → TellsTrace told files (λ cores. IsRightOf cores answer)
     → search_status answer ≡ 0 → TellsTrace told files IsConsistent

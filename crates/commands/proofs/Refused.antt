@@ -86,7 +86,7 @@ module _ (old new : Files) (Unreadable : List ℕ → Type 0) (out out' : Sink) 
   explain_kept : (asked : Explain) (refusal : Refusal) → IsExplained old new Unreadable asked out out' (Err refusal) → ComesFirst refusal → new.told ≡ old.told
   explain_kept asked (Unwritten place) is first = absurd first
   explain_kept asked OutOfMemory is first = absurd first
-  explain_kept asked other is first = keeps_told old new is.1.0
+  explain_kept asked other is first = keeps_told old new is.1
 
   explain_unread : (asked : Explain) (refusal : Refusal) → IsExplained old new Unreadable asked out out' (Err refusal) → IsUnreadThere Unreadable (request.Explain asked) refusal
   explain_unread asked (Judge (Read file)) is = let (programs, are, (range, unread)) = is.0 in unread
@@ -141,6 +141,7 @@ module _ (old new : Files) (Unreadable : List ℕ → Type 0) (out out' : Sink) 
 
   sim_kept : (asked : AskedSim) (refusal : Refusal) → IsRun old new Unreadable asked (Err refusal) → ComesFirst refusal → new.told ≡ old.told
   sim_kept asked (Config fault) is first = same_told is.1
+  sim_kept asked (Unread input.Schedule) is first = keeps_told old new is.0
   sim_kept asked (Simulation fault) is first = absurd first
   sim_kept asked (LogUnwritten file) is first = absurd first
   sim_kept asked (Unwritten place) is first = absurd first
@@ -152,10 +153,10 @@ module _ (old new : Files) (Unreadable : List ℕ → Type 0) (out out' : Sink) 
   sim_left asked other is = tt
 
   sim_unread : (asked : AskedSim) (refusal : Refusal) → IsRun old new Unreadable asked (Err refusal) → IsUnreadThere Unreadable (request.Sim asked) refusal
-  sim_unread asked (Unread input.Programs) is = is.1.1
-  sim_unread asked (Unread input.Schedule) (read, sound, set, programs, unread) = unread
-  sim_unread asked (Unread place) is = absurd is.1.1
-  sim_unread asked (Judge fault) is = absurd is.1.1
+  sim_unread asked (Unread input.Programs) is = is.2
+  sim_unread asked (Unread input.Schedule) is = let (sound, set, programs, unread) = is.1 in unread
+  sim_unread asked (Unread place) is = absurd is.2
+  sim_unread asked (Judge fault) is = absurd is.2
   sim_unread asked other is = tt
 
   pub sim_refused : (asked : AskedSim) (refusal : Refusal) → IsRun old new Unreadable asked (Err refusal) → IsRefused old new Unreadable out out' (request.Sim asked) refusal
@@ -176,9 +177,9 @@ module _ (old new : Files) (Unreadable : List ℕ → Type 0) (out out' : Sink) 
   run_left asked other is = tt
 
   run_unread : (asked : AskedRun) (refusal : Refusal) → IsThreadRun old new Unreadable asked (Err refusal) → IsUnreadThere Unreadable (request.Run asked) refusal
-  run_unread asked (Unread input.Programs) is = is.1.1
-  run_unread asked (Unread place) is = absurd is.1.1
-  run_unread asked (Judge fault) is = absurd is.1.1
+  run_unread asked (Unread input.Programs) is = is.2
+  run_unread asked (Unread place) is = absurd is.2
+  run_unread asked (Judge fault) is = absurd is.2
   run_unread asked other is = tt
 
   pub run_refused : (asked : AskedRun) (refusal : Refusal) → IsThreadRun old new Unreadable asked (Err refusal) → IsRefused old new Unreadable out out' (request.Run asked) refusal
@@ -189,7 +190,7 @@ module _ (old new : Files) (Unreadable : List ℕ → Type 0) (out out' : Sink) 
   litmus_kept : (asked : Litmus) (refusal : Refusal) → IsCounted old new Unreadable asked out out' (Err refusal) → ComesFirst refusal → new.told ≡ old.told
   litmus_kept asked (Unwritten place) is first = absurd first
   litmus_kept asked OutOfMemory is first = absurd first
-  litmus_kept asked other is first = keeps_told old new is.1.1
+  litmus_kept asked other is first = keeps_told old new is.2
 
   litmus_unread : (asked : Litmus) (refusal : Refusal) → IsCounted old new Unreadable asked out out' (Err refusal) → IsUnreadThere Unreadable (request.Litmus asked) refusal
   litmus_unread asked (Unread input.Test) is = is.0.1

@@ -64,7 +64,7 @@ unscheduled remaining failed old now new asked set fault sound read same why onl
     go fault (subst (λ (files : Files). IsUnscheduled files.told (IsUnread remaining failed files new) asked.schedule (length set.programs) fault) same why)
   where
     go : (fault : Refusal) → IsUnscheduled old.told (IsUnread remaining failed old new) asked.schedule (length set.programs) fault → IsRun old new (IsUnread remaining failed old new) asked (Err fault)
-    go (Schedule reason) why = (only, sound, set, read, why)
-    go (Unread input.Schedule) why = (only, sound, set, read, why)
+    go (Schedule reason) why = (only, (sound, set, read, why))
+    go (Unread input.Schedule) why = (only, (sound, set, read, why))
     go OutOfMemory why = tt
     go other why = absurd why

@@ -177,9 +177,9 @@ pub record IsRefused (old new : Files) (Unread : List ℕ → Type 0) (out out' 
   pub unended : IsUnended out out' asked
 
 -- standard error was told of this refusal, and it has this exit status
-pub record IsTold (err err' : Sink) (status : ℕ) (refusal : Refusal) : Type 0 where
+pub record IsTold (err err' : Sink) (exit : ℕ) (refusal : Refusal) : Type 0 where
   pub text : Takes err err' (line (refusal_text refusal))
-  pub status : status ≡ refusal_status refusal
+  pub status : exit ≡ refusal_status refusal
 
 -- a call that was refused: standard error was told why
 abbrev pub IsRefusedCall : Files → Files → (List ℕ → Type 0) → Sink → Sink → Sink → Sink → ℕ → Request → Type 0

@@ -4,26 +4,42 @@ use Rattle.commands.proofs.Files.{keeps_files}
 use Rattle.commands.proofs.Leaving.{run_leaves, sim_leaves}
 use Rattle.commands.proofs.Performed.{answered, anew, check_no, of_table, order_no, printed, refused, replayed_no, right_no, right_yes, yes_of}
 use Rattle.commands.proofs.Refused.{check_no_table, check_refused, confirm_no_table, confirm_refused, explain_no_table, explain_refused, inspect_refused, litmus_refused, order_no_table, order_refused, replay_no_table, replay_refused, run_refused, search_no_table, search_refused, sim_refused, upgrade_refused}
+use Rattle.commands.specs.Sinks.{sink_of}
 use Rattle.commands.specs.declared.answer.Answer.TheVariants.{Judged, Ordered, Explained, Readable, Searched, Replayed, Counted, Done, Version}
 use Rattle.commands.proofs.call.perform.Goals as goal
 
 pub returns-in_err-verdict-in-Check : goal.returns-in_err-verdict-in-Check
 returns-in_err-verdict-in-Check g c =
+    let files = g.F.Folder.files in
+    let old = files c.args.folder.now in
+    let new = files c.check.new.folder in
+    let unread = IsUnread g.F.Source.ByteSource.remaining g.F.Source.ByteSource.failed old new in
+    let sink = sink_of g.O.ByteSink.contents g.O.ByteSink.failed in
     let refusal = c.in_err-verdict-in-Check.field-0.0 in
     let is : c.from_residual.result ≡ Err refusal = search rules in
-    rw c.in-Check.is (refused _ _ _ _ _ _ refusal _ is (keeps_files _ _ _ c.in_err-verdict-in-Check.ensures.read) (check_refused _ _ _ _ _ c.in-Check.asked refusal c.in_err-verdict-in-Check.ensures.exact c.in_err-verdict-in-Check.ensures.read) (λ one. absurd (check_no_table _ _ _ _ _ c.in-Check.asked refusal c.in_err-verdict-in-Check.ensures.exact (of_table refusal one))))
+    rw c.in-Check.is (refused _ _ _ _ _ _ refusal _ is (keeps_files _ _ _ c.in_err-verdict-in-Check.ensures.read) (check_refused _ _ _ _ _ c.in-Check.asked refusal c.in_err-verdict-in-Check.ensures.exact c.in_err-verdict-in-Check.ensures.read) (λ one. absurd (check_no_table old new unread (sink c.args.out.now) (sink c.args.out.now) c.in-Check.asked refusal c.in_err-verdict-in-Check.ensures.exact (of_table refusal one))))
 
 pub returns-in_err-order-in-Order : goal.returns-in_err-order-in-Order
 returns-in_err-order-in-Order g c =
+    let files = g.F.Folder.files in
+    let old = files c.args.folder.now in
+    let new = files c.order.new.folder in
+    let unread = IsUnread g.F.Source.ByteSource.remaining g.F.Source.ByteSource.failed old new in
+    let sink = sink_of g.O.ByteSink.contents g.O.ByteSink.failed in
     let refusal = c.in_err-order-in-Order.field-0.0 in
     let is : c.from_residual-in_err-order-in-Order.result ≡ Err refusal = search rules in
-    rw c.in-Order.is (refused _ _ _ _ _ _ refusal _ is (keeps_files _ _ _ c.in_err-order-in-Order.ensures.read) (order_refused _ _ _ _ _ c.in-Order.asked refusal c.in_err-order-in-Order.ensures.exact c.in_err-order-in-Order.ensures.read) (λ one. absurd (order_no_table _ _ _ _ _ c.in-Order.asked refusal c.in_err-order-in-Order.ensures.exact (of_table refusal one))))
+    rw c.in-Order.is (refused _ _ _ _ _ _ refusal _ is (keeps_files _ _ _ c.in_err-order-in-Order.ensures.read) (order_refused _ _ _ _ _ c.in-Order.asked refusal c.in_err-order-in-Order.ensures.exact c.in_err-order-in-Order.ensures.read) (λ one. absurd (order_no_table old new unread (sink c.args.out.now) (sink c.order.new.out) c.in-Order.asked refusal c.in_err-order-in-Order.ensures.exact (of_table refusal one))))
 
 pub returns-in_err-explain-in-Explain : goal.returns-in_err-explain-in-Explain
 returns-in_err-explain-in-Explain g c =
+    let files = g.F.Folder.files in
+    let old = files c.args.folder.now in
+    let new = files c.explain.new.folder in
+    let unread = IsUnread g.F.Source.ByteSource.remaining g.F.Source.ByteSource.failed old new in
+    let sink = sink_of g.O.ByteSink.contents g.O.ByteSink.failed in
     let refusal = c.in_err-explain-in-Explain.field-0.0 in
     let is : c.from_residual-in_err-explain-in-Explain.result ≡ Err refusal = search rules in
-    rw c.in-Explain.is (refused _ _ _ _ _ _ refusal _ is c.in_err-explain-in-Explain.ensures.files (explain_refused _ _ _ _ _ c.in-Explain.asked refusal c.in_err-explain-in-Explain.ensures.exact) (λ one. absurd (explain_no_table _ _ _ _ _ c.in-Explain.asked refusal c.in_err-explain-in-Explain.ensures.exact (of_table refusal one))))
+    rw c.in-Explain.is (refused _ _ _ _ _ _ refusal _ is c.in_err-explain-in-Explain.ensures.files (explain_refused _ _ _ _ _ c.in-Explain.asked refusal c.in_err-explain-in-Explain.ensures.exact) (λ one. absurd (explain_no_table old new unread (sink c.args.out.now) (sink c.explain.new.out) c.in-Explain.asked refusal c.in_err-explain-in-Explain.ensures.exact (of_table refusal one))))
 
 pub returns-in_err-cores-in-Inspect : goal.returns-in_err-cores-in-Inspect
 returns-in_err-cores-in-Inspect g c =
@@ -51,15 +67,25 @@ returns-in_err-operations-in-Upgrade g c =
 
 pub returns-in_err-search-in-Search : goal.returns-in_err-search-in-Search
 returns-in_err-search-in-Search g c =
+    let files = g.F.Folder.files in
+    let old = files c.args.folder.now in
+    let new = files c.search.new.folder in
+    let unread = IsUnread g.F.Source.ByteSource.remaining g.F.Source.ByteSource.failed old new in
+    let sink = sink_of g.O.ByteSink.contents g.O.ByteSink.failed in
     let refusal = c.in_err-search-in-Search.field-0.0 in
     let is : c.from_residual-in_err-search-in-Search.result ≡ Err refusal = search rules in
-    rw c.in-Search.is (refused _ _ _ _ _ _ refusal _ is c.in_err-search-in-Search.ensures.files (search_refused _ _ _ _ _ c.in-Search.asked refusal c.in_err-search-in-Search.ensures.exact) (λ one. absurd (search_no_table _ _ _ _ _ c.in-Search.asked refusal c.in_err-search-in-Search.ensures.exact (of_table refusal one))))
+    rw c.in-Search.is (refused _ _ _ _ _ _ refusal _ is c.in_err-search-in-Search.ensures.files (search_refused _ _ _ _ _ c.in-Search.asked refusal c.in_err-search-in-Search.ensures.exact) (λ one. absurd (search_no_table old new unread (sink c.args.out.now) (sink c.search.new.out) c.in-Search.asked refusal c.in_err-search-in-Search.ensures.exact (of_table refusal one))))
 
 pub returns-in_err-confirm-in-Confirm : goal.returns-in_err-confirm-in-Confirm
 returns-in_err-confirm-in-Confirm g c =
+    let files = g.F.Folder.files in
+    let old = files c.args.folder.now in
+    let new = files c.confirm.new.folder in
+    let unread = IsUnread g.F.Source.ByteSource.remaining g.F.Source.ByteSource.failed old new in
+    let sink = sink_of g.O.ByteSink.contents g.O.ByteSink.failed in
     let refusal = c.in_err-confirm-in-Confirm.field-0.0 in
     let is : c.from_residual-in_err-confirm-in-Confirm.result ≡ Err refusal = search rules in
-    rw c.in-Confirm.is (refused _ _ _ _ _ _ refusal _ is (keeps_files _ _ _ c.in_err-confirm-in-Confirm.ensures.read) (confirm_refused _ _ _ _ _ c.in-Confirm.asked refusal c.in_err-confirm-in-Confirm.ensures.exact c.in_err-confirm-in-Confirm.ensures.read) (λ one. absurd (confirm_no_table _ _ _ _ _ c.in-Confirm.asked refusal c.in_err-confirm-in-Confirm.ensures.exact (of_table refusal one))))
+    rw c.in-Confirm.is (refused _ _ _ _ _ _ refusal _ is (keeps_files _ _ _ c.in_err-confirm-in-Confirm.ensures.read) (confirm_refused _ _ _ _ _ c.in-Confirm.asked refusal c.in_err-confirm-in-Confirm.ensures.exact c.in_err-confirm-in-Confirm.ensures.read) (λ one. absurd (confirm_no_table old new unread (sink c.args.out.now) (sink c.confirm.new.out) c.in-Confirm.asked refusal c.in_err-confirm-in-Confirm.ensures.exact (of_table refusal one))))
 
 pub returns-in_err-count_outcomes-in-Litmus : goal.returns-in_err-count_outcomes-in-Litmus
 returns-in_err-count_outcomes-in-Litmus g c =
@@ -80,17 +106,17 @@ returns-in_ok-cores-in-Inspect g c =
 pub returns-in_ok-operations-in-Sim : goal.returns-in_ok-operations-in-Sim
 returns-in_ok-operations-in-Sim g c =
     rw c.in-Sim.is (printed _ _ _ _ _ _ (Done c.in_ok-operations-in-Sim.operations) _ c.print_answer-in-Sim.ensures.ok c.print_answer-in-Sim.ensures.err c.in_ok-operations-in-Sim.ensures.files
-    (λ zero. record { sound = tt; flat = tt; order = tt; upgraded = tt; yes = sim_leaves _ _ (IsUnread g.F.Source.ByteSource.remaining g.F.Source.ByteSource.failed (g.F.Folder.files c.args.folder.now) (g.F.Folder.files c.sim.new.folder)) c.in-Sim.asked _ c.in_ok-operations-in-Sim.ensures.exact }) (λ one. tt) tt)
+    (λ zero. record { sound = tt; flat = tt; order = tt; upgraded = tt; yes = sim_leaves (g.F.Folder.files c.args.folder.now) (g.F.Folder.files c.sim.new.folder) (IsUnread g.F.Source.ByteSource.remaining g.F.Source.ByteSource.failed (g.F.Folder.files c.args.folder.now) (g.F.Folder.files c.sim.new.folder)) c.in-Sim.asked c.in_ok-operations-in-Sim.operations c.in_ok-operations-in-Sim.ensures.exact }) (λ one. tt) tt)
 
 pub returns-in_ok-operations-in-Run : goal.returns-in_ok-operations-in-Run
 returns-in_ok-operations-in-Run g c =
     rw c.in-Run.is (printed _ _ _ _ _ _ (Done c.in_ok-operations-in-Run.operations) _ c.print_answer-in-Run.ensures.ok c.print_answer-in-Run.ensures.err c.in_ok-operations-in-Run.ensures.files
-    (λ zero. record { sound = tt; flat = tt; order = tt; upgraded = tt; yes = run_leaves _ _ (IsUnread g.F.Source.ByteSource.remaining g.F.Source.ByteSource.failed (g.F.Folder.files c.args.folder.now) (g.F.Folder.files c.run.new.folder)) c.in-Run.asked _ c.in_ok-operations-in-Run.ensures.exact }) (λ one. tt) tt)
+    (λ zero. record { sound = tt; flat = tt; order = tt; upgraded = tt; yes = run_leaves (g.F.Folder.files c.args.folder.now) (g.F.Folder.files c.run.new.folder) (IsUnread g.F.Source.ByteSource.remaining g.F.Source.ByteSource.failed (g.F.Folder.files c.args.folder.now) (g.F.Folder.files c.run.new.folder)) c.in-Run.asked c.in_ok-operations-in-Run.operations c.in_ok-operations-in-Run.ensures.exact }) (λ one. tt) tt)
 
 pub returns-in_ok-operations-in-Upgrade : goal.returns-in_ok-operations-in-Upgrade
 returns-in_ok-operations-in-Upgrade g c =
     rw c.in-Upgrade.is (printed _ _ _ _ _ _ (Done c.in_ok-operations-in-Upgrade.operations) _ c.print_answer-in-Upgrade.ensures.ok c.print_answer-in-Upgrade.ensures.err (λ name none. c.in_ok-operations-in-Upgrade.ensures.files name (λ core below same. none (core, below, same)))
-    (λ zero. record { sound = tt; flat = tt; order = tt; upgraded = anew _ _ (IsUnread g.F.Source.ByteSource.remaining g.F.Source.ByteSource.failed (g.F.Folder.files c.args.folder.now) (g.F.Folder.files c.upgrade.new.folder)) c.in-Upgrade.asked _ c.in_ok-operations-in-Upgrade.ensures.exact; yes = λ apart. tt }) (λ one. tt) tt)
+    (λ zero. record { sound = tt; flat = tt; order = tt; upgraded = anew (g.F.Folder.files c.args.folder.now) (g.F.Folder.files c.upgrade.new.folder) (IsUnread g.F.Source.ByteSource.remaining g.F.Source.ByteSource.failed (g.F.Folder.files c.args.folder.now) (g.F.Folder.files c.upgrade.new.folder)) c.in-Upgrade.asked c.in_ok-operations-in-Upgrade.operations c.in_ok-operations-in-Upgrade.ensures.exact; yes = λ apart. tt }) (λ one. tt) tt)
 
 pub returns-in_ok-order-in-Order : goal.returns-in_ok-order-in-Order
 returns-in_ok-order-in-Order g c =
@@ -124,11 +150,16 @@ returns-in-Version g c =
 
 pub returns-in_err-replay-in-Replay : goal.returns-in_err-replay-in-Replay
 returns-in_err-replay-in-Replay g c =
+    let files = g.F.Folder.files in
+    let old = files c.args.folder.now in
+    let new = files c.replay.new.folder in
+    let unread = IsUnread g.F.Source.ByteSource.remaining g.F.Source.ByteSource.failed old new in
+    let sink = sink_of g.O.ByteSink.contents g.O.ByteSink.failed in
     let refusal = c.in_err-replay-in-Replay.field-0.0 in
     let is : c.from_residual-in_err-replay-in-Replay.result ≡ Err refusal = search rules in
-    rw c.in-Replay.is (refused _ _ _ _ _ _ refusal _ is (keeps_files _ _ _ c.in_err-replay-in-Replay.ensures.read) (replay_refused _ _ _ _ _ c.in-Replay.asked refusal c.in_err-replay-in-Replay.ensures.exact c.in_err-replay-in-Replay.ensures.read) (λ one. absurd (replay_no_table _ _ _ _ _ c.in-Replay.asked refusal c.in_err-replay-in-Replay.ensures.exact (of_table refusal one))))
+    rw c.in-Replay.is (refused _ _ _ _ _ _ refusal _ is (keeps_files _ _ _ c.in_err-replay-in-Replay.ensures.read) (replay_refused _ _ _ _ _ c.in-Replay.asked refusal c.in_err-replay-in-Replay.ensures.exact c.in_err-replay-in-Replay.ensures.read) (λ one. absurd (replay_no_table old new unread (sink c.args.out.now) (sink c.replay.new.out) c.in-Replay.asked refusal c.in_err-replay-in-Replay.ensures.exact (of_table refusal one))))
 
 pub returns-in_ok-replay-in-Replay : goal.returns-in_ok-replay-in-Replay
 returns-in_ok-replay-in-Replay g c =
     rw c.in-Replay.is (answered _ _ _ _ _ _ (Replayed c.in_ok-replay-in-Replay.field-0) (keeps_files _ _ _ c.in_ok-replay-in-Replay.ensures.read)
-    (λ zero. record { sound = c.in_ok-replay-in-Replay.ensures.sound zero; flat = tt; order = tt; upgraded = tt; yes = λ apart. tt }) (replayed_no _ _ (IsUnread g.F.Source.ByteSource.remaining g.F.Source.ByteSource.failed (g.F.Folder.files c.args.folder.now) (g.F.Folder.files c.replay.new.folder)) c.in-Replay.asked _ c.in_ok-replay-in-Replay.ensures.exact))
+    (λ zero. record { sound = c.in_ok-replay-in-Replay.ensures.sound zero; flat = tt; order = tt; upgraded = tt; yes = λ apart. tt }) (replayed_no (g.F.Folder.files c.args.folder.now) (g.F.Folder.files c.replay.new.folder) (IsUnread g.F.Source.ByteSource.remaining g.F.Source.ByteSource.failed (g.F.Folder.files c.args.folder.now) (g.F.Folder.files c.replay.new.folder)) c.in-Replay.asked c.in_ok-replay-in-Replay.field-0 c.in_ok-replay-in-Replay.ensures.exact))

@@ -29,4 +29,5 @@ pub returns-clause-exact : goal.returns-clause-exact
 returns-clause-exact g c = (c.in_ok-verdict.ensures.ok, c.in_ok-verdict.ensures.quiet)
 
 pub returns-clause-sound : goal.returns-clause-sound
-returns-clause-sound g c = right _ _ _ c.in_ok-verdict.ensures.ok
+returns-clause-sound g c =
+    right (g.F.Folder.files c.args.folder.now).told c.args.asked.now.trace.now c.in_ok-verdict.verdict c.in_ok-verdict.ensures.ok

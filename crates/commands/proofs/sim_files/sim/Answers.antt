@@ -19,7 +19,11 @@ pub returns-in_err-programs-clause-exact : goal.returns-in_err-programs-clause-e
 returns-in_err-programs-clause-exact g c =
     let sound : first_bad (config_of c.args.asked.now.limits) ≡ None = search rules in
     let is : c.from_residual-in_err-programs.result ≡ Err c.in_err-programs.field-0.0 = search rules in
-    rw is (unprogrammed _ _ _ c.args.asked.now c.in_err-programs.field-0.0 sound c.in_err-programs.ensures.err c.in_err-programs.ensures.read)
+    let files = g.F.Folder.files in
+    let old = files c.args.folder.now in
+    let new = files c.read_programs.new.folder in
+    let unread = IsUnread g.F.Source.ByteSource.remaining g.F.Source.ByteSource.failed old new in
+    rw is (unprogrammed old new unread c.args.asked.now c.in_err-programs.field-0.0 sound c.in_err-programs.ensures.err c.in_err-programs.ensures.read)
 
 pub returns-in_err-programs-clause-files : goal.returns-in_err-programs-clause-files
 returns-in_err-programs-clause-files g c = keeps_files _ _ _ c.in_err-programs.ensures.read

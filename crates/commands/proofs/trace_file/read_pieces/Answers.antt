@@ -29,6 +29,7 @@ returns-in_default-clause-answer g c =
 
 pub returns-in_err-finish-clause-answer : goal.returns-in_err-finish-clause-answer
 returns-in_err-finish-clause-answer g c =
+    let is : c.from_residual-in_err-finish.result ≡ Err (from_trace c.in_err-finish.field-0.0) = search rules in
     let rem = g.S.ByteSource.remaining in
     let (bytes, fed, consumed) = c.pieces.invariant.read in
     let zero : c.in-Ok.count ≡ 0 = search rules in
@@ -36,7 +37,6 @@ returns-in_err-finish-clause-answer g c =
     let none : Consumes (rem c.pieces.source) (rem c.read.new.self) [] = rw zero at c.in-Ok.ensures.bytes.0 in
     let all : Consumes (rem c.args.source.now) (rem c.read.new.self) bytes = rw (append-nil bytes) at (Consumes-trans _ (rem c.pieces.source) _ bytes [] consumed none) in
     let fault : IsFault bytes c.in_err-finish.field-0.0 = c.in_err-finish.ensures.ends bytes fed in
-    let is : c.from_residual-in_err-finish.result ≡ Err (from_trace c.in_err-finish.field-0.0) = search rules in
     (bytes, consumes_end _ _ bytes all end, rw is (fault_answered bytes c.in_err-finish.field-0.0 fault))
 
 pub returns-then-count-eq0-clause-answer : goal.returns-then-count-eq0-clause-answer
