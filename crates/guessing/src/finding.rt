@@ -28,13 +28,25 @@ pub fn guess<W: SearchWatch>(
 /// An order, or a refutation. The search may give up.
 fn find<W: SearchWatch>(alloc: Global, trace: &Trace, budget: Budget, watch: &W) -> Tried<Answer> {
     let (operations, classes) = number(alloc, trace.cores())?;
-    let are_distinct = are_distinct(&operations, &classes);
-    let walks = Walks::new(alloc, &operations, &classes, are_distinct)?;
+    find_numbered(alloc, trace, &operations, &classes, budget, watch)
+}
+
+/// The same. Where words repeat, a walk comes first that knows of no fact.
+fn find_numbered<'a, W: SearchWatch>(
+    alloc: Global,
+    trace: &'a Trace,
+    operations: &'a Operations,
+    classes: &'a Classes,
+    budget: Budget,
+    watch: &W,
+) -> Tried<Answer> {
+    let are_distinct = are_distinct(operations, classes);
+    let walks = Walks::new(alloc, operations, classes, are_distinct)?;
     let mut finding = Finding {
         alloc,
         trace,
-        operations: &operations,
-        classes: &classes,
+        operations,
+        classes,
         walks,
         clocks: Vec::new(alloc),
         budget,
