@@ -53,9 +53,11 @@ fn outcomes_that_are_forbidden(rt: HostRuntime) -> Result<(), Fail> {
 // Two stores may have given a word, and either would be after what its reader loaded later: two cases.
 #[test]
 fn a_word_of_either_store(rt: HostRuntime) -> Result<(), Fail> {
-    let operations = "0: M[1] := 1\n0: M[0] := 1\n1: M[2] := 1\n1: M[0] := 1\n2: M[0] == 1\n2: M[1] == 0\n2: M[2] == 0\n";
+    let operations =
+        "0: M[1] := 1\n0: M[0] := 1\n1: M[2] := 1\n1: M[0] := 1\n2: M[0] == 1\n2: M[1] == 0\n2: M[2] == 0\n";
     let trace = Trace::parse(rt.alloc(), operations.as_bytes())?;
-    let reads = "tardis-refutation 1\nread 2.1 : init\nfrom-read 0 0.0 :\nread 2.2 : init\nfrom-read 2 1.0 :\nread 2.0 : 0.1 1.1\n";
+    let reads =
+        "tardis-refutation 1\nread 2.1 : init\nfrom-read 0 0.0 :\nread 2.2 : init\nfrom-read 2 1.0 :\nread 2.0 : 0.1 1.1\n";
     let (first, second) = ("cycle : 4 1\n", "cycle : 4 3\n");
     let text = format!(in rt.alloc(); "{reads}{first}{second}end 7\n")?;
     expect_refuted(&rt, rt.alloc(), &trace, text.as_str())?;

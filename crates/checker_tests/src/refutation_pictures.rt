@@ -49,7 +49,8 @@ fn a_set_of_states_is_drawn(rt: HostRuntime) -> Result<(), Fail> {
         (1, Access::swap(0, 1, 2)),
     ];
     let trace = trace_of(rt.alloc(), &rows)?;
-    let steps = "tardis-refutation 1\nstates 0 | 0 0 : 0 | 1 1 : 1 | 1 2 : 2 ! 2 1 : 2 : 2 1\nend 1\n";
+    let steps =
+        "tardis-refutation 1\nstates 0 | 0 0 : 0 | 1 1 : 1 | 1 2 : 2 ! 2 1 : 2 : 2 1\nend 1\n";
     let svg = draw(rt.alloc(), &trace, &refutation_of(rt.alloc(), steps)?)?;
     for part in &STATES {
         assert!(rt; svg.as_str().contains(part), "{part}");

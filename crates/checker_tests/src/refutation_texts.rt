@@ -165,11 +165,30 @@ fn lost_update(rt: HostRuntime) -> Result<(), Fail> {
         (1, Access::swap(0, 1, 2)),
     ];
     let told = "no: no order of 4 operations\n\
-but no order of the operations at address 0 comes to its end, as 4 states show; in the furthest of these\n\
+but no order of the operations at address 0 comes to its end, as 4 states show; in the furthest one\n\
 \x20\x20core 0 has done 0.0 and waits at 0.1 for a 1 at address 0, which has 2\n\
 \x20\x20core 1 has done 1.1, its last\n";
     let steps = "tardis-refutation 1\n\
 states 0 | 0 0 : 0 | 1 1 : 1 | 1 2 : 2 ! 2 1 : 2 : 2 1\n\
+end 1\n";
+    expect_told(&rt, rt.alloc(), &rows, steps, told)
+}
+
+// A state that is dead, since nothing stores a 2: core 1 isn't at the load of it yet, and core 0 waits for nothing.
+#[test]
+fn dead_state(rt: HostRuntime) -> Result<(), Fail> {
+    let rows = [
+        (0, Access::store(0, 1)),
+        (0, Access::store(1, 1)),
+        (1, Access::load(1, 1)),
+        (1, Access::load(0, 2)),
+    ];
+    let told = "no: no order of 4 operations\n\
+but no order of the operations at addresses 0 and 1 comes to its end, as 1 state shows; in the furthest one\n\
+\x20\x20core 0 has done nothing and may go on\n\
+\x20\x20core 1 has done nothing and would wait at 1.1 for a 2 at address 0, which has 0\n";
+    let steps = "tardis-refutation 1\n\
+states 0 1 ! 0 0 : 0 0 : 2 1\n\
 end 1\n";
     expect_told(&rt, rt.alloc(), &rows, steps, told)
 }

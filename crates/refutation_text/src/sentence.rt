@@ -142,7 +142,7 @@ pub(crate) fn push_states(
     };
     write!(
         text,
-        "but no order of the operations at {} comes to its end, as {count} {states}; in the furthest of these",
+        "but no order of the operations at {} comes to its end, as {count} {states}; in the furthest one",
         Addresses(addresses)
     )
 }
