@@ -4,6 +4,7 @@ use Rattle.commands.proofs.Files.{keeps_files}
 use Rattle.command_line.specs.Asking.{IsRefusalOf, texts}
 use Rattle.commands.proofs.Performed.{memory_status, not_refused, refused_call, still_unread, told_no, told_not_zero, wrong_after}
 use Rattle.commands.proofs.Unread.{put_unread}
+use Rattle.commands.specs.Sinks.{sink_of}
 use Rattle.commands.proofs.call.command.Goals as goal
 
 pub returns-in-Err-Usage-clause-refused : goal.returns-in-Err-Usage-clause-refused
@@ -65,10 +66,11 @@ returns-clause-flat g c zero =
 pub returns-clause-no : goal.returns-clause-no
 returns-clause-no g c one =
     let files = g.F.Folder.files in
+    let sink = sink_of g.O.ByteSink.contents g.O.ByteSink.failed in
     let (told, which, takes, status) = c.refuse-status.ensures in (
       c.in-Ok.request,
       c.in-Ok.ensures.request,
-      wrong_after (files c.args.folder.now).told _ _ _ _ _ c.in-Ok.request (told_no _ c.in-Err.refusal told _ c.in-Err.ensures.refuted which status one) c.tell_more.ensures.quiet,
+      wrong_after (files c.args.folder.now).told _ _ (sink c.args.out.now) (sink c.perform.new.out) (sink c.tell_more.new.out) c.in-Ok.request (told_no _ c.in-Err.refusal told _ c.in-Err.ensures.refuted which status one) c.tell_more.ensures.quiet,
     )
 
 pub returns-clause-order : goal.returns-clause-order

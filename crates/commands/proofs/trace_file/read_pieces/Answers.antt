@@ -1,11 +1,13 @@
-use Rattle.std.proofs.Common.{rules, ◌≡◌, ◌++◌, [], append-nil, Err, refl, take}
+use Rattle.std.proofs.Common.{rules, ap, ◌∙◌, ◌≡◌, ◌++◌, [], append-nil, Err, refl, take}
 use Rattle.std.proofs.KnownBytes.{Consumes-nil, Consumes-trans}
+use Rattle.std.proofs.lemmas.Result.{err_from_is_err_and}
 use Rattle.std.specs.Io.KnownBytes.{Consumes, IsAtEnd}
 use Rattle.log_file.proofs.Devices.{consumes_end, tells_told, told}
 use Rattle.trace.specs.Reading.{IsSettled}
 use Rattle.trace.specs.Texts.{IsFault}
 use Rattle.commands.proofs.Readings.{failed_read, fault_answered, not_unread, settled_answered}
 use Rattle.commands.specs.Refusals.{from_trace}
+use Rattle.commands.specs.declared.refusal.Refusal.{Refusal}
 use Rattle.commands.specs.declared.refusal.Refusal.TheVariants.{OutOfMemory}
 use Rattle.commands.proofs.trace_file.read_pieces.Goals as goal
 
@@ -29,7 +31,8 @@ returns-in_default-clause-answer g c =
 
 pub returns-in_err-finish-clause-answer : goal.returns-in_err-finish-clause-answer
 returns-in_err-finish-clause-answer g c =
-    let is : c.from_residual-in_err-finish.result ≡ Err (from_trace c.in_err-finish.field-0.0) = search rules in
+    let (told, same, by) = err_from_is_err_and c.from_residual-in_err-finish.result c.from_residual-in_err-finish.ensures.1 in
+    let is : c.from_residual-in_err-finish.result ≡ Err (from_trace c.in_err-finish.field-0.0) = same ∙ ap (λ (refusal : Refusal). Err refusal) by in
     let rem = g.S.ByteSource.remaining in
     let (bytes, fed, consumed) = c.pieces.invariant.read in
     let zero : c.in-Ok.count ≡ 0 = search rules in
