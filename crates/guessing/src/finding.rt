@@ -125,6 +125,9 @@ impl Finding<'_> {
         self.budget = known.budget;
         self.budget.allow(u64::MAX);
         self.clocks = known.clocks.into_entries();
+        if self.walks.walked == Walked::GivenUp {
+            self.walks.restart()?;
+        }
         Ok(None)
     }
 

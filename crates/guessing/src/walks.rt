@@ -50,38 +50,46 @@ impl<'a> Walks<'a> {
             return Ok(());
         }
         for _ in 0..u64::MAX {
-            let Some(mut walk) = self.next()? else {
+            let Some(mut walk) = self.next(clocks)? else {
                 self.walked = Walked::Order;
                 break;
             };
-            walk.exchange_clocks(clocks);
             let walked = walk.run(budget, watch)?;
-            walk.exchange_clocks(clocks);
             if walked != Walked::Order {
                 self.walked = walked;
                 self.stopped = Some(walk);
                 break;
             }
+            walk.exchange_clocks(clocks);
             self.order.extend_from_slice(walk.order())?;
         }
         Ok(())
     }
 
-    /// The walk that stopped, or else one over the next group.
-    fn next(&mut self) -> Tried<Option<Walk<'a>>> {
+    /// Has the walk that stopped begin anew: where more is known, other states follow each other.
+    pub(crate) fn restart(&mut self) -> Tried<()> {
+        if let Some(walk) = self.stopped.take() {
+            self.groups.push(walk.cores().to_vec(self.alloc)?)?;
+        }
+        Ok(())
+    }
+
+    /// The walk that stopped, with the clocks that it had, or else one over the next group with these clocks.
+    fn next(&mut self, clocks: &mut Vec<Place>) -> Tried<Option<Walk<'a>>> {
         if let Some(walk) = self.stopped.take() {
             return Ok(Some(walk));
         }
         let Some(cores) = self.groups.pop() else {
             return Ok(None);
         };
-        let walk = Walk::new(
+        let mut walk = Walk::new(
             self.alloc,
             self.operations,
             self.classes,
             cores,
             self.are_distinct,
         )?;
+        walk.exchange_clocks(clocks);
         Ok(Some(walk))
     }
 }

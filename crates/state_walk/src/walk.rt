@@ -81,6 +81,11 @@ impl<'a> Walk<'a> {
         &self.state.order
     }
 
+    /// The cores whose operations they are.
+    pub fn cores(&self) -> &[u32] {
+        &self.state.cores
+    }
+
     /// The numbers, in order, of the addresses that each core touches by its next operations, at most so many, in the state to which the
     /// most stores lead.
     pub fn deepest_addresses(&mut self, alloc: Global, count: u32) -> Tried<Vec<u32>> {
