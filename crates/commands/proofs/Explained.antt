@@ -1,5 +1,5 @@
 -- What explaining comes to, from what its parts answer.
-use Rattle.std.proofs.Common.{◌≡◌, ap, subst, refl, inl, inr, ◌+◌, ℕ, List, [], ◌∷◌, length, arith, Option, None, Some, Result, Ok, Err, vec_len, option_copied}
+use Rattle.std.proofs.Common.{◌≡◌, ap, subst, refl, ◌+◌, ℕ, List, [], ◌∷◌, length, arith, Option, None, Some, Result, Ok, Err, vec_len, option_copied}
 use Rattle.std.specs.Prelude.{IfOk, IsErrOf, option_map}
 use Rattle.std.specs.Borrow.{Bor}
 use Rattle.std.proofs.lemmas.Slice.Zip.{AllZip-long}

@@ -1,5 +1,5 @@
 -- What a request came to, from what its command answered, and what a call promises of it.
-use Rattle.std.proofs.Common.{arith, rules, ◌≡◌, ◌≤◌, ◌<◌, ◌⊎◌, ◌+◌, ◌∙◌, ap, subst, sym, refl, ℕ, Bool, true, false, List, Option, None, Some, Result, Ok, Err, inl, inr}
+use Rattle.std.proofs.Common.{arith, rules, ◌≡◌, ◌≤◌, ◌⊎◌, ◌+◌, ◌∙◌, ap, subst, sym, refl, ℕ, true, false, List, Option, None, Some, Result, Ok, Err, inl, inr}
 use Rattle.std.specs.Prelude.{◌-◌, ◌^◌, IfErr, IfOk, min}
 use Rattle.std.specs.Borrow.{Bor}
 use Rattle.std.specs.Option.{IsSomeAnd}
@@ -11,7 +11,7 @@ use Rattle.command_line.specs.declared.request.Request.{Request}
 use Rattle.command_line.specs.declared.request.Request.TheVariants as request
 use Rattle.command_line.specs.declared.request.TraceFiles.{TraceFiles}
 use Rattle.command_line.specs.declared.request.Upgrade.{Upgrade}
-use Rattle.host_files.specs.Files.{Files, IsOnlyRead, IsUnread, KeepsFiles, one_more_unopened}
+use Rattle.host_files.specs.Files.{Files, IsOnlyRead, IsUnread, KeepsFiles}
 use Rattle.log_file.specs.Devices.{Failed}
 use Rattle.mem_op.specs.Consistency.{IsConsistent}
 use Rattle.verdict.specs.Judgement.{IsYes}
@@ -25,7 +25,7 @@ use Rattle.commands.proofs.Refused.{IsOfTable}
 use Rattle.commands.specs.Answers.{answer_status}
 use Rattle.commands.specs.Checking.{FilesGetNo, IsChecked}
 use Rattle.commands.specs.Ordering.{IsOrdered, TextsGetNo}
-use Rattle.commands.specs.Promises.{AreWrong, IsPutName, IsRefused, IsRefusedCall, IsTold, IsUnended, IsUnreadThere, LeavesSoFar, file_at}
+use Rattle.commands.specs.Promises.{AreWrong, IsPutName, IsRefused, IsRefusedCall, IsUnended, IsUnreadThere, LeavesSoFar, file_at}
 use Rattle.commands.specs.Refusals.{judge_fault_status, refusal_status, refusal_text}
 use Rattle.commands.specs.Replaying.{IsOutOfOrder, IsReplayedBy, TellsText}
 use Rattle.commands.specs.SearchAnswers.{IsRightOf, search_status}
@@ -37,7 +37,6 @@ use Rattle.commands.specs.Traces.{TellsTrace}
 use Rattle.commands.specs.Upgrading.{IsUpgraded, LeavesAnew}
 use Rattle.commands.specs.declared.answer.Answer.{Answer}
 use Rattle.commands.specs.declared.answer.Answer.TheVariants.{Judged, Ordered, Explained, Readable, Searched, Replayed, Counted, Done, Version}
-use Rattle.commands.specs.declared.place.Output.TheVariants as output
 use Rattle.commands.specs.declared.refusal.Refusal.{Refusal}
 use Rattle.commands.specs.declared.refusal.Refusal.TheVariants.{Judge, Collect, Unread, Unwritten, OutOfMemory}
 use Rattle.commands.specs.declared.search_answer.SearchAnswer.{SearchAnswer}

@@ -1,5 +1,5 @@
 -- What holds after a refusal, from what the commands promise.
-use Rattle.std.proofs.Common.{◌≡◌, ap, ℕ, List, Option, None, Some, Err, Bor}
+use Rattle.std.proofs.Common.{◌≡◌, ap, ℕ, List, Err}
 use Rattle.std.specs.Option.{IsSomeAnd}
 use Rattle.command_line.specs.declared.request.Check.{Check}
 use Rattle.command_line.specs.declared.request.Confirm.{Confirm}
@@ -39,7 +39,7 @@ use Rattle.commands.specs.Traces.{AreNoLogsIn, IsUnreadIn}
 use Rattle.commands.specs.Upgrading.{IsUpgraded}
 use Rattle.commands.specs.declared.place.Input.TheVariants as input
 use Rattle.commands.specs.declared.refusal.Refusal.{Refusal}
-use Rattle.commands.specs.declared.refusal.Refusal.TheVariants.{Judge, Schedule, Config, Simulation, Run, Collect, Undecided, Unread, Unwritten, LogUnwritten, OutOfMemory}
+use Rattle.commands.specs.declared.refusal.Refusal.TheVariants.{Judge, Config, Simulation, Run, Collect, Undecided, Unread, Unwritten, LogUnwritten, OutOfMemory}
 
 -- it is of the table of a litmus test
 abbrev pub IsOfTable : Refusal → Type 0

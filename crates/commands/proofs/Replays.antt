@@ -1,6 +1,5 @@
 -- What a replay of a file comes to, from what its parts answer.
-use Rattle.std.proofs.Common.{◌≡◌, ℕ, List, Option, Result, Ok, Err}
-use Rattle.std.specs.Prelude.{IfOk}
+use Rattle.std.proofs.Common.{◌≡◌, ℕ, List, Option, Err}
 use Rattle.host_files.specs.Files.{Files}
 use Rattle.command_line.specs.declared.request.Replay.{Replay}
 use Rattle.trace_replay.specs.Answers.{IsVerdict}

@@ -1,7 +1,7 @@
 -- What is put takes the place of no file that is read.
-use Rattle.std.proofs.Common.{arith, ◌≡◌, ◌⊎◌, ◌∷◌, ◌++◌, ℕ, zero, suc, List, [], Option, None, Some, Bor, inl, inr, subst, sym, refl}
+use Rattle.std.proofs.Common.{arith, ◌∷◌, ℕ, suc, List, [], Option, None, Some, Bor, inl, inr, sym}
 use Rattle.std.specs.Prelude.{Contains}
-use Rattle.std.proofs.lemmas.List.Elements.{Contains-append_left, Contains-append_right}
+use Rattle.std.proofs.lemmas.List.Elements.{Contains-append_left}
 use Rattle.commands.specs.Outputs.{IsNameOf}
 use Rattle.command_line.specs.Files.{IsApart, files_put, files_read, names_given}
 use Rattle.command_line.specs.declared.request.Request.{Request}

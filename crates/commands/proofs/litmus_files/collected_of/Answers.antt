@@ -1,5 +1,5 @@
 -- Why there is no table of a test's runs, as a refusal of the command.
-use Rattle.std.proofs.Common.{◌≡◌, ℕ, List, Option, None, Err, Bool, true, false, refl, subst, rules}
+use Rattle.std.proofs.Common.{◌≡◌, ℕ, List, Option, None, Err, Bool, true, false, subst, rules}
 use Rattle.command_line.specs.declared.request.Litmus.{Litmus}
 use Rattle.lease_rule.specs.ConfigParts.{ConfigParts}
 use Rattle.lease_rule.specs.Ranges.{first_bad}

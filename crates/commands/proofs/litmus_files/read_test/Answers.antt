@@ -1,5 +1,5 @@
 -- Why there is no test in a text, as a refusal of the command.
-use Rattle.std.proofs.Common.{◌≡◌, ℕ, List, Option, Err, refl, rules}
+use Rattle.std.proofs.Common.{◌≡◌, ℕ, List, Option, Err, rules}
 use Rattle.log_file.specs.Devices.{Tells}
 use Rattle.litmus_test.specs.Answers.{IsFault}
 use Rattle.litmus_test.specs.declared.fault.LitmusFault.{LitmusFault}

@@ -1,4 +1,4 @@
-use Rattle.std.proofs.Common.{◌≡◌, ℕ, List, [], length, Option, None, Err, subst, rules}
+use Rattle.std.proofs.Common.{◌≡◌, ℕ, List, length, Option, None, Err, subst, rules}
 use Rattle.std.specs.Prelude.{IfErr, OnOk}
 use Rattle.lease_rule.specs.Ranges.{first_bad}
 use Rattle.audit.specs.Runs.{IsRun, kept_log}

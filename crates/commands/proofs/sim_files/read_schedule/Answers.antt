@@ -1,5 +1,5 @@
 -- Why there are no commands in a text, as a refusal of the command.
-use Rattle.std.proofs.Common.{◌≡◌, ℕ, List, Option, Some, Err, refl, rules}
+use Rattle.std.proofs.Common.{◌≡◌, ℕ, List, Option, Some, Err, rules}
 use Rattle.std.specs.Borrow.{Bor}
 use Rattle.log_file.specs.Devices.{Tells}
 use Rattle.schedule.specs.Answers.{IsFault}
