@@ -92,9 +92,9 @@ fn searches(rt: HostRuntime) -> Result<(), Fail> {
     Ok(())
 }
 
-// Each store is read twice, and both words come back, so the search has to split.
+// Each store is read twice, and both words come back: no order has that, as the states that can be reached show.
 #[test]
-fn a_search_by_cases(rt: HostRuntime) -> Result<(), Fail> {
+fn a_search_by_states(rt: HostRuntime) -> Result<(), Fail> {
     let rows = [
         (0, store(7, 1)),
         (1, store(7, 2)),
