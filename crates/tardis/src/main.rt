@@ -7,6 +7,7 @@ mod progress;
 mod shown;
 mod words;
 
+use commands::command;
 use hint::{Noted, tell_after};
 use host::ShownFolder;
 use host_files::HostFolder;
@@ -14,7 +15,6 @@ use log_file::{FromWrite, write_all};
 use progress::Progress;
 use shown::Shown;
 use std::process::ExitCode;
-use commands::command;
 use words::{WordsFault, texts, words};
 
 /// Tells the user why the words can't be read, and answers the exit status.

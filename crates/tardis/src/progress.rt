@@ -1,11 +1,11 @@
 //! The line by which work that lasts shows that it lives.
 
+use commands::{ReplayWatch, SearchWatch, Watch};
 use mem_op::CoreId;
 use memchr::memchr_iter;
 use std::io::IsTerminal;
 use std::sync::atomic::{AtomicBool, AtomicU64, Ordering};
 use std::time::Clock;
-use commands::{ReplayWatch, SearchWatch, Watch};
 use trace_replay::WrongLoad;
 
 /// As many operations of a core are counted at once, so that cores seldom meet at the count.

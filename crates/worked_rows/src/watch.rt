@@ -1,8 +1,8 @@
 //! What is seen of a run or a search.
 
+use commands::{ReplayWatch, SearchWatch, Watch};
 use mem_op::CoreId;
 use std::sync::atomic::{AtomicU64, Ordering};
-use commands::{ReplayWatch, SearchWatch, Watch};
 use trace_replay::WrongLoad;
 
 /// Counts the turns of runs, and the runs that are over. Nothing is counted of a search or a replay.
