@@ -35,8 +35,7 @@ pub fn check<R: Threads + Sync, F: Folder>(
     asked: &Check<'_>,
 ) -> Result<Verdict, Refusal>
     ensures exact { checking.IsChecked (F.files folder.old).told
-        (IsUnread F.Source.remaining F.Source.failed
-        (F.files folder.old) (F.files folder.new)) asked.now result }
+        (IsUnread F.Source.remaining F.Source.failed (F.files folder.old)) asked.now result }
     ensures sound { IfOk result (λ verdict. IsYes verdict
         → checking.FilesAreConsistent (F.files folder.old).told asked.now) }
     ensures flat { IfOk result (λ verdict. IsYes verdict
@@ -58,14 +57,11 @@ pub(crate) fn examine_asked<R: Threads + Sync, F: Folder>(
 ) -> Result<Found, Refusal>
     ensures exact { MatchResult result
         (λ found. checking.IsChecked (F.files folder.old).told
-        (IsUnread F.Source.remaining F.Source.failed
-        (F.files folder.old) (F.files folder.new))
+        (IsUnread F.Source.remaining F.Source.failed (F.files folder.old))
         asked.now (Ok found.examined.verdict))
         (λ fault. checking.IsChecked (F.files folder.old).told
-        (IsUnread F.Source.remaining F.Source.failed
-        (F.files folder.old) (F.files folder.new))
+        (IsUnread F.Source.remaining F.Source.failed (F.files folder.old))
         asked.now (Err fault)) }
-    ensures quiet { OnOk result (F.files folder.new ≡ F.files folder.old) }
     ensures read { IsOnlyRead (F.files folder.old) (F.files folder.new) }
     ensures examined { IfOk result (λ found. Spelled (F.files folder.old).told asked.now.files.items
         (λ logs. IsExaminationOf (option_map (λ set. set.programs) found.programs) logs found.examined)) }
@@ -88,10 +84,8 @@ fn read_given<F: Folder>(
 ) -> Result<Option<ProgramSet>, Refusal>
     ensures ok { IfOk result (λ programs. checking.AreProgramsOf (F.files folder.old).told name.entry
         (option_map (λ set. set.programs) programs)) }
-    ensures quiet { OnOk result (F.files folder.new ≡ F.files folder.old) }
     ensures err { IfErr result (checking.IsUnprogrammedBy (F.files folder.old).told
-        (IsUnread F.Source.remaining F.Source.failed
-        (F.files folder.old) (F.files folder.new)) name.entry) }
+        (IsUnread F.Source.remaining F.Source.failed (F.files folder.old)) name.entry) }
     ensures read { IsOnlyRead (F.files folder.old) (F.files folder.new) }
 {
     match name {
@@ -113,10 +107,8 @@ fn examine_files<R: Threads + Sync, F: Folder>(
 ) -> Result<Examined, JudgeFault>
     requires { checking.AreInRange asked.now }
     ensures exact { checking.IsCheckedAgainst (F.files folder.old).told
-        (IsUnread F.Source.remaining F.Source.failed
-        (F.files folder.old) (F.files folder.new))
+        (IsUnread F.Source.remaining F.Source.failed (F.files folder.old))
         (given programs.entry) asked.now (verdict_in result) }
-    ensures quiet { OnOk result (F.files folder.new ≡ F.files folder.old) }
     ensures read { IsOnlyRead (F.files folder.old) (F.files folder.new) }
     ensures examined { IfOk result (λ examined. Spelled (F.files folder.old).told asked.now.files.items
         (λ logs. IsExaminationOf (given programs.entry) logs examined)) }

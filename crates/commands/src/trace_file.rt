@@ -45,9 +45,8 @@ pub(crate) fn read_trace<F: Folder>(
     name: &str,
 ) -> Result<Trace, Refusal>
     ensures ok { IfOk result (SpellsTraceAt (F.files folder.old).told name.now) }
-    ensures quiet { OnOk result (F.files folder.new ≡ F.files folder.old) }
     ensures err { IfErr result (IsNoTrace (F.files folder.old).told
-        (IsUnread F.Source.remaining F.Source.failed (F.files folder.old) (F.files folder.new))
+        (IsUnread F.Source.remaining F.Source.failed (F.files folder.old))
         name.now) }
     ensures read { IsOnlyRead (F.files folder.old) (F.files folder.new) }
 {
