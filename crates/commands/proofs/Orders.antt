@@ -80,13 +80,8 @@ taken told unread asked old new (Ok (Yes count)) is = λ yes. let (range, quiet,
 taken told unread asked old new (Ok (No fault)) is = λ yes. absurd yes
 
 -- and so the set is consistent
-consistent : (told : List ℕ → Option (List ℕ)) (names : List (Bor (List ℕ))) (old new : Sink) → TakesOrder told names old new → TextsAreConsistent told names
+pub consistent : (told : List ℕ → Option (List ℕ)) (names : List (Bor (List ℕ))) (old new : Sink) → TakesOrder told names old new → TextsAreConsistent told names
 consistent told names old new (texts, tell, (written, appends, (logs, (spell, (order, is, text))))) = (texts, tell, (logs, spell, (order, is)))
-
-pub consistent_if : (told : List ℕ → Option (List ℕ)) (unread : List ℕ → Type 0) (asked : Order) (old new : Sink) (result : Result Verdict Refusal) → IsOrdered told unread asked old new result
-    → IfOk result (λ verdict. IsYes verdict → TextsAreConsistent told asked.files.items)
-consistent_if told unread asked old new (Err fault) is = tt
-consistent_if told unread asked old new (Ok verdict) is = λ yes. consistent told asked.files.items old new (taken told unread asked old new (Ok verdict) is yes)
 
 -- a failed read of the merge is that of a reader
 pub reads_at : {S : Type 0} (remaining : S → Option (List ℕ)) (failed : S → ℕ) (old : Files) (sources later : List S) (names : List (Bor (List ℕ))) (result : Result Verdict MergeFault)

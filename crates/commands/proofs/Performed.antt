@@ -1,9 +1,6 @@
 -- What a request came to, from what its command answered, and what a call promises of it.
-use Rattle.std.proofs.Common.{arith, rules, ◌≡◌, ◌≤◌, ◌⊎◌, ◌+◌, ◌∙◌, ap, subst, sym, refl, ℕ, true, false, List, Option, None, Some, Result, Ok, Err, inl, inr}
-use Rattle.std.specs.Prelude.{◌-◌, ◌^◌, IfErr, IfOk, min}
-use Rattle.std.specs.Borrow.{Bor}
-use Rattle.std.specs.Option.{IsSomeAnd}
-use Rattle.std.proofs.lemmas.Bool.{cases_lt}
+use Rattle.std.proofs.Common.{arith, rules, ◌≡◌, ◌≤◌, ◌⊎◌, ◌∙◌, ap, subst, sym, refl, ℕ, true, false, List, Option, Result, Ok, Err, inl, inr}
+use Rattle.std.specs.Prelude.{◌-◌, IfErr, IfOk}
 use Rattle.command_line.specs.declared.request.Check.{Check}
 use Rattle.command_line.specs.declared.request.Order.{Order}
 use Rattle.command_line.specs.declared.request.Replay.{Replay}
@@ -11,21 +8,18 @@ use Rattle.command_line.specs.declared.request.Request.{Request}
 use Rattle.command_line.specs.declared.request.Request.TheVariants as request
 use Rattle.command_line.specs.declared.request.TraceFiles.{TraceFiles}
 use Rattle.command_line.specs.declared.request.Upgrade.{Upgrade}
-use Rattle.host_files.specs.Files.{Files, IsOnlyRead, IsUnread, KeepsFiles}
-use Rattle.log_file.specs.Devices.{Failed}
+use Rattle.host_files.specs.Files.{Files, IsOnlyRead, KeepsFiles}
 use Rattle.mem_op.specs.Consistency.{IsConsistent}
 use Rattle.verdict.specs.Judgement.{IsYes}
 use Rattle.verdict.specs.Statuses.{verdict_status}
 use Rattle.verdict.specs.declared.answer.Verdict.{Verdict}
 use Rattle.verdict.specs.declared.answer.Verdict.TheVariants.{Yes, No}
 use Rattle.verdict.specs.declared.judge_fault.JudgeFault.{JudgeFault}
-use Rattle.verdict.specs.declared.judge_fault.JudgeFault.TheVariants.{Read}
-use Rattle.commands.proofs.Files.{keeps_told}
 use Rattle.commands.proofs.Refused.{IsOfTable}
 use Rattle.commands.specs.Answers.{answer_status}
 use Rattle.commands.specs.Checking.{FilesGetNo, IsChecked}
 use Rattle.commands.specs.Ordering.{IsOrdered, TextsGetNo}
-use Rattle.commands.specs.Promises.{AreWrong, IsPutName, IsRefused, IsRefusedCall, IsUnended, IsUnreadThere, LeavesSoFar, file_at}
+use Rattle.commands.specs.Promises.{AreWrong, IsPutName, IsRefused, IsRefusedCall, IsUnended, LeavesSoFar}
 use Rattle.commands.specs.Refusals.{judge_fault_status, refusal_status, refusal_text}
 use Rattle.commands.specs.Replaying.{IsOutOfOrder, IsReplayedBy, TellsText}
 use Rattle.commands.specs.SearchAnswers.{IsRightOf, search_status}
@@ -38,7 +32,7 @@ use Rattle.commands.specs.Upgrading.{IsUpgraded, LeavesAnew}
 use Rattle.commands.specs.declared.answer.Answer.{Answer}
 use Rattle.commands.specs.declared.answer.Answer.TheVariants.{Judged, Ordered, Explained, Readable, Searched, Replayed, Counted, Done, Version}
 use Rattle.commands.specs.declared.refusal.Refusal.{Refusal}
-use Rattle.commands.specs.declared.refusal.Refusal.TheVariants.{Judge, Collect, Unread, Unwritten, OutOfMemory}
+use Rattle.commands.specs.declared.refusal.Refusal.TheVariants.{Judge, Collect, Unwritten, OutOfMemory}
 use Rattle.commands.specs.declared.search_answer.SearchAnswer.{SearchAnswer}
 use Rattle.commands.specs.declared.search_answer.SearchAnswer.TheVariants as searched
 use Rattle.commands.specs.inner.Performing.{Came, IsRight, IsToldMore, IsUnprinted}

@@ -1,11 +1,10 @@
 //! The check of the logs of a set.
 
-ghost use Rattle.std.specs.Prelude.{◌≡◌, IfErr, IfOk, OnOk, MatchResult, option_map};
+ghost use Rattle.std.specs.Prelude.{IfErr, IfOk, MatchResult, option_map};
 ghost use Rattle.host_files.specs.Files.{IsOnlyRead, IsUnread};
 ghost use Rattle.commands.specs.LogFiles.{Spelled};
 ghost use Rattle.verdict.specs.Bases.{IsExaminationOf, verdict_in};
 ghost use Rattle.verdict.specs.CoreFaultsOf.{given};
-ghost use Rattle.verdict.specs.Judgement.{IsYes};
 ghost use Rattle.commands.specs.Checking as checking;
 
 use super::log_files::open_all;
@@ -36,10 +35,6 @@ pub fn check<R: Threads + Sync, F: Folder>(
 ) -> Result<Verdict, Refusal>
     ensures exact { checking.IsChecked (F.files folder.old).told
         (IsUnread F.Source.remaining F.Source.failed (F.files folder.old)) asked.now result }
-    ensures sound { IfOk result (λ verdict. IsYes verdict
-        → checking.FilesAreConsistent (F.files folder.old).told asked.now) }
-    ensures flat { IfOk result (λ verdict. IsYes verdict
-        → checking.FilesRunFlat (F.files folder.old).told asked.now) }
     ensures read { IsOnlyRead (F.files folder.old) (F.files folder.new) }
 {
     match examine_asked(rt, alloc, folder, asked) {
@@ -65,10 +60,6 @@ pub(crate) fn examine_asked<R: Threads + Sync, F: Folder>(
     ensures read { IsOnlyRead (F.files folder.old) (F.files folder.new) }
     ensures examined { IfOk result (λ found. Spelled (F.files folder.old).told asked.now.files.items
         (λ logs. IsExaminationOf (option_map (λ set. set.programs) found.programs) logs found.examined)) }
-    ensures sound { IfOk result (λ found. IsYes found.examined.verdict
-        → checking.FilesAreConsistent (F.files folder.old).told asked.now) }
-    ensures flat { IfOk result (λ found. IsYes found.examined.verdict
-        → checking.FilesRunFlat (F.files folder.old).told asked.now) }
 {
     check_counts(asked.files.len(), asked.workers as usize)?;
     let programs = read_given(alloc, folder, asked.program)?;
@@ -112,10 +103,6 @@ fn examine_files<R: Threads + Sync, F: Folder>(
     ensures read { IsOnlyRead (F.files folder.old) (F.files folder.new) }
     ensures examined { IfOk result (λ examined. Spelled (F.files folder.old).told asked.now.files.items
         (λ logs. IsExaminationOf (given programs.entry) logs examined)) }
-    ensures sound { IfOk result (λ examined. IsYes examined.verdict
-        → checking.FilesAreConsistent (F.files folder.old).told asked.now) }
-    ensures flat { IfOk result (λ examined. IsYes examined.verdict
-        → checking.FilesRunFlatBy (F.files folder.old).told asked.now (given programs.entry)) }
 {
     let mut sources = open_all(alloc, folder, asked.files.as_slice())?;
     let workers = asked.workers as usize;

@@ -1,6 +1,6 @@
 //! The logs in files, and their trace.
 
-ghost use Rattle.std.specs.Prelude.{◌≡◌, ◌≤◌, All, IfErr, IfOk, OnOk, length, vec_len};
+ghost use Rattle.std.specs.Prelude.{◌≡◌, ◌≤◌, All, IfErr, IfOk, length, vec_len};
 ghost use Rattle.mem_op.specs.Limits.{operation_limit};
 ghost use Rattle.log_record.specs.Entries.{operations_of, record_lists};
 ghost use Rattle.host_files.specs.Files.{IsOnlyRead, IsUnread};

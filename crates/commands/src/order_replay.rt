@@ -1,6 +1,6 @@
 //! Where a list of ids goes wrong as an order.
 
-ghost use Rattle.std.specs.Prelude.{◌≡◌, ◌≤◌, ◌↔◌, IsTrue, IfOk, IfSome, MatchOption, length, vec_len};
+ghost use Rattle.std.specs.Prelude.{◌≤◌, ◌↔◌, IsTrue, IfOk, IfSome, MatchOption, length};
 ghost use Rattle.mem_op.specs.Consistency.{IsSequentialOrder};
 ghost use Rattle.flat_replay.specs.Memory.{IsAnsweredBy};
 ghost use Rattle.flat_replay.specs.inner.Words.{word_at};

@@ -1,6 +1,4 @@
 //! Files that were refused, read again.
-
-ghost use Rattle.std.specs.Prelude.{◌≡◌, IsSome};
 ghost use Rattle.host_files.specs.Files.{IsOnlyRead};
 
 use super::refused_file::RefusedLog;

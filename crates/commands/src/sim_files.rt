@@ -1,6 +1,6 @@
 //! Programs run on the core machine, one event after the other.
 
-ghost use Rattle.std.specs.Prelude.{◌≡◌, ◌≤◌, IfErr, IfOk, OnOk};
+ghost use Rattle.std.specs.Prelude.{◌≤◌, IfErr, IfOk};
 ghost use Rattle.host_files.specs.Files.{IsOnlyRead, IsUnread, KeepsFiles};
 ghost use Rattle.commands.specs.Numbers.{IsLeftName};
 ghost use Rattle.commands.specs.Simulating as simulating;

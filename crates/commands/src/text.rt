@@ -1,6 +1,6 @@
 //! The texts of files.
 
-ghost use Rattle.std.specs.Prelude.{◌≡◌, IfErr, IfOk, OnOk};
+ghost use Rattle.std.specs.Prelude.{IfErr, IfOk};
 ghost use Rattle.log_file.specs.Devices.{Tells};
 ghost use Rattle.host_files.specs.Files.{IsOnlyRead, IsUnread};
 ghost use Rattle.commands.specs.Programs.{AreProgramsIn, IsUnprogrammed};

@@ -1,6 +1,6 @@
 //! The trace in a file.
 
-ghost use Rattle.std.specs.Prelude.{◌≡◌, ◌<◌, ℕ, List, IfErr, IfOk, IsErrOf, OnOk};
+ghost use Rattle.std.specs.Prelude.{◌<◌, ℕ, List, IfErr, IfOk, IsErrOf};
 ghost use Rattle.host_files.specs.Files.{IsOnlyRead, IsUnread};
 ghost use Rattle.log_file.specs.Devices.{Failed, Tells};
 ghost use Rattle.commands.specs.Traces.{SpellsTraceAt};

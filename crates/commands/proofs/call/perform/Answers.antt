@@ -1,6 +1,8 @@
 use Rattle.std.proofs.Common.{rules, ◌≡◌, refl, Err}
 use Rattle.host_files.specs.Files.{IsUnread}
 use Rattle.commands.proofs.Files.{keeps_files}
+use Rattle.commands.proofs.Checks.{consistent_files, flat_files}
+use Rattle.commands.proofs.Orders.{consistent}
 use Rattle.commands.proofs.Leaving.{run_leaves, sim_leaves}
 use Rattle.commands.proofs.Performed.{answered, anew, check_no, of_table, order_no, printed, refused, replayed_no, right_no, right_yes, yes_of}
 use Rattle.commands.proofs.Refused.{check_no_table, check_refused, confirm_no_table, confirm_refused, explain_no_table, explain_refused, inspect_refused, litmus_refused, order_no_table, order_refused, replay_no_table, replay_refused, run_refused, search_no_table, search_refused, sim_refused, upgrade_refused}
@@ -96,7 +98,7 @@ returns-in_err-count_outcomes-in-Litmus g c =
 pub returns-in_ok-verdict-in-Check : goal.returns-in_ok-verdict-in-Check
 returns-in_ok-verdict-in-Check g c =
     rw c.in-Check.is (printed _ _ _ _ _ _ (Judged c.in_ok-verdict-in-Check.verdict) _ c.print_answer.ensures.ok c.print_answer.ensures.err (keeps_files _ _ _ c.in_ok-verdict-in-Check.ensures.read)
-    (λ zero. record { sound = c.in_ok-verdict-in-Check.ensures.sound (yes_of _ zero); flat = c.in_ok-verdict-in-Check.ensures.flat (yes_of _ zero); order = tt; upgraded = tt; yes = λ apart. tt }) (check_no _ (IsUnread g.F.Source.ByteSource.remaining g.F.Source.ByteSource.failed (g.F.Folder.files c.args.folder.now)) c.in-Check.asked _ c.in_ok-verdict-in-Check.ensures.exact) tt)
+    (λ zero. record { sound = consistent_files (g.F.Folder.files c.args.folder.now).told (IsUnread g.F.Source.ByteSource.remaining g.F.Source.ByteSource.failed (g.F.Folder.files c.args.folder.now)) c.in-Check.asked _ c.in_ok-verdict-in-Check.ensures.exact (yes_of _ zero); flat = flat_files (g.F.Folder.files c.args.folder.now).told (IsUnread g.F.Source.ByteSource.remaining g.F.Source.ByteSource.failed (g.F.Folder.files c.args.folder.now)) c.in-Check.asked _ c.in_ok-verdict-in-Check.ensures.exact (yes_of _ zero); order = tt; upgraded = tt; yes = λ apart. tt }) (check_no _ (IsUnread g.F.Source.ByteSource.remaining g.F.Source.ByteSource.failed (g.F.Folder.files c.args.folder.now)) c.in-Check.asked _ c.in_ok-verdict-in-Check.ensures.exact) tt)
 
 pub returns-in_ok-cores-in-Inspect : goal.returns-in_ok-cores-in-Inspect
 returns-in_ok-cores-in-Inspect g c =
@@ -121,12 +123,12 @@ returns-in_ok-operations-in-Upgrade g c =
 pub returns-in_ok-order-in-Order : goal.returns-in_ok-order-in-Order
 returns-in_ok-order-in-Order g c =
     rw c.in-Order.is (answered _ _ _ _ _ _ (Ordered c.in_ok-order-in-Order.field-0) (keeps_files _ _ _ c.in_ok-order-in-Order.ensures.read)
-    (λ zero. record { sound = c.in_ok-order-in-Order.ensures.sound (yes_of _ zero); flat = tt; order = c.in_ok-order-in-Order.ensures.order (yes_of _ zero); upgraded = tt; yes = λ apart. tt }) (order_no _ (IsUnread g.F.Source.ByteSource.remaining g.F.Source.ByteSource.failed (g.F.Folder.files c.args.folder.now)) c.in-Order.asked _ _ _ c.in_ok-order-in-Order.ensures.exact))
+    (λ zero. record { sound = consistent (g.F.Folder.files c.args.folder.now).told c.in-Order.asked.files.items _ _ (c.in_ok-order-in-Order.ensures.order (yes_of _ zero)); flat = tt; order = c.in_ok-order-in-Order.ensures.order (yes_of _ zero); upgraded = tt; yes = λ apart. tt }) (order_no _ (IsUnread g.F.Source.ByteSource.remaining g.F.Source.ByteSource.failed (g.F.Folder.files c.args.folder.now)) c.in-Order.asked _ _ _ c.in_ok-order-in-Order.ensures.exact))
 
 pub returns-in_ok-explain-in-Explain : goal.returns-in_ok-explain-in-Explain
 returns-in_ok-explain-in-Explain g c =
     rw c.in-Explain.is (answered _ _ _ _ _ _ (Explained c.in_ok-explain-in-Explain.field-0) c.in_ok-explain-in-Explain.ensures.files
-    (λ zero. record { sound = c.in_ok-explain-in-Explain.ensures.sound (yes_of _ zero); flat = c.in_ok-explain-in-Explain.ensures.flat (yes_of _ zero); order = tt; upgraded = tt; yes = λ apart. tt }) (check_no _ (IsUnread g.F.Source.ByteSource.remaining g.F.Source.ByteSource.failed (g.F.Folder.files c.args.folder.now)) c.in-Explain.asked.check _ c.in_ok-explain-in-Explain.ensures.exact.0))
+    (λ zero. record { sound = consistent_files (g.F.Folder.files c.args.folder.now).told (IsUnread g.F.Source.ByteSource.remaining g.F.Source.ByteSource.failed (g.F.Folder.files c.args.folder.now)) c.in-Explain.asked.check _ c.in_ok-explain-in-Explain.ensures.exact.0 (yes_of _ zero); flat = flat_files (g.F.Folder.files c.args.folder.now).told (IsUnread g.F.Source.ByteSource.remaining g.F.Source.ByteSource.failed (g.F.Folder.files c.args.folder.now)) c.in-Explain.asked.check _ c.in_ok-explain-in-Explain.ensures.exact.0 (yes_of _ zero); order = tt; upgraded = tt; yes = λ apart. tt }) (check_no _ (IsUnread g.F.Source.ByteSource.remaining g.F.Source.ByteSource.failed (g.F.Folder.files c.args.folder.now)) c.in-Explain.asked.check _ c.in_ok-explain-in-Explain.ensures.exact.0))
 
 pub returns-in_ok-search-in-Search : goal.returns-in_ok-search-in-Search
 returns-in_ok-search-in-Search g c =

@@ -22,11 +22,6 @@ as_it_was remaining failed old now new asked lent programs answer is same checke
     subst (λ (files : Files). checking.IsCheckedAgainst files.told (IsUnread remaining failed files) programs asked answer) is
     (subst (λ given. checking.IsCheckedAgainst now.told (IsUnread remaining failed now) given asked answer) same checked)
 
--- and what a Yes says of them
-flat_as_it_was : (old now : Files) (asked : Check) (lent programs : Option (List (List Instruction))) → now ≡ old → lent ≡ programs → checking.FilesRunFlatBy now.told asked lent → checking.FilesRunFlatBy old.told asked programs
-flat_as_it_was old now asked lent programs is same flat =
-    subst (λ (files : Files). checking.FilesRunFlatBy files.told asked programs) is (subst (λ given. checking.FilesRunFlatBy now.told asked given) same flat)
-
 pub returns-in_err-programs-clause-exact : goal.returns-in_err-programs-clause-exact
 returns-in_err-programs-clause-exact g c =
     let range : checking.AreInRange c.args.asked.now = search rules in
@@ -62,20 +57,6 @@ returns-clause-exact g c =
       programs,
       c.in_ok-programs.ensures.ok,
       as_it_was remaining failed old _ new asked _ programs (Ok c.in_ok-examined.examined.verdict) c.in_ok-programs.ensures.read is c.in_ok-examined.ensures.exact,
-    )
-
-pub returns-clause-sound : goal.returns-clause-sound
-returns-clause-sound g c =
-    λ said. subst (λ (files : Files). checking.FilesAreConsistent files.told c.args.asked.now) c.in_ok-programs.ensures.read (c.in_ok-examined.ensures.sound said)
-
-pub returns-clause-flat : goal.returns-clause-flat
-returns-clause-flat g c =
-    let old = g.F.Folder.files c.args.folder.now in
-    let is = given_is c.as_ref.result c.in_ok-programs.programs c.as_ref.ensures.value in
-    λ said. (
-      option_map (λ s. s.programs) c.in_ok-programs.programs,
-      c.in_ok-programs.ensures.ok,
-      flat_as_it_was old _ c.args.asked.now _ _ c.in_ok-programs.ensures.read is (c.in_ok-examined.ensures.flat said),
     )
 
 pub returns-in_err-examined-clause-read : goal.returns-in_err-examined-clause-read

@@ -5,7 +5,7 @@ use Rattle.host_files.specs.Files.{IsUnread}
 use Rattle.commands.specs.Sinks.{sink_of}
 use Rattle.commands.specs.LogFiles.{AreSourcesOf}
 use Rattle.commands.proofs.LogFiles.{files_refused, told_by_sources}
-use Rattle.commands.proofs.Orders.{consistent_if, merged, not_counted, not_opened, reads_at, taken}
+use Rattle.commands.proofs.Orders.{merged, not_counted, not_opened, reads_at, taken}
 use Rattle.commands.specs.Refusals.{from_judge, from_merge}
 use Rattle.commands.proofs.order_files.order.Goals as goal
 
@@ -66,14 +66,6 @@ returns-clause-exact g c =
     (told_by_sources old.told remaining _ names texts are tell) (AllZip-long _ _ texts tell ∙ many) answers (written, appends, writes)
     (λ bad. rw (← many) (c.in_ok-merge_judge.ensures.files.0 bad)) c.in_ok-merge_judge.ensures.workers c.in_ok-merge_judge.ensures.programs
     c.in_ok-merge_judge.ensures.failures.0 c.in_ok-merge_judge.ensures.failures.1 tt
-
-pub returns-clause-sound : goal.returns-clause-sound
-returns-clause-sound g c =
-    let files = g.F.Folder.files in
-    let old = files c.args.folder.now in
-    let unread = IsUnread g.F.Source.ByteSource.remaining g.F.Source.ByteSource.failed old in
-    let sink = sink_of g.O.ByteSink.contents g.O.ByteSink.failed in
-    consistent_if old.told unread c.args.asked.now (sink c.args.out.now) (sink c.merge_judge.new.order_out) (Ok c.in_ok-merge_judge.field-0) (returns-clause-exact g c)
 
 pub returns-clause-order : goal.returns-clause-order
 returns-clause-order g c =
