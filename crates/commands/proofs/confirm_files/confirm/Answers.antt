@@ -27,8 +27,8 @@ returns-in_err-text-clause-exact g c =
     let unread = IsUnread g.F.Source.ByteSource.remaining g.F.Source.ByteSource.failed in
     let asked = c.args.asked.now in
     let is : c.from_residual-in_err-text.result ≡ Err c.in_err-text.field-0.0 = search rules in
-    rw is (uncertified old new (unread old new) asked c.in_ok-trace.trace c.in_err-text.field-0.0 c.in_ok-trace.ensures.ok
-    (subst (λ (f : Files). IsNoCertificate (unread f new) asked.certificate.now c.in_err-text.field-0.0) c.in_ok-trace.ensures.quiet c.in_err-text.ensures.err))
+    rw is (uncertified old new (unread old) asked c.in_ok-trace.trace c.in_err-text.field-0.0 c.in_ok-trace.ensures.ok
+    (subst (λ (f : Files). IsNoCertificate (unread f) asked.certificate.now c.in_err-text.field-0.0) c.in_ok-trace.ensures.quiet c.in_err-text.ensures.err))
 
 pub returns-in_err-text-clause-read : goal.returns-in_err-text-clause-read
 returns-in_err-text-clause-read g c = only_read_after _ _ _ c.in_ok-trace.ensures.quiet c.in_err-text.ensures.read
