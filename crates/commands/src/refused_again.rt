@@ -1,4 +1,5 @@
 //! Files that were refused, read again.
+
 ghost use Rattle.host_files.specs.Files.{IsOnlyRead};
 
 use super::refused_file::RefusedLog;
