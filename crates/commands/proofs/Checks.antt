@@ -1,47 +1,61 @@
 -- The check of files, by what the judge answers to their sources.
-use Rattle.std.proofs.Common.{◌≡◌, refl, length, ℕ, List, Option, None, Some, Result, Ok, Err, vec_len}
+use Rattle.std.proofs.Common.{◌≡◌, refl, ℕ, List, Option, None, Some, Result, Ok, Err, vec_len}
 use Rattle.std.specs.Prelude.{IsErrOf}
 use Rattle.std.specs.Borrow.{Bor}
 use Rattle.command_line.specs.declared.request.Check.{Check}
-use Rattle.log_record.specs.declared.record.Record.{Record}
 use Rattle.core_program.specs.declared.instruction.Instruction.{Instruction}
 use Rattle.host_files.specs.Files.{Files, IsUnread}
 use Rattle.commands.specs.LogFiles.{AreTextsOf, IsOpenFault, IsUnreadAt}
 use Rattle.commands.proofs.LogFiles.{unopened_at}
 use Rattle.verdict.specs.Counts.{IsInRange, IsOutOfRange}
-use Rattle.verdict.specs.Judgement.{IsAnswerBy}
+use Rattle.verdict.specs.Judgement.{IsYes, OnYes, SpellConsistentSet, SpellFlatRunBy}
 use Rattle.verdict.specs.declared.answer.Verdict.{Verdict}
 use Rattle.verdict.specs.declared.judge_fault.Count.TheVariants.{Files as FileCount, Workers, Programs as ProgramCount}
 use Rattle.verdict.specs.declared.judge_fault.JudgeFault.{JudgeFault}
 use Rattle.verdict.specs.declared.judge_fault.JudgeFault.TheVariants.{BadConfig, Log, Read, OutOfMemory}
-use Rattle.commands.specs.Checking.{Against, AreInRange, AreNotAsMany, IsAnswerAgainst, IsChecked, IsCheckedAgainst, IsUnprogrammedBy}
+use Rattle.commands.specs.Checking.{Against, AreInRange, AreNotAsMany, FilesAreConsistent, FilesRunFlat, FilesRunFlatBy, IsAnswerAgainst, IsChecked, IsCheckedAgainst, IsUnprogrammedBy}
 use Rattle.std.specs.Option.{IsSomeAnd}
 use Rattle.commands.specs.declared.refusal.Refusal.TheVariants as refused
 use Rattle.commands.specs.Refusals.{from_judge}
 use Rattle.commands.specs.declared.refusal.Refusal.{Refusal}
 
 -- a file can't be opened
-pub not_opened : {S : Type 0} (remaining : S → Option (List ℕ)) (failed : S → ℕ) (old new : Files) (programs : Option (List (List Instruction))) (asked : Check) (fault : JudgeFault) → AreInRange asked
-    → IsOpenFault old new asked.files.items fault → IsCheckedAgainst old.told (IsUnread remaining failed old new) programs asked (Err fault)
-not_opened remaining failed old new programs asked (Read file) range why = (range, unopened_at remaining failed old new asked.files.items file why.0 why.1)
-not_opened remaining failed old new programs asked OutOfMemory range why = tt
-not_opened remaining failed old new programs asked other range why = absurd why
+pub not_opened : {S : Type 0} (remaining : S → Option (List ℕ)) (failed : S → ℕ) (old : Files) (programs : Option (List (List Instruction))) (asked : Check) (fault : JudgeFault) → AreInRange asked
+    → IsOpenFault old asked.files.items fault → IsCheckedAgainst old.told (IsUnread remaining failed old) programs asked (Err fault)
+not_opened remaining failed old programs asked (Read file) range why = (range, unopened_at remaining failed old asked.files.items file why)
+not_opened remaining failed old programs asked OutOfMemory range why = tt
+not_opened remaining failed old programs asked other range why = absurd why
 
 -- the judge's answer is that of the check
-pub checked : (told : List ℕ → Option (List ℕ)) (unread : List ℕ → Type 0) (programs : Option (List (List Instruction))) (asked : Check) (judged : List (List Record) → Verdict) (answer : Result Verdict JudgeFault) (texts : List (List ℕ))
-    → ((a : Result Verdict JudgeFault) → IsAnswerBy judged texts a → IsAnswerAgainst programs texts a) → AreInRange asked
-    → AreTextsOf told asked.files.items texts → IsAnswerBy judged texts answer → length texts ≡ vec_len asked.files
+pub checked : (told : List ℕ → Option (List ℕ)) (unread : List ℕ → Type 0) (programs : Option (List (List Instruction))) (asked : Check) (answer : Result Verdict JudgeFault) (texts : List (List ℕ))
+    → AreInRange asked → AreTextsOf told asked.files.items texts → IsAnswerAgainst programs texts answer → OnYes answer (SpellConsistentSet texts × SpellFlatRunBy programs texts)
     → (IsErrOf answer (BadConfig FileCount) → IsOutOfRange (vec_len asked.files))
     → (IsErrOf answer (BadConfig Workers) → IsInRange (vec_len asked.files) × IsOutOfRange asked.workers)
     → (IsErrOf answer (BadConfig ProgramCount) → AreNotAsMany (vec_len asked.files) programs)
     → ((file : ℕ) → answer ≡ Err (Read file) → IsUnreadAt unread asked.files.items file) → IsCheckedAgainst told unread programs asked answer
-checked told unread programs asked judged (Ok verdict) texts same range tell answers many files workers counted reads = (range, (texts, tell, same (Ok verdict) answers))
-checked told unread programs asked judged (Err (Log file line fault)) texts same range tell answers many files workers counted reads = (range, (texts, tell, same (Err (Log file line fault)) answers))
-checked told unread programs asked judged (Err (BadConfig FileCount)) texts same range tell answers many files workers counted reads = files refl
-checked told unread programs asked judged (Err (BadConfig Workers)) texts same range tell answers many files workers counted reads = workers refl
-checked told unread programs asked judged (Err (BadConfig ProgramCount)) texts same range tell answers many files workers counted reads = (range, counted refl)
-checked told unread programs asked judged (Err (Read file)) texts same range tell answers many files workers counted reads = (range, reads file refl)
-checked told unread programs asked judged (Err OutOfMemory) texts same range tell answers many files workers counted reads = tt
+checked told unread programs asked (Ok verdict) texts range tell answers yes files workers counted reads = (range, (texts, tell, answers, yes))
+checked told unread programs asked (Err (Log file line fault)) texts range tell answers yes files workers counted reads = (range, (texts, tell, answers, yes))
+checked told unread programs asked (Err (BadConfig FileCount)) texts range tell answers yes files workers counted reads = files refl
+checked told unread programs asked (Err (BadConfig Workers)) texts range tell answers yes files workers counted reads = workers refl
+checked told unread programs asked (Err (BadConfig ProgramCount)) texts range tell answers yes files workers counted reads = (range, counted refl)
+checked told unread programs asked (Err (Read file)) texts range tell answers yes files workers counted reads = (range, reads file refl)
+checked told unread programs asked (Err OutOfMemory) texts range tell answers yes files workers counted reads = tt
+
+-- ---- what a Yes says
+
+-- the set is consistent
+pub consistent_files : (told : List ℕ → Option (List ℕ)) (unread : List ℕ → Type 0) (asked : Check) (verdict : Verdict) → IsChecked told unread asked (Ok verdict) → IsYes verdict
+    → FilesAreConsistent told asked
+consistent_files told unread asked verdict (programs, are, (range, (texts, tell, answers, yes))) said = (texts, tell, (yes said).0)
+
+-- and its operations are those of a run of the programs
+pub flat_files : (told : List ℕ → Option (List ℕ)) (unread : List ℕ → Type 0) (asked : Check) (verdict : Verdict) → IsChecked told unread asked (Ok verdict) → IsYes verdict
+    → FilesRunFlat told asked
+flat_files told unread asked verdict (programs, are, (range, (texts, tell, answers, yes))) said = (programs, are, flat_by programs (yes said).1)
+  where
+    flat_by : (given : Option (List (List Instruction))) → SpellFlatRunBy given texts → FilesRunFlatBy told asked given
+    flat_by None runs = tt
+    flat_by (Some given) runs = (texts, tell, runs)
 
 -- ---- against the programs that were asked for
 

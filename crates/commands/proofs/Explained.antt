@@ -15,24 +15,20 @@ use Rattle.log_file.proofs.Sets.{spelled_short}
 use Rattle.verdict.specs.CoreFaultsOf.{core_faults, given}
 use Rattle.verdict.specs.declared.basis.Basis.{Basis}
 use Rattle.verdict.specs.declared.basis.Basis.TheVariants.{Logs, Index}
-use Rattle.verdict.specs.Counts.{IsInRange, IsOutOfRange}
 use Rattle.verdict.specs.Bases.{IsBasisOf, IsExaminationOf, IsExaminedBy, verdict_in}
-use Rattle.verdict.specs.Judgement.{IsYes, OnYes, SpellFlatRunBy, TellsFailures}
-use Rattle.verdict.specs.VerdictOf.{run_verdict_of, verdict_of}
-use Rattle.verdict.specs.declared.answer.Verdict.{Verdict}
+use Rattle.verdict.specs.Judgement.{TellsFailures}
 use Rattle.verdict.specs.declared.basis.Examined.{Examined}
-use Rattle.verdict.specs.declared.judge_fault.Count.TheVariants.{Files as FileCount, Workers, Programs as ProgramCount}
 use Rattle.verdict.specs.declared.judge_fault.JudgeFault.{JudgeFault}
-use Rattle.verdict.specs.declared.judge_fault.JudgeFault.TheVariants.{BadConfig, Read}
+use Rattle.verdict.specs.declared.judge_fault.JudgeFault.TheVariants.{Read}
 use Rattle.std.proofs.KnownBytes.{Keeps-refl}
 use Rattle.command_line.specs.declared.request.Explain.{Explain}
 use Rattle.host_files.specs.Files.{Files, IsOnlyRead}
-use Rattle.commands.specs.LogFiles.{AreTextsOf, IsUnreadAt, Spelled}
+use Rattle.commands.specs.LogFiles.{AreTextsOf, Spelled}
 use Rattle.commands.specs.Sinks.{Sink}
-use Rattle.commands.specs.Checking.{AreInRange, AreNotAsMany, FilesRunFlatBy, IsAnswerAgainst, IsChecked, IsCheckedAgainst}
+use Rattle.commands.specs.Checking.{IsChecked}
 use Rattle.commands.specs.Explaining.{IsExplained}
 use Rattle.commands.specs.inner.ReadLogs.{AreLogsOf, HoldsRecords}
-use Rattle.commands.proofs.Checks.{checked, nowhere}
+use Rattle.commands.proofs.Checks.{nowhere}
 use Rattle.commands.specs.declared.refusal.Refusal.{Refusal}
 use Rattle.commands.specs.declared.refusal.Refusal.TheVariants.{OutOfMemory, Unwritten}
 
@@ -40,18 +36,6 @@ use Rattle.commands.specs.declared.refusal.Refusal.TheVariants.{OutOfMemory, Unw
 pub given_is : (lent : Option (Bor SetParts)) (set : Option SetParts) → option_copied lent ≡ set → given lent ≡ option_map (λ s. s.programs) set
 given_is None set is = ap (λ (o : Option SetParts). option_map (λ s. s.programs) o) is
 given_is (Some lent) set is = ap (λ (o : Option SetParts). option_map (λ s. s.programs) o) is
-
--- the verdict on the files against these programs
-pub checked_against : (told : List ℕ → Option (List ℕ)) (unread : List ℕ → Type 0) (programs : Option (List (List Instruction))) (asked : Check) (answer : Result Verdict JudgeFault) (texts : List (List ℕ))
-    → AreInRange asked → AreTextsOf told asked.files.items texts → IsAnswerAgainst programs texts answer → length texts ≡ vec_len asked.files
-    → (IsErrOf answer (BadConfig FileCount) → IsOutOfRange (vec_len asked.files))
-    → (IsErrOf answer (BadConfig Workers) → IsInRange (vec_len asked.files) × IsOutOfRange asked.workers)
-    → (IsErrOf answer (BadConfig ProgramCount) → AreNotAsMany (vec_len asked.files) programs)
-    → ((file : ℕ) → answer ≡ Err (Read file) → IsUnreadAt unread asked.files.items file) → IsCheckedAgainst told unread programs asked answer
-checked_against told unread None asked answer texts range tell answers many files workers counted reads =
-    checked told unread None asked verdict_of answer texts (λ a h. h) range tell answers many files workers counted reads
-checked_against told unread (Some programs) asked answer texts range tell answers many files workers counted reads =
-    checked told unread (Some programs) asked (run_verdict_of programs) answer texts (λ a h. h) range tell answers many files workers counted reads
 
 -- a fault of the verdict is one of the examination
 pub err_in : (result : Result Examined JudgeFault) (fault : JudgeFault) → IsErrOf (verdict_in result) fault → IsErrOf result fault
@@ -64,17 +48,6 @@ pub reader_failed_in : {S : Type 0} (failed : S → ℕ) (sources later : List S
 reader_failed_in failed sources later (Ok examined) file tells is = cc
 reader_failed_in failed sources later (Err found) file tells is =
     let same : found ≡ Read file = cc in subst (λ (f : JudgeFault). TellsFailures {T = Examined} failed sources later (Err f)) same tells
-
--- what a Yes says of the verdict, it says of the examination
-pub yes_in : {P Q : Type 0} (result : Result Examined JudgeFault) → (P → Q) → OnYes (verdict_in result) P → IfOk result (λ examined. IsYes examined.verdict → Q)
-yes_in (Ok examined) turned holds = λ is. turned (holds is)
-yes_in (Err fault) turned holds = tt
-
--- the texts of the files spell a run of these programs
-pub flat_by : (told : List ℕ → Option (List ℕ)) (asked : Check) (programs : Option (List (List Instruction))) (texts : List (List ℕ)) → AreTextsOf told asked.files.items texts
-    → SpellFlatRunBy programs texts → FilesRunFlatBy told asked programs
-flat_by told asked None texts tell runs = tt
-flat_by told asked (Some programs) texts tell runs = (texts, tell, runs)
 
 -- what is examined is the set that the texts of the files spell
 pub examined_set : (told : List ℕ → Option (List ℕ)) (names : List (Bor (List ℕ))) (programs : Option (List (List Instruction))) (texts : List (List ℕ)) (result : Result Examined JudgeFault)

@@ -17,7 +17,7 @@ use Rattle.mem_op.specs.Limits.{operation_limit}
 use Rattle.mem_op.specs.declared.id.OpId.{OpId}
 use Rattle.merge_judge.specs.OrderText.{end_line, id_line, id_lines}
 use Rattle.refutation.specs.Grammar.{IdFits}
-use Rattle.commands.specs.OrderTexts.{BeginsWithIds, ComeInOrder, IsFirstBadOfOrder, NoIdInFront, SpellsOrder}
+use Rattle.commands.specs.OrderTexts.{BeginsWithIds, ComeInOrder, IsFirstBadOfOrder, IsFirstWrongPlace, NoIdInFront, SpellsOrder}
 use Rattle.commands.specs.inner.Certificates.{IsOneMore, TellsEnd, below, id_line_at}
 
 -- ---- the line of an id
@@ -146,9 +146,12 @@ end_found rest behind more count number is (n, read, text) some low =
 
 -- ---- the whole text
 
-pub missing : (cores : List (List Operation)) (text rest : List ℕ) (ids : List OpId) (count : ℕ) → count ≡ length ids → BeginsWithIds text ids rest
-    → ComeInOrder cores ids (length ids) → (IsSequentialOrder cores ids → ⊥) → IsFirstBadOfOrder cores text (count + 1)
-missing cores text rest ids count same begins right none = (ids, rest, begins, inr (right, inl (ap (λ (n : ℕ). n + 1) same, inl none)))
+-- the line of the place at which the ids go wrong
+pub wrong_line : (cores : List (List Operation)) (text rest : List ℕ) (ids : List OpId) (place : ℕ) → BeginsWithIds text ids rest → IsFirstWrongPlace cores ids place
+    → IsFirstBadOfOrder cores text (place + 1)
+wrong_line cores text rest ids place begins (inl wrong) = (ids, rest, begins, inl (place, wrong, refl))
+wrong_line cores text rest ids place begins (inr (end, right, left)) =
+    (ids, rest, begins, inr (subst (ComeInOrder cores ids) end right, inl (ap (λ (n : ℕ). n + 1) end, inl left)))
 
 pub bad_end_line : (cores : List (List Operation)) (text rest : List ℕ) (ids : List OpId) (count line : ℕ) → count ≡ length ids → BeginsWithIds text ids rest
     → ComeInOrder cores ids (length ids) → TellsEnd rest count (Some line) → IsFirstBadOfOrder cores text line

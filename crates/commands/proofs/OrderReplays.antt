@@ -1,16 +1,17 @@
 -- Ids that come one after the other, by what a replay keeps.
 use Rattle.std.proofs.Common.{◌≡◌, ◌∙◌, ◌+◌, ap, sym, subst, refl, ℕ, List, [], ◌∷◌, None, Some, arith, inl, inr, length, take}
-use Rattle.std.specs.Prelude.{◌==◌, count_by, slice_get, slice_index}
+use Rattle.std.specs.Prelude.{◌==◌, ◌↔◌, count_by, map, slice_get, slice_index}
 use Rattle.std.proofs.lemmas.Bool.{cases_lt}
 use Rattle.std.proofs.lemmas.Bool.Decides.{nat_tests}
+use Rattle.std.proofs.lemmas.List.{take_all}
 use Rattle.std.proofs.lemmas.List.FromFn.{length-range_with_len}
 use Rattle.std.proofs.lemmas.List.Sums.{sum_by-cons}
 use Rattle.std.proofs.lemmas.Option.{none-some}
 use Rattle.mem_op.specs.declared.id.OpId.{OpId}
-use Rattle.mem_op.specs.Consistency.{Operation, last_value, operation_at}
+use Rattle.mem_op.specs.Consistency.{Operation, IsSequentialOrder, last_value, operation_at}
 use Rattle.flat_replay.specs.Memory.{IsAnsweredBy}
 use Rattle.flat_replay.proofs.Flat.{answered}
-use Rattle.flat_replay.proofs.Replaying.{Replayed, done}
+use Rattle.flat_replay.proofs.Replaying.{Replayed, done, replayed-all}
 use Rattle.flat_replay.proofs.Turns.{InTurn, indices}
 use Rattle.log_record.proofs.EntryFacts.{one_if}
 use Rattle.commands.specs.OrderTexts.{ComeInOrder, ComesNext}
@@ -66,3 +67,11 @@ come_more cores ids k so_far here j id below at =
           let same : k ≡ j = omega arith in
           subst (λ (i : ℕ). ComesNext cores (take i ids) id) same (here id (ap (slice_get ids) same ∙ at))
     ]
+
+-- ---- the end
+
+-- all ids were replayed: they are a sequential order exactly where all operations of each core were
+pub ended : (cores : List (List Operation)) (ids : List OpId) (place : ℕ) (next : List ℕ) (memory : ℕ → ℕ) → place ≡ length ids → Replayed cores (take place ids) next memory
+    → length next ≡ length cores → (next ≡ map length cores) ↔ IsSequentialOrder cores ids
+ended cores ids place next memory end replayed many =
+    replayed-all cores ids next memory (subst (λ (done : List OpId). Replayed cores done next memory) (take_all place ids (omega (arith, end))) replayed) many

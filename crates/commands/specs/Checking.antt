@@ -8,7 +8,7 @@ use Rattle.core_program.specs.declared.format.Format.{Format}
 use Rattle.core_program.specs.declared.instruction.Instruction.{Instruction}
 use Rattle.log_file.specs.Devices.{Tells}
 use Rattle.verdict.specs.Counts.{IsInRange, IsOutOfRange}
-use Rattle.verdict.specs.Judgement.{SpellConsistentSet, SpellFlatRun}
+use Rattle.verdict.specs.Judgement.{OnYes, SpellConsistentSet, SpellFlatRun, SpellFlatRunBy}
 use Rattle.verdict.specs.declared.answer.Verdict.{Verdict}
 use Rattle.verdict.specs.declared.answer.Verdict.TheVariants.{No}
 use Rattle.verdict.specs.FaultParts.{FaultParts}
@@ -46,9 +46,11 @@ IsUnprogrammedBy told unread given fault = IsSomeAnd given (λ name. IsUnprogram
 
 -- ---- the answer
 
--- what the judge answers to the texts of the files
+-- what the judge answers to the texts of the files, and what it says by a Yes
 abbrev pub IsJudged : (List ℕ → Option (List ℕ)) → Option (List (List Instruction)) → Check → Result Verdict JudgeFault → Type 0
-IsJudged told programs asked answer = (texts : List (List ℕ)) × AreTextsOf told asked.files.items texts × IsAnswerAgainst programs texts answer
+IsJudged told programs asked answer =
+    (texts : List (List ℕ)) × AreTextsOf told asked.files.items texts × IsAnswerAgainst programs texts answer
+    × OnYes answer (SpellConsistentSet texts × SpellFlatRunBy programs texts)
 
 -- The verdict on the files, or why there is none. `unread` holds of the name of a file that can't be opened or read.
 abbrev pub IsCheckedAgainst : (List ℕ → Option (List ℕ)) → (List ℕ → Type 0) → Option (List (List Instruction)) → Check → Result Verdict JudgeFault → Type 0

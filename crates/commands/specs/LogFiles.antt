@@ -1,5 +1,5 @@
 -- The logs in files, or why there are none. `told` gives what the folder tells of the file of each name.
-use Rattle.std.specs.Prelude.{◌≡◌, ◌<◌, ℕ, List, length, Option, Some, IfSome}
+use Rattle.std.specs.Prelude.{◌≡◌, ◌<◌, ⊤, ℕ, List, length, Option, Some, IfSome, IsTrue}
 use Rattle.std.specs.Borrow.{Bor}
 use Rattle.std.specs.List.{AllZip, HoldsAt}
 use Rattle.log_file.specs.Devices.{Tells}
@@ -7,7 +7,7 @@ use Rattle.log_file.specs.Sets.{IsFirstOfSet, SpellSet}
 use Rattle.log_record.specs.declared.record.Record.{Record}
 use Rattle.verdict.specs.declared.judge_fault.JudgeFault.{JudgeFault}
 use Rattle.verdict.specs.declared.judge_fault.JudgeFault.TheVariants.{Log, Read, OutOfMemory}
-use Rattle.host_files.specs.Files.{Files, IsOnlyRead, one_more_unopened}
+use Rattle.host_files.specs.Files.{Files, IsOnlyRead}
 
 -- these are sources of the files of these names: each tells the bytes that the folder tells
 abbrev pub AreSourcesOf : {S : Type 0} → (List ℕ → Option (List ℕ)) → (S → Option (List ℕ)) → List S → List (Bor (List ℕ)) → Type 0
@@ -24,18 +24,18 @@ Spelled told names Holds =
 
 -- ---- why there are none
 
--- the opening of this file failed, or memory ran out
-abbrev pub IsOpenFault : Files → Files → List (Bor (List ℕ)) → JudgeFault → Type 0
-IsOpenFault old new names (Read file) = (file < length names) × (new ≡ one_more_unopened old)
-IsOpenFault old new names OutOfMemory = new ≡ old
-IsOpenFault old new names other = ⊥
-
 -- this is the number of one of the names, that of a file that can't be read
 abbrev pub IsUnreadAt : (List ℕ → Type 0) → List (Bor (List ℕ)) → ℕ → Type 0
 IsUnreadAt unread names file = (file < length names) × HoldsAt (λ name. unread name.now) names file
 
+-- this file couldn't be opened, or memory ran out
+abbrev pub IsOpenFault : Files → List (Bor (List ℕ)) → JudgeFault → Type 0
+IsOpenFault files names (Read file) = IsUnreadAt (λ name. IsTrue (files.may_refuse name)) names file
+IsOpenFault files names OutOfMemory = ⊤
+IsOpenFault files names other = ⊥
+
 -- Why no logs are read from the files of these names: their first fault, a file that can't be opened or read, of whose name `unread` holds,
--- or lack of memory. The folder is as it was, but for an opening that failed.
+-- or lack of memory. The folder is as it was.
 abbrev pub IsUnspelled : Files → Files → (List ℕ → Type 0) → List (Bor (List ℕ)) → JudgeFault → Type 0
 IsUnspelled old new unread names (Log file line fault) =
     (new ≡ old) × (texts : List (List ℕ)) × AreTextsOf old.told names texts × IsFirstOfSet texts file line fault

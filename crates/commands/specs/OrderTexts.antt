@@ -26,6 +26,11 @@ pub record IsFirstWrongId (cores : List (List Operation)) (ids : List OpId) (pla
   pub there : slice_get ids place ≡ Some id
   pub wrong : ComesNext cores (take place ids) id → ⊥
 
+-- the ids come one after the other up to this place, where one doesn't come next, or where they end before all operations were performed
+abbrev pub IsFirstWrongPlace : List (List Operation) → List OpId → ℕ → Type 0
+IsFirstWrongPlace cores ids place =
+    IsFirstWrongId cores ids place ⊎ ((place ≡ length ids) × ComeInOrder cores ids place × ¬ (IsSequentialOrder cores ids))
+
 -- the bytes don't begin with an id's line
 abbrev pub NoIdInFront : List ℕ → Type 0
 NoIdInFront bytes = (id : OpId) (rest : List ℕ) → IdFits id → bytes ≢ id_line id ++ rest

@@ -1,11 +1,10 @@
 //! The check of the logs of a set.
 
-ghost use Rattle.std.specs.Prelude.{◌≡◌, IfErr, IfOk, OnOk, MatchResult, option_map};
+ghost use Rattle.std.specs.Prelude.{IfErr, IfOk, MatchResult, option_map};
 ghost use Rattle.host_files.specs.Files.{IsOnlyRead, IsUnread};
 ghost use Rattle.commands.specs.LogFiles.{Spelled};
 ghost use Rattle.verdict.specs.Bases.{IsExaminationOf, verdict_in};
 ghost use Rattle.verdict.specs.CoreFaultsOf.{given};
-ghost use Rattle.verdict.specs.Judgement.{IsYes};
 ghost use Rattle.commands.specs.Checking as checking;
 
 use super::log_files::open_all;
@@ -35,12 +34,7 @@ pub fn check<R: Threads + Sync, F: Folder>(
     asked: &Check<'_>,
 ) -> Result<Verdict, Refusal>
     ensures exact { checking.IsChecked (F.files folder.old).told
-        (IsUnread F.Source.remaining F.Source.failed
-        (F.files folder.old) (F.files folder.new)) asked.now result }
-    ensures sound { IfOk result (λ verdict. IsYes verdict
-        → checking.FilesAreConsistent (F.files folder.old).told asked.now) }
-    ensures flat { IfOk result (λ verdict. IsYes verdict
-        → checking.FilesRunFlat (F.files folder.old).told asked.now) }
+        (IsUnread F.Source.remaining F.Source.failed (F.files folder.old)) asked.now result }
     ensures read { IsOnlyRead (F.files folder.old) (F.files folder.new) }
 {
     match examine_asked(rt, alloc, folder, asked) {
@@ -58,21 +52,14 @@ pub(crate) fn examine_asked<R: Threads + Sync, F: Folder>(
 ) -> Result<Found, Refusal>
     ensures exact { MatchResult result
         (λ found. checking.IsChecked (F.files folder.old).told
-        (IsUnread F.Source.remaining F.Source.failed
-        (F.files folder.old) (F.files folder.new))
+        (IsUnread F.Source.remaining F.Source.failed (F.files folder.old))
         asked.now (Ok found.examined.verdict))
         (λ fault. checking.IsChecked (F.files folder.old).told
-        (IsUnread F.Source.remaining F.Source.failed
-        (F.files folder.old) (F.files folder.new))
+        (IsUnread F.Source.remaining F.Source.failed (F.files folder.old))
         asked.now (Err fault)) }
-    ensures quiet { OnOk result (F.files folder.new ≡ F.files folder.old) }
     ensures read { IsOnlyRead (F.files folder.old) (F.files folder.new) }
     ensures examined { IfOk result (λ found. Spelled (F.files folder.old).told asked.now.files.items
         (λ logs. IsExaminationOf (option_map (λ set. set.programs) found.programs) logs found.examined)) }
-    ensures sound { IfOk result (λ found. IsYes found.examined.verdict
-        → checking.FilesAreConsistent (F.files folder.old).told asked.now) }
-    ensures flat { IfOk result (λ found. IsYes found.examined.verdict
-        → checking.FilesRunFlat (F.files folder.old).told asked.now) }
 {
     check_counts(asked.files.len(), asked.workers as usize)?;
     let programs = read_given(alloc, folder, asked.program)?;
@@ -88,10 +75,8 @@ fn read_given<F: Folder>(
 ) -> Result<Option<ProgramSet>, Refusal>
     ensures ok { IfOk result (λ programs. checking.AreProgramsOf (F.files folder.old).told name.entry
         (option_map (λ set. set.programs) programs)) }
-    ensures quiet { OnOk result (F.files folder.new ≡ F.files folder.old) }
     ensures err { IfErr result (checking.IsUnprogrammedBy (F.files folder.old).told
-        (IsUnread F.Source.remaining F.Source.failed
-        (F.files folder.old) (F.files folder.new)) name.entry) }
+        (IsUnread F.Source.remaining F.Source.failed (F.files folder.old)) name.entry) }
     ensures read { IsOnlyRead (F.files folder.old) (F.files folder.new) }
 {
     match name {
@@ -113,17 +98,11 @@ fn examine_files<R: Threads + Sync, F: Folder>(
 ) -> Result<Examined, JudgeFault>
     requires { checking.AreInRange asked.now }
     ensures exact { checking.IsCheckedAgainst (F.files folder.old).told
-        (IsUnread F.Source.remaining F.Source.failed
-        (F.files folder.old) (F.files folder.new))
+        (IsUnread F.Source.remaining F.Source.failed (F.files folder.old))
         (given programs.entry) asked.now (verdict_in result) }
-    ensures quiet { OnOk result (F.files folder.new ≡ F.files folder.old) }
     ensures read { IsOnlyRead (F.files folder.old) (F.files folder.new) }
     ensures examined { IfOk result (λ examined. Spelled (F.files folder.old).told asked.now.files.items
         (λ logs. IsExaminationOf (given programs.entry) logs examined)) }
-    ensures sound { IfOk result (λ examined. IsYes examined.verdict
-        → checking.FilesAreConsistent (F.files folder.old).told asked.now) }
-    ensures flat { IfOk result (λ examined. IsYes examined.verdict
-        → checking.FilesRunFlatBy (F.files folder.old).told asked.now (given programs.entry)) }
 {
     let mut sources = open_all(alloc, folder, asked.files.as_slice())?;
     let workers = asked.workers as usize;

@@ -7,7 +7,6 @@ ghost use Rattle.log_record.specs.Entries.{operations_of};
 ghost use Rattle.log_record.specs.declared.record.Record.{Record};
 ghost use Rattle.verdict.specs.CoreFaultsOf.{given};
 ghost use Rattle.verdict.specs.Bases.{IsExaminationOf};
-ghost use Rattle.verdict.specs.Judgement.{IsYes};
 ghost use Rattle.verdict.specs.Texts.{verdict_text};
 ghost use Rattle.commands.specs.Checking as checking;
 ghost use Rattle.commands.specs.Explaining as explaining;
@@ -58,16 +57,11 @@ pub fn explain<R: Threads + Sync, W: SearchWatch, F: Folder, O: ByteSink>(
     out: &mut O,
 ) -> Result<Verdict, Refusal>
     ensures exact { explaining.IsExplained (F.files folder.old) (F.files folder.new)
-        (IsUnread F.Source.remaining F.Source.failed
-        (F.files folder.old) (F.files folder.new)) asked.now
+        (IsUnread F.Source.remaining F.Source.failed (F.files folder.old)) asked.now
         (sink_of O.contents O.failed out.old)
         (sink_of O.contents O.failed out.new) result }
     ensures files { KeepsFiles (F.files folder.old).told (F.files folder.new).told
         (IsNameOf asked.now.picture) }
-    ensures sound { IfOk result (λ verdict. IsYes verdict
-        → checking.FilesAreConsistent (F.files folder.old).told asked.now.check) }
-    ensures flat { IfOk result (λ verdict. IsYes verdict
-        → checking.FilesRunFlat (F.files folder.old).told asked.now.check) }
 {
     let told = tell(rt, alloc, watch, folder, asked)?;
     put_picture(folder, asked.picture, &told)?;
@@ -105,23 +99,16 @@ fn tell<R: Threads + Sync, W: SearchWatch, F: Folder>(
 ) -> Result<Told, Refusal>
     ensures exact { MatchResult result
         (λ told. checking.IsChecked (F.files folder.old).told
-        (IsUnread F.Source.remaining F.Source.failed
-        (F.files folder.old) (F.files folder.new))
+        (IsUnread F.Source.remaining F.Source.failed (F.files folder.old))
         asked.now.check (Ok told.verdict))
         (λ fault. checking.IsChecked (F.files folder.old).told
-        (IsUnread F.Source.remaining F.Source.failed
-        (F.files folder.old) (F.files folder.new))
+        (IsUnread F.Source.remaining F.Source.failed (F.files folder.old))
         asked.now.check (Err fault)) }
-    ensures quiet { OnOk result (F.files folder.new ≡ F.files folder.old) }
     ensures read { IsOnlyRead (F.files folder.old) (F.files folder.new) }
     ensures text { IfOk result (λ told. explaining.TellsVerdict (F.files folder.old).told asked.now
         told.verdict (string_bytes told.text)) }
     ensures picture { IfOk result (λ told. IfSome told.picture (λ svg. IsPicture svg.items)) }
     ensures drawn { IsSome asked.now.picture → IfOk result (λ told. IsSome told.picture ↔ HasPicture told.verdict) }
-    ensures sound { IfOk result (λ told. IsYes told.verdict
-        → checking.FilesAreConsistent (F.files folder.old).told asked.now.check) }
-    ensures flat { IfOk result (λ told. IsYes told.verdict
-        → checking.FilesRunFlat (F.files folder.old).told asked.now.check) }
 {
     let found = examine_asked(rt, alloc, folder, &asked.check)?;
     let last = last_lines(alloc, watch, &found.examined, asked)?;

@@ -21,8 +21,7 @@ pub fn inspect<F: Folder>(
     ensures cores { MatchResult result
         (inspecting.AreCoresIn (F.files folder.old).told asked.now.kind asked.now.file.now)
         (inspecting.IsUnreadable (F.files folder.old).told
-        (IsUnread F.Source.remaining F.Source.failed
-        (F.files folder.old) (F.files folder.new)) asked.now.kind asked.now.file.now) }
+        (IsUnread F.Source.remaining F.Source.failed (F.files folder.old)) asked.now.kind asked.now.file.now) }
     ensures read { IsOnlyRead (F.files folder.old) (F.files folder.new) }
 {
     match asked.kind {
@@ -36,8 +35,7 @@ fn cores_of_test<F: Folder>(alloc: Global, folder: &mut F, name: &str) -> Result
     ensures cores { MatchResult result
         (inspecting.AreCoresIn (F.files folder.old).told of_file.Litmus name.now)
         (inspecting.IsUnreadable (F.files folder.old).told
-        (IsUnread F.Source.remaining F.Source.failed
-        (F.files folder.old) (F.files folder.new)) of_file.Litmus name.now) }
+        (IsUnread F.Source.remaining F.Source.failed (F.files folder.old)) of_file.Litmus name.now) }
     ensures read { IsOnlyRead (F.files folder.old) (F.files folder.new) }
 {
     let test = read_test(alloc, folder, name)?;
@@ -49,8 +47,7 @@ fn cores_of_programs<F: Folder>(alloc: Global, folder: &mut F, name: &str) -> Re
     ensures cores { MatchResult result
         (inspecting.AreCoresIn (F.files folder.old).told of_file.Programs name.now)
         (inspecting.IsUnreadable (F.files folder.old).told
-        (IsUnread F.Source.remaining F.Source.failed
-        (F.files folder.old) (F.files folder.new)) of_file.Programs name.now) }
+        (IsUnread F.Source.remaining F.Source.failed (F.files folder.old)) of_file.Programs name.now) }
     ensures read { IsOnlyRead (F.files folder.old) (F.files folder.new) }
 {
     let programs = read_programs(alloc, folder, name)?;

@@ -46,10 +46,8 @@ pub(crate) fn read_test<F: Folder>(
     name: &str,
 ) -> Result<Litmus, Refusal>
     ensures ok { IfOk result (λ test. tabling.IsTestIn (F.files folder.old).told name.now test) }
-    ensures quiet { OnOk result (F.files folder.new ≡ F.files folder.old) }
     ensures err { IfErr result (tabling.IsUntested (F.files folder.old).told
-        (IsUnread F.Source.remaining F.Source.failed
-        (F.files folder.old) (F.files folder.new)) name.now) }
+        (IsUnread F.Source.remaining F.Source.failed (F.files folder.old)) name.now) }
     ensures read { IsOnlyRead (F.files folder.old) (F.files folder.new) }
 {
     let text = match read_text(alloc, folder, name) {
@@ -89,10 +87,8 @@ fn collected_of<R: Threads + Wait + Sync, F: Folder>(
 ) -> Result<Collected, Refusal>
     ensures ok { IfOk result (λ collected.
         tabling.Tabled (F.files folder.old).told asked.now (λ made. made ≡ collected)) }
-    ensures quiet { OnOk result (F.files folder.new ≡ F.files folder.old) }
     ensures err { IfErr result (tabling.IsUntabled (F.files folder.old).told
-        (IsUnread F.Source.remaining F.Source.failed
-        (F.files folder.old) (F.files folder.new)) asked.now) }
+        (IsUnread F.Source.remaining F.Source.failed (F.files folder.old)) asked.now) }
     ensures read { IsOnlyRead (F.files folder.old) (F.files folder.new) }
 {
     let config = config_of(&asked.limits)?;
@@ -143,8 +139,7 @@ pub fn count_outcomes<R: Threads + Wait + Sync, F: Folder, O: ByteSink>(
     out: &mut O,
 ) -> Result<bool, Refusal>
     ensures exact { tabling.IsCounted (F.files folder.old) (F.files folder.new)
-        (IsUnread F.Source.remaining F.Source.failed
-        (F.files folder.old) (F.files folder.new)) asked.now
+        (IsUnread F.Source.remaining F.Source.failed (F.files folder.old)) asked.now
         (sink_of O.contents O.failed out.old) (sink_of O.contents O.failed out.new) result }
     ensures files { KeepsFiles (F.files folder.old).told (F.files folder.new).told
         (IsNameOf asked.now.statistics) }

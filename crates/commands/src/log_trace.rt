@@ -26,8 +26,7 @@ pub(crate) fn read_logs<R: Threads + Sync, F: Folder>(
         × traces.SpellLogsAt (F.files folder.old).told names.now cores) }
     ensures quiet { OnOk result (F.files folder.new ≡ F.files folder.old) }
     ensures err { IfErr result (AreLogless (F.files folder.old).told
-        (IsUnread F.Source.remaining F.Source.failed
-        (F.files folder.old) (F.files folder.new)) names.now) }
+        (IsUnread F.Source.remaining F.Source.failed (F.files folder.old)) names.now) }
     ensures read { IsOnlyRead (F.files folder.old) (F.files folder.new) }
 {
     check_counts(names.len(), 1)?;

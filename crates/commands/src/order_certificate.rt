@@ -7,9 +7,8 @@ ghost use Rattle.merge_judge.specs.OrderText.{end_line};
 ghost use Rattle.commands.specs.OrderTexts as orders;
 ghost use Rattle.commands.specs.inner.Certificates.{IsOneMore, TellsEnd, below, id_line_at};
 
-use super::order_replay::first_wrong_id;
+use super::order_replay::first_wrong_place;
 use decimal_text::{after_text, read_field};
-use flat_replay::replays;
 use mem_op::{CoreId, OpId, OpIndex};
 use std::alloc::{AllocError, Global};
 use trace::Trace;
@@ -115,11 +114,8 @@ pub(crate) fn first_bad_line_of_order(
 {
     let front = read_ids(alloc, text)?;
     let count = front.ids.len() as u64;
-    if let Some(place) = first_wrong_id(alloc, trace, front.ids.as_slice())? {
+    if let Some(place) = first_wrong_place(alloc, trace, front.ids.as_slice())? {
         return Ok(Some(place as u64 + 1));
-    }
-    if !replays(alloc, trace, front.ids.as_slice())? {
-        return Ok(Some(count + 1));
     }
     Ok(bad_end(front.rest, count))
 }

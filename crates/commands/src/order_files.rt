@@ -26,11 +26,8 @@ pub fn order<F: Folder, O: ByteSink>(
     out: &mut O,
 ) -> Result<Verdict, Refusal>
     ensures exact { ordering.IsOrdered (F.files folder.old).told
-        (IsUnread F.Source.remaining F.Source.failed
-        (F.files folder.old) (F.files folder.new)) asked.now
+        (IsUnread F.Source.remaining F.Source.failed (F.files folder.old)) asked.now
         (sink_of O.contents O.failed out.old) (sink_of O.contents O.failed out.new) result }
-    ensures sound { IfOk result (λ verdict. IsYes verdict
-        → checking.TextsAreConsistent (F.files folder.old).told asked.now.files.items) }
     ensures order { IfOk result (λ verdict. IsYes verdict
         → ordering.TakesOrder (F.files folder.old).told asked.now.files.items
         (sink_of O.contents O.failed out.old) (sink_of O.contents O.failed out.new)) }

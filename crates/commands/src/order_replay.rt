@@ -1,25 +1,28 @@
 //! Where a list of ids goes wrong as an order.
 
-ghost use Rattle.std.specs.Prelude.{◌≡◌, ◌<◌, ◌^◌, IfOk, IfSome, MatchOption, length, vec_len};
-ghost use Rattle.commands.specs.OrderTexts.{ComeInOrder, IsFirstWrongId};
+ghost use Rattle.std.specs.Prelude.{◌≤◌, IfOk, IfSome, MatchOption, length};
+ghost use Rattle.mem_op.specs.Consistency.{IsSequentialOrder};
+ghost use Rattle.commands.specs.OrderTexts.{ComeInOrder, IsFirstWrongPlace};
 
-use flat_replay::Memory;
+use flat_replay::{Memory, Operations};
 use mem_op::OpId;
 use std::alloc::{AllocError, Global};
 use trace::Trace;
 
-/// The place of the first id whose operation doesn't come next; None where each one's does. Err where memory was refused.
-pub(crate) fn first_wrong_id(
+/// The place of the first id whose operation doesn't come next, or that after the last id, where operations are left; None where the ids are a
+/// sequential order. Err where memory was refused.
+pub(crate) fn first_wrong_place(
     alloc: Global,
     trace: &Trace,
     ids: &[OpId],
 ) -> Result<Option<usize>, AllocError>
     ensures first { IfOk result (λ wrong. MatchOption wrong
-        (ComeInOrder trace.now ids.now (length ids.now))
-        (IsFirstWrongId trace.now ids.now)) }
-    ensures in_range { IfOk result (λ wrong. IfSome wrong (λ place. place < 2 ^ 63)) }
+        (ComeInOrder trace.now ids.now (length ids.now) × IsSequentialOrder trace.now ids.now)
+        (IsFirstWrongPlace trace.now ids.now)) }
+    ensures within { IfOk result (λ wrong. IfSome wrong (λ place. place ≤ length ids.now)) }
 {
-    let mut next = vec![in alloc; 0u64; trace.cores().len()]?;
+    let lengths = trace.lengths(alloc)?;
+    let mut next = vec![in alloc; 0u64; lengths.len()]?;
     let mut memory = Memory::new(alloc);
     'replaying: for (place, id) in ids.iter().enumerate() {
         let Some(access) = trace.operation(id) else {
@@ -33,5 +36,8 @@ pub(crate) fn first_wrong_id(
         next[core] = index + 1;
         memory.perform(&access, ())?;
     }
-    Ok(None)
+    if next.as_slice() == lengths.as_slice() {
+        return Ok(None);
+    }
+    Ok(Some(ids.len()))
 }

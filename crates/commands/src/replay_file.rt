@@ -1,6 +1,6 @@
 //! The replay of a trace.
 
-ghost use Rattle.std.specs.Prelude.{◌≡◌, ℕ, List, IfErr, IfOk, IsErrOf, OnOk};
+ghost use Rattle.std.specs.Prelude.{◌≡◌, ℕ, List, IfErr, IfOk, IsErrOf};
 ghost use Rattle.host_files.specs.Files.{IsOnlyRead, IsUnread};
 ghost use Rattle.log_file.specs.Devices.{Failed, Tells};
 ghost use Rattle.trace_replay.specs.Answers.{IsVerdict};
@@ -34,8 +34,7 @@ pub fn replay<W: ReplayWatch, F: Folder, O: ByteSink>(
     out: &mut O,
 ) -> Result<ReplayVerdict, Refusal>
     ensures exact { replaying.IsReplayedBy (F.files folder.old) (F.files folder.new)
-        (IsUnread F.Source.remaining F.Source.failed
-        (F.files folder.old) (F.files folder.new)) asked.now result }
+        (IsUnread F.Source.remaining F.Source.failed (F.files folder.old)) asked.now result }
     ensures sound { IfOk result (λ verdict. verdict_status verdict ≡ 0 → replaying.TellsText
         (F.files folder.old).told asked.now.trace.now replaying.IsConsistentText) }
     ensures read { IsOnlyRead (F.files folder.old) (F.files folder.new) }
@@ -99,9 +98,8 @@ fn replay_trace<F: Folder>(
 ) -> Result<ReplayVerdict, Refusal>
     ensures ok { IfOk result (λ verdict. replaying.TellsText (F.files folder.old).told name.now
         (λ text. IsVerdict text verdict)) }
-    ensures quiet { OnOk result (F.files folder.new ≡ F.files folder.old) }
     ensures err { IfErr result (IsUndecided (F.files folder.old).told
-        (IsUnread F.Source.remaining F.Source.failed (F.files folder.old) (F.files folder.new))
+        (IsUnread F.Source.remaining F.Source.failed (F.files folder.old))
         name.now) }
     ensures read { IsOnlyRead (F.files folder.old) (F.files folder.new) }
 {

@@ -1,6 +1,6 @@
 //! The trace in a file.
 
-ghost use Rattle.std.specs.Prelude.{◌≡◌, ◌<◌, ℕ, List, IfErr, IfOk, IsErrOf, OnOk};
+ghost use Rattle.std.specs.Prelude.{◌<◌, ℕ, List, IfErr, IfOk, IsErrOf};
 ghost use Rattle.host_files.specs.Files.{IsOnlyRead, IsUnread};
 ghost use Rattle.log_file.specs.Devices.{Failed, Tells};
 ghost use Rattle.commands.specs.Traces.{SpellsTraceAt};
@@ -45,9 +45,8 @@ pub(crate) fn read_trace<F: Folder>(
     name: &str,
 ) -> Result<Trace, Refusal>
     ensures ok { IfOk result (SpellsTraceAt (F.files folder.old).told name.now) }
-    ensures quiet { OnOk result (F.files folder.new ≡ F.files folder.old) }
     ensures err { IfErr result (IsNoTrace (F.files folder.old).told
-        (IsUnread F.Source.remaining F.Source.failed (F.files folder.old) (F.files folder.new))
+        (IsUnread F.Source.remaining F.Source.failed (F.files folder.old))
         name.now) }
     ensures read { IsOnlyRead (F.files folder.old) (F.files folder.new) }
 {

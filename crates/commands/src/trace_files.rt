@@ -23,8 +23,7 @@ pub(crate) fn read_files<R: Threads + Sync, F: Folder>(
     ensures ok { IfOk result (IsTraceIn (F.files folder.old).told files.now) }
     ensures quiet { OnOk result (F.files folder.new ≡ F.files folder.old) }
     ensures err { IfErr result (AreTraceless (F.files folder.old).told
-        (IsUnread F.Source.remaining F.Source.failed
-        (F.files folder.old) (F.files folder.new)) files.now) }
+        (IsUnread F.Source.remaining F.Source.failed (F.files folder.old)) files.now) }
     ensures read { IsOnlyRead (F.files folder.old) (F.files folder.new) }
 {
     match files {

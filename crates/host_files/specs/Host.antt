@@ -1,7 +1,12 @@
 -- What is known of the host's files.
-use Rattle.std.specs.Prelude.{ℕ, None}
+use Rattle.std.specs.Prelude.{ℕ, List, Bool, None, codes, not}
+use Rattle.std.specs.Str.{bytes_eq}
 use Rattle.host_files.specs.Files.{Files}
 
--- a file tells none of its bytes
-abbrev pub files_of_host : ℕ → ℕ → Files
-files_of_host failed unopened = record { told = λ name. None; failed = failed; unopened = unopened }
+-- a file isn't the standard input, which is there to be read
+abbrev pub is_on_disk : List ℕ → Bool
+is_on_disk name = not (bytes_eq name (codes "/dev/stdin"))
+
+-- a file tells none of its bytes, and each may be refused but the standard input
+abbrev pub files_of_host : ℕ → Files
+files_of_host failed = record { told = λ name. None; may_refuse = is_on_disk; failed = failed }

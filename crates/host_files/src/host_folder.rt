@@ -15,7 +15,6 @@ use std::io::Stdin;
 pub struct HostFolder<'a> {
     rt: &'a HostRuntime,
     failures: u64,
-    unopened: u64,
 }
 
 impl<'a> HostFolder<'a> {
@@ -23,27 +22,18 @@ impl<'a> HostFolder<'a> {
     pub fn new(rt: &'a HostRuntime) -> HostFolder<'a>
         ensures host { result.rt ≡ rt.entry }
         ensures failed { result.failures ≡ 0 }
-        ensures unopened { result.unopened ≡ 0 }
     {
-        HostFolder {
-            rt,
-            failures: 0,
-            unopened: 0,
-        }
+        HostFolder { rt, failures: 0 }
     }
 }
 
 impl<'a> Folder for HostFolder<'a> {
-    ghost files = { λ folder. files_of_host folder.failures folder.unopened };
+    ghost files = { λ folder. files_of_host folder.failures };
 
     type Source = HostSource<File, Stdin>;
 
     fn open_file(&mut self, name: &str) -> Result<HostSource<File, Stdin>, ReadFailed> {
-        let opened = open(self.rt, name);
-        if opened.is_err() {
-            self.unopened = self.unopened.saturating_add(1);
-        }
-        opened
+        open(self.rt, name)
     }
 
     fn put(&mut self, name: &str, bytes: &[u8]) -> Result<(), WriteFailed> {

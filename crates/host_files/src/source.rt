@@ -1,5 +1,7 @@
 //! What the host's bytes are read from.
 
+ghost use Rattle.std.specs.Prelude.{IsTrue, OnErr};
+ghost use Rattle.host_files.specs.Host.{is_on_disk};
 ghost use Rattle.host_files.specs.Sources.{failed_reads, left};
 
 use log_file::{ByteSource, FromRead, ReadFailed};
@@ -18,7 +20,9 @@ pub enum HostSource<F, I> {
 
 /// Opens the file of a name. `/dev/stdin` is the standard input itself, since whoever may read that may still be refused to open it by
 /// its name.
-pub fn open(rt: &HostRuntime, name: &str) -> Result<HostSource<File, Stdin>, ReadFailed> {
+pub fn open(rt: &HostRuntime, name: &str) -> Result<HostSource<File, Stdin>, ReadFailed>
+    ensures { OnErr result (IsTrue (is_on_disk name.now)) }
+{
     if name == "/dev/stdin" {
         return Ok(HostSource::Input(FromRead::new(rt.stdin())));
     }

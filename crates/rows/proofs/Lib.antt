@@ -1,2 +1,1 @@
-mod Moved
 mod Told

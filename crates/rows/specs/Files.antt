@@ -1,5 +1,5 @@
 -- What files in memory tell.
-use Rattle.std.specs.Prelude.{ℕ, List, [], ◌∷◌, Option, None, Some, if◌then◌else◌, string_bytes}
+use Rattle.std.specs.Prelude.{ℕ, List, [], ◌∷◌, ◌||◌, Bool, Option, None, Some, if◌then◌else◌, is_none, is_some, string_bytes}
 use Rattle.std.specs.Option.{option_or}
 use Rattle.std.specs.Str.{bytes_eq}
 use Rattle.host_files.specs.Files.{Files}
@@ -18,5 +18,9 @@ told_in (file ∷ files) name = option_or (told_in files name) (told_by file nam
 abbrev pub told_of : List File → List File → List ℕ → Option (List ℕ)
 told_of given put name = option_or (told_in put name) (told_in given name)
 
-abbrev pub files_in : List File → List File → ℕ → ℕ → Files
-files_in given put failed unopened = record { told = told_of given put; failed = failed; unopened = unopened }
+-- it may refuse to open a file that was put later, and refuses one that it doesn't have
+abbrev pub may_refuse_of : List File → List File → List ℕ → Bool
+may_refuse_of given put name = is_some (told_in put name) || is_none (told_in given name)
+
+abbrev pub files_in : List File → List File → ℕ → Files
+files_in given put failed = record { told = told_of given put; may_refuse = may_refuse_of given put; failed = failed }

@@ -4,4 +4,4 @@ use Rattle.rows.specs.Files.{files_in}
 use Rattle.rows.specs.declared.folder.MemoryFolder.{MemoryFolder}
 
 abbrev pub files_held : MemoryFolder → Files
-files_held folder = files_in folder.given.files.now folder.put.items folder.failures folder.unopened
+files_held folder = files_in folder.given.files.now folder.put.items folder.failures

@@ -1,15 +1,14 @@
 //! A folder in memory.
 
-ghost use Rattle.std.specs.Prelude.{◌≡◌, ◌∷◌, ◌++◌, [], OnErr, OnOk, IfSome, Some, string_bytes};
-ghost use Rattle.rows.specs.Files.{files_in, told_of};
+ghost use Rattle.std.specs.Prelude.{◌≡◌, ◌∷◌, ◌++◌, [], OnErr, OnOk, IfNone, IfSome, IsTrue, Some, string_bytes};
+ghost use Rattle.log_file.specs.InMemory.{bytes_left};
+ghost use Rattle.rows.specs.Files.{files_in, may_refuse_of, told_of};
 ghost use Rattle.rows.specs.Held.{files_held};
-ghost use Rattle.rows.specs.Reading.{bytes_left};
 ghost use Rattle.rows.specs.declared.file.File.{File};
 
 use super::file::{File, find};
-use super::source::FileSource;
 use host_files::Folder;
-use log_file::{ReadFailed, Step, WriteFailed};
+use log_file::{MemSource, ReadFailed, Step, WriteFailed};
 use std::alloc::Global;
 
 /// Files by their names, and how the reads of one of them go.
@@ -23,27 +22,25 @@ pub struct Given<'a> {
     pub room: usize,
 }
 
-/// A folder in memory: it tells the bytes of each of its files, and of one that was put those that were put last.
+/// A folder in memory: it tells the bytes of each of its files, and of one that was put those that were put last. What was put in it isn't opened.
 #[derive(Drop)]
 pub struct MemoryFolder<'a> {
     alloc: Global,
     given: Given<'a>,
     put: Vec<File>,
     failures: u64,
-    unopened: u64,
 }
 
 impl<'a> MemoryFolder<'a> {
     /// The folder of these files.
     pub fn new(alloc: Global, given: Given<'a>) -> MemoryFolder<'a>
-        ensures { files_held result ≡ files_in given.entry.files.now [] 0 0 }
+        ensures { files_held result ≡ files_in given.entry.files.now [] 0 }
     {
         MemoryFolder {
             alloc,
             given,
             put: Vec::new(alloc),
             failures: 0,
-            unopened: 0,
         }
     }
 
@@ -55,16 +52,20 @@ impl<'a> MemoryFolder<'a> {
         put
     }
 
-    /// Copies the file of a name, to be read; none where there is no such file or no memory.
-    fn copy(&self, name: &str) -> Option<FileSource<'a>>
-        ensures { IfSome result (λ source. told_of self.now.given.files.now self.now.put.items name.now ≡ Some (bytes_left source)) }
+    /// A source of the file of a name; none where there is no such file, or it was put.
+    fn source(&self, name: &str) -> Option<MemSource<'a>>
+        ensures some { IfSome result (λ source. told_of self.now.given.files.now self.now.put.items name.now ≡ Some (bytes_left source)) }
+        ensures none { IfNone result (IsTrue (may_refuse_of self.now.given.files.now self.now.put.items name.now)) }
     {
-        let file = find(self.put.as_slice(), name).or(find(self.given.files, name))?;
+        if find(self.put.as_slice(), name).is_some() {
+            return None;
+        }
+        let file = find(self.given.files, name)?;
         let steps = match self.given.slow {
             Some((slow, steps)) if slow == name => steps,
             _ => &[],
         };
-        FileSource::new(self.alloc, file.bytes.as_slice(), steps).ok()
+        Some(MemSource::new(file.bytes.as_slice(), steps))
     }
 
     /// Takes a file, where there is room and memory for it.
@@ -74,7 +75,6 @@ impl<'a> MemoryFolder<'a> {
         ensures err { OnErr result (self.new.put.items ≡ self.old.put.items) }
         ensures given { self.new.given ≡ self.old.given }
         ensures failures { self.new.failures ≡ self.old.failures }
-        ensures unopened { self.new.unopened ≡ self.old.unopened }
     {
         if self.put.len() >= self.given.room {
             return Err(WriteFailed);
@@ -92,15 +92,12 @@ impl<'a> MemoryFolder<'a> {
 impl<'a> Folder for MemoryFolder<'a> {
     ghost files = { files_held };
 
-    type Source = FileSource<'a>;
+    type Source = MemSource<'a>;
 
-    fn open_file(&mut self, name: &str) -> Result<FileSource<'a>, ReadFailed> {
-        match self.copy(name) {
+    fn open_file(&mut self, name: &str) -> Result<MemSource<'a>, ReadFailed> {
+        match self.source(name) {
             Some(source) => Ok(source),
-            None => {
-                self.unopened = self.unopened.saturating_add(1);
-                Err(ReadFailed)
-            }
+            None => Err(ReadFailed),
         }
     }
 

@@ -6,7 +6,6 @@ mod file;
 mod folder;
 mod lines;
 mod row;
-mod source;
 mod wanted;
 mod words;
 
@@ -15,6 +14,5 @@ pub use file::{File, find};
 pub use folder::{Given, MemoryFolder};
 pub use lines::{Line, read};
 pub use row::Row;
-pub use source::FileSource;
 pub use wanted::Wanted;
 pub use words::{calls_of, words_of};

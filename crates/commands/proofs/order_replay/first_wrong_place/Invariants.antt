@@ -3,7 +3,7 @@ use Rattle.std.proofs.Common.{◌≡◌, length, take}
 use Rattle.flat_replay.proofs.Replaying.{Replayed}
 use Rattle.flat_replay.specs.Memory.{word_at}
 use Rattle.commands.specs.OrderTexts.{ComeInOrder}
-use Rattle.commands.proofs.order_replay.first_wrong_id.Given as goal
+use Rattle.commands.proofs.order_replay.first_wrong_place.Given as goal
 
 abbrev pub invariant-replaying : goal.invariant-replaying
 invariant-replaying l = record {

@@ -1,17 +1,20 @@
-use Rattle.std.proofs.Common.{◌≡◌, ◌∙◌, ◌<◌, ap, subst, length, slice_index, arith, sym, refl, Some, None, take}
+use Rattle.std.proofs.Common.{rules, ◌≡◌, ◌∙◌, ◌<◌, ap, subst, length, slice_index, arith, sym, refl, Some, None, take, inl, inr}
+use Rattle.std.specs.Bool.{Decides}
 use Rattle.std.specs.Prelude.{slice_get}
+use Rattle.std.proofs.lemmas.Bool.Decides.{Decides-eqb}
 use Rattle.std.proofs.lemmas.List.{get_or_read, length-set, take_more}
 use Rattle.std.proofs.lemmas.Option.{slice_get_read}
+use Rattle.std.proofs.lemmas.Slice.Eq.{slice_eq-Decides}
 use Rattle.mem_op.specs.declared.id.OpId.{OpId}
 use Rattle.mem_op.specs.Consistency.{operation_at}
 use Rattle.flat_replay.specs.Memory.{IsAnsweredBy, word_at}
 use Rattle.flat_replay.proofs.Replaying.{replayed-more}
 use Rattle.flat_replay.proofs.Turns.{within_cores}
 use Rattle.flat_replay.proofs.Memories.{word_at-after}
-use Rattle.commands.specs.OrderTexts.{ComesNext}
-use Rattle.commands.proofs.OrderReplays.{come_more, comes_next, next_answered, next_index, next_there}
-use Rattle.commands.proofs.order_replay.first_wrong_id.Goals as goal
-use Rattle.commands.proofs.order_replay.first_wrong_id.Goals.{then-index-via-then-index, then-index-via-else-index+then-not-answers}
+use Rattle.commands.specs.OrderTexts.{ComeInOrder, ComesNext}
+use Rattle.commands.proofs.OrderReplays.{come_more, comes_next, ended, next_answered, next_index, next_there}
+use Rattle.commands.proofs.order_replay.first_wrong_place.Goals as goal
+use Rattle.commands.proofs.order_replay.first_wrong_place.Goals.{then-index-via-then-index, then-index-via-else-index+then-not-answers}
 
 pub returns-in_default-clause-first : goal.returns-in_default-clause-first
 returns-in_default-clause-first c =
@@ -20,12 +23,12 @@ returns-in_default-clause-first c =
     let place = c.replaying.place in
     let id = c.index-ids-place.result in
     let none : None ≡ operation_at cores id = sym c.in_default.is ∙ c.operation.ensures.found in
-    record {
+    inl (record {
       right = c.replaying.invariant.order;
       id = id;
       there = slice_get_read ids (length ids) place id refl c.replaying-test.true c.index-ids-place.is;
       wrong = next_there cores (take place ids) id none;
-    }
+    })
 
 pub returns-then-index-clause-first : goal.returns-then-index-clause-first
 returns-then-index-clause-first c =
@@ -35,7 +38,7 @@ returns-then-index-clause-first c =
     let id = c.index-ids-place.result in
     let next = c.replaying.next.items in
     let replayed = c.replaying.invariant.replayed in
-    record {
+    inl (record {
       right = c.replaying.invariant.order;
       id = id;
       there = slice_get_read ids (length ids) place id refl c.replaying-test.true c.index-ids-place.is;
@@ -53,7 +56,7 @@ returns-then-index-clause-first c =
                 )
           ]
           );
-    }
+    })
 
 pub index_mut-requires : goal.index_mut-requires
 index_mut-requires c =
@@ -91,3 +94,29 @@ replaying-preserved c =
           (λ x at. (let same : id ≡ x = (let both : Some id ≡ Some x = sym at_place ∙ at in cc) in
           subst (ComesNext cores (take place ids)) same (comes_next cores (take place ids) next memory id c.in-Some.access replayed found turn answered)));
     }
+
+pub returns-then-eq-clause-first : goal.returns-then-eq-clause-first
+returns-then-eq-clause-first c =
+    let cores = c.args.trace.now in
+    let ids = c.args.ids.now in
+    let end : c.replaying.place ≡ length ids = omega arith in
+    let all = ended cores ids c.replaying.place c.replaying.next.items (word_at c.replaying.memory) end c.replaying.invariant.replayed c.replaying.invariant.many in
+    let same : Decides c.eq.result (c.as_slice.result.now ≡ c.as_slice-2.result.now) = slice_eq-Decides Decides-eqb _ _ _ c.eq.ensures in
+    (subst (ComeInOrder cores ids) end c.replaying.invariant.order, all.0 (sym c.as_slice.ensures.value ∙ same.0 c.if-eq.true ∙ c.as_slice-2.ensures.value ∙ c.in_ok-lengths.ensures))
+
+pub returns-clause-first : goal.returns-clause-first
+returns-clause-first c =
+    let cores = c.args.trace.now in
+    let ids = c.args.ids.now in
+    let end : c.replaying.place ≡ length ids = omega arith in
+    let all = ended cores ids c.replaying.place c.replaying.next.items (word_at c.replaying.memory) end c.replaying.invariant.replayed c.replaying.invariant.many in
+    let same : Decides c.eq.result (c.as_slice.result.now ≡ c.as_slice-2.result.now) = slice_eq-Decides Decides-eqb _ _ _ c.eq.ensures in
+    inr (
+      search rules,
+      subst (ComeInOrder cores ids) (search rules) c.replaying.invariant.order,
+      λ sequential. (
+          let isnt = c.if-eq.false in
+          let is = same.1 (c.as_slice.ensures.value ∙ all.1 sequential ∙ sym c.in_ok-lengths.ensures ∙ sym c.as_slice-2.ensures.value) in
+          cc
+          ),
+    )
