@@ -20,6 +20,7 @@ mod Refused
 mod Replays
 mod Runs
 mod Searches
+mod SetCounts
 mod Sources
 mod Tables
 mod ThreadRuns

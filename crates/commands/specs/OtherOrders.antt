@@ -1,5 +1,5 @@
 -- What is told of an order that explains all values, whatever the times say.
-use Rattle.std.specs.Prelude.{◌≡◌, ◌≢◌, ◌≤◌, ◌⊎◌, Bool, false, ℕ, List, [], codes}
+use Rattle.std.specs.Prelude.{◌≡◌, ◌≢◌, ◌<◌, ◌≤◌, ◌⊎◌, Bool, false, ℕ, List, [], codes}
 use Rattle.mem_op.specs.Consistency.{Operation, IsConsistent}
 use Rattle.refutation_text.specs.FirstLines.{IsGrown, operation_count}
 use Rattle.verdict.specs.declared.answer.Verdict.{Verdict}
@@ -15,6 +15,9 @@ none_text = codes "\nno order explains all values:\n"
 abbrev pub undecided_text : List ℕ
 undecided_text = codes "\nwhether another order explains all values isn't decided; search --logs looks longer\n"
 
+abbrev pub unsearched_text : List ℕ
+unsearched_text = codes "\nwhether another order explains all values wasn't searched, for more than 100,000 operations; search --logs searches\n"
+
 -- a text that tells of operations that some order explains their values, that none does and why, or that this isn't decided
 abbrev pub TellsOrder : List (List Operation) → List ℕ → Type 0
 TellsOrder cores text =
@@ -26,13 +29,17 @@ abbrev pub IsWrongByOrder : Verdict → Type 0
 IsWrongByOrder (Yes count) = ⊥
 IsWrongByOrder (No fault) = fault.rule ≢ Program
 
--- another order of these operations is searched: that isn't declined, their set got No by its order, and they are at most 100,000
-pub record IsSearched (is_declined : Bool) (verdict : Verdict) (cores : List (List Operation)) : Type 0 where
+-- another order is asked for: that isn't declined, and the set got No by its order
+pub record IsAskedFor (is_declined : Bool) (verdict : Verdict) : Type 0 where
   pub asked : is_declined ≡ false
   pub wrong : IsWrongByOrder verdict
-  pub few : operation_count cores ≤ 100000
 
--- what is told of another order of these operations, whose set got this verdict: nothing where none is searched
+-- what is told of another order of these operations where one is asked for: whether there is one, where they are at most 100,000
+abbrev pub TellsAsked : List (List Operation) → List ℕ → Type 0
+TellsAsked cores text =
+    ((operation_count cores ≤ 100000) × TellsOrder cores text) ⊎ ((100000 < operation_count cores) × (text ≡ unsearched_text))
+
+-- what is told of another order of these operations, whose set got this verdict: nothing where none is asked for
 abbrev pub TellsOther : Bool → Verdict → List (List Operation) → List ℕ → Type 0
 TellsOther is_declined verdict cores text =
-    (IsSearched is_declined verdict cores × TellsOrder cores text) ⊎ ((¬ (IsSearched is_declined verdict cores)) × (text ≡ []))
+    (IsAskedFor is_declined verdict × TellsAsked cores text) ⊎ ((¬ (IsAskedFor is_declined verdict)) × (text ≡ []))

@@ -6,7 +6,7 @@ ghost use Rattle.log_record.specs.declared.record.Record.{Record};
 ghost use Rattle.commands.specs.OtherOrders.{IsWrongByOrder, TellsOrder, TellsOther};
 ghost use Rattle.commands.specs.inner.ReadLogs.{AreLogsOf};
 
-use super::basis_logs::logs_of;
+use super::basis_logs::{logs_of, records_in};
 use super::log_files::trace_of;
 use refutation::Answer;
 use refutation_text::{count_of, push_argument};
@@ -34,8 +34,12 @@ const NONE: &str = "\nno order explains all values:\n";
 const UNDECIDED: &str =
     "\nwhether another order explains all values isn't decided; search --logs looks longer\n";
 
-/// The last lines of what is told of a set: whether another order explains all values. Nothing of a Yes, of a log that isn't
-/// its program's, and of a set of more than 100,000 operations. A watch is told how far the search is.
+/// What is told of a set that is too large for the search.
+const UNSEARCHED: &str =
+    "\nwhether another order explains all values wasn't searched, for more than 100,000 operations; search --logs searches\n";
+
+/// The last lines of what is told of a set: whether another order explains all values, or that this wasn't searched, for more than 100,000
+/// operations. Nothing of a Yes, and of a log that isn't its program's. A watch is told how far the search is.
 pub(crate) fn other_order<W: SearchWatch>(
     alloc: Global,
     watch: &W,
@@ -49,10 +53,10 @@ pub(crate) fn other_order<W: SearchWatch>(
     if !is_wrong_by_its_order(&examined.verdict) {
         return Ok(String::new(alloc));
     }
-    let trace = trace_of_basis(alloc, &examined.basis, cores)?;
-    if count_of(&trace) > MOST_SEARCHED {
-        return Ok(String::new(alloc));
+    if records_in(&examined.basis) > MOST_SEARCHED {
+        return String::from_str(alloc, UNSEARCHED);
     }
+    let trace = trace_of_basis(alloc, &examined.basis, cores)?;
     whether_another(alloc, watch, &trace)
 }
 
