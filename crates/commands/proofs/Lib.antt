@@ -13,6 +13,7 @@ mod OrderReplays
 mod Orders
 mod OtherOrders
 mod OwnLogs
+mod OwnTraces
 mod Performed
 mod Puts
 mod Readings

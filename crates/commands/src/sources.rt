@@ -97,7 +97,13 @@ fn numbered(logs: &[Vec<Record>], id: OpId, record: &Record) -> Record
         Act::Store => Record::new(store_number(&id), ts, rank, addr, &Act::Store),
         Act::Swap(source, read) => {
             let number = number_read(logs, &source, addr, read);
-            Record::new(store_number(&id), ts, rank, addr, &Act::Swap(source, number))
+            Record::new(
+                store_number(&id),
+                ts,
+                rank,
+                addr,
+                &Act::Swap(source, number),
+            )
         }
     }
 }

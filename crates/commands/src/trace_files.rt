@@ -56,7 +56,10 @@ impl AskedTrace {
 fn shows_states(proof: &Answer) -> bool {
     match proof {
         Answer::Refutation(refutation) => {
-            refutation.steps().iter().any(|step| matches!(step, Step::States { .. }))
+            refutation
+                .steps()
+                .iter()
+                .any(|step| matches!(step, Step::States { .. }))
         }
         Answer::Order(_) | Answer::Undecided => false,
     }
