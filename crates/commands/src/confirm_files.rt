@@ -18,7 +18,7 @@ use super::place::Input;
 use super::refusal::Refusal;
 use super::search_answer::SearchAnswer;
 use super::text::read_text;
-use super::trace_files::{AskedTrace, read_files};
+use super::trace_files::read_files;
 use command_line::{Confirm, TraceFiles};
 use decimal_text::after_text;
 use host_files::Folder;
@@ -51,9 +51,9 @@ pub fn confirm<R: Threads + Sync, F: Folder, O: ByteSink>(
         → TellsTrace (F.files folder.old).told (own_files asked.now.trace) IsConsistent) }
     ensures read { IsOnlyRead (F.files folder.old) (F.files folder.new) }
 {
-    let AskedTrace { trace, .. } = read_files(rt, alloc, folder, &asked.trace)?;
+    let read = read_files(rt, alloc, folder, &asked.trace)?;
     let text = read_certificate(alloc, folder, asked.certificate)?;
-    let answer = look_at(alloc, &asked.trace, &trace, text.as_slice())?;
+    let answer = look_at(alloc, &asked.trace, &read.trace, text.as_slice())?;
     let line = format!(in alloc; "{answer}\n")?;
     write_all(out, line.as_bytes())?;
     Ok(answer)
