@@ -4,14 +4,14 @@ use Rattle.std.specs.Prelude.{◌≡◌, ◌+◌, ◌*◌, ◌==◌, ◌&&◌, �
 use Rattle.std.specs.Option.{option_map_or}
 use Rattle.log_record.specs.Entries.{core_entries, operation_of, operations_of, record_at}
 use Rattle.log_record.specs.declared.act.Act.{Act}
-use Rattle.log_record.specs.declared.act.Act.TheVariants.{Load, Store as Stores, Swap}
+use Rattle.log_record.specs.declared.act.Act.TheVariants.{Load, Store, Swap}
 use Rattle.log_record.specs.declared.record.Entry.{Entry}
 use Rattle.log_record.specs.declared.record.Record.{Record}
 use Rattle.mem_op.specs.Consistency.{Operation, IsSequentialOrder, is_store_to, word_left}
 use Rattle.mem_op.specs.Limits.{operation_limit}
 use Rattle.mem_op.specs.declared.id.OpId.{OpId}
 use Rattle.mem_op.specs.declared.id.Source.{Source}
-use Rattle.mem_op.specs.declared.id.Source.TheVariants.{Init, Store}
+use Rattle.mem_op.specs.declared.id.Source.TheVariants.{Init, Store as From}
 
 -- the number of the store of an id: no other store has it, and none has 0
 abbrev pub store_number : OpId → ℕ
@@ -19,7 +19,7 @@ store_number id = 1 + id.core * operation_limit + id.index
 
 abbrev pub source_number : Source → ℕ
 source_number Init = 0
-source_number (Store id) = store_number id
+source_number (From id) = store_number id
 
 -- a number that no store has
 abbrev pub no_number : ℕ
@@ -32,7 +32,7 @@ stores addr word operation = is_store_to addr operation && (word_left operation 
 -- whether a read of this word at this address may have it from a source: the initial 0, or an operation of the set that stored it there
 abbrev pub may_give : List (List Record) → Source → ℕ → ℕ → Bool
 may_give logs Init addr word = word == 0
-may_give logs (Store id) addr word = option_map_or (λ r. stores addr word (operation_of r)) (record_at logs id) false
+may_give logs (From id) addr word = option_map_or (λ r. stores addr word (operation_of r)) (record_at logs id) false
 
 -- the number that a read of this word gets: that of its source, where it may have the word from there
 abbrev pub number_read : List (List Record) → Source → ℕ → ℕ → ℕ
@@ -41,7 +41,7 @@ number_read logs source addr word = if may_give logs source addr word then sourc
 -- a record of the set with numbers in place of its words
 abbrev pub numbered_by : List (List Record) → OpId → Record → Act → Record
 numbered_by logs id r (Load source) = record r { value = number_read logs source r.addr r.value; act = Load source }
-numbered_by logs id r Stores = record r { value = store_number id; act = Stores }
+numbered_by logs id r Store = record r { value = store_number id; act = Store }
 numbered_by logs id r (Swap source read) = record r { value = store_number id; act = Swap source (number_read logs source r.addr read) }
 
 abbrev pub numbered : List (List Record) → Entry → Record

@@ -45,12 +45,12 @@ fn record_at(logs: &[Vec<Record>], id: &OpId) -> Option<Record>
 }
 
 /// Whether a record stores this word to this address.
-fn stores(record: &Record, addr: Addr, word: Word) -> bool
-    ensures { result ≡ sources.stores addr word (operation_of record.now) }
+fn stores(logged: &Record, addr: Addr, word: Word) -> bool
+    ensures { result ≡ sources.stores addr word (operation_of logged.now) }
 {
-    match record.act() {
+    match logged.act() {
         Act::Load(_) => false,
-        Act::Store | Act::Swap(..) => record.addr == addr && record.value == word,
+        Act::Store | Act::Swap(..) => logged.addr == addr && logged.value == word,
     }
 }
 
@@ -61,7 +61,7 @@ fn may_give(logs: &[Vec<Record>], source: &Source, addr: Addr, word: Word) -> bo
     match source {
         Source::Init => word == 0,
         Source::Store(id) => match record_at(logs, id) {
-            Some(record) => stores(&record, addr, word),
+            Some(logged) => stores(&logged, addr, word),
             None => false,
         },
     }
@@ -78,18 +78,18 @@ fn number_read(logs: &[Vec<Record>], source: &Source, addr: Addr, word: Word) ->
     }
 }
 
-/// A record of the logs with numbers in place of its words.
-fn numbered(logs: &[Vec<Record>], id: OpId, record: &Record) -> Record
-    ensures { result ≡ sources.numbered_by (record_lists logs.now) id record.now record.now.act }
+/// A record with another word and another act.
+fn with_number(logged: &Record, value: Word, act: &Act) -> Record
+    ensures { result ≡ record logged.now { value = value; act = act.now } }
 {
-    let Record {
-        value,
-        ts,
-        rank,
-        addr,
-        ..
-    } = *record;
-    match record.act() {
+    Record::new(value, logged.ts, logged.rank, logged.addr, act)
+}
+
+/// A record of the logs with numbers in place of its words.
+fn numbered(logs: &[Vec<Record>], id: OpId, logged: &Record) -> Record
+    ensures { result ≡ sources.numbered_by (record_lists logs.now) id logged.now logged.now.act }
+{
+    match logged.act() {
         Act::Load(source) => {
             let number = number_read(logs, &source, addr, value);
             Record::new(number, ts, rank, addr, &Act::Load(source))
@@ -120,9 +120,9 @@ fn numbered_log(
         ≡ map (sources.numbered (record_lists logs.now)) (core_entries core 0 log.now)) }
 {
     let mut made = Vec::with_capacity(alloc, log.len())?;
-    for (i, record) in log.iter().enumerate() {
+    for (i, logged) in log.iter().enumerate() {
         let index = OpIndex::at(i);
-        made.push(numbered(logs, OpId { core, index }, record))?;
+        made.push(numbered(logs, OpId { core, index }, logged))?;
     }
     Ok(made)
 }

@@ -46,8 +46,14 @@ impl AskedTrace {
     /// The trace by which a proof is told: the one with the words, but where states are shown, which have those of the trace.
     pub(crate) fn told(&self, proof: &Answer) -> &Trace {
         match &self.worded {
-            Some(worded) if !shows_states(proof) => worded,
-            _ => &self.trace,
+            Some(worded) => {
+                if shows_states(proof) {
+                    &self.trace
+                } else {
+                    worded
+                }
+            }
+            None => &self.trace,
         }
     }
 }
