@@ -118,15 +118,15 @@ number_of logs id r = operation_of (numbered logs (at id r))
 pub numbered_at : (logs : List (List Record)) (id : OpId) → record_at (numbered_from logs 0 logs) id ≡ option_map (λ r. numbered logs (at id r)) (record_at logs id)
 numbered_at logs id = ap (option_and_then (λ log. slice_get log id.index)) (log_at logs 0 logs id.core) ∙ go (slice_get logs id.core)
   where
+    of_record : (o : Option Record) → option_map (numbered logs) (option_map (λ r. at (record { core = 0 + id.core; index = 0 + id.index }) r) o) ≡ option_map (λ r. numbered logs (at id r)) o
+    of_record None = refl
+    of_record (Some r) = ap (λ (i : OpId). Some (numbered logs (at i r))) (same_id (record { core = 0 + id.core; index = 0 + id.index }) id (omega arith) (omega arith))
+
     go : (o : Option (List Record)) → option_and_then (λ log. slice_get log id.index) (option_map (λ log. map (numbered logs) (core_entries (0 + id.core) 0 log)) o)
         ≡ option_map (λ r. numbered logs (at id r)) (option_and_then (λ log. slice_get log id.index) o)
     go None = refl
     go (Some log) =
         slice_get-map (numbered logs) (core_entries (0 + id.core) 0 log) id.index ∙ ap (option_map (numbered logs)) (entry_at (0 + id.core) 0 log id.index) ∙ of_record (slice_get log id.index)
-
-    of_record : (o : Option Record) → option_map (numbered logs) (option_map (λ r. at (record { core = 0 + id.core; index = 0 + id.index }) r) o) ≡ option_map (λ r. numbered logs (at id r)) o
-    of_record None = refl
-    of_record (Some r) = ap (λ (i : OpId). Some (numbered logs (at i r))) (same_id (record { core = 0 + id.core; index = 0 + id.index }) id (omega arith) (omega arith))
 
 number_at : (logs : List (List Record)) (id : OpId) → operation_at (sourced_operations logs) id ≡ option_map (number_of logs id) (record_at logs id)
 number_at logs id = operation_at-operations_of (numbered_from logs 0 logs) id ∙ ap (option_map operation_of) (numbered_at logs id) ∙ go (record_at logs id)
