@@ -7,8 +7,9 @@ use Rattle.std.proofs.lemmas.List.FromFn.{length-range_with_len}
 use Rattle.std.proofs.lemmas.List.Sums.{sum_by-cons}
 use Rattle.std.proofs.lemmas.Option.{none-some}
 use Rattle.mem_op.specs.declared.id.OpId.{OpId}
-use Rattle.mem_op.specs.Consistency.{Operation, Loaded, Stored, Swapped, last_value, operation_at}
+use Rattle.mem_op.specs.Consistency.{Operation, last_value, operation_at}
 use Rattle.flat_replay.specs.Memory.{IsAnsweredBy}
+use Rattle.flat_replay.proofs.Flat.{answered}
 use Rattle.flat_replay.proofs.Replaying.{Replayed, done}
 use Rattle.flat_replay.proofs.Turns.{InTurn, indices}
 use Rattle.log_record.proofs.EntryFacts.{one_if}
@@ -32,19 +33,13 @@ turn_is next core ids turn = count_is core ids ∙ ap length (turn core) ∙ len
 
 -- ---- the next id
 
--- an operation finds the same in memories that are alike
-alike : (y : Operation) (m n : ℕ → ℕ) → ((addr : ℕ) → m addr ≡ n addr) → IsAnsweredBy m y → IsAnsweredBy n y
-alike (Loaded a v) m n same h = h ∙ same a
-alike (Stored a v) m n same h = tt
-alike (Swapped a r v) m n same h = h ∙ same a
-
 pub comes_next : (cores : List (List Operation)) (ids : List OpId) (next : List ℕ) (memory : ℕ → ℕ) (id : OpId) (y : Operation) → Replayed cores ids next memory
     → Some y ≡ operation_at cores id → id.index ≡ slice_index next id.core → IsAnsweredBy memory y → ComesNext cores ids id
 comes_next cores ids next memory id y h there turn answers = record {
   operation = y;
   there = sym there;
   in_turn = turn_is (slice_index next) id.core ids h.turn ∙ sym turn;
-  answered = alike y memory (λ addr. last_value addr (done cores ids)) h.words answers;
+  answered = answered y memory (λ addr. last_value addr (done cores ids)) h.words answers;
 }
 
 pub next_index : (cores : List (List Operation)) (ids : List OpId) (next : List ℕ) (memory : ℕ → ℕ) (id : OpId) → Replayed cores ids next memory
@@ -55,7 +50,7 @@ pub next_answered : (cores : List (List Operation)) (ids : List OpId) (next : Li
     → Some y ≡ operation_at cores id → ComesNext cores ids id → IsAnsweredBy memory y
 next_answered cores ids next memory id y h there comes =
     let same : comes.operation ≡ y = (let both : Some comes.operation ≡ Some y = sym comes.there ∙ sym there in cc) in
-    subst (IsAnsweredBy memory) same (alike comes.operation (λ addr. last_value addr (done cores ids)) memory (λ addr. sym (h.words addr)) comes.answered)
+    subst (IsAnsweredBy memory) same (answered comes.operation (λ addr. last_value addr (done cores ids)) memory (λ addr. sym (h.words addr)) comes.answered)
 
 pub next_there : (cores : List (List Operation)) (ids : List OpId) (id : OpId) → None ≡ operation_at cores id → ComesNext cores ids id → ⊥
 next_there cores ids id none comes = none-some comes.operation (none ∙ comes.there)

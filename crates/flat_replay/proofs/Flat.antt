@@ -14,6 +14,12 @@ last_value-push addr xs y = ap (λ l. value_or_zero (find (is_store_to addr) l))
 pub after_is : (y : Operation) (memory : ℕ → ℕ) (before : List Operation) (addr : ℕ) → memory addr ≡ last_value addr before → after y memory addr ≡ last_value addr (before ++ y ∷ [])
 after_is y memory before addr h = let pushed = last_value-push addr before y in grind arith
 
+-- an operation finds the same in memories that are alike
+pub answered : (y : Operation) (m n : ℕ → ℕ) → ((addr : ℕ) → m addr ≡ n addr) → IsAnsweredBy m y → IsAnsweredBy n y
+answered (Loaded a v) m n same h = h ∙ same a
+answered (Stored a v) m n same h = tt
+answered (Swapped a r v) m n same h = h ∙ same a
+
 -- an operation behind these has its flat answer
 abbrev pub IsAnsweredBehind : List Operation → Operation → Type 0
 IsAnsweredBehind before y = IsAnsweredBy (λ addr. last_value addr before) y

@@ -8,11 +8,11 @@ use Rattle.std.proofs.lemmas.List.Elements.{filter_map-append}
 use Rattle.std.proofs.lemmas.List.FromFn.{length-range_with_len}
 use Rattle.std.proofs.lemmas.Option.{none-some, slice_get-get_or}
 use Rattle.mem_op.specs.declared.id.OpId.{OpId}
-use Rattle.mem_op.specs.Consistency.{Operation, Loaded, Stored, Swapped, operation_at, last_value, GivesFlatAnswers, IsSequentialOrder}
+use Rattle.mem_op.specs.Consistency.{Operation, Stored, operation_at, last_value, GivesFlatAnswers, IsSequentialOrder}
 use Rattle.line_stamps.proofs.Ordered.{In-append_right}
 use Rattle.flat_replay.specs.Accesses.{own_operations}
 use Rattle.flat_replay.specs.Memory.{IsAnsweredBy, after}
-use Rattle.flat_replay.proofs.Flat.{after_is, flat_at_middle, flat_push}
+use Rattle.flat_replay.proofs.Flat.{after_is, answered, flat_at_middle, flat_push}
 use Rattle.flat_replay.proofs.Turns.{InTurn, number_of, at_core, index_below, in_turn, from_turn, is_next, in_turn-more}
 
 abbrev pub done : List (List Operation) → List OpId → List Operation
@@ -28,12 +28,6 @@ done-append : (cores : List (List Operation)) (before : List OpId) (id : OpId) (
     → done cores (before ++ id ∷ rest) ≡ done cores before ++ y ∷ done cores rest
 done-append cores before id rest y there =
     filter_map-append (operation_at cores) before (id ∷ rest) ∙ ap (λ o. done cores before ++ cons_option o (done cores rest)) (sym there)
-
--- an operation finds the same in memories that are alike
-answered : (y : Operation) (m n : ℕ → ℕ) → ((addr : ℕ) → m addr ≡ n addr) → IsAnsweredBy m y → IsAnsweredBy n y
-answered (Loaded a v) m n same h = h ∙ same a
-answered (Stored a v) m n same h = tt
-answered (Swapped a r v) m n same h = h ∙ same a
 
 -- an id that is its core's next, and whose operation finds what it may
 pub replayed-more : (cores : List (List Operation)) (ids : List OpId) (next : List ℕ) (m n : ℕ → ℕ) (id : OpId) (y : Operation) → Replayed cores ids next m

@@ -1,6 +1,10 @@
 -- One memory of words, all 0 at first: what operations find in it and leave.
-use Rattle.std.specs.Prelude.{◌≡◌, ℕ, ◌==◌, if◌then◌else◌}
+use Rattle.std.specs.Prelude.{◌≡◌, ℕ, ◌==◌, if◌then◌else◌, Option}
+use Rattle.std.specs.Option.{option_map_or}
+use Rattle.std.specs.Ordering.{nat_cmp}
+use Rattle.std.specs.BTreeMap.{get}
 use Rattle.mem_op.specs.Consistency.{Operation, Loaded, Stored, Swapped}
+use Rattle.flat_replay.specs.declared.memory.Memory.{Memory}
 
 -- a load answers the word of its address, and so does a swap by what it reads
 abbrev pub IsAnsweredBy : (ℕ → ℕ) → Operation → Type 0
@@ -13,3 +17,14 @@ abbrev pub after : Operation → (ℕ → ℕ) → ℕ → ℕ
 after (Loaded a value) memory addr = memory addr
 after (Stored a value) memory addr = if a == addr then value else memory addr
 after (Swapped a read stored) memory addr = if a == addr then stored else memory addr
+
+-- the word of the last store to an address, and which store it is
+abbrev pub last_at : {I : Type 0} → Memory I → ℕ → Option (ℕ × I)
+last_at memory addr = get nat_cmp memory.stores addr
+
+-- the word that stands at an address after its last store: 0, where there is none
+abbrev pub word_after : {I : Type 0} → Option (ℕ × I) → ℕ
+word_after {I} last = option_map_or (λ (stored : ℕ × I). stored.0) last 0
+
+abbrev pub word_at : {I : Type 0} → Memory I → ℕ → ℕ
+word_at memory addr = word_after (last_at memory addr)

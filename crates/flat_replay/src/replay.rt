@@ -2,14 +2,11 @@
 
 ghost use Rattle.std.specs.Prelude.{◌≡◌, ℕ, ◌↔◌, IsTrue, IfOk, slice_index, vec_len};
 ghost use Rattle.mem_op.specs.Consistency.{IsSequentialOrder};
-ghost use Rattle.flat_replay.specs.Memory.{IsAnsweredBy};
-ghost use Rattle.flat_replay.specs.inner.Words.{word_at};
 
-use super::access::{Access, Address};
+use super::memory::Memory;
 use super::operations::Operations;
-use mem_op::{OpId, Word};
+use mem_op::OpId;
 use std::alloc::{AllocError, Global};
-use std::collections::BTreeMap;
 
 /// Whether the list is a serial order of the operations that keeps program order, and in which each load's word, and
 /// the word that each swap read, is that of the last earlier store to its address, or 0. Err where memory was refused.
@@ -23,19 +20,18 @@ pub fn replays<T: Operations>(
 {
     let lengths = operations.lengths(alloc)?;
     let mut next = zeros(alloc, lengths.len())?;
-    let mut memory = BTreeMap::new(alloc);
+    let mut memory = Memory::new(alloc);
     for id in order {
         let Some(access) = operations.operation(id) else {
             return Ok(false);
         };
         let core = id.core.get() as usize;
         let index = id.index.get();
-        if index != next[core] || !is_answered(&memory, &access) {
+        if index != next[core] || !memory.answers(&access) {
             return Ok(false);
         }
         next[core] = index + 1;
-        // A load leaves the word that it read.
-        memory.insert(access.addr(), access.word_left())?;
+        memory.perform(&access, ())?;
     }
     Ok(next.as_slice() == lengths.as_slice())
 }
@@ -46,14 +42,4 @@ fn zeros(alloc: Global, length: usize) -> Result<Vec<u64>, AllocError>
     ensures zero { IfOk result (λ v. (k : ℕ) → slice_index v.items k ≡ 0) }
 {
     vec![in alloc; 0; length]
-}
-
-/// Whether an operation may find the word that the memory has at its address: a load or a swap reads it.
-fn is_answered(memory: &BTreeMap<Address, Word>, access: &Access) -> bool
-    ensures { IsTrue result ↔ IsAnsweredBy (word_at memory.now) access.now }
-{
-    match access.read() {
-        Some(read) => read == memory.get(&access.addr()).copied().unwrap_or(0),
-        None => true,
-    }
 }

@@ -4,7 +4,8 @@ use Rattle.std.specs.Option.{option_map}
 use Rattle.std.proofs.Common.{sym, ◌∙◌, ap}
 use Rattle.std.proofs.lemmas.List.{map-append, reverse-append}
 use Rattle.mem_op.specs.Consistency.{Operation, is_store_to, value_or_zero, last_value}
-use Rattle.trace_replay.specs.States.{last_store, stored_by, word_after}
+use Rattle.flat_replay.specs.Memory.{word_after}
+use Rattle.trace_replay.specs.States.{last_store, stored_by}
 use Rattle.trace_replay.specs.Steps.{Step, operations}
 
 -- one step more

@@ -16,7 +16,7 @@ use Rattle.trace.proofs.OneFault.{says_there, AreOneOr, one_or}
 use Rattle.trace.proofs.OneTrace.{says_once}
 use Rattle.trace_replay.specs.Answers.{StandInOrder, IsReplayed, StopsAt, IsWrongAt, IsBadAt, IsVerdict, IsFault}
 use Rattle.trace_replay.specs.Laws.{AtMostOneAnswer}
-use Rattle.trace_replay.specs.Parts.{StoredParts, WrongParts}
+use Rattle.trace_replay.specs.Parts.{WrongParts}
 use Rattle.trace_replay.specs.States.{IsWrong, last_store, counted}
 use Rattle.trace_replay.specs.Steps.{Step, next_step, operations, order_of, with_said, steps_of, AreCountedAfter, AreInOrder}
 use Rattle.trace_replay.specs.declared.fault.ReplayFault.TheVariants.{BadTraceLine}
@@ -100,7 +100,7 @@ at_one bytes P Q p q a b = go (one_or a.earlier b.earlier a.later b.later a.line
 
 -- ---- one wrong load
 
-abbrev with_parts : IdParts → ℕ → ℕ → Option StoredParts → WrongParts
+abbrev with_parts : IdParts → ℕ → ℕ → Option (ℕ × IdParts) → WrongParts
 with_parts id addr read last = record { id = id; addr = addr; read = read; last = last }
 
 told_once : (steps : List Step) (core : ℕ) (operation : Operation) (v w : WrongParts) → IsWrong steps core operation v → IsWrong steps core operation w → v ≡ w

@@ -1,13 +1,12 @@
 -- What a state of a replay stands for, and what is told of a load that may not come next.
-use Rattle.std.specs.Prelude.{◌≡◌, ◌≢◌, ℕ, ◌-◌, ◌<◌, ◌^◌, min, List, [], ◌∷◌, ◌++◌, Option, None, Some, length, count_by, find, reverse, slice_index}
+use Rattle.std.specs.Prelude.{◌≡◌, ◌≢◌, ℕ, ◌-◌, ◌<◌, ◌^◌, min, List, [], ◌∷◌, ◌++◌, Option, Some, length, count_by, find, reverse, slice_index}
 use Rattle.std.specs.Option.{option_map}
-use Rattle.std.specs.Ordering.{nat_cmp}
-use Rattle.std.specs.BTreeMap.{get}
 use Rattle.mem_op.specs.Consistency.{Operation, is_store_to, word_left}
 use Rattle.mem_op.specs.Parts.{IdParts}
 use Rattle.mem_op.specs.declared.id.OpId.{OpId}
 use Rattle.flat_replay.specs.Accesses.{address_of, word_read}
-use Rattle.trace_replay.specs.Parts.{StoredParts, WrongParts}
+use Rattle.flat_replay.specs.Memory.{last_at, word_after}
+use Rattle.trace_replay.specs.Parts.{WrongParts}
 use Rattle.trace_replay.specs.Steps.{Step, is_of_core, next_step, AreCountedAfter, AreInOrder}
 use Rattle.trace_replay.specs.declared.replayer.Replayer.{Replayer}
 
@@ -18,18 +17,13 @@ counted n = min n (2 ^ 64 - 1)
 abbrev pub counted_id : OpId → IdParts
 counted_id id = record { core = id.core; index = counted id.index }
 
--- the store that a step is
-abbrev pub stored_by : Step → StoredParts
-stored_by step = record { word = word_left step.operation; id = counted_id step.id }
+-- the word that a step stored, and which operation it is
+abbrev pub stored_by : Step → ℕ × IdParts
+stored_by step = (word_left step.operation, counted_id step.id)
 
 -- the last store to an address
-abbrev pub last_store : ℕ → List Step → Option StoredParts
+abbrev pub last_store : ℕ → List Step → Option (ℕ × IdParts)
 last_store addr steps = option_map stored_by (find (λ step. is_store_to addr step.operation) (reverse steps))
-
--- the word that stands at an address after its last store
-abbrev pub word_after : Option StoredParts → ℕ
-word_after None = 0
-word_after (Some stored) = stored.word
 
 -- the steps were performed, in a sequential order of theirs, and the memory and the numbers are those after them
 pub record StandsFor (replayer : Replayer) (steps : List Step) : Type 0 where
@@ -37,7 +31,7 @@ pub record StandsFor (replayer : Replayer) (steps : List Step) : Type 0 where
   pub order : AreInOrder steps
   pub cores : length replayer.counts ≡ 64
   pub counts : (core : ℕ) → core < 64 → slice_index replayer.counts core ≡ counted (count_by (is_of_core core) steps)
-  pub memory : (addr : ℕ) → get nat_cmp replayer.memory addr ≡ last_store addr steps
+  pub memory : (addr : ℕ) → last_at replayer.memory addr ≡ last_store addr steps
   pub count : replayer.count ≡ counted (length steps)
 
 -- after these steps an operation of a core isn't in a sequential order: what is told of it

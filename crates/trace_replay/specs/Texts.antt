@@ -2,9 +2,10 @@
 use Rattle.std.specs.Prelude.{ℕ, List, ◌++◌, Option, None, Some, codes}
 use Rattle.std.specs.Fmt.{decimal}
 use Rattle.mem_op.specs.Names.{name_text}
+use Rattle.mem_op.specs.Parts.{IdParts}
 use Rattle.mem_op.specs.Texts.{id_text}
 use Rattle.mem_op.specs.declared.fault_name.FaultName.TheVariants as named
-use Rattle.trace_replay.specs.Parts.{StoredParts, WrongParts}
+use Rattle.trace_replay.specs.Parts.{WrongParts}
 use Rattle.trace_replay.specs.declared.fault.ReplayFault.{ReplayFault}
 use Rattle.trace_replay.specs.declared.fault.ReplayFault.TheVariants.{BadTraceLine, OutOfMemory, Read}
 use Rattle.trace_replay.specs.declared.verdict.ReplayVerdict.{ReplayVerdict}
@@ -19,9 +20,9 @@ verdict_status (Yes count) = 0
 verdict_status (No wrong) = 1
 
 -- what stood at an address, and who stored it
-abbrev pub last_text : Option StoredParts → List ℕ
+abbrev pub last_text : Option (ℕ × IdParts) → List ℕ
 last_text None = codes "nothing was stored yet, so that it should have read 0"
-last_text (Some stored) = id_text stored.id ++ (codes " had stored " ++ (decimal stored.word ++ codes " last"))
+last_text (Some (word, id)) = id_text id ++ (codes " had stored " ++ (decimal word ++ codes " last"))
 
 -- what a load or a swap read, and what it should have read
 abbrev pub wrong_text : WrongParts → List ℕ

@@ -1,3 +1,3 @@
 -- Definitions that serve private contracts alone.
 pub mod Feeding
-pub mod Words
+pub mod Wrong

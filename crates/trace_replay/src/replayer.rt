@@ -1,38 +1,24 @@
 //! Operations performed one after another on one memory.
 
 ghost use Rattle.std.specs.Prelude.{◌≡◌, ◌≢◌, ◌<◌, ◌++◌, ◌∷◌, [], List, Some, IfOk, IfSome, MatchOption, MatchResult, length};
-ghost use Rattle.std.specs.Ordering.{nat_cmp};
-ghost use Rattle.std.specs.BTreeMap.{get};
-ghost use Rattle.flat_replay.specs.Memory.{IsAnsweredBy};
+ghost use Rattle.flat_replay.specs.Memory.{IsAnsweredBy, word_at};
 ghost use Rattle.trace_replay.specs.Steps.{Step, next_step};
-ghost use Rattle.trace_replay.specs.States.{IsWrong, StandsFor, counted, word_after};
-ghost use Rattle.trace_replay.specs.inner.Words.{IsWrongIn, words_in};
+ghost use Rattle.trace_replay.specs.States.{IsWrong, StandsFor, counted};
+ghost use Rattle.trace_replay.specs.inner.Wrong.{IsWrongIn};
 
 use super::step_id::StepId;
-use super::stored::Stored;
 use super::wrong_load::WrongLoad;
-use flat_replay::{Access, Address};
-use mem_op::{CoreId, Word};
+use flat_replay::{Access, Memory};
+use mem_op::CoreId;
 use std::alloc::{AllocError, Global};
-use std::collections::BTreeMap;
-
-/// The word that stands at an address after its last store.
-fn word_after(last: &Option<Stored>) -> Word
-    ensures { result ≡ word_after last.now }
-{
-    match last {
-        Some(stored) => stored.word,
-        None => 0,
-    }
-}
 
 /// What cores have performed, each operation on the memory that those before it left.
 #[derive(Drop)]
 pub struct Replayer {
     /// How many operations each core has performed.
     counts: [u64; 64],
-    /// The last store to each address.
-    memory: BTreeMap<Address, Stored>,
+    /// What they left.
+    memory: Memory<StepId>,
     /// How many operations were performed.
     count: u64,
 }
@@ -44,7 +30,7 @@ impl Replayer {
     {
         Replayer {
             counts: [0; 64],
-            memory: BTreeMap::new(alloc),
+            memory: Memory::new(alloc),
             count: 0,
         }
     }
@@ -67,20 +53,19 @@ impl Replayer {
     /// What is told of the operation of this id if it may not come next.
     fn wrong_load(&self, id: StepId, access: &Access) -> Option<WrongLoad>
         ensures { MatchOption result
-            (IsAnsweredBy (words_in self.now.memory) access.now)
+            (IsAnsweredBy (word_at self.now.memory) access.now)
             (IsWrongIn self.now.memory id access.now) }
     {
         let read = access.read()?;
-        let addr = access.addr();
-        let last = self.memory.get(&addr).copied();
-        if read == word_after(&last) {
+        if self.memory.answers(access) {
             return None;
         }
+        let addr = access.addr();
         Some(WrongLoad {
             id,
             addr,
             read,
-            last,
+            last: self.memory.last(addr),
         })
     }
 
@@ -101,11 +86,7 @@ impl Replayer {
         if let Some(wrong) = self.wrong_load(id, access) {
             return Ok(Some(wrong));
         }
-        let addr = access.addr();
-        if access.is_store_to(addr) {
-            let word = access.word_left();
-            self.memory.insert(addr, Stored { word, id })?;
-        }
+        self.memory.perform(access, id)?;
         self.counts[place] = index.saturating_add(1);
         self.count = self.count.saturating_add(1);
         Ok(None)

@@ -1,7 +1,6 @@
 //! Loads that didn't read the last store to their address.
 
 use super::step_id::StepId;
-use super::stored::Stored;
 use flat_replay::Address;
 use mem_op::Word;
 use std::fmt;
@@ -17,8 +16,9 @@ pub struct WrongLoad {
     pub addr: Address,
     /// The word that it read.
     pub read: Word,
-    /// The last store to the address before it, whose word it should have read; where there is none, the initial 0.
-    pub last: Option<Stored>,
+    /// The word of the last store to the address before it, which it should have read, and which store that is; where there is
+    /// none, it should have read the initial 0.
+    pub last: Option<(Word, StepId)>,
 }
 
 impl Model for WrongLoad {
@@ -34,7 +34,7 @@ impl Model for WrongLoad {
 /// What stood at an address, and who stored it.
 #[derive(Drop)]
 struct Last {
-    stored: Option<Stored>,
+    stored: Option<(Word, StepId)>,
 }
 
 impl Display for Last {
@@ -46,7 +46,7 @@ impl Display for Last {
     fn fmt<W: fmt::Write>(&self, f: &mut fmt::Formatter<W>) -> fmt::Result {
         match &self.stored {
             None => write!(f, "nothing was stored yet, so that it should have read 0"),
-            Some(stored) => write!(f, "{} had stored {} last", stored.id, stored.word),
+            Some((word, id)) => write!(f, "{id} had stored {word} last"),
         }
     }
 }

@@ -4,15 +4,14 @@ use Rattle.std.proofs.lemmas.List.{get_or_read, length-set, take_more}
 use Rattle.std.proofs.lemmas.Option.{slice_get_read}
 use Rattle.mem_op.specs.declared.id.OpId.{OpId}
 use Rattle.mem_op.specs.Consistency.{operation_at}
-use Rattle.flat_replay.specs.Memory.{IsAnsweredBy}
-use Rattle.flat_replay.specs.inner.Words.{word_at}
+use Rattle.flat_replay.specs.Memory.{IsAnsweredBy, word_at}
 use Rattle.flat_replay.proofs.Replaying.{replayed-more}
 use Rattle.flat_replay.proofs.Turns.{within_cores}
-use Rattle.flat_replay.proofs.Words.{word_at-after}
+use Rattle.flat_replay.proofs.Memories.{word_at-after}
 use Rattle.commands.specs.OrderTexts.{ComesNext}
 use Rattle.commands.proofs.OrderReplays.{come_more, comes_next, next_answered, next_index, next_there}
 use Rattle.commands.proofs.order_replay.first_wrong_id.Goals as goal
-use Rattle.commands.proofs.order_replay.first_wrong_id.Goals.{then-index-via-then-index, then-index-via-else-index+then-not-is_answered}
+use Rattle.commands.proofs.order_replay.first_wrong_id.Goals.{then-index-via-then-index, then-index-via-else-index+then-not-answers}
 
 pub returns-in_default-clause-first : goal.returns-in_default-clause-first
 returns-in_default-clause-first c =
@@ -47,9 +46,9 @@ returns-then-index-clause-first c =
           let index_is = c.get-index.ensures.value ∙ ap (λ (x : OpId). x.index) c.id.view_is in
           elim c.then-index.branch [
             | then-index-via-then-index w ↦ (let read = get_or_read next c.get-core.result c.index.result.now (omega arith) c.index.ensures 0 in let turn = next_index cores (take place ids) next (word_at c.replaying.memory) id replayed comes in w.if-index.true cc)
-            | then-index-via-else-index+then-not-is_answered w ↦ (
-                let answered = w.is_answered.ensures.1 (next_answered cores (take place ids) next (word_at c.replaying.memory) id c.in-Some.access replayed c.in-Some.ensures.found comes) in
-                let isnt = w.if-not-is_answered.true in
+            | then-index-via-else-index+then-not-answers w ↦ (
+                let answered = w.answers.ensures.1 (next_answered cores (take place ids) next (word_at c.replaying.memory) id c.in-Some.access replayed c.in-Some.ensures.found comes) in
+                let isnt = w.if-not-answers.true in
                 cc
                 )
           ]
@@ -81,12 +80,12 @@ replaying-preserved c =
     let index_is = c.get-index.ensures.value ∙ ap (λ (x : OpId). x.index) c.id.view_is in
     let read = get_or_read next c.get-core.result c.index.result.now (omega arith) c.index.ensures 0 in
     let turn : id.index ≡ slice_index next id.core = cc in
-    let answered : IsAnsweredBy memory c.in-Some.access = c.is_answered.ensures.0 c.if-not-is_answered.false in
+    let answered : IsAnsweredBy memory c.in-Some.access = c.answers.ensures.0 c.if-not-answers.false in
     let at_place : slice_get ids place ≡ Some id = slice_get_read ids (length ids) place id refl c.replaying-test.true c.index-ids-place.is in
     record {
       replayed = rw (core_is, index_is, take_more ids place id c.replaying-test.true, sym c.index-ids-place.is)
-          (replayed-more cores _ next memory (word_at c.insert.new.self) id c.in-Some.access replayed found (omega arith) turn answered
-          (word_at-after c.in-Some.access c.replaying.memory c.insert.new.self (rw (← c.addr.ensures, ← c.word_left.ensures) c.in_ok-insert.ensures.updates) answered));
+          (replayed-more cores _ next memory (word_at c.perform.new.self) id c.in-Some.access replayed found (omega arith) turn answered
+          (word_at-after c.in-Some.access c.replaying.memory c.perform.new.self tt c.in_ok-perform.ensures.stored));
       many = length-set _ _ _ ∙ c.replaying.invariant.many;
       order = come_more cores ids place c.replaying.invariant.order
           (λ x at. (let same : id ≡ x = (let both : Some id ≡ Some x = sym at_place ∙ at in cc) in

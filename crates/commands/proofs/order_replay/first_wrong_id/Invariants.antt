@@ -1,7 +1,7 @@
 -- The ids so far come one after the other.
 use Rattle.std.proofs.Common.{◌≡◌, length, take}
-use Rattle.flat_replay.specs.inner.Words.{word_at}
 use Rattle.flat_replay.proofs.Replaying.{Replayed}
+use Rattle.flat_replay.specs.Memory.{word_at}
 use Rattle.commands.specs.OrderTexts.{ComeInOrder}
 use Rattle.commands.proofs.order_replay.first_wrong_id.Given as goal
 

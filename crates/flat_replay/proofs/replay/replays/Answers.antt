@@ -4,13 +4,12 @@ use Rattle.std.proofs.lemmas.Bool.Decides.{Decides-eqb, Decides-like}
 use Rattle.std.proofs.lemmas.List.{get_or_read, length-set, take_all, take_more}
 use Rattle.std.proofs.lemmas.Slice.Eq.{slice_eq-Decides}
 use Rattle.mem_op.specs.declared.id.OpId.{OpId}
-use Rattle.flat_replay.specs.Memory.{IsAnsweredBy}
-use Rattle.flat_replay.specs.inner.Words.{word_at}
+use Rattle.flat_replay.specs.Memory.{IsAnsweredBy, word_at}
 use Rattle.flat_replay.proofs.Replaying.{Replayed, replayed-more, replayed-next, replayed-all}
 use Rattle.flat_replay.proofs.Turns.{within_cores}
-use Rattle.flat_replay.proofs.Words.{word_at-after}
+use Rattle.flat_replay.proofs.Memories.{word_at-after}
 use Rattle.flat_replay.proofs.replay.replays.Goals as goal
-use Rattle.flat_replay.proofs.replay.replays.Goals.{then-index-via-then-index, then-index-via-else-index+then-not-is_answered}
+use Rattle.flat_replay.proofs.replay.replays.Goals.{then-index-via-then-index, then-index-via-else-index+then-not-answers}
 
 pub returns-then-index : goal.returns-then-index
 returns-then-index g c =
@@ -27,9 +26,9 @@ returns-then-index g c =
             let index_is = c.get-index.ensures.value ∙ ap (λ (id : OpId). id.index) c.id.view_is in
             elim c.then-index.branch [
               | then-index-via-then-index w ↦ (let read = get_or_read c.loop-id.next.items c.get-core.result c.index.result.now (omega arith) c.index.ensures 0 in let turn = next.in_turn in w.if-index.true cc)
-              | then-index-via-else-index+then-not-is_answered w ↦ (
-                  let answered = w.is_answered.ensures.1 (next.answers c.in-Some.access c.in-Some.ensures) in
-                  let isnt = w.if-not-is_answered.true in
+              | then-index-via-else-index+then-not-answers w ↦ (
+                  let answered = w.answers.ensures.1 (next.answers c.in-Some.access c.in-Some.ensures) in
+                  let isnt = w.if-not-answers.true in
                   cc
                   )
             ]
@@ -54,11 +53,11 @@ loop-id-preserved g c =
     let index_is = c.get-index.ensures.value ∙ ap (λ (id : OpId). id.index) c.id.view_is in
     let read = get_or_read c.loop-id.next.items c.get-core.result c.index.result.now (omega arith) c.index.ensures 0 in
     let turn : c.id-item.result.index ≡ slice_index c.loop-id.next.items c.id-item.result.core = cc in
-    let answered : IsAnsweredBy (word_at c.loop-id.memory) c.in-Some.access = c.is_answered.ensures.0 c.if-not-is_answered.false in
+    let answered : IsAnsweredBy (word_at c.loop-id.memory) c.in-Some.access = c.answers.ensures.0 c.if-not-answers.false in
     record {
       replayed = rw (core_is, index_is, take_more c.args.order.now c.loop-id.id-index c.id-item.result (omega arith), sym c.id-item.is)
-          (replayed-more cores _ c.loop-id.next.items (word_at c.loop-id.memory) (word_at c.insert.new.self) c.id-item.result c.in-Some.access c.loop-id.invariant.replayed c.in-Some.ensures (omega arith) turn answered
-          (word_at-after c.in-Some.access c.loop-id.memory c.insert.new.self (rw (← c.addr.ensures, ← c.word_left.ensures) c.in_ok-insert.ensures.updates) answered));
+          (replayed-more cores _ c.loop-id.next.items (word_at c.loop-id.memory) (word_at c.perform.new.self) c.id-item.result c.in-Some.access c.loop-id.invariant.replayed c.in-Some.ensures (omega arith) turn answered
+          (word_at-after c.in-Some.access c.loop-id.memory c.perform.new.self tt c.in_ok-perform.ensures.stored));
       many = length-set _ _ _ ∙ c.loop-id.invariant.many;
     }
 

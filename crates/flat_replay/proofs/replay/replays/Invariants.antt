@@ -1,6 +1,6 @@
 use Rattle.std.proofs.Common.{◌≡◌, length, take}
-use Rattle.flat_replay.specs.inner.Words.{word_at}
 use Rattle.flat_replay.proofs.Replaying.{Replayed}
+use Rattle.flat_replay.specs.Memory.{word_at}
 use Rattle.flat_replay.proofs.replay.replays.Given as goal
 
 abbrev pub invariant-loop-id : goal.invariant-loop-id

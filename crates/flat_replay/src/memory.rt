@@ -1,0 +1,58 @@
+//! One memory, by the last store to each address.
+
+ghost use Rattle.std.specs.Prelude.{◌≡◌, ℕ, ◌↔◌, cond, IsTrue, None, Some, OnErr, OnOk};
+ghost use Rattle.mem_op.specs.Consistency.{is_store_to, word_left};
+ghost use Rattle.flat_replay.specs.Memory.{IsAnsweredBy, last_at, word_at};
+
+use super::access::{Access, Address};
+use mem_op::Word;
+use std::alloc::{AllocError, Global};
+use std::collections::BTreeMap;
+
+/// One memory of words, all 0 at first, which knows of each word which store left it, by an `I`. It takes memory for each
+/// address that is stored to.
+#[derive(Drop)]
+pub struct Memory<I> {
+    stores: BTreeMap<Address, (Word, I)>,
+}
+
+impl<I: Copy> Memory<I> {
+    /// Nothing was stored yet.
+    pub fn new(alloc: Global) -> Memory<I>
+        ensures { (addr : ℕ) → last_at result addr ≡ None }
+    {
+        Memory {
+            stores: BTreeMap::new(alloc),
+        }
+    }
+
+    /// The word of the last store to an address, and which store it is; None before the first.
+    pub fn last(&self, addr: Address) -> Option<(Word, I)>
+        ensures { result ≡ last_at self.now addr }
+    {
+        self.stores.get(&addr).copied()
+    }
+
+    /// Whether an operation may come next: a load or a swap reads the word of its address.
+    pub fn answers(&self, access: &Access) -> bool
+        ensures { IsTrue result ↔ IsAnsweredBy (word_at self.now) access.now }
+    {
+        match access.read() {
+            Some(read) => read == self.last(access.addr()).map_or(0, |last| last.0),
+            None => true,
+        }
+    }
+
+    /// Performs an operation, which is this one where it is a store. Err where memory was refused.
+    pub fn perform(&mut self, access: &Access, id: I) -> Result<(), AllocError>
+        ensures stored { (addr : ℕ) → OnOk result (last_at self.new addr
+            ≡ cond (is_store_to addr access.now) (Some (word_left access.now, id)) (last_at self.old addr)) }
+        ensures kept { (addr : ℕ) → OnErr result (last_at self.new addr ≡ last_at self.old addr) }
+    {
+        let addr = access.addr();
+        if access.is_store_to(addr) {
+            self.stores.insert(addr, (access.word_left(), id))?;
+        }
+        Ok(())
+    }
+}
