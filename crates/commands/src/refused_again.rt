@@ -6,10 +6,9 @@ ghost use Rattle.host_files.specs.Files.{IsOnlyRead};
 use super::refused_file::RefusedLog;
 use super::text::read_text;
 use core_program::{ProgramFault, ProgramSet};
-use cut_logs::log_in_text;
 use host_files::Folder;
 use litmus_test::{Litmus, LitmusFault};
-use log_file::LogFault;
+use log_file::{LogFault, LogReader};
 use mem_op::CoreId;
 use std::alloc::Global;
 
@@ -24,11 +23,20 @@ pub(crate) fn log_again<F: Folder>(
 {
     let bytes = read_text(alloc, folder, log.name).ok()?;
     let core = CoreId::new(log.file as u64).ok()?;
-    let fault = log_in_text(alloc, core, log.files.len() as u64, bytes.as_slice()).err();
+    let fault = fault_of_log(alloc, core, log.files.len() as u64, bytes.as_slice());
     if fault == Some(LogFault::At(log.line, log.fault)) {
         return Some(bytes);
     }
     None
+}
+
+/// The first fault of the text of the log of this core of `cores`, if it has one.
+fn fault_of_log(alloc: Global, core: CoreId, cores: u64, text: &[u8]) -> Option<LogFault> {
+    let mut reader = LogReader::new(alloc, core, cores);
+    if let Err(fault) = reader.feed(text) {
+        return Some(fault);
+    }
+    reader.finish().err()
 }
 
 /// The bytes of a litmus test that is read again, where they have this fault.

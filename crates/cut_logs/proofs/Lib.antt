@@ -1,4 +1,0 @@
-mod Front
-mod Judged
-mod LeastCount
-mod Read

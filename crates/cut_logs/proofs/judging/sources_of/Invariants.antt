@@ -1,8 +1,0 @@
--- The sources so far have the texts so far.
-use Rattle.std.proofs.Common.{◌≡◌, map, take}
-use Rattle.log_file.specs.InMemory.{rest_of}
-use Rattle.cut_logs.specs.Beginnings.{texts_of}
-use Rattle.cut_logs.proofs.judging.sources_of.Given as goal
-
-abbrev pub invariant-loop-text : goal.invariant-loop-text
-invariant-loop-text l = map rest_of l.sources.items ≡ texts_of (take l.text-index l.texts)
