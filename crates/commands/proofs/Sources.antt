@@ -151,7 +151,7 @@ leaves_number logs id value ts rank addr Store a is = refl
 leaves_number logs id value ts rank addr (Swap source read) a is = refl
 
 clash : (b : Bool) → b ≡ true → b ≡ false → ⊥
-clash b yes no = let wrong : true ≡ false = sym yes ∙ no in cc
+clash b is isnt = let wrong : true ≡ false = sym is ∙ isnt in cc
 
 module _ (logs : List (List Record)) (few : length logs ≤ 64) (short : All (λ log. length log ≤ operation_limit) logs) where
   -- an id that stands in the set is in range
