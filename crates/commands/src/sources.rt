@@ -91,19 +91,13 @@ fn numbered(logs: &[Vec<Record>], id: OpId, logged: &Record) -> Record
 {
     match logged.act() {
         Act::Load(source) => {
-            let number = number_read(logs, &source, addr, value);
-            Record::new(number, ts, rank, addr, &Act::Load(source))
+            let number = number_read(logs, &source, logged.addr, logged.value);
+            with_number(logged, number, &Act::Load(source))
         }
-        Act::Store => Record::new(store_number(&id), ts, rank, addr, &Act::Store),
+        Act::Store => with_number(logged, store_number(&id), &Act::Store),
         Act::Swap(source, read) => {
-            let number = number_read(logs, &source, addr, read);
-            Record::new(
-                store_number(&id),
-                ts,
-                rank,
-                addr,
-                &Act::Swap(source, number),
-            )
+            let number = number_read(logs, &source, logged.addr, read);
+            with_number(logged, store_number(&id), &Act::Swap(source, number))
         }
     }
 }
