@@ -14,7 +14,7 @@ const OPERATIONS: u64 = 64;
 /// As many turns without an operation are made between two looks at the clock.
 const TURNS: u64 = 65_536;
 
-/// Tells on standard error how many lines were read so far, how many operations a run has performed, or how many steps a search has made,
+/// Tells on standard error how many lines were read so far, how many operations a run has performed, or how many of its steps a search has made,
 /// in one line that is written anew each second; nothing where standard error is no terminal, or the work takes less than a second. A terminal is
 /// told of a wrong load too.
 #[derive(Drop)]
@@ -25,7 +25,6 @@ pub(crate) struct Progress<'a> {
     begun: u64,
     lines: AtomicU64,
     operations: AtomicU64,
-    steps: AtomicU64,
     // How many seconds have been told.
     told: AtomicU64,
     // Whether the line stands there.
@@ -41,7 +40,6 @@ impl<'a> Progress<'a> {
             begun: seconds(rt),
             lines: AtomicU64::new(0),
             operations: AtomicU64::new(0),
-            steps: AtomicU64::new(0),
             told: AtomicU64::new(0),
             is_shown: AtomicBool::new(false),
         }
@@ -64,14 +62,21 @@ impl<'a> Progress<'a> {
         }
     }
 
-    // Tells how far the work is, where another second has passed. A write that fails is passed over.
+    // Tells a count, where that is due. A write that fails is passed over.
     fn tell(&self, count: &AtomicU64, what: &str) {
+        if self.is_due() {
+            let _ = eprint!(self.rt; "\r{} {what}", count.load(Ordering::SeqCst));
+        }
+    }
+
+    // Whether another second has passed, so that the line is written.
+    fn is_due(&self) -> bool {
         let passed = seconds(self.rt).saturating_sub(self.begun);
         if self.told.fetch_max(passed, Ordering::SeqCst) >= passed {
-            return;
+            return false;
         }
         self.is_shown.store(true, Ordering::SeqCst);
-        let _ = eprint!(self.rt; "\r{} {what}", count.load(Ordering::SeqCst));
+        true
     }
 }
 
@@ -110,10 +115,9 @@ impl<'a> ReplayWatch for Progress<'a> {
 }
 
 impl<'a> SearchWatch for Progress<'a> {
-    fn steps(&self, made: u64, _budget: u64) -> bool {
-        if self.is_terminal {
-            self.steps.store(made, Ordering::SeqCst);
-            self.tell(&self.steps, "steps made");
+    fn steps(&self, made: u64, budget: u64) -> bool {
+        if self.is_terminal && self.is_due() {
+            let _ = eprint!(self.rt; "\r{made} of {budget} steps");
         }
         true
     }
