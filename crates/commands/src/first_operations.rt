@@ -76,13 +76,13 @@ fn all_begun(alloc: Global, texts: &[Vec<u8>]) -> Result<Vec<Begun>, AllocError>
         let Ok(core) = CoreId::new(file as u64) else {
             break;
         };
-        logs.push(begun(alloc, core, texts.len() as u64, text.as_slice())?)?;
+        logs.push(whole_of(alloc, core, texts.len() as u64, text.as_slice())?)?;
     }
     Ok(logs)
 }
 
 /// What stands whole in the text of the log of this core of `cores`.
-fn begun(alloc: Global, core: CoreId, cores: u64, text: &[u8]) -> Result<Begun, AllocError> {
+fn whole_of(alloc: Global, core: CoreId, cores: u64, text: &[u8]) -> Result<Begun, AllocError> {
     let mut whole = Vec::new(alloc);
     let mut reader = RecordReader::new(core, cores);
     let mut rest = text;
