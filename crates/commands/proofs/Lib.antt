@@ -22,7 +22,7 @@ mod Replays
 mod Runs
 mod Searches
 mod SetCounts
-mod Sources
+mod SourceNumbers
 mod Tables
 mod ThreadRuns
 mod Unread

@@ -8,7 +8,7 @@ use Rattle.log_file.proofs.Sets.{spelled_short}
 use Rattle.log_record.specs.Entries.{operations_of}
 use Rattle.mem_op.specs.Consistency.{Operation, IsConsistent, IsSequentialOrder}
 use Rattle.commands.proofs.Explained.{as_many}
-use Rattle.commands.proofs.Sources.{order_explains}
+use Rattle.commands.proofs.SourceNumbers.{order_explains}
 use Rattle.commands.specs.SearchAnswers.{IsRightOf, search_status}
 use Rattle.commands.specs.Sources.{sourced_operations}
 use Rattle.commands.specs.Traces.{TellsTrace, own_files}

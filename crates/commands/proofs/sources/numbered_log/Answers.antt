@@ -1,6 +1,6 @@
 use Rattle.std.proofs.Common.{arith}
 use Rattle.log_record.specs.Entries.{record_lists}
-use Rattle.commands.proofs.Sources.{record_more}
+use Rattle.commands.proofs.SourceNumbers.{record_more}
 use Rattle.commands.proofs.sources.numbered_log.Goals as goal
 
 pub loop-i-preserved : goal.loop-i-preserved

@@ -3,7 +3,7 @@ use Rattle.std.specs.Prelude.{All}
 use Rattle.std.specs.Global.{Vec}
 use Rattle.log_record.specs.declared.record.Record.{Record}
 use Rattle.mem_op.specs.Limits.{operation_limit}
-use Rattle.commands.proofs.Sources.{made_few, made_short}
+use Rattle.commands.proofs.SourceNumbers.{made_few, made_short}
 use Rattle.commands.proofs.sources.sourced_trace.Goals as goal
 
 pub trace_of-requires-clause-few : goal.trace_of-requires-clause-few

@@ -42,9 +42,17 @@ log_more_suc logs core (suc n) (v ∷ vs) d below =
     ap (λ rest. map (numbered logs) (core_entries core 0 v.items) ∷ rest) (log_more_suc logs (suc core) n vs d (omega arith)
     ∙ ap (λ c. numbered_from logs (suc core) (record_lists (take n vs)) ++ map (numbered logs) (core_entries c 0 (get_or vs n d).items) ∷ []) (let e : suc core + n ≡ core + suc n = omega arith in e))
 
-pub log_more : (logs : List (List Record)) (core n : ℕ) (vs : List (Vec Record)) (d : Vec Record) → n < length vs
+log_more : (logs : List (List Record)) (core n : ℕ) (vs : List (Vec Record)) (d : Vec Record) → n < length vs
     → numbered_from logs core (record_lists (take (n + 1) vs)) ≡ numbered_from logs core (record_lists (take n vs)) ++ map (numbered logs) (core_entries (core + n) 0 (get_or vs n d).items) ∷ []
 log_more logs core n vs d below = ap (λ k. numbered_from logs core (record_lists (take k vs))) (add-one n) ∙ log_more_suc logs core n vs d below
+
+-- so the next log comes behind those that were made
+pub log_pushed : (logs : List (List Record)) (vs made : List (Vec Record)) (v d : Vec Record) (n : ℕ) → n < length vs → record_lists made ≡ numbered_from logs 0 (record_lists (take n vs))
+    → v.items ≡ map (numbered logs) (core_entries n 0 (get_or vs n d).items) → record_lists (made ++ v ∷ []) ≡ numbered_from logs 0 (record_lists (take (n + 1) vs))
+log_pushed logs vs made v d n below so_far here =
+    map-append (λ (log : Vec Record). log.items) made (v ∷ []) ∙ ap (λ (ls : List (List Record)). ls ++ v.items ∷ []) so_far
+    ∙ ap (λ (l : List Record). numbered_from logs 0 (record_lists (take n vs)) ++ l ∷ []) (here ∙ ap (λ c. map (numbered logs) (core_entries c 0 (get_or vs n d).items)) (let e : n ≡ 0 + n = omega arith in e))
+    ∙ sym (log_more logs 0 n vs d below)
 
 -- ---- how many
 
