@@ -10,7 +10,7 @@ use Rattle.clap.specs.Matches.{ReadsOne}
 use Rattle.clap.specs.Words.{Row, Text, kind_of, subcommand_of}
 use Rattle.clap.specs.declared.error.Error.{Error}
 use Rattle.clap.specs.declared.error.kind.ErrorKind.TheVariants as error_kind
-use Rattle.command_line.specs.Asking.{AreMarked, AskVersion, Asks, IsAskedBy, IsCommandLine, IsMixedIn, IsNumber, IsNumberOf, IsRefusalOf, IsRefusedBy, IsStrayIn, IsStrayOf, StandNotAlone, files_given, is_litmus, is_programs, texts}
+use Rattle.command_line.specs.Asking.{AreMarked, AskVersion, Asks, IsAskedBy, IsCommandLine, IsMixedIn, IsNotOneOf, IsNumber, IsNumberOf, IsRefusalOf, IsRefusedBy, IsStrayIn, StandNotAlone, files_given, is_litmus, is_programs, texts}
 use Rattle.command_line.specs.Files.{IsApart}
 use Rattle.command_line.specs.Grammar.{tardis}
 use Rattle.command_line.specs.declared.refusal.Refusal.{Refusal}
@@ -54,7 +54,7 @@ asked_by words named request.Version line is asks = absurd asks
 pub unread : (named : Text × List Row) (r : Refusal) → r ≡ OutOfMemory → IsRefusedBy named r
 unread named r is = rw is tt
 
--- files that are too many were given
+-- files that aren't those of one trace were given
 pub stray : (named : Text × List Row) (r : Refusal) → (named.0 ≡ codes "search") ⊎ (named.0 ≡ codes "confirm") → IsStrayIn named.1 r → IsRefusedBy named r
 stray named (Usage text) which files = inl (which, files)
 stray named OutOfMemory which files = tt
@@ -69,9 +69,9 @@ mixed_one rows of_file.Litmus (Usage text) marks others = (true, false, marks, o
 mixed_one rows of_file.Programs (Usage text) marks others = (false, true, marks, others)
 mixed_one rows of OutOfMemory marks others = tt
 
-pub mixed_files : (rows : List Row) (of : FileKind) (r : Refusal) → AreMarked (is_litmus of) (is_programs of) rows → IsStrayOf false (files_given rows) r
+pub mixed_files : (rows : List Row) (of : FileKind) (r : Refusal) → AreMarked (is_litmus of) (is_programs of) rows → IsNotOneOf (files_given rows) r
     → IsMixedIn rows r
-mixed_files rows of (Usage text) marks files = mixed_one rows of (Usage text) marks (inl files.1)
+mixed_files rows of (Usage text) marks files = mixed_one rows of (Usage text) marks (inl files)
 mixed_files rows of OutOfMemory marks files = tt
 
 -- what the words ask for isn't apart

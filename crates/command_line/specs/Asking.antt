@@ -25,7 +25,7 @@ use Rattle.command_line.specs.declared.request.Run.{Run}
 use Rattle.command_line.specs.declared.request.Search.{Search}
 use Rattle.command_line.specs.declared.request.Sim.{Sim}
 use Rattle.command_line.specs.declared.request.TraceFiles.{TraceFiles}
-use Rattle.command_line.specs.declared.request.TraceFiles.TheVariants.{One, Logs}
+use Rattle.command_line.specs.declared.request.TraceFiles.TheVariants.{One, Logs, Sourced}
 use Rattle.command_line.specs.declared.request.Upgrade.{Upgrade}
 
 -- digits, after a plus or not, of a number below 2^64
@@ -150,21 +150,25 @@ pub record IsLitmus (rows : List Row) (litmus : Litmus) : Type 0 where
   pub statistics : text_of litmus.statistics ≡ first_of (codes "stats") rows
   pub test : litmus.test.now ≡ test_given rows
 
--- these files are those of logs, or the only one is that of a trace
-abbrev pub IsTraceOf : Bool → List Text → TraceFiles → Type 0
-IsTraceOf are_logs files (One name) = (are_logs ≡ false) × (files ≡ name.now ∷ [])
-IsTraceOf are_logs files (Logs names) = (are_logs ≡ true) × (texts names.items ≡ files)
+-- these files are those of logs, whose sources are taken as given or aren't, or the only one is that of a trace
+abbrev pub IsTraceOf : Bool → Bool → List Text → TraceFiles → Type 0
+IsTraceOf are_logs are_sourced files (One name) = (are_logs ≡ false) × (are_sourced ≡ false) × (files ≡ name.now ∷ [])
+IsTraceOf are_logs are_sourced files (Logs names) = (are_logs ≡ true) × (are_sourced ≡ false) × (texts names.items ≡ files)
+IsTraceOf are_logs are_sourced files (Sourced names) = (are_logs ≡ true) × (are_sourced ≡ true) × (texts names.items ≡ files)
 
 -- the same of these files with that of a certificate, where the first word names the trace, or else the certificate of logs
-abbrev pub IsCertifiedBy : Bool → Text → List Text → Text → TraceFiles → Type 0
-IsCertifiedBy are_logs first files certificate (One name) = (are_logs ≡ false) × (name.now ≡ first) × (files ≡ certificate ∷ [])
-IsCertifiedBy are_logs first files certificate (Logs names) = (are_logs ≡ true) × (certificate ≡ first) × (texts names.items ≡ files)
+abbrev pub IsCertifiedBy : Bool → Bool → Text → List Text → Text → TraceFiles → Type 0
+IsCertifiedBy are_logs are_sourced first files certificate (One name) = (are_logs ≡ false) × (are_sourced ≡ false) × (name.now ≡ first) × (files ≡ certificate ∷ [])
+IsCertifiedBy are_logs are_sourced first files certificate (Logs names) = (are_logs ≡ true) × (are_sourced ≡ false) × (certificate ≡ first) × (texts names.items ≡ files)
+IsCertifiedBy are_logs are_sourced first files certificate (Sourced names) = (are_logs ≡ true) × (are_sourced ≡ true) × (certificate ≡ first) × (texts names.items ≡ files)
 
 -- a search of the trace, with the budget and the files for what it finds that were given
 pub record IsSearch (rows : List Row) (search : Search) : Type 0 where
   pub are_logs : Bool
+  pub are_sourced : Bool
   pub logs : IsFlag (one_of (codes "logs") rows) are_logs
-  pub trace : IsTraceOf are_logs (files_given rows) search.trace
+  pub sources : IsFlag (one_of (codes "sources") rows) are_sourced
+  pub trace : IsTraceOf are_logs are_sourced (files_given rows) search.trace
   pub budget : IsNumberOf (one_of (codes "budget") rows) search.budget
   pub order : text_of search.order ≡ first_of (codes "order") rows
   pub refutation : text_of search.refutation ≡ first_of (codes "refutation") rows
@@ -173,8 +177,10 @@ pub record IsSearch (rows : List Row) (search : Search) : Type 0 where
 -- a look at the certificate of the trace that were given
 pub record IsConfirm (rows : List Row) (confirm : Confirm) : Type 0 where
   pub are_logs : Bool
+  pub are_sourced : Bool
   pub logs : IsFlag (one_of (codes "logs") rows) are_logs
-  pub names : IsCertifiedBy are_logs (unwrap_or (first_of (codes "TRACE") rows) []) (files_given rows) confirm.certificate.now confirm.trace
+  pub sources : IsFlag (one_of (codes "sources") rows) are_sourced
+  pub names : IsCertifiedBy are_logs are_sourced (unwrap_or (first_of (codes "TRACE") rows) []) (files_given rows) confirm.certificate.now confirm.trace
 
 -- the trace that was given, in the order of its lines, and whether it is told why it isn't right so
 pub record IsReplay (rows : List Row) (replay : Replay) : Type 0 where
@@ -211,18 +217,31 @@ Asks words request.Version = AskVersion words
 Asks words asked =
     IsCommandLine words × ((named : Text × List Row) × (subcommand_of tardis words ≡ Some named) × IsAskedBy named asked)
 
--- these aren't logs, and they aren't one file
-abbrev pub AreStray : Bool → List Text → Type 0
-AreStray are_logs files = (are_logs ≡ false) × ((name : Text) → files ≢ name ∷ [])
+-- these aren't one file
+abbrev pub AreNotOne : List Text → Type 0
+AreNotOne files = (name : Text) → files ≢ name ∷ []
 
--- only files that are too many are refused for their usage
-abbrev pub IsStrayOf : Bool → List Text → Refusal → Type 0
-IsStrayOf are_logs files (Usage text) = AreStray are_logs files
-IsStrayOf are_logs files OutOfMemory = ⊤
+-- only files that aren't one are refused for their usage
+abbrev pub IsNotOneOf : List Text → Refusal → Type 0
+IsNotOneOf files (Usage text) = AreNotOne files
+IsNotOneOf files OutOfMemory = ⊤
 
--- the files that were given aren't logs, and they aren't one
-abbrev pub HasStrayFiles : List Row → Type 0
-HasStrayFiles rows = (are_logs : Bool) × IsFlag (one_of (codes "logs") rows) are_logs × AreStray are_logs (files_given rows)
+-- these aren't logs, and sources are to be taken of them, or they aren't one file
+abbrev pub AreStray : Bool → Bool → List Text → Type 0
+AreStray are_logs are_sourced files = (are_logs ≡ false) × ((are_sourced ≡ true) ⊎ AreNotOne files)
+
+-- only such files are refused for their usage
+abbrev pub IsStrayOf : Bool → Bool → List Text → Refusal → Type 0
+IsStrayOf are_logs are_sourced files (Usage text) = AreStray are_logs are_sourced files
+IsStrayOf are_logs are_sourced files OutOfMemory = ⊤
+
+-- the files that were given are such
+pub record HasStrayFiles (rows : List Row) : Type 0 where
+  pub are_logs : Bool
+  pub are_sourced : Bool
+  pub logs : IsFlag (one_of (codes "logs") rows) are_logs
+  pub sources : IsFlag (one_of (codes "sources") rows) are_sourced
+  pub stray : AreStray are_logs are_sourced (files_given rows)
 
 abbrev pub IsStrayIn : List Row → Refusal → Type 0
 IsStrayIn rows (Usage text) = HasStrayFiles rows
@@ -235,7 +254,7 @@ HaveLogOption rows =
 
 -- the files aren't one, or an option stands there that is of logs
 abbrev pub StandNotAlone : List Row → Type 0
-StandNotAlone rows = ((name : Text) → files_given rows ≢ name ∷ []) ⊎ HaveLogOption rows
+StandNotAlone rows = AreNotOne (files_given rows) ⊎ HaveLogOption rows
 
 -- a flag says that the file isn't a log, and another file, another flag or an option stands beside it
 abbrev pub AreMixedBy : Bool → Bool → List Row → Type 0
@@ -252,8 +271,8 @@ abbrev pub IsMixedIn : List Row → Refusal → Type 0
 IsMixedIn rows (Usage text) = AreMixed rows
 IsMixedIn rows OutOfMemory = ⊤
 
--- these arguments of the subcommand of this name aren't of one thing: more files than one are given without `--logs`, or one that isn't a
--- log isn't alone
+-- these arguments of the subcommand of this name aren't of one thing: without `--logs` more files than one are given or `--sources` is there,
+-- or a file that isn't a log isn't alone
 abbrev pub IsMisused : Text × List Row → Type 0
 IsMisused named =
     (((named.0 ≡ codes "search") ⊎ (named.0 ≡ codes "confirm")) × HasStrayFiles named.1) ⊎ ((named.0 ≡ codes "explain") × AreMixed named.1)

@@ -6,7 +6,7 @@ use Rattle.command_line.specs.RunFiles.{IsLogName}
 use Rattle.command_line.specs.declared.request.Request.{Request}
 use Rattle.command_line.specs.declared.request.Request.TheVariants.{Check, Order, Explain, Inspect, Upgrade, Sim, Run, Litmus, Search, Confirm, Replay, Version}
 use Rattle.command_line.specs.declared.request.TraceFiles.{TraceFiles}
-use Rattle.command_line.specs.declared.request.TraceFiles.TheVariants.{One, Logs}
+use Rattle.command_line.specs.declared.request.TraceFiles.TheVariants.{One, Logs, Sourced}
 
 -- the texts of words
 abbrev pub texts : List (Bor Text) → List Text
@@ -24,6 +24,7 @@ names_given = filter_map text_of
 abbrev pub names_of : TraceFiles → List Text
 names_of (One name) = name.now ∷ []
 names_of (Logs names) = texts names.items
+names_of (Sourced names) = texts names.items
 
 -- the names of the files that are read
 abbrev pub files_read : Request → List Text

@@ -107,13 +107,17 @@ litmus = with_rule (with_stats (with_litmus_options (with_limits (new_app (codes
 abbrev pub with_search_outputs : App → App
 with_search_outputs app = with_rule (with_rule (with_rule app (file_option (codes "order"))) (file_option (codes "refutation"))) (file_option (codes "svg"))
 
--- tardis search [--logs] [--budget N] [--order F] [--refutation F] [--svg F] FILE..
-abbrev pub search : App
-search = with_rule (with_search_outputs (with_number (with_rule (new_app (codes "search")) (flag (codes "logs"))) (codes "budget"))) files
+-- [--logs] [--sources]
+abbrev pub with_log_flags : App → App
+with_log_flags app = with_rule (with_rule app (flag (codes "logs"))) (flag (codes "sources"))
 
--- tardis confirm [--logs] TRACE FILE..
+-- tardis search [--logs] [--sources] [--budget N] [--order F] [--refutation F] [--svg F] FILE..
+abbrev pub search : App
+search = with_rule (with_search_outputs (with_number (with_log_flags (new_app (codes "search"))) (codes "budget"))) files
+
+-- tardis confirm [--logs] [--sources] TRACE FILE..
 abbrev pub confirm : App
-confirm = with_rule (with_rule (with_rule (new_app (codes "confirm")) (flag (codes "logs"))) (name (codes "TRACE"))) files
+confirm = with_rule (with_rule (with_log_flags (new_app (codes "confirm"))) (name (codes "TRACE"))) files
 
 -- tardis replay [--why] TRACE
 abbrev pub replay : App

@@ -94,7 +94,9 @@ fn names_of_trace<'a>(
 {
     match trace {
         TraceFiles::One(name) => names_of(alloc, &[certificate], &[*name]),
-        TraceFiles::Logs(names) => names_of(alloc, &[certificate], names.as_slice()),
+        TraceFiles::Logs(names) | TraceFiles::Sourced(names) => {
+            names_of(alloc, &[certificate], names.as_slice())
+        }
     }
 }
 

@@ -139,6 +139,8 @@ pub enum TraceFiles<'a> {
     One(&'a str),
     /// The logs of a set, whose trace it is, in the files of these names, that of core 0 first.
     Logs(Vec<&'a str>),
+    /// The same, whose sources are taken as given.
+    Sourced(Vec<&'a str>),
 }
 
 /// Asks whether a trace is consistent, by a search for an order or a refutation.

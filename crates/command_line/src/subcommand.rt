@@ -146,6 +146,7 @@ const SEARCH: Subcommand<'static> = Subcommand {
     limits: &[],
     arguments: &[
         Argument::Flag("logs", "Reads logs, and leaves their times out"),
+        Argument::Flag("sources", SOURCES_HELP),
         Argument::Number(
             "budget",
             "How many steps the search may make, 0 to 18446744073709551615 [default: 100000000, plus 100 for each operation]",
@@ -171,6 +172,7 @@ const CONFIRM: Subcommand<'static> = Subcommand {
     limits: &[],
     arguments: &[
         Argument::Flag("logs", "Reads logs, and leaves their times out"),
+        Argument::Flag("sources", SOURCES_HELP),
         Argument::Name("TRACE", "The trace; with --logs the certificate"),
         Argument::Files("The certificate; with --logs the logs, that of core 0 first"),
     ],
@@ -218,6 +220,9 @@ const LIMITS: [Argument<'static>; 6] = [
 
 /// What the help says of the logs of a set.
 const LOGS_HELP: &str = "The logs, that of core 0 first";
+
+/// What the help says of the sources of logs.
+const SOURCES_HELP: &str = "With --logs, takes the stores that loads and swaps name as given";
 
 /// What the help says of the file of the programs.
 const PROGRAMS_HELP: &str = "The file of the programs";

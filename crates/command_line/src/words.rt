@@ -138,7 +138,8 @@ fn search_of<'a>(alloc: Global, matches: &ArgMatches<'a>) -> Result<Request<'a>,
     ensures usage { IfErr result (asking.IsStrayIn (rows_of (found_of matches.now))) }
 {
     let files = files_of(alloc, matches)?;
-    let trace = trace_of(alloc, flag_of(matches, "logs"), files)?;
+    let (are_logs, are_sourced) = (flag_of(matches, "logs"), flag_of(matches, "sources"));
+    let trace = trace_of(alloc, are_logs, are_sourced, files)?;
     Ok(Request::Search(Search {
         budget: number_of(matches, "budget"),
         order: name_of(matches, "order"),
@@ -155,17 +156,21 @@ fn confirm_of<'a>(alloc: Global, matches: &ArgMatches<'a>) -> Result<Request<'a>
 {
     let first = word_of(matches, "TRACE");
     let files = files_of(alloc, matches)?;
-    if flag_of(matches, "logs") {
-        return Ok(Request::Confirm(Confirm {
+    match (flag_of(matches, "logs"), flag_of(matches, "sources")) {
+        (true, true) => Ok(Request::Confirm(Confirm {
+            certificate: first,
+            trace: TraceFiles::Sourced(files),
+        })),
+        (true, false) => Ok(Request::Confirm(Confirm {
             certificate: first,
             trace: TraceFiles::Logs(files),
-        }));
+        })),
+        (false, true) => Err(misuse(alloc, STRAY_SOURCES)),
+        (false, false) => Ok(Request::Confirm(Confirm {
+            certificate: only(alloc, files.as_slice(), STRAY_FILE)?,
+            trace: TraceFiles::One(first),
+        })),
     }
-    let certificate = only(alloc, files.as_slice(), STRAY_FILE)?;
-    Ok(Request::Confirm(Confirm {
-        certificate,
-        trace: TraceFiles::One(first),
-    }))
 }
 
 /// What the words after `replay` ask for.
@@ -178,25 +183,28 @@ fn replay_of<'a>(matches: &ArgMatches<'a>) -> Request<'a>
     })
 }
 
-/// The files as those of logs, or the only one as that of a trace.
+/// The files as those of logs, whose sources are taken as given or aren't, or the only one as that of a trace.
 fn trace_of<'a>(
     alloc: Global,
     are_logs: bool,
+    are_sourced: bool,
     files: Vec<&'a str>,
 ) -> Result<TraceFiles<'a>, Refusal>
-    ensures trace { IfOk result (asking.IsTraceOf are_logs (asking.texts files.entry.items)) }
-    ensures usage { IfErr result (asking.IsStrayOf are_logs (asking.texts files.entry.items)) }
+    ensures trace { IfOk result (asking.IsTraceOf are_logs are_sourced (asking.texts files.entry.items)) }
+    ensures usage { IfErr result (asking.IsStrayOf are_logs are_sourced (asking.texts files.entry.items)) }
 {
-    if are_logs {
-        return Ok(TraceFiles::Logs(files));
+    match (are_logs, are_sourced) {
+        (true, true) => Ok(TraceFiles::Sourced(files)),
+        (true, false) => Ok(TraceFiles::Logs(files)),
+        (false, true) => Err(misuse(alloc, STRAY_SOURCES)),
+        (false, false) => Ok(TraceFiles::One(only(alloc, files.as_slice(), STRAY_FILE)?)),
     }
-    Ok(TraceFiles::One(only(alloc, files.as_slice(), STRAY_FILE)?))
 }
 
 /// The name of the only file, or the refusal of others, with what the user is told of them.
 pub(crate) fn only<'a>(alloc: Global, files: &[&'a str], text: &str) -> Result<&'a str, Refusal>
     ensures one { IfOk result (λ name. asking.texts files.now ≡ name.now ∷ []) }
-    ensures usage { IfErr result (asking.IsStrayOf false (asking.texts files.now)) }
+    ensures usage { IfErr result (asking.IsNotOneOf (asking.texts files.now)) }
 {
     match files {
         [name] => Ok(name),
@@ -207,6 +215,10 @@ pub(crate) fn only<'a>(alloc: Global, files: &[&'a str], text: &str) -> Result<&
 /// What the user is told of several files where one is read.
 const STRAY_FILE: &str =
     "error: more files than one are read as logs only, with '--logs'\n\nFor more information, try '--help'.\n";
+
+/// What the user is told of sources that aren't those of logs.
+const STRAY_SOURCES: &str =
+    "error: sources are those of logs, with '--logs'\n\nFor more information, try '--help'.\n";
 
 /// What the words after `sim` ask for.
 fn sim_of<'a>(matches: &ArgMatches<'a>) -> Request<'a>

@@ -55,7 +55,7 @@ pub examined_set : (told : List ℕ → Option (List ℕ)) (names : List (Bor (L
 examined_set told names programs texts (Ok examined) tell by = (texts, tell, by)
 examined_set told names programs texts (Err fault) tell by = tt
 
-as_many : (core cores : ℕ) (texts : List (List ℕ)) (logs : List (List Record)) → SpellFrom core cores texts logs → length logs ≡ length texts
+pub as_many : (core cores : ℕ) (texts : List (List ℕ)) (logs : List (List Record)) → SpellFrom core cores texts logs → length logs ≡ length texts
 as_many core cores [] [] spell = refl
 as_many core cores [] (log ∷ logs) spell = absurd spell
 as_many core cores (text ∷ texts) [] spell = absurd spell

@@ -13,6 +13,7 @@ mod OrderReplays
 mod Orders
 mod OtherOrders
 mod OwnLogs
+mod OwnTraces
 mod Performed
 mod Puts
 mod Readings
@@ -21,6 +22,7 @@ mod Replays
 mod Runs
 mod Searches
 mod SetCounts
+mod SourceNumbers
 mod Tables
 mod ThreadRuns
 mod Unread

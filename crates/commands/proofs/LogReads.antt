@@ -11,7 +11,8 @@ use Rattle.verdict.specs.Counts.{IsInRange, IsOutOfRange}
 use Rattle.verdict.specs.declared.judge_fault.Count.TheVariants.{Files as FileCount}
 use Rattle.verdict.specs.declared.judge_fault.JudgeFault.{JudgeFault}
 use Rattle.verdict.specs.declared.judge_fault.JudgeFault.TheVariants.{BadConfig, Log, Read, OutOfMemory as NoLogMemory}
-use Rattle.commands.specs.Traces.{SpellLogsAt}
+use Rattle.commands.specs.Sources.{sourced_operations}
+use Rattle.commands.specs.Traces.{SpellLogsAt, SpellSourcesAt}
 use Rattle.commands.specs.inner.ReadTraces.{AreLogless}
 use Rattle.commands.specs.Refusals.{from_judge}
 
@@ -33,3 +34,9 @@ pub logs_spelled : (told : List ℕ → Option (List ℕ)) (names : List (Bor (L
     → Spelled told names (λ logs. logs ≡ record_lists read) → cores ≡ operations_of (record_lists given) → SpellLogsAt told names cores
 logs_spelled told names read given cores same (texts, tell, (logs, spell, is)) trace =
     (texts, tell, (logs, spell, trace ∙ ap (λ (vs : List (Vec Record)). operations_of (record_lists vs)) same ∙ ap operations_of (sym is)))
+
+-- and with their sources in place of words
+pub sources_spelled : (told : List ℕ → Option (List ℕ)) (names : List (Bor (List ℕ))) (read given : List (Vec Record)) (cores : List (List Operation)) → given ≡ read
+    → Spelled told names (λ logs. logs ≡ record_lists read) → cores ≡ sourced_operations (record_lists given) → SpellSourcesAt told names cores
+sources_spelled told names read given cores same (texts, tell, (logs, spell, is)) trace =
+    (texts, tell, (logs, spell, trace ∙ ap (λ (vs : List (Vec Record)). sourced_operations (record_lists vs)) same ∙ ap sourced_operations (sym is)))

@@ -13,19 +13,37 @@ use Rattle.refutation.specs.declared.answer.Answer.{Answer}
 use Rattle.refutation.specs.declared.answer.Answer.TheVariants as found
 use Rattle.refutation_text.specs.FirstLines.{IsGrown}
 use Rattle.verdict.specs.declared.basis.Basis.{Basis}
-use Rattle.commands.specs.OtherOrders.{TellsOrder, another_text, none_text}
+use Rattle.commands.specs.OtherOrders.{TellsOrder, TellsSourced, another_text, by_others_text, by_sources_text, none_text}
 use Rattle.commands.specs.inner.ReadLogs.{AreLogsOf}
 
 -- an order is told as one
-pub tells_another : {T E : Type 0} (bytes : T → List ℕ) (cores : List (List Operation)) (answer : Answer) (order : Vec OpId) (made : Result T E) → IsRight cores answer
-    → answer ≡ found.Order order → IfOk made (λ text. bytes text ≡ another_text) → IfOk made (λ text. TellsOrder cores (bytes text))
-tells_another bytes cores answer order (Ok text) right is same = inl (same, (order.items, subst (IsRight cores) is right))
-tells_another bytes cores answer order (Err fault) right is same = tt
+pub tells_another : {T E : Type 0} (bytes : T → List ℕ) (another : List ℕ) (cores : List (List Operation)) (answer : Answer) (order : Vec OpId) (made : Result T E)
+    → IsRight cores answer → answer ≡ found.Order order → IfOk made (λ text. bytes text ≡ another) → IfOk made (λ text. TellsOrder another cores (bytes text))
+tells_another bytes another cores answer order (Ok text) right is same = inl (same, (order.items, subst (IsRight cores) is right))
+tells_another bytes another cores answer order (Err fault) right is same = tt
 
 -- and a refutation as none
-pub tells_none : (cores : List (List Operation)) (answer : Answer) (steps : _) (text : List ℕ) → IsRight cores answer → answer ≡ found.Refutation steps
-    → IsGrown none_text text → TellsOrder cores text
-tells_none cores answer steps text right is grown = inr (inl (grown, subst (IsRight cores) is right))
+pub tells_none : (another : List ℕ) (cores : List (List Operation)) (answer : Answer) (steps : _) (text : List ℕ) → IsRight cores answer → answer ≡ found.Refutation steps
+    → IsGrown none_text text → TellsOrder another cores text
+tells_none another cores answer steps text right is grown = inr (inl (grown, subst (IsRight cores) is right))
+
+-- an order that explains the sources, too
+pub tells_by_sources : {T E : Type 0} (bytes : T → List ℕ) (sourced cores : List (List Operation)) (answer : Answer) (order : Vec OpId) (made : Result T E)
+    → IsRight sourced answer → answer ≡ found.Order order → IfOk made (λ text. bytes text ≡ by_sources_text) → IfOk made (λ text. TellsSourced sourced cores (bytes text))
+tells_by_sources bytes sourced cores answer order (Ok text) right is same = inl (same, (order.items, subst (IsRight sourced) is right))
+tells_by_sources bytes sourced cores answer order (Err fault) right is same = tt
+
+-- one where none explains the sources
+pub tells_by_others : {T E : Type 0} (bytes : T → List ℕ) (sourced cores : List (List Operation)) (answer : Answer) (steps : _) (made : Result T E)
+    → IsRight sourced answer → answer ≡ found.Refutation steps → IfOk made (λ text. TellsOrder by_others_text cores (bytes text)) → IfOk made (λ text. TellsSourced sourced cores (bytes text))
+tells_by_others bytes sourced cores answer steps (Ok text) right is tells = inr (inl (subst (IsRight sourced) is right, tells))
+tells_by_others bytes sourced cores answer steps (Err fault) right is tells = tt
+
+-- one where it isn't known whether one explains the sources
+pub tells_any : {T E : Type 0} (bytes : T → List ℕ) (sourced cores : List (List Operation)) (made : Result T E)
+    → IfOk made (λ text. TellsOrder another_text cores (bytes text)) → IfOk made (λ text. TellsSourced sourced cores (bytes text))
+tells_any bytes sourced cores (Ok text) tells = inr (inr tells)
+tells_any bytes sourced cores (Err fault) tells = tt
 
 -- ---- the trace of the logs
 

@@ -54,15 +54,11 @@ pub order_no : (told : List ℕ → Option (List ℕ)) (Unreadable : List ℕ �
 order_no told Unreadable asked out out' (Yes count) is one = cc
 order_no told Unreadable asked out out' (No fault) (range, quiet, (texts, tell, answers, took)) one = ((texts, tell, fault, answers), took)
 
-pub right_yes : (told : List ℕ → Option (List ℕ)) (files : TraceFiles) (answer : SearchAnswer) → TellsTrace told files (λ cores. IsRightOf cores answer)
-    → search_status answer ≡ 0 → TellsTrace told files IsConsistent
-right_yes told files (searched.Yes operations) tells zero = let (cores, is, right) = tells in (cores, is, right.0)
-right_yes told files (searched.No operations) tells zero = cc
-
 pub right_no : (told : List ℕ → Option (List ℕ)) (files : TraceFiles) (answer : SearchAnswer) → TellsTrace told files (λ cores. IsRightOf cores answer)
     → search_status answer ≡ 1 → TellsTrace told files (λ cores. ¬ (IsConsistent cores))
 right_no told files (searched.Yes operations) tells one = cc
 right_no told files (searched.No operations) tells one = let (cores, is, right) = tells in (cores, is, right.0)
+right_no told files (searched.NoBySources operations) tells one = let (cores, is, right) = tells in (cores, is, right.0)
 
 pub replayed_no : (old new : Files) (Unreadable : List ℕ → Type 0) (asked : Replay) (verdict : ReplayVerdict) → IsReplayedBy old new Unreadable asked (Ok verdict)
     → replay_status verdict ≡ 1 → TellsText old.told asked.trace.now IsOutOfOrder

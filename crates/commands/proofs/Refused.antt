@@ -15,7 +15,7 @@ use Rattle.command_line.specs.declared.request.Run.{Run as AskedRun}
 use Rattle.command_line.specs.declared.request.Search.{Search}
 use Rattle.command_line.specs.declared.request.Sim.{Sim as AskedSim}
 use Rattle.command_line.specs.declared.request.TraceFiles.{TraceFiles}
-use Rattle.command_line.specs.declared.request.TraceFiles.TheVariants.{One, Logs}
+use Rattle.command_line.specs.declared.request.TraceFiles.TheVariants.{One, Logs, Sourced}
 use Rattle.command_line.specs.declared.request.Upgrade.{Upgrade}
 use Rattle.host_files.specs.Files.{Files, IsOnlyRead}
 use Rattle.verdict.specs.declared.judge_fault.Count.TheVariants.{Files as FileCount}
@@ -207,10 +207,12 @@ module _ (old new : Files) (Unreadable : List ℕ → Type 0) (out out' : Sink) 
   logs_unread : (files : TraceFiles) (file : ℕ) → AreNoLogsIn old.told Unreadable files (Read file) → IsUnreadAt Unreadable (trace_logs files) file
   logs_unread (One name) file is = absurd is
   logs_unread (Logs names) file is = is.1
+  logs_unread (Sourced names) file is = is.1
 
   file_unread : (files : TraceFiles) → IsUnreadIn Unreadable files → IsSomeAnd (trace_file files) (λ name. Unreadable name.now)
   file_unread (One name) is = is
   file_unread (Logs names) is = absurd is
+  file_unread (Sourced names) is = absurd is
 
   search_kept : (asked : Search) (refusal : Refusal) → IsSearched old new Unreadable asked (Err refusal) → ComesFirst refusal → new.told ≡ old.told
   search_kept asked Undecided is first = same_told is.1

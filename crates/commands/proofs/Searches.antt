@@ -1,19 +1,21 @@
 -- What a search comes to, from what its parts answer.
-use Rattle.std.proofs.Common.{◌≡◌, subst, sym, inl, inr, ℕ, Bor, List, Option, Result, Ok, Err}
+use Rattle.std.proofs.Common.{◌≡◌, refl, subst, sym, inl, inr, ℕ, Bor, List, Option, Result, Ok, Err}
 use Rattle.std.specs.Prelude.{IfOk}
 use Rattle.host_files.specs.Files.{Files, IsOnlyRead}
 use Rattle.commands.specs.Outputs.{FailsPutAt}
 use Rattle.command_line.specs.declared.request.Search.{Search}
-use Rattle.mem_op.specs.Consistency.{Operation}
+use Rattle.command_line.specs.declared.request.TraceFiles.{TraceFiles}
+use Rattle.command_line.specs.declared.request.TraceFiles.TheVariants.{One, Logs, Sourced}
+use Rattle.mem_op.specs.Consistency.{Operation, IsConsistent}
 use Rattle.refutation.specs.declared.answer.Answer.{Answer}
 use Rattle.refutation.specs.declared.answer.Answer.TheVariants as found
 use Rattle.refutation.proofs.Sound.{refutations-hold}
-use Rattle.commands.specs.SearchAnswers.{IsRightOf}
+use Rattle.refutation_text.specs.FirstLines.{operation_count}
+use Rattle.commands.specs.SearchAnswers.{IsRightOf, no_of}
 use Rattle.commands.specs.Searching.{AnswersBy, Finds, IsProof, IsSearched, PutsProof}
 use Rattle.commands.specs.Traces.{AreTraceless, IsTraceIn, TellsTrace}
 use Rattle.commands.specs.inner.Finding.{IsGivenUp, IsUnput, IsUnputAt}
 use Rattle.commands.specs.declared.search_answer.SearchAnswer.{SearchAnswer}
-use Rattle.commands.specs.declared.search_answer.SearchAnswer.TheVariants.{Yes, No}
 use Rattle.commands.specs.declared.place.Input.TheVariants as input
 use Rattle.commands.specs.declared.place.Output.TheVariants as output
 use Rattle.commands.specs.declared.refusal.Refusal.{Refusal}
@@ -21,13 +23,18 @@ use Rattle.commands.specs.declared.refusal.Refusal.TheVariants.{Judge, Trace, Un
 
 -- ---- what proofs say
 
+-- a no is right of whichever files
+pub no_right : (files : TraceFiles) (cores : List (List Operation)) → ¬ (IsConsistent cores) → IsRightOf cores (no_of files (operation_count cores))
+no_right (One name) cores isnt = (isnt, refl)
+no_right (Logs names) cores isnt = (isnt, refl)
+no_right (Sourced names) cores isnt = (isnt, refl)
+
 -- the answer that a proof gives is right
-pub right_of : (cores : List (List Operation)) (proof : Answer) (answer : SearchAnswer) → IsProof cores proof → AnswersBy cores proof answer → IsRightOf cores answer
-right_of cores (found.Order order) (Yes operations) is by = ((order.items, is), cc)
-right_of cores (found.Order order) (No operations) is by = absurd cc
-right_of cores (found.Refutation steps) (Yes operations) is by = absurd cc
-right_of cores (found.Refutation steps) (No operations) is by = (refutations-hold cores steps is, cc)
-right_of cores found.Undecided answer is by = absurd is
+pub right_of : (files : TraceFiles) (cores : List (List Operation)) (proof : Answer) (answer : SearchAnswer) → IsProof cores proof → AnswersBy files cores proof answer
+    → IsRightOf cores answer
+right_of files cores (found.Order order) answer is by = subst (IsRightOf cores) (sym by) ((order.items, is), refl)
+right_of files cores (found.Refutation steps) answer is by = subst (IsRightOf cores) (sym by) (no_right files cores (refutations-hold cores steps is))
+right_of files cores found.Undecided answer is by = absurd is
 
 -- ---- the whole
 
@@ -66,7 +73,7 @@ unput old new unread asked cores found.Undecided fault is proves why = absurd pr
 
 -- it was put
 pub finds : (old now new : Files) (asked : Search) (cores : List (List Operation)) (proof : Answer) (answer : SearchAnswer) → IsTraceIn old.told asked.trace cores → now ≡ old
-    → IsProof cores proof → AnswersBy cores proof answer → PutsProof now new asked proof → TellsTrace old.told asked.trace (λ cores. Finds old new asked cores answer)
+    → IsProof cores proof → AnswersBy asked.trace cores proof answer → PutsProof now new asked proof → TellsTrace old.told asked.trace (λ cores. Finds old new asked cores answer)
 finds old now new asked cores proof answer is same proves by puts =
     (cores, is, record { proof = proof; is_proof = proves; answers = by; puts = subst (λ (files : Files). PutsProof files new asked proof) same puts })
 
@@ -74,4 +81,4 @@ finds old now new asked cores proof answer is same proves by puts =
 pub right : (old new : Files) (unread : List ℕ → Type 0) (asked : Search) (result : Result SearchAnswer Refusal) → IsSearched old new unread asked result
     → IfOk result (λ answer. TellsTrace old.told asked.trace (λ cores. IsRightOf cores answer))
 right old new unread asked (Err fault) is = tt
-right old new unread asked (Ok answer) (cores, there, finds) = (cores, there, right_of cores finds.proof answer finds.is_proof finds.answers)
+right old new unread asked (Ok answer) (cores, there, finds) = (cores, there, right_of asked.trace cores finds.proof answer finds.is_proof finds.answers)

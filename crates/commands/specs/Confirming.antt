@@ -2,6 +2,7 @@
 use Rattle.std.specs.Prelude.{◌≡◌, ◌≢◌, ◌⊎◌, ⊤, ℕ, List, ◌++◌, Option, Result, Ok, Err}
 use Rattle.host_files.specs.Files.{Files}
 use Rattle.command_line.specs.declared.request.Confirm.{Confirm}
+use Rattle.command_line.specs.declared.request.TraceFiles.{TraceFiles}
 use Rattle.log_file.specs.Devices.{Tells}
 use Rattle.mem_op.specs.Consistency.{Operation}
 use Rattle.refutation.specs.Grammar.{header_line}
@@ -10,18 +11,19 @@ use Rattle.refutation.specs.declared.fault.CertificateFault.{CertificateFault}
 use Rattle.refutation.specs.declared.fault.CertificateFault.TheVariants.{BadCertificate, OutOfMemory as NoCertificateMemory}
 use Rattle.refutation_text.specs.FirstLines.{operation_count}
 use Rattle.commands.specs.OrderTexts.{IsFirstBadOfOrder, SpellsOrder}
+use Rattle.commands.specs.SearchAnswers.{no_of}
 use Rattle.commands.specs.Traces.{AreTraceless, TellsTrace}
 use Rattle.commands.specs.declared.search_answer.SearchAnswer.{SearchAnswer}
-use Rattle.commands.specs.declared.search_answer.SearchAnswer.TheVariants.{Yes, No}
+use Rattle.commands.specs.declared.search_answer.SearchAnswer.TheVariants.{Yes}
 use Rattle.commands.specs.declared.place.Input.TheVariants as input
 use Rattle.commands.specs.declared.place.Output.TheVariants as output
 use Rattle.commands.specs.declared.refusal.Refusal.{Refusal}
 use Rattle.commands.specs.declared.refusal.Refusal.TheVariants.{Certificate, OutOfMemory, Unread, Unwritten}
 
--- the text of a sequential order certifies a yes, and that of a refutation a no
-abbrev pub Certifies : List (List Operation) → List ℕ → SearchAnswer → Type 0
-Certifies cores text (Yes operations) = SpellsOrder cores text × (operations ≡ operation_count cores)
-Certifies cores text (No operations) = SpellsRefutation cores text × (operations ≡ operation_count cores)
+-- of the trace in these files the text of a sequential order certifies a yes, and that of a refutation a no
+abbrev pub Certifies : TraceFiles → List (List Operation) → List ℕ → SearchAnswer → Type 0
+Certifies files cores text (Yes operations) = SpellsOrder cores text × (operations ≡ operation_count cores)
+Certifies files cores text answer = SpellsRefutation cores text × (answer ≡ no_of files (operation_count cores))
 
 -- this line, counted from 1, is the first of a certificate that isn't as it should be: of a refutation, where the text begins as one, and
 -- else of an order
@@ -43,9 +45,9 @@ TellsBoth told asked Holds =
 -- The answer that the certificate gives, or why there is none. The trace is read first. `unread` holds of the name of a file that can't be
 -- opened or read.
 abbrev pub IsConfirmed : Files → Files → (List ℕ → Type 0) → Confirm → Result SearchAnswer Refusal → Type 0
-IsConfirmed old new unread asked (Ok answer) = TellsBoth old.told asked (λ cores text. Certifies cores text answer) × (new ≡ old)
+IsConfirmed old new unread asked (Ok answer) = TellsBoth old.told asked (λ cores text. Certifies asked.trace cores text answer) × (new ≡ old)
 IsConfirmed old new unread asked (Err (Unwritten output.Standard)) =
-    TellsBoth old.told asked (λ cores text. (answer : SearchAnswer) × Certifies cores text answer) × (new ≡ old)
+    TellsBoth old.told asked (λ cores text. (answer : SearchAnswer) × Certifies asked.trace cores text answer) × (new ≡ old)
 IsConfirmed old new unread asked (Err (Certificate fault)) = TellsBoth old.told asked (λ cores text. IsBadCertificate cores text fault) × (new ≡ old)
 IsConfirmed old new unread asked (Err (Unread input.Certificate)) = TellsTrace old.told asked.trace (λ cores. ⊤) × unread asked.certificate.now
 IsConfirmed old new unread asked (Err OutOfMemory) = ⊤

@@ -7,7 +7,6 @@ use Rattle.command_line.specs.declared.request.Check.{Check}
 use Rattle.command_line.specs.declared.request.Explain.{Explain}
 use Rattle.explain.specs.Pictures.{HasPicture}
 use Rattle.explanation_picture.specs.Pictures.{IsPicture}
-use Rattle.log_record.specs.Entries.{operations_of}
 use Rattle.verdict.specs.Texts.{verdict_text}
 use Rattle.verdict.specs.declared.answer.Verdict.{Verdict}
 use Rattle.commands.specs.Sinks.{line}
@@ -24,7 +23,7 @@ use Rattle.commands.specs.declared.refusal.Refusal.TheVariants.{OutOfMemory, Unw
 -- what is told of another order, which is true of the operations of the set that the texts of the files spell
 abbrev pub TellsOtherOf : (List ℕ → Option (List ℕ)) → Explain → Verdict → List ℕ → Type 0
 TellsOtherOf told asked verdict text =
-    Spelled told asked.check.files.items (λ logs. TellsOther asked.no_search verdict (operations_of logs) text)
+    Spelled told asked.check.files.items (λ logs. TellsOther asked.no_search verdict logs text)
 
 -- the line of a verdict, then why it is so, and last what is told of another order
 abbrev pub TellsVerdict : (List ℕ → Option (List ℕ)) → Explain → Verdict → List ℕ → Type 0

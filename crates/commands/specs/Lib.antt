@@ -21,6 +21,7 @@ pub mod SearchAnswers
 pub mod Searching
 pub mod Simulating
 pub mod Sinks
+pub mod Sources
 pub mod Tabling
 pub mod Traces
 pub mod Upgrading

@@ -1,10 +1,20 @@
 -- What is told of an order that explains all values, whatever the times say.
 use Rattle.std.specs.Prelude.{◌≡◌, ◌≢◌, ◌<◌, ◌≤◌, ◌⊎◌, Bool, false, ℕ, List, [], codes}
+use Rattle.log_record.specs.Entries.{operations_of}
+use Rattle.log_record.specs.declared.record.Record.{Record}
 use Rattle.mem_op.specs.Consistency.{Operation, IsConsistent}
 use Rattle.refutation_text.specs.FirstLines.{IsGrown, operation_count}
 use Rattle.verdict.specs.declared.answer.Verdict.{Verdict}
 use Rattle.verdict.specs.declared.answer.Verdict.TheVariants.{Yes, No}
 use Rattle.verdict.specs.declared.rule.Rule.TheVariants.{Program}
+use Rattle.commands.specs.Sources.{sourced_operations}
+
+-- an order is told so where it explains the sources, too, where no order does, and where that isn't known
+abbrev pub by_sources_text : List ℕ
+by_sources_text = codes "\nanother order explains all values with these sources, so this run is sequentially consistent; a time was logged wrong, or the machine broke its own order and no value of this run shows it\n"
+
+abbrev pub by_others_text : List ℕ
+by_others_text = codes "\nanother order explains all values, though none with these sources, so this run is sequentially consistent; a source was logged wrong, or the machine broke its own order and no value of this run shows it\n"
 
 abbrev pub another_text : List ℕ
 another_text = codes "\nanother order explains all values, so this run is sequentially consistent; a time or a source was logged wrong, or the machine broke its own order and no value of this run shows it\n"
@@ -18,11 +28,18 @@ undecided_text = codes "\nwhether another order explains all values isn't decide
 abbrev pub unsearched_text : List ℕ
 unsearched_text = codes "\nwhether another order explains all values wasn't searched, for more than 100,000 operations; search --logs searches\n"
 
--- a text that tells of operations that some order explains their values, that none does and why, or that this isn't decided
-abbrev pub TellsOrder : List (List Operation) → List ℕ → Type 0
-TellsOrder cores text =
-    ((text ≡ another_text) × IsConsistent cores)
+-- a text that tells of operations that some order explains their values, in the words that are given, that none does and why, or that this isn't
+-- decided
+abbrev pub TellsOrder : List ℕ → List (List Operation) → List ℕ → Type 0
+TellsOrder another cores text =
+    ((text ≡ another) × IsConsistent cores)
     ⊎ ((IsGrown none_text text × ¬ (IsConsistent cores)) ⊎ (text ≡ undecided_text))
+
+-- the same of operations of which those with sources in place of words are known: an order that explains the sources is told first
+abbrev pub TellsSourced : List (List Operation) → List (List Operation) → List ℕ → Type 0
+TellsSourced sourced cores text =
+    ((text ≡ by_sources_text) × IsConsistent sourced)
+    ⊎ ((¬ (IsConsistent sourced) × TellsOrder by_others_text cores text) ⊎ TellsOrder another_text cores text)
 
 -- it is by its order that a set got No, and not by a program: another order may mend that
 abbrev pub IsWrongByOrder : Verdict → Type 0
@@ -34,12 +51,13 @@ pub record IsAskedFor (is_declined : Bool) (verdict : Verdict) : Type 0 where
   pub asked : is_declined ≡ false
   pub wrong : IsWrongByOrder verdict
 
--- what is told of another order of these operations where one is asked for: whether there is one, where they are at most 100,000
-abbrev pub TellsAsked : List (List Operation) → List ℕ → Type 0
-TellsAsked cores text =
-    ((operation_count cores ≤ 100000) × TellsOrder cores text) ⊎ ((100000 < operation_count cores) × (text ≡ unsearched_text))
+-- what is told of another order of a set where one is asked for: whether there is one, where its operations are at most 100,000
+abbrev pub TellsAsked : List (List Record) → List ℕ → Type 0
+TellsAsked logs text =
+    ((operation_count (operations_of logs) ≤ 100000) × TellsSourced (sourced_operations logs) (operations_of logs) text)
+    ⊎ ((100000 < operation_count (operations_of logs)) × (text ≡ unsearched_text))
 
--- what is told of another order of these operations, whose set got this verdict: nothing where none is asked for
-abbrev pub TellsOther : Bool → Verdict → List (List Operation) → List ℕ → Type 0
-TellsOther is_declined verdict cores text =
-    (IsAskedFor is_declined verdict × TellsAsked cores text) ⊎ ((¬ (IsAskedFor is_declined verdict)) × (text ≡ []))
+-- what is told of another order of a set that got this verdict: nothing where none is asked for
+abbrev pub TellsOther : Bool → Verdict → List (List Record) → List ℕ → Type 0
+TellsOther is_declined verdict logs text =
+    (IsAskedFor is_declined verdict × TellsAsked logs text) ⊎ ((¬ (IsAskedFor is_declined verdict)) × (text ≡ []))

@@ -8,7 +8,7 @@ use Rattle.command_line.specs.RunFiles.{IsLogName}
 use Rattle.command_line.specs.declared.request.Request.{Request}
 use Rattle.command_line.specs.declared.request.Request.TheVariants.{Check, Order, Explain, Inspect, Upgrade, Sim, Run, Litmus, Search, Confirm, Replay}
 use Rattle.command_line.specs.declared.request.TraceFiles.{TraceFiles}
-use Rattle.command_line.specs.declared.request.TraceFiles.TheVariants.{One, Logs}
+use Rattle.command_line.specs.declared.request.TraceFiles.TheVariants.{One, Logs, Sourced}
 use Rattle.host_files.specs.Files.{Files}
 use Rattle.mem_op.specs.Consistency.{IsConsistent}
 use Rattle.merge_judge.specs.OrderText.{LacksEnd}
@@ -25,7 +25,7 @@ use Rattle.commands.specs.Running.{LeavesRun}
 use Rattle.commands.specs.Searching.{IsOutputName}
 use Rattle.commands.specs.Simulating.{LeavesSimulation}
 use Rattle.commands.specs.Sinks.{Sink, Takes, Took, line}
-use Rattle.commands.specs.Traces.{TellsTrace}
+use Rattle.commands.specs.Traces.{TellsTrace, own_files}
 use Rattle.commands.specs.Upgrading.{LeavesAnew}
 use Rattle.commands.specs.declared.place.Input.{Input}
 use Rattle.commands.specs.declared.place.Input.TheVariants as input
@@ -41,13 +41,13 @@ AskFor words Holds = (asked : Request) × Asks words asked × Holds asked
 -- ---- after 0
 
 -- where a verdict was asked for, its files spell a set whose operations are sequentially consistent, and where a trace was looked at, so are
--- its operations
+-- its operations: those of logs with their words, whether sources are taken as given or not
 abbrev pub AreConsistent : (List ℕ → Option (List ℕ)) → Request → Type 0
 AreConsistent told (Check asked) = FilesAreConsistent told asked
 AreConsistent told (Order asked) = TextsAreConsistent told asked.files.items
 AreConsistent told (Explain asked) = FilesAreConsistent told asked.check
-AreConsistent told (Search asked) = TellsTrace told asked.trace IsConsistent
-AreConsistent told (Confirm asked) = TellsTrace told asked.trace IsConsistent
+AreConsistent told (Search asked) = TellsTrace told (own_files asked.trace) IsConsistent
+AreConsistent told (Confirm asked) = TellsTrace told (own_files asked.trace) IsConsistent
 AreConsistent told (Replay asked) = TellsText told asked.trace.now IsConsistentText
 AreConsistent told other = ⊤
 
@@ -76,7 +76,8 @@ LeaveYes told told' other = ⊤
 -- ---- after 1
 
 -- where a verdict was asked for, that on the set of its files is a No, and what standard output took of an order lacks the `end` line; where
--- a trace was looked at, its operations aren't sequentially consistent, and where one was replayed, the order of its lines isn't sequential
+-- a trace was looked at, its operations aren't sequentially consistent (where sources are taken as given, those with the sources in place of
+-- the words), and where one was replayed, the order of its lines isn't sequential
 abbrev pub AreWrong : (List ℕ → Option (List ℕ)) → Sink → Sink → Request → Type 0
 AreWrong told out out' (Check asked) = FilesGetNo told asked
 AreWrong told out out' (Order asked) = TextsGetNo told asked.files.items × Took out out' LacksEnd
@@ -124,12 +125,13 @@ LeavesSoFar old new asked refusal = ⊤
 -- the only file of a trace
 abbrev pub trace_file : TraceFiles → Option (Bor (List ℕ))
 trace_file (One name) = Some name
-trace_file (Logs names) = None
+trace_file files = None
 
 -- the logs whose trace it is
 abbrev pub trace_logs : TraceFiles → List (Bor (List ℕ))
 trace_logs (One name) = []
 trace_logs (Logs names) = names.items
+trace_logs (Sourced names) = names.items
 
 -- the name of a file that is read alone
 abbrev pub file_at : Request → Input → Option (Bor (List ℕ))

@@ -3,6 +3,7 @@ use Rattle.std.specs.Prelude.{◌≡◌, ◌⊎◌, ⊤, ℕ, ◌*◌, ◌+◌, 
 use Rattle.host_files.specs.Files.{Files, IsOnlyRead}
 use Rattle.commands.specs.Outputs.{FailsPutAt, IsNameOf, PutsAt, PutsSuchAt}
 use Rattle.command_line.specs.declared.request.Search.{Search}
+use Rattle.command_line.specs.declared.request.TraceFiles.{TraceFiles}
 use Rattle.mem_op.specs.Consistency.{Operation, IsConsistent, IsSequentialOrder}
 use Rattle.merge_judge.specs.OrderText.{order_text}
 use Rattle.refutation.specs.Grammar.{refutation_text}
@@ -12,9 +13,10 @@ use Rattle.refutation.specs.declared.answer.Answer.TheVariants as found
 use Rattle.refutation.specs.declared.step.Step.{Step}
 use Rattle.refutation_picture.specs.Pictures.{IsPicture}
 use Rattle.refutation_text.specs.FirstLines.{operation_count}
+use Rattle.commands.specs.SearchAnswers.{no_of}
 use Rattle.commands.specs.Traces.{AreTraceless, TellsTrace}
 use Rattle.commands.specs.declared.search_answer.SearchAnswer.{SearchAnswer}
-use Rattle.commands.specs.declared.search_answer.SearchAnswer.TheVariants.{Yes, No}
+use Rattle.commands.specs.declared.search_answer.SearchAnswer.TheVariants.{Yes}
 use Rattle.commands.specs.declared.place.Output.TheVariants as output
 use Rattle.commands.specs.declared.refusal.Refusal.{Refusal}
 use Rattle.commands.specs.declared.refusal.Refusal.TheVariants.{Undecided, OutOfMemory, Unwritten}
@@ -33,11 +35,11 @@ IsProof cores (found.Order order) = IsSequentialOrder cores order.items
 IsProof cores (found.Refutation steps) = IsRefutation cores steps
 IsProof cores found.Undecided = ⊥
 
--- the answer that a proof gives
-abbrev pub AnswersBy : List (List Operation) → Answer → SearchAnswer → Type 0
-AnswersBy cores (found.Order order) answer = answer ≡ Yes (operation_count cores)
-AnswersBy cores (found.Refutation steps) answer = answer ≡ No (operation_count cores)
-AnswersBy cores found.Undecided answer = ⊥
+-- the answer that a proof gives of the trace in these files
+abbrev pub AnswersBy : TraceFiles → List (List Operation) → Answer → SearchAnswer → Type 0
+AnswersBy files cores (found.Order order) answer = answer ≡ Yes (operation_count cores)
+AnswersBy files cores (found.Refutation steps) answer = answer ≡ no_of files (operation_count cores)
+AnswersBy files cores found.Undecided answer = ⊥
 
 -- the text of a refutation and then a picture of it were put, each where that was asked for
 abbrev pub PutsBoth : Files → Files → Search → List Step → Type 0
@@ -60,7 +62,7 @@ FailsPicture old new asked cores =
 pub record Finds (old new : Files) (asked : Search) (cores : List (List Operation)) (answer : SearchAnswer) : Type 0 where
   pub proof : Answer
   pub is_proof : IsProof cores proof
-  pub answers : AnswersBy cores proof answer
+  pub answers : AnswersBy asked.trace cores proof answer
   pub puts : PutsProof old new asked proof
 
 -- The answer, or why there is none: what is found is put before anything is printed. A search that gives up promises nothing of the trace.

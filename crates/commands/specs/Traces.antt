@@ -3,7 +3,7 @@ use Rattle.std.specs.Prelude.{◌≡◌, ⊤, ℕ, List, length, Option, vec_len
 use Rattle.std.specs.Borrow.{Bor}
 use Rattle.commands.specs.LogFiles.{AreTextsOf, IsUnreadAt, Spelled}
 use Rattle.command_line.specs.declared.request.TraceFiles.{TraceFiles}
-use Rattle.command_line.specs.declared.request.TraceFiles.TheVariants.{One, Logs as LogFiles}
+use Rattle.command_line.specs.declared.request.TraceFiles.TheVariants.{One, Logs as LogFiles, Sourced}
 use Rattle.log_file.specs.Devices.{Tells}
 use Rattle.log_file.specs.Sets.{IsFirstOfSet}
 use Rattle.log_record.specs.Entries.{operations_of}
@@ -15,6 +15,7 @@ use Rattle.verdict.specs.Counts.{IsInRange, IsOutOfRange}
 use Rattle.verdict.specs.declared.judge_fault.Count.TheVariants.{Files as FileCount}
 use Rattle.verdict.specs.declared.judge_fault.JudgeFault.{JudgeFault}
 use Rattle.verdict.specs.declared.judge_fault.JudgeFault.TheVariants.{BadConfig, Log, Read, OutOfMemory as NoLogMemory}
+use Rattle.commands.specs.Sources.{sourced_operations}
 use Rattle.commands.specs.declared.place.Input.TheVariants as input
 use Rattle.commands.specs.declared.refusal.Refusal.{Refusal}
 use Rattle.commands.specs.declared.refusal.Refusal.TheVariants.{Judge, Trace, OutOfMemory, Unread}
@@ -27,14 +28,24 @@ SpellsTraceAt told name cores = (text : List ℕ) × Tells (told name) text × S
 abbrev pub SpellLogsAt : (List ℕ → Option (List ℕ)) → List (Bor (List ℕ)) → List (List Operation) → Type 0
 SpellLogsAt told names cores = Spelled told names (λ logs. cores ≡ operations_of logs)
 
+-- so do these, with the sources that they name in place of their words
+abbrev pub SpellSourcesAt : (List ℕ → Option (List ℕ)) → List (Bor (List ℕ)) → List (List Operation) → Type 0
+SpellSourcesAt told names cores = Spelled told names (λ logs. cores ≡ sourced_operations logs)
+
 -- the files tell this trace
 abbrev pub IsTraceIn : (List ℕ → Option (List ℕ)) → TraceFiles → List (List Operation) → Type 0
 IsTraceIn told (One name) cores = SpellsTraceAt told name.now cores
 IsTraceIn told (LogFiles names) cores = IsInRange (vec_len names) × SpellLogsAt told names.items cores
+IsTraceIn told (Sourced names) cores = IsInRange (vec_len names) × SpellSourcesAt told names.items cores
 
 -- the files tell a trace of which something holds
 abbrev pub TellsTrace : (List ℕ → Option (List ℕ)) → TraceFiles → (List (List Operation) → Type 0) → Type 0
 TellsTrace told files Holds = (cores : List (List Operation)) × IsTraceIn told files cores × Holds cores
+
+-- the same files, of whose sources nothing is taken as given
+abbrev pub own_files : TraceFiles → TraceFiles
+own_files (Sourced names) = LogFiles names
+own_files files = files
 
 -- ---- why there is none
 
@@ -59,17 +70,18 @@ AreNoLogs told unread names NoLogMemory = ⊥
 -- the text of the only file has this fault first
 abbrev pub IsTextFaultIn : (List ℕ → Option (List ℕ)) → TraceFiles → TraceFault → Type 0
 IsTextFaultIn told (One name) fault = IsTextFault told name.now fault
-IsTextFaultIn told (LogFiles names) fault = ⊥
+IsTextFaultIn told files fault = ⊥
 
 -- the only file can't be opened or read
 abbrev pub IsUnreadIn : (List ℕ → Type 0) → TraceFiles → Type 0
 IsUnreadIn unread (One name) = unread name.now
-IsUnreadIn unread (LogFiles names) = ⊥
+IsUnreadIn unread files = ⊥
 
 -- the files are to be logs, and tell none
 abbrev pub AreNoLogsIn : (List ℕ → Option (List ℕ)) → (List ℕ → Type 0) → TraceFiles → JudgeFault → Type 0
 AreNoLogsIn told unread (One name) fault = ⊥
 AreNoLogsIn told unread (LogFiles names) fault = AreNoLogs told unread names.items fault
+AreNoLogsIn told unread (Sourced names) fault = AreNoLogs told unread names.items fault
 
 -- why the files tell no trace
 abbrev pub AreTraceless : (List ℕ → Option (List ℕ)) → (List ℕ → Type 0) → TraceFiles → Refusal → Type 0

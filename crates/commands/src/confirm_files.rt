@@ -1,13 +1,15 @@
 //! The look at a certificate.
 
 ghost use Rattle.std.specs.Prelude.{◌≡◌, ◌≢◌, ◌++◌, ℕ, List, IfErr, IfOk, OnOk};
+ghost use Rattle.command_line.specs.declared.request.TraceFiles.{TraceFiles};
 ghost use Rattle.host_files.specs.Files.{IsOnlyRead, IsUnread};
 ghost use Rattle.log_file.specs.Devices.{Tells};
+ghost use Rattle.mem_op.specs.Consistency.{IsConsistent};
 ghost use Rattle.refutation.specs.Grammar.{header_line};
 ghost use Rattle.refutation.specs.declared.fault.CertificateFault.TheVariants.{BadCertificate};
-ghost use Rattle.commands.specs.SearchAnswers.{IsRightOf};
+ghost use Rattle.commands.specs.SearchAnswers.{IsRightOf, search_status};
 ghost use Rattle.commands.specs.Confirming as confirming;
-ghost use Rattle.commands.specs.Traces.{TellsTrace};
+ghost use Rattle.commands.specs.Traces.{TellsTrace, own_files};
 ghost use Rattle.commands.specs.declared.refusal.Refusal.TheVariants.{Certificate};
 ghost use Rattle.commands.specs.inner.Looking.{IsLook, IsNoCertificate};
 
@@ -17,7 +19,7 @@ use super::refusal::Refusal;
 use super::search_answer::SearchAnswer;
 use super::text::read_text;
 use super::trace_files::read_files;
-use command_line::Confirm;
+use command_line::{Confirm, TraceFiles};
 use decimal_text::after_text;
 use host_files::Folder;
 use log_file::{ByteSink, ReadFault, write_all};
@@ -44,11 +46,13 @@ pub fn confirm<R: Threads + Sync, F: Folder, O: ByteSink>(
         (IsUnread F.Source.remaining F.Source.failed (F.files folder.old)) asked.now result }
     ensures sound { IfOk result (λ answer. TellsTrace (F.files folder.old).told asked.now.trace
         (λ cores. IsRightOf cores answer)) }
+    ensures own { IfOk result (λ answer. search_status answer ≡ 0
+        → TellsTrace (F.files folder.old).told (own_files asked.now.trace) IsConsistent) }
     ensures read { IsOnlyRead (F.files folder.old) (F.files folder.new) }
 {
-    let trace = read_files(rt, alloc, folder, &asked.trace)?;
+    let read = read_files(rt, alloc, folder, &asked.trace)?;
     let text = read_certificate(alloc, folder, asked.certificate)?;
-    let answer = look_at(alloc, &trace, text.as_slice())?;
+    let answer = look_at(alloc, &asked.trace, &read.trace, text.as_slice())?;
     let line = format!(in alloc; "{answer}\n")?;
     write_all(out, line.as_bytes())?;
     Ok(answer)
@@ -72,23 +76,33 @@ fn read_certificate<F: Folder>(
     }
 }
 
-/// The answer that a certificate gives of a trace, or its first line that isn't as it should be.
-fn look_at(alloc: Global, trace: &Trace, text: &[u8]) -> Result<SearchAnswer, Refusal>
-    ensures { IsLook trace.now text.now result }
+/// The answer that a certificate gives of the trace in these files, or its first line that isn't as it should be.
+fn look_at(
+    alloc: Global,
+    files: &TraceFiles<'_>,
+    trace: &Trace,
+    text: &[u8],
+) -> Result<SearchAnswer, Refusal>
+    ensures { IsLook files.now trace.now text.now result }
 {
     match after_text(HEADER, text) {
-        Some(_) => look_at_refutation(alloc, trace, text),
+        Some(_) => look_at_refutation(alloc, files, trace, text),
         None => look_at_order(alloc, trace, text),
     }
 }
 
 /// The same of a text that begins as that of a refutation.
-fn look_at_refutation(alloc: Global, trace: &Trace, text: &[u8]) -> Result<SearchAnswer, Refusal>
+fn look_at_refutation(
+    alloc: Global,
+    files: &TraceFiles<'_>,
+    trace: &Trace,
+    text: &[u8],
+) -> Result<SearchAnswer, Refusal>
     requires { (rest : List ℕ) × (text.now ≡ header_line ++ rest) }
-    ensures { IsLook trace.now text.now result }
+    ensures { IsLook files.now trace.now text.now result }
 {
     match first_bad_line(alloc, trace, text)? {
-        None => Ok(SearchAnswer::No(count_of(trace) as u64)),
+        None => Ok(SearchAnswer::no_of(files, count_of(trace) as u64)),
         Some(line) => Err(bad_line(line)),
     }
 }
@@ -96,7 +110,7 @@ fn look_at_refutation(alloc: Global, trace: &Trace, text: &[u8]) -> Result<Searc
 /// The same of a text that doesn't.
 fn look_at_order(alloc: Global, trace: &Trace, text: &[u8]) -> Result<SearchAnswer, Refusal>
     requires { (rest : List ℕ) → text.now ≢ header_line ++ rest }
-    ensures { IsLook trace.now text.now result }
+    ensures { (files : TraceFiles) → IsLook files trace.now text.now result }
 {
     match first_bad_line_of_order(alloc, trace, text)? {
         None => Ok(SearchAnswer::Yes(count_of(trace) as u64)),

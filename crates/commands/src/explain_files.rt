@@ -3,7 +3,6 @@
 ghost use Rattle.std.specs.Prelude.{◌≡◌, ◌↔◌, ◌++◌, ℕ, List, IfErr, IfOk, IfSome, IsSome, IsTrue, OnOk, MatchResult, string_bytes, vec_len};
 ghost use Rattle.explain.specs.Pictures.{HasPicture, IsDrawn};
 ghost use Rattle.explanation_picture.specs.Pictures.{IsPicture};
-ghost use Rattle.log_record.specs.Entries.{operations_of};
 ghost use Rattle.log_record.specs.declared.record.Record.{Record};
 ghost use Rattle.verdict.specs.CoreFaultsOf.{given};
 ghost use Rattle.verdict.specs.Bases.{IsExaminationOf};
@@ -133,7 +132,7 @@ fn last_lines<W: SearchWatch>(
     requires { (logs : List (List Record))
         × AreLogsOf logs examined.now.basis (vec_len asked.now.check.files) }
     ensures { (logs : List (List Record)) → AreLogsOf logs examined.now.basis (vec_len asked.now.check.files)
-        → IfOk result (λ text. TellsOther asked.now.no_search examined.now.verdict (operations_of logs) (string_bytes text)) }
+        → IfOk result (λ text. TellsOther asked.now.no_search examined.now.verdict logs (string_bytes text)) }
 {
     if asked.no_search {
         return Ok(String::new(alloc));

@@ -6,6 +6,7 @@ ghost use Rattle.commands.specs.inner.Finding.{IsGivenUp};
 
 use super::refusal::Refusal;
 use super::search_answer::SearchAnswer;
+use command_line::TraceFiles;
 use refutation::Answer;
 use refutation_text::count_of;
 use search::{SearchWatch, search_watched};
@@ -38,14 +39,14 @@ pub(crate) fn find<W: SearchWatch>(
     }
 }
 
-/// The answer that a proof gives.
-pub(crate) fn answer(trace: &Trace, proof: &Answer) -> SearchAnswer
+/// The answer that a proof gives of the trace in these files.
+pub(crate) fn answer(files: &TraceFiles<'_>, trace: &Trace, proof: &Answer) -> SearchAnswer
     requires { IsProof trace.now proof.now }
-    ensures { AnswersBy trace.now proof.now result }
+    ensures { AnswersBy files.now trace.now proof.now result }
 {
     match proof {
         Answer::Order(_) => SearchAnswer::Yes(count_of(trace) as u64),
-        Answer::Refutation(_) => SearchAnswer::No(count_of(trace) as u64),
+        Answer::Refutation(_) => SearchAnswer::no_of(files, count_of(trace) as u64),
         Answer::Undecided => unreachable!(),
     }
 }

@@ -127,7 +127,11 @@ fn verdict_text(
     let mut beginnings = Vec::new(alloc);
     let mut operations = 0usize;
     for (text, log) in texts.iter().zip(logs) {
-        let count = log.whole.iter().take_while(|whole| whole.key <= last).count();
+        let count = log
+            .whole
+            .iter()
+            .take_while(|whole| whole.key <= last)
+            .count();
         operations = operations.saturating_add(count);
         beginnings.push(beginning(alloc, text.as_slice(), log, count)?)?;
     }
@@ -138,19 +142,15 @@ fn verdict_text(
     match merged_verdict(alloc, sources.as_mut_slice()) {
         Ok(verdict) => format!(in alloc;
             "The {operations} operations up to stamp {} and rank {} get, judged alone: {verdict}\nThis is no verdict on the logs: what comes later is left out.\n",
-            last.ts.get(), last.rank.get()
+            last.ts.get(),
+            last.rank.get()
         ),
         Err(_) => Ok(String::new(alloc)),
     }
 }
 
 /// The log of the first operations of a log, so many.
-fn beginning(
-    alloc: Global,
-    text: &[u8],
-    log: &Begun,
-    count: usize,
-) -> Result<Vec<u8>, AllocError> {
+fn beginning(alloc: Global, text: &[u8], log: &Begun, count: usize) -> Result<Vec<u8>, AllocError> {
     let mut made = Vec::from_slice(alloc, up_to(text, log, count))?;
     let end = print_end(alloc, count as u64)?;
     made.extend_from_slice(end.as_bytes())?;
@@ -162,7 +162,10 @@ fn beginning(
 fn up_to<'a>(text: &'a [u8], log: &Begun, count: usize) -> &'a [u8] {
     let end = match count.checked_sub(1) {
         Some(last) => log.whole.get(last).map(|whole| whole.end),
-        None => text.iter().position(|byte| *byte == b'\n').map(|feed| feed.saturating_add(1)),
+        None => text
+            .iter()
+            .position(|byte| *byte == b'\n')
+            .map(|feed| feed.saturating_add(1)),
     };
     text.get(..end.unwrap_or(0)).unwrap_or(text)
 }

@@ -1,4 +1,4 @@
-//! The trace of the logs of a set.
+//! The trace of the logs of a set, with their words or with their sources.
 
 ghost use Rattle.std.specs.Prelude.{◌≡◌, IfErr, IfOk, OnOk, length};
 ghost use Rattle.host_files.specs.Files.{IsOnlyRead, IsUnread};
@@ -8,6 +8,8 @@ ghost use Rattle.commands.specs.inner.ReadTraces.{AreLogless};
 
 use super::log_files::{read_log_files, trace_of};
 use super::refusal::Refusal;
+use super::sources::sourced_trace;
+use super::trace_files::AskedTrace;
 use host_files::Folder;
 use std::alloc::Global;
 use std::thread::Threads;
@@ -32,4 +34,24 @@ pub(crate) fn read_logs<R: Threads + Sync, F: Folder>(
     check_counts(names.len(), 1)?;
     let logs = read_log_files(rt, alloc, folder, names)?;
     Ok(trace_of(alloc, logs.as_slice())?)
+}
+
+/// The same with the sources that the logs name in place of their words.
+pub(crate) fn read_sourced<R: Threads + Sync, F: Folder>(
+    rt: &R,
+    alloc: Global,
+    folder: &mut F,
+    names: &[&str],
+) -> Result<AskedTrace, Refusal>
+    ensures ok { IfOk result (λ read. IsInRange (length names.now)
+        × traces.SpellSourcesAt (F.files folder.old).told names.now read.trace) }
+    ensures quiet { OnOk result (F.files folder.new ≡ F.files folder.old) }
+    ensures err { IfErr result (AreLogless (F.files folder.old).told
+        (IsUnread F.Source.remaining F.Source.failed (F.files folder.old)) names.now) }
+    ensures read { IsOnlyRead (F.files folder.old) (F.files folder.new) }
+{
+    check_counts(names.len(), 1)?;
+    let logs = read_log_files(rt, alloc, folder, names)?;
+    let trace = sourced_trace(alloc, logs.as_slice())?;
+    Ok(AskedTrace::sourced(trace, trace_of(alloc, logs.as_slice())?))
 }

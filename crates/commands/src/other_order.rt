@@ -3,11 +3,14 @@
 ghost use Rattle.std.specs.Prelude.{◌≡◌, ◌↔◌, List, IfOk, IsTrue, false, string_bytes};
 ghost use Rattle.log_record.specs.Entries.{operations_of};
 ghost use Rattle.log_record.specs.declared.record.Record.{Record};
-ghost use Rattle.commands.specs.OtherOrders.{IsWrongByOrder, TellsOrder, TellsOther};
+ghost use Rattle.commands.specs.OtherOrders.{IsWrongByOrder, TellsOrder, TellsOther, TellsSourced};
+ghost use Rattle.commands.specs.Sources.{sourced_operations};
 ghost use Rattle.commands.specs.inner.ReadLogs.{AreLogsOf};
+ghost use Rattle.refutation.specs.Answers.{IsRight};
 
 use super::basis_logs::{logs_of, records_in};
 use super::log_files::trace_of;
+use super::sources::sourced_trace;
 use refutation::Answer;
 use refutation_text::{count_of, push_argument};
 use search::{SearchWatch, search_watched};
@@ -18,12 +21,20 @@ use verdict::{Basis, Examined, Rule, Verdict};
 /// The most operations of a set for which another order is searched.
 const MOST_SEARCHED: usize = 100_000;
 
-/// How many steps the search may make, which takes about a second at most: so many, and so many more for each operation.
+/// How many steps each of the two searches may make, which takes about a second at most: so many, and so many more for each operation.
 const STEPS: u64 = 1_000_000;
 
 const STEPS_EACH: u64 = 100;
 
-/// What is told where there is one.
+/// What is told where there is one that explains the sources, too.
+const BY_SOURCES: &str =
+    "\nanother order explains all values with these sources, so this run is sequentially consistent; a time was logged wrong, or the machine broke its own order and no value of this run shows it\n";
+
+/// What is told where there is one, and none explains the sources, too.
+const BY_OTHERS: &str =
+    "\nanother order explains all values, though none with these sources, so this run is sequentially consistent; a source was logged wrong, or the machine broke its own order and no value of this run shows it\n";
+
+/// What is told where there is one, and it isn't known whether one explains the sources, too.
 const ANOTHER: &str =
     "\nanother order explains all values, so this run is sequentially consistent; a time or a source was logged wrong, or the machine broke its own order and no value of this run shows it\n";
 
@@ -48,7 +59,7 @@ pub(crate) fn other_order<W: SearchWatch>(
 ) -> Result<String, AllocError>
     requires { (logs : List (List Record)) × AreLogsOf logs examined.now.basis cores }
     ensures { (logs : List (List Record)) → AreLogsOf logs examined.now.basis cores
-        → IfOk result (λ text. TellsOther false examined.now.verdict (operations_of logs) (string_bytes text)) }
+        → IfOk result (λ text. TellsOther false examined.now.verdict logs (string_bytes text)) }
 {
     if !is_wrong_by_its_order(&examined.verdict) {
         return Ok(String::new(alloc));
@@ -56,8 +67,7 @@ pub(crate) fn other_order<W: SearchWatch>(
     if records_in(&examined.basis) > MOST_SEARCHED {
         return String::from_str(alloc, UNSEARCHED);
     }
-    let trace = trace_of_basis(alloc, &examined.basis, cores)?;
-    whether_another(alloc, watch, &trace)
+    whether_another(alloc, watch, &examined.basis, cores)
 }
 
 /// Whether it is by its order that a set got No, which another order may mend.
@@ -70,18 +80,58 @@ fn is_wrong_by_its_order(verdict: &Verdict) -> bool
     }
 }
 
-/// Whether some order of a trace explains all values.
+/// Whether some order explains all values of the set that a verdict stands on, of so many cores.
 fn whether_another<W: SearchWatch>(
     alloc: Global,
     watch: &W,
+    basis: &Basis,
+    cores: usize,
+) -> Result<String, AllocError>
+    requires { (logs : List (List Record)) × AreLogsOf logs basis.now cores }
+    ensures { (logs : List (List Record)) → AreLogsOf logs basis.now cores
+        → IfOk result (λ text. TellsSourced (sourced_operations logs) (operations_of logs) (string_bytes text)) }
+{
+    let logs = logs_of(alloc, basis, cores)?;
+    let sourced = sourced_trace(alloc, logs.as_slice())?;
+    let trace = trace_of(alloc, logs.as_slice())?;
+    whether_by_sources(alloc, watch, &sourced, &trace)
+}
+
+/// Whether some order of a trace explains all values; one of the trace with sources in place of words is looked for first.
+fn whether_by_sources<W: SearchWatch>(
+    alloc: Global,
+    watch: &W,
+    sourced: &Trace,
     trace: &Trace,
 ) -> Result<String, AllocError>
-    ensures { IfOk result (λ text. TellsOrder trace.now (string_bytes text)) }
+    ensures { IfOk result (λ text. TellsSourced sourced.now trace.now (string_bytes text)) }
+{
+    match searched(alloc, watch, sourced)? {
+        Answer::Order(_) => String::from_str(alloc, BY_SOURCES),
+        Answer::Refutation(_) => whether_any(alloc, watch, trace, BY_OTHERS),
+        Answer::Undecided => whether_any(alloc, watch, trace, ANOTHER),
+    }
+}
+
+/// An order of a trace, a refutation, or neither.
+fn searched<W: SearchWatch>(alloc: Global, watch: &W, trace: &Trace) -> Result<Answer, AllocError>
+    ensures { IfOk result (IsRight trace.now) }
 {
     let more = STEPS_EACH.saturating_mul(count_of(trace) as u64);
-    let budget = STEPS.saturating_add(more);
-    match search_watched(alloc, trace, budget, watch)? {
-        Answer::Order(_) => String::from_str(alloc, ANOTHER),
+    search_watched(alloc, trace, STEPS.saturating_add(more), watch)
+}
+
+/// Whether some order of a trace explains all values, which is told in these words.
+fn whether_any<W: SearchWatch>(
+    alloc: Global,
+    watch: &W,
+    trace: &Trace,
+    another: &str,
+) -> Result<String, AllocError>
+    ensures { IfOk result (λ text. TellsOrder another.now trace.now (string_bytes text)) }
+{
+    match searched(alloc, watch, trace)? {
+        Answer::Order(_) => String::from_str(alloc, another),
         Answer::Undecided => String::from_str(alloc, UNDECIDED),
         Answer::Refutation(refutation) => {
             let mut text = String::from_str(alloc, NONE)?;
@@ -89,14 +139,4 @@ fn whether_another<W: SearchWatch>(
             Ok(text)
         }
     }
-}
-
-/// The trace of the set that a verdict stands on, of so many cores.
-fn trace_of_basis(alloc: Global, basis: &Basis, cores: usize) -> Result<Trace, AllocError>
-    requires { (logs : List (List Record)) × AreLogsOf logs basis.now cores }
-    ensures { (logs : List (List Record)) → AreLogsOf logs basis.now cores
-        → IfOk result (λ trace. trace ≡ operations_of logs) }
-{
-    let logs = logs_of(alloc, basis, cores)?;
-    trace_of(alloc, logs.as_slice())
 }

@@ -21,7 +21,7 @@ use refutation_picture::draw;
 use std::alloc::Global;
 use trace::Trace;
 
-/// Puts an order or a refutation where that was asked for: 29 where the put fails.
+/// Puts an order or a refutation where that was asked for, with the picture of one drawn by this trace: 29 where the put fails.
 pub(crate) fn put_proof<F: Folder>(
     alloc: Global,
     folder: &mut F,

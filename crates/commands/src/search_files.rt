@@ -1,10 +1,11 @@
 //! The search of a trace.
 
-ghost use Rattle.std.specs.Prelude.{IfOk};
+ghost use Rattle.std.specs.Prelude.{◌≡◌, IfOk};
 ghost use Rattle.host_files.specs.Files.{IsUnread, KeepsFiles};
-ghost use Rattle.commands.specs.SearchAnswers.{IsRightOf};
+ghost use Rattle.commands.specs.SearchAnswers.{IsRightOf, search_status};
 ghost use Rattle.commands.specs.Searching as searching;
-ghost use Rattle.commands.specs.Traces.{TellsTrace};
+ghost use Rattle.commands.specs.Traces.{TellsTrace, own_files};
+ghost use Rattle.mem_op.specs.Consistency.{IsConsistent};
 
 use super::finding::{answer, find};
 use super::printing::print_proof;
@@ -34,14 +35,17 @@ pub fn search<R: Threads + Sync, W: SearchWatch, F: Folder, O: ByteSink>(
         (IsUnread F.Source.remaining F.Source.failed (F.files folder.old)) asked.now result }
     ensures sound { IfOk result (λ answer. TellsTrace (F.files folder.old).told asked.now.trace
         (λ cores. IsRightOf cores answer)) }
+    ensures own { IfOk result (λ answer. search_status answer ≡ 0
+        → TellsTrace (F.files folder.old).told (own_files asked.now.trace) IsConsistent) }
     ensures files { KeepsFiles (F.files folder.old).told (F.files folder.new).told
         (searching.IsOutputName asked.now) }
 {
-    let trace = read_files(rt, alloc, folder, &asked.trace)?;
-    let proof = find(alloc, watch, &trace, asked.budget)?;
-    let answer = answer(&trace, &proof);
-    let text = print_proof(alloc, &trace, &proof, &answer)?;
-    put_proof(alloc, folder, asked, &trace, &proof)?;
+    let read = read_files(rt, alloc, folder, &asked.trace)?;
+    let proof = find(alloc, watch, &read.trace, asked.budget)?;
+    let answer = answer(&asked.trace, &read.trace, &proof);
+    let told = read.told(&proof);
+    let text = print_proof(alloc, told, &proof, &answer)?;
+    put_proof(alloc, folder, asked, told, &proof)?;
     write_all(out, text.as_bytes())?;
     Ok(answer)
 }

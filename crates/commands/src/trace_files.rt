@@ -4,14 +4,72 @@ ghost use Rattle.std.specs.Prelude.{◌≡◌, IfErr, IfOk, OnOk};
 ghost use Rattle.host_files.specs.Files.{IsOnlyRead, IsUnread};
 ghost use Rattle.commands.specs.Traces.{AreTraceless, IsTraceIn};
 
-use super::log_trace::read_logs;
+use super::log_trace::{read_logs, read_sourced};
 use super::refusal::Refusal;
 use super::trace_file::read_trace;
 use command_line::TraceFiles;
 use host_files::Folder;
+use refutation::{Answer, Step};
 use std::alloc::Global;
 use std::thread::Threads;
 use trace::Trace;
+
+/// The trace that was asked about.
+#[derive(Drop)]
+pub(crate) struct AskedTrace {
+    pub(crate) trace: Trace,
+    /// The same operations with their words, where the trace has sources in place of these.
+    worded: Option<Trace>,
+}
+
+impl AskedTrace {
+    /// A trace that has its own words.
+    fn of(trace: Trace) -> AskedTrace
+        ensures { result.trace ≡ trace }
+    {
+        AskedTrace {
+            trace,
+            worded: None,
+        }
+    }
+
+    /// A trace that has sources in place of words, and the one with the words.
+    pub(crate) fn sourced(trace: Trace, worded: Trace) -> AskedTrace
+        ensures { result.trace ≡ trace }
+    {
+        AskedTrace {
+            trace,
+            worded: Some(worded),
+        }
+    }
+
+    /// The trace by which a proof is told: the one with the words, but where states are shown, which have those of the trace.
+    pub(crate) fn told(&self, proof: &Answer) -> &Trace {
+        match &self.worded {
+            Some(worded) => {
+                if shows_states(proof) {
+                    &self.trace
+                } else {
+                    worded
+                }
+            }
+            None => &self.trace,
+        }
+    }
+}
+
+/// Whether a step of a proof shows states.
+fn shows_states(proof: &Answer) -> bool {
+    match proof {
+        Answer::Refutation(refutation) => {
+            refutation
+                .steps()
+                .iter()
+                .any(|step| matches!(step, Step::States { .. }))
+        }
+        Answer::Order(_) | Answer::Undecided => false,
+    }
+}
 
 /// The trace in these files of the folder, or why there is none.
 pub(crate) fn read_files<R: Threads + Sync, F: Folder>(
@@ -19,15 +77,21 @@ pub(crate) fn read_files<R: Threads + Sync, F: Folder>(
     alloc: Global,
     folder: &mut F,
     files: &TraceFiles<'_>,
-) -> Result<Trace, Refusal>
-    ensures ok { IfOk result (IsTraceIn (F.files folder.old).told files.now) }
+) -> Result<AskedTrace, Refusal>
+    ensures ok { IfOk result (λ read. IsTraceIn (F.files folder.old).told files.now read.trace) }
     ensures quiet { OnOk result (F.files folder.new ≡ F.files folder.old) }
     ensures err { IfErr result (AreTraceless (F.files folder.old).told
         (IsUnread F.Source.remaining F.Source.failed (F.files folder.old)) files.now) }
     ensures read { IsOnlyRead (F.files folder.old) (F.files folder.new) }
 {
     match files {
-        TraceFiles::One(name) => read_trace(alloc, folder, name),
-        TraceFiles::Logs(names) => read_logs(rt, alloc, folder, names.as_slice()),
+        TraceFiles::One(name) => Ok(AskedTrace::of(read_trace(alloc, folder, name)?)),
+        TraceFiles::Logs(names) => Ok(AskedTrace::of(read_logs(
+            rt,
+            alloc,
+            folder,
+            names.as_slice(),
+        )?)),
+        TraceFiles::Sourced(names) => read_sourced(rt, alloc, folder, names.as_slice()),
     }
 }

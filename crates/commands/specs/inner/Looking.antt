@@ -1,5 +1,6 @@
 -- What a look at a certificate's text answers, and why there is none.
 use Rattle.std.specs.Prelude.{⊤, ℕ, List, Result, Ok, Err}
+use Rattle.command_line.specs.declared.request.TraceFiles.{TraceFiles}
 use Rattle.mem_op.specs.Consistency.{Operation}
 use Rattle.commands.specs.Confirming.{Certifies, IsBadCertificate}
 use Rattle.commands.specs.declared.search_answer.SearchAnswer.{SearchAnswer}
@@ -8,11 +9,11 @@ use Rattle.commands.specs.declared.refusal.Refusal.{Refusal}
 use Rattle.commands.specs.declared.refusal.Refusal.TheVariants.{Certificate, OutOfMemory, Unread}
 
 -- the answer that the text certifies, or where it goes wrong; lack of memory may come instead
-abbrev pub IsLook : List (List Operation) → List ℕ → Result SearchAnswer Refusal → Type 0
-IsLook cores text (Ok answer) = Certifies cores text answer
-IsLook cores text (Err (Certificate fault)) = IsBadCertificate cores text fault
-IsLook cores text (Err OutOfMemory) = ⊤
-IsLook cores text (Err fault) = ⊥
+abbrev pub IsLook : TraceFiles → List (List Operation) → List ℕ → Result SearchAnswer Refusal → Type 0
+IsLook files cores text (Ok answer) = Certifies files cores text answer
+IsLook files cores text (Err (Certificate fault)) = IsBadCertificate cores text fault
+IsLook files cores text (Err OutOfMemory) = ⊤
+IsLook files cores text (Err fault) = ⊥
 
 -- the file of this name can't be read, or memory ran out
 abbrev pub IsNoCertificate : (List ℕ → Type 0) → List ℕ → Refusal → Type 0

@@ -1,6 +1,6 @@
-use Rattle.std.proofs.Common.{◌≡◌, List, rules, subst, inr, false, Err}
+use Rattle.std.proofs.Common.{◌≡◌, List, rules, subst, inr, Err}
 use Rattle.clap.specs.Words.{Text, found_of, rows_of}
-use Rattle.command_line.specs.Asking.{IsStrayOf, files_given, texts}
+use Rattle.command_line.specs.Asking.{IsNotOneOf, files_given, texts}
 use Rattle.command_line.proofs.Reading.{mixed_files, mixed_one}
 use Rattle.command_line.proofs.explaining.inspect_of.Goals as goal
 
@@ -14,4 +14,4 @@ returns-in_err-file-clause-usage c =
     let given : texts c.as_slice.result.now ≡ files_given rows = search rules in
     let is : c.from_residual-in_err-file.result ≡ Err c.in_err-file.field-0.0 = search rules in
     rw is (mixed_files rows c.args.kind c.in_err-file.field-0.0 c.requires
-    (subst (λ (files : List Text). IsStrayOf false files c.in_err-file.field-0.0) given c.in_err-file.ensures.usage))
+    (subst (λ (files : List Text). IsNotOneOf files c.in_err-file.field-0.0) given c.in_err-file.ensures.usage))

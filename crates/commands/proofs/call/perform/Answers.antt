@@ -4,7 +4,7 @@ use Rattle.commands.proofs.Files.{keeps_files}
 use Rattle.commands.proofs.Checks.{consistent_files, flat_files}
 use Rattle.commands.proofs.Orders.{consistent}
 use Rattle.commands.proofs.Leaving.{run_leaves, sim_leaves}
-use Rattle.commands.proofs.Performed.{answered, anew, check_no, of_table, order_no, printed, refused, replayed_no, right_no, right_yes, yes_of}
+use Rattle.commands.proofs.Performed.{answered, anew, check_no, of_table, order_no, printed, refused, replayed_no, right_no, yes_of}
 use Rattle.commands.proofs.Refused.{check_no_table, check_refused, confirm_no_table, confirm_refused, explain_no_table, explain_refused, inspect_refused, litmus_refused, order_no_table, order_refused, replay_no_table, replay_refused, run_refused, search_no_table, search_refused, sim_refused, upgrade_refused}
 use Rattle.commands.specs.Sinks.{sink_of}
 use Rattle.commands.specs.declared.answer.Answer.TheVariants.{Judged, Ordered, Explained, Readable, Searched, Replayed, Counted, Done, Version}
@@ -133,12 +133,12 @@ returns-in_ok-explain-in-Explain g c =
 pub returns-in_ok-search-in-Search : goal.returns-in_ok-search-in-Search
 returns-in_ok-search-in-Search g c =
     rw c.in-Search.is (answered _ _ _ _ _ _ (Searched c.in_ok-search-in-Search.field-0) c.in_ok-search-in-Search.ensures.files
-    (λ zero. record { sound = right_yes _ _ _ c.in_ok-search-in-Search.ensures.sound zero; flat = tt; order = tt; upgraded = tt; yes = λ apart. tt }) (right_no _ _ _ c.in_ok-search-in-Search.ensures.sound))
+    (λ zero. record { sound = c.in_ok-search-in-Search.ensures.own zero; flat = tt; order = tt; upgraded = tt; yes = λ apart. tt }) (right_no _ _ _ c.in_ok-search-in-Search.ensures.sound))
 
 pub returns-in_ok-confirm-in-Confirm : goal.returns-in_ok-confirm-in-Confirm
 returns-in_ok-confirm-in-Confirm g c =
     rw c.in-Confirm.is (answered _ _ _ _ _ _ (Searched c.in_ok-confirm-in-Confirm.field-0) (keeps_files _ _ _ c.in_ok-confirm-in-Confirm.ensures.read)
-    (λ zero. record { sound = right_yes _ _ _ c.in_ok-confirm-in-Confirm.ensures.sound zero; flat = tt; order = tt; upgraded = tt; yes = λ apart. tt }) (right_no _ _ _ c.in_ok-confirm-in-Confirm.ensures.sound))
+    (λ zero. record { sound = c.in_ok-confirm-in-Confirm.ensures.own zero; flat = tt; order = tt; upgraded = tt; yes = λ apart. tt }) (right_no _ _ _ c.in_ok-confirm-in-Confirm.ensures.sound))
 
 pub returns-in_ok-count_outcomes-in-Litmus : goal.returns-in_ok-count_outcomes-in-Litmus
 returns-in_ok-count_outcomes-in-Litmus g c =

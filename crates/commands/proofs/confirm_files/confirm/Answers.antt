@@ -4,19 +4,20 @@ use Rattle.commands.proofs.Files.{only_read_after}
 use Rattle.commands.specs.Confirming.{Certifies}
 use Rattle.log_file.specs.Devices.{Tells}
 use Rattle.commands.specs.inner.Looking.{IsLook, IsNoCertificate}
+use Rattle.commands.proofs.OwnTraces.{own_yes}
 use Rattle.commands.proofs.Confirms.{refused, right, traceless, uncertified}
 use Rattle.commands.specs.declared.place.Output.TheVariants as output
 use Rattle.commands.specs.declared.refusal.Refusal.TheVariants.{OutOfMemory, Unwritten}
 use Rattle.commands.proofs.confirm_files.confirm.Goals as goal
 
-pub returns-in_err-trace-clause-exact : goal.returns-in_err-trace-clause-exact
-returns-in_err-trace-clause-exact g c =
+pub returns-in_err-read-clause-exact : goal.returns-in_err-read-clause-exact
+returns-in_err-read-clause-exact g c =
     let files = g.F.Folder.files in
     let old = files c.args.folder.now in
     let new = files c.read_files.new.folder in
     let unread = IsUnread g.F.Source.ByteSource.remaining g.F.Source.ByteSource.failed old in
-    let is : c.from_residual.result ≡ Err c.in_err-trace.field-0.0 = search rules in
-    rw is (traceless old new unread c.args.asked.now c.in_err-trace.field-0.0 c.in_err-trace.ensures.err)
+    let is : c.from_residual.result ≡ Err c.in_err-read.field-0.0 = search rules in
+    rw is (traceless old new unread c.args.asked.now c.in_err-read.field-0.0 c.in_err-read.ensures.err)
 
 pub returns-in_err-text-clause-exact : goal.returns-in_err-text-clause-exact
 returns-in_err-text-clause-exact g c =
@@ -27,11 +28,11 @@ returns-in_err-text-clause-exact g c =
     let unread = IsUnread g.F.Source.ByteSource.remaining g.F.Source.ByteSource.failed in
     let asked = c.args.asked.now in
     let is : c.from_residual-in_err-text.result ≡ Err c.in_err-text.field-0.0 = search rules in
-    rw is (uncertified old new (unread old) asked c.in_ok-trace.trace c.in_err-text.field-0.0 c.in_ok-trace.ensures.ok
-    (subst (λ (f : Files). IsNoCertificate (unread f) asked.certificate.now c.in_err-text.field-0.0) c.in_ok-trace.ensures.quiet c.in_err-text.ensures.err))
+    rw is (uncertified old new (unread old) asked c.in_ok-read.read.trace c.in_err-text.field-0.0 c.in_ok-read.ensures.ok
+    (subst (λ (f : Files). IsNoCertificate (unread f) asked.certificate.now c.in_err-text.field-0.0) c.in_ok-read.ensures.quiet c.in_err-text.ensures.err))
 
 pub returns-in_err-text-clause-read : goal.returns-in_err-text-clause-read
-returns-in_err-text-clause-read g c = only_read_after _ _ _ c.in_ok-trace.ensures.quiet c.in_err-text.ensures.read
+returns-in_err-text-clause-read g c = only_read_after _ _ _ c.in_ok-read.ensures.quiet c.in_err-text.ensures.read
 
 pub returns-in_err-answer-clause-exact : goal.returns-in_err-answer-clause-exact
 returns-in_err-answer-clause-exact g c =
@@ -42,10 +43,10 @@ returns-in_err-answer-clause-exact g c =
     let unread = IsUnread g.F.Source.ByteSource.remaining g.F.Source.ByteSource.failed old in
     let asked = c.args.asked.now in
     let is : c.from_residual-in_err-answer.result ≡ Err c.in_err-answer.field-0.0 = search rules in
-    let tells = subst (λ (f : Files). Tells (f.told asked.certificate.now) c.in_ok-text.text.items) c.in_ok-trace.ensures.quiet c.in_ok-text.ensures.ok in
-    let look = subst (λ (t : List ℕ). IsLook c.in_ok-trace.trace t (Err c.in_err-answer.field-0.0)) c.as_slice.ensures.value c.in_err-answer.ensures in
-    rw is (refused old new unread asked c.in_ok-trace.trace c.in_ok-text.text.items c.in_err-answer.field-0.0 c.in_ok-trace.ensures.ok tells
-    (c.in_ok-text.ensures.quiet ∙ c.in_ok-trace.ensures.quiet) look)
+    let tells = subst (λ (f : Files). Tells (f.told asked.certificate.now) c.in_ok-text.text.items) c.in_ok-read.ensures.quiet c.in_ok-text.ensures.ok in
+    let look = subst (λ (t : List ℕ). IsLook asked.trace c.in_ok-read.read.trace t (Err c.in_err-answer.field-0.0)) c.as_slice.ensures.value c.in_err-answer.ensures in
+    rw is (refused old new unread asked c.in_ok-read.read.trace c.in_ok-text.text.items c.in_err-answer.field-0.0 c.in_ok-read.ensures.ok tells
+    (c.in_ok-text.ensures.quiet ∙ c.in_ok-read.ensures.quiet) look)
 
 pub returns-in_err-line-clause-exact : goal.returns-in_err-line-clause-exact
 returns-in_err-line-clause-exact g c =
@@ -55,20 +56,20 @@ returns-in_err-line-clause-exact g c =
 pub returns-in_err-write_all-clause-exact : goal.returns-in_err-write_all-clause-exact
 returns-in_err-write_all-clause-exact g c =
     let asked = c.args.asked.now in
-    let tells = subst (λ (f : Files). Tells (f.told asked.certificate.now) c.in_ok-text.text.items) c.in_ok-trace.ensures.quiet c.in_ok-text.ensures.ok in
-    let look = subst (λ (t : List ℕ). Certifies c.in_ok-trace.trace t c.in_ok-answer.answer) c.as_slice.ensures.value c.in_ok-answer.ensures in
+    let tells = subst (λ (f : Files). Tells (f.told asked.certificate.now) c.in_ok-text.text.items) c.in_ok-read.ensures.quiet c.in_ok-text.ensures.ok in
+    let look = subst (λ (t : List ℕ). Certifies asked.trace c.in_ok-read.read.trace t c.in_ok-answer.answer) c.as_slice.ensures.value c.in_ok-answer.ensures in
     let is : c.from_residual-in_err-write_all.result ≡ Err (Unwritten output.Standard) = search rules in
     rw is (
-      (c.in_ok-trace.trace, c.in_ok-trace.ensures.ok, (c.in_ok-text.text.items, tells, (c.in_ok-answer.answer, look))),
-      c.in_ok-text.ensures.quiet ∙ c.in_ok-trace.ensures.quiet,
+      (c.in_ok-read.read.trace, c.in_ok-read.ensures.ok, (c.in_ok-text.text.items, tells, (c.in_ok-answer.answer, look))),
+      c.in_ok-text.ensures.quiet ∙ c.in_ok-read.ensures.quiet,
     )
 
 pub returns-clause-exact : goal.returns-clause-exact
 returns-clause-exact g c =
     let asked = c.args.asked.now in
-    let tells = subst (λ (f : Files). Tells (f.told asked.certificate.now) c.in_ok-text.text.items) c.in_ok-trace.ensures.quiet c.in_ok-text.ensures.ok in
-    let look = subst (λ (t : List ℕ). Certifies c.in_ok-trace.trace t c.in_ok-answer.answer) c.as_slice.ensures.value c.in_ok-answer.ensures in
-    ((c.in_ok-trace.trace, c.in_ok-trace.ensures.ok, (c.in_ok-text.text.items, tells, look)), c.in_ok-text.ensures.quiet ∙ c.in_ok-trace.ensures.quiet)
+    let tells = subst (λ (f : Files). Tells (f.told asked.certificate.now) c.in_ok-text.text.items) c.in_ok-read.ensures.quiet c.in_ok-text.ensures.ok in
+    let look = subst (λ (t : List ℕ). Certifies asked.trace c.in_ok-read.read.trace t c.in_ok-answer.answer) c.as_slice.ensures.value c.in_ok-answer.ensures in
+    ((c.in_ok-read.read.trace, c.in_ok-read.ensures.ok, (c.in_ok-text.text.items, tells, look)), c.in_ok-text.ensures.quiet ∙ c.in_ok-read.ensures.quiet)
 
 pub returns-clause-sound : goal.returns-clause-sound
 returns-clause-sound g c =
@@ -77,3 +78,7 @@ returns-clause-sound g c =
     let new = files c.read_certificate.new.folder in
     let unread = IsUnread g.F.Source.ByteSource.remaining g.F.Source.ByteSource.failed old in
     right old new unread c.args.asked.now (Ok c.in_ok-answer.answer) (returns-clause-exact g c)
+
+pub returns-clause-own : goal.returns-clause-own
+returns-clause-own g c =
+    own_yes (g.F.Folder.files c.args.folder.now).told c.args.asked.now.trace (Ok c.in_ok-answer.answer) (returns-clause-sound g c)

@@ -1,6 +1,5 @@
 use Rattle.std.proofs.Common.{◌≡◌, ◌++◌, subst, sym}
 use Rattle.std.specs.Prelude.{string_bytes}
-use Rattle.log_record.specs.Entries.{operations_of}
 use Rattle.commands.specs.Sinks.{line}
 use Rattle.host_files.specs.Files.{IsUnread}
 use Rattle.verdict.specs.Bases.{IsExaminationOf}
@@ -28,6 +27,6 @@ returns-clause-text g c =
     let unread = IsUnread g.F.Source.ByteSource.remaining g.F.Source.ByteSource.failed (files c.args.folder.now) in
     let (texts, tell, (logs, spell, is)) = c.in_ok-found.ensures.examined in
     let are = logs_examined (files c.args.folder.now).told unread _ c.args.asked.now.check texts logs c.in_ok-found.found.examined c.in_ok-found.ensures.exact tell spell is in
-    let other = subst (λ verdict. TellsOther c.args.asked.now.no_search verdict (operations_of logs) (string_bytes c.in_ok-last.last)) (sym c.in_ok-told.ensures.verdict) (c.in_ok-last.ensures logs are) in
+    let other = subst (λ verdict. TellsOther c.args.asked.now.no_search verdict logs (string_bytes c.in_ok-last.last)) (sym c.in_ok-told.ensures.verdict) (c.in_ok-last.ensures logs are) in
     let (why, is_told) = c.in_ok-told.ensures.text in
     (why, string_bytes c.in_ok-last.last, subst (λ last. string_bytes c.in_ok-told.told.text ≡ line (verdict_text c.in_ok-told.told.verdict) ++ (why ++ last)) c.as_str.ensures.value is_told, (texts, tell, (logs, spell, other)))

@@ -1,16 +1,33 @@
-use Rattle.std.proofs.Common.{rules, ◌≡◌}
-use Rattle.std.specs.Prelude.{IfOk, string_bytes}
-use Rattle.refutation_text.specs.FirstLines.{IsGrown}
-use Rattle.commands.specs.OtherOrders.{another_text, none_text}
-use Rattle.commands.proofs.OtherOrders.{tells_another, tells_none}
+use Rattle.std.proofs.Common.{◌≡◌, ◌∙◌, ◌≤◌, List, ap, subst, sym, vec_len}
+use Rattle.std.specs.Prelude.{All, IfOk, string_bytes}
+use Rattle.std.specs.Global.{Vec}
+use Rattle.log_record.specs.Entries.{operations_of, record_lists}
+use Rattle.log_record.specs.declared.record.Record.{Record}
+use Rattle.mem_op.specs.Consistency.{Operation}
+use Rattle.mem_op.specs.Limits.{operation_limit}
+use Rattle.commands.specs.OtherOrders.{TellsSourced}
+use Rattle.commands.specs.Sources.{sourced_operations}
+use Rattle.commands.proofs.OtherOrders.{short_logs}
 use Rattle.commands.proofs.other_order.whether_another.Goals as goal
 
-pub returns-in-Order : goal.returns-in-Order
-returns-in-Order g c =
-    let same : IfOk c.from_str.result (λ text. string_bytes text ≡ another_text) = search rules in
-    tells_another string_bytes c.args.trace.now c.in_ok-search_watched.field-0 c.in-Order.field-0 c.from_str.result c.in_ok-search_watched.ensures.right c.in-Order.is same
+pub sourced_trace-requires-clause-short : goal.sourced_trace-requires-clause-short
+sourced_trace-requires-clause-short g c =
+    let (logs, are) = c.requires in
+    subst (λ (vs : List (Vec Record)). All (λ log. vec_len log ≤ operation_limit) vs) (sym c.as_slice.ensures.value)
+    (short_logs c.in_ok-logs.logs.items logs c.args.basis.now c.args.cores (c.in_ok-logs.ensures logs are) are)
+
+pub trace_of-requires-clause-short : goal.trace_of-requires-clause-short
+trace_of-requires-clause-short g c =
+    let (logs, are) = c.requires in
+    subst (λ (vs : List (Vec Record)). All (λ log. vec_len log ≤ operation_limit) vs) (sym c.as_slice-2.ensures.value)
+    (short_logs c.in_ok-logs.logs.items logs c.args.basis.now c.args.cores (c.in_ok-logs.ensures logs are) are)
 
 pub returns : goal.returns
-returns g c =
-    let grown : IsGrown none_text (string_bytes c.push_argument.new.text) = search rules in
-    tells_none c.args.trace.now c.in_ok-search_watched.field-0 _ _ c.in_ok-search_watched.ensures.right c.in-Refutation.is grown
+returns g c = λ logs are.
+    let same : record_lists c.in_ok-logs.logs.items ≡ logs = c.in_ok-logs.ensures logs are in
+    let by_sources : c.in_ok-sourced.sourced ≡ sourced_operations logs =
+    c.in_ok-sourced.ensures ∙ ap (λ (vs : List (Vec Record)). sourced_operations (record_lists vs)) c.as_slice.ensures.value ∙ ap sourced_operations same in
+    let by_words : c.in_ok-trace.trace ≡ operations_of logs =
+    c.in_ok-trace.ensures ∙ ap (λ (vs : List (Vec Record)). operations_of (record_lists vs)) c.as_slice-2.ensures.value ∙ ap operations_of same in
+    subst (λ (cores : List (List Operation)). IfOk c.whether_by_sources.result (λ text. TellsSourced (sourced_operations logs) cores (string_bytes text))) by_words
+    (subst (λ (sourced : List (List Operation)). IfOk c.whether_by_sources.result (λ text. TellsSourced sourced c.in_ok-trace.trace (string_bytes text))) by_sources c.whether_by_sources.ensures)

@@ -1,0 +1,383 @@
+-- What stands where in a set with sources in place of words, and that an order that explains the sources explains the words.
+use Rattle.std.proofs.Common.{◌≡◌, ◌∙◌, ap, sym, subst, refl, ℕ, zero, suc, ◌+◌, ◌*◌, ◌<◌, ◌≤◌, Bool, true, false, cond, List, [], ◌∷◌, ◌++◌, Option, None, Some, inl, inr, add-one, arith, get_or, length, take}
+use Rattle.std.specs.Prelude.{All, ◌&&◌, ◌==◌, if◌then◌else◌, is_some, map, option_and_then, option_map, slice_get, vec_len}
+use Rattle.std.specs.Global.{Vec}
+use Rattle.std.specs.List.{filter_map}
+use Rattle.std.specs.Option.{option_map_or}
+use Rattle.std.proofs.lemmas.Bool.{and_parts, cases_lt, eqb-true}
+use Rattle.std.proofs.lemmas.List.{length-map, map-append}
+use Rattle.std.proofs.lemmas.Option.{get_or_from_slice_get, slice_get-map, slice_get_within}
+use Rattle.address_check.proofs.Collecting.{core_more}
+use Rattle.log_file.proofs.Joined.{length-core_entries}
+use Rattle.log_record.proofs.EntryFacts.{at, operation_at-operations_of, same_id}
+use Rattle.log_record.specs.Entries.{core_entries, operation_by, operation_of, operations_of, record_at, record_lists}
+use Rattle.log_record.specs.declared.act.Act.{Act}
+use Rattle.log_record.specs.declared.act.Act.TheVariants.{Load, Store, Swap}
+use Rattle.log_record.specs.declared.record.Entry.{Entry}
+use Rattle.log_record.specs.declared.record.Record.{Record}
+use Rattle.mem_op.specs.Consistency.{Operation, Loaded, Stored, Swapped, IsSequentialOrder, IsSerialOrder, is_store_to, last_value, operation_at, word_left}
+use Rattle.mem_op.specs.Limits.{operation_limit}
+use Rattle.mem_op.specs.declared.id.OpId.{OpId}
+use Rattle.mem_op.specs.declared.id.Source.{Source}
+use Rattle.mem_op.specs.declared.id.Source.TheVariants.{Init, Store as From}
+use Rattle.refutation.proofs.Times.{LastStore, NoneOrLast, is_there, last_store, operations_in}
+use Rattle.commands.specs.Sources.{may_give, no_number, number_read, numbered, numbered_by, numbered_from, source_number, sourced_operations, store_number, stores}
+
+-- ---- one more
+
+-- record of a core
+pub record_more : (logs : List (List Record)) (core n : ℕ) (log : List Record) (d : Record) → n < length log
+    → map (numbered logs) (core_entries core 0 (take (n + 1) log)) ≡ map (numbered logs) (core_entries core 0 (take n log)) ++ numbered logs (at (record { core = core; index = n }) (get_or log n d)) ∷ []
+record_more logs core n log d below =
+    ap (map (numbered logs)) (core_more core 0 n log d below)
+    ∙ map-append (numbered logs) (core_entries core 0 (take n log)) _
+    ∙ ap (λ i. map (numbered logs) (core_entries core 0 (take n log)) ++ numbered logs (at (record { core = core; index = i }) (get_or log n d)) ∷ []) (let e : 0 + n ≡ n = omega arith in e)
+
+-- log of a set
+log_more_suc : (logs : List (List Record)) (core n : ℕ) (vs : List (Vec Record)) (d : Vec Record) → n < length vs
+    → numbered_from logs core (record_lists (take (suc n) vs)) ≡ numbered_from logs core (record_lists (take n vs)) ++ map (numbered logs) (core_entries (core + n) 0 (get_or vs n d).items) ∷ []
+log_more_suc logs core n [] d below = absurd (omega arith)
+log_more_suc logs core zero (v ∷ vs) d below = ap (λ c. map (numbered logs) (core_entries c 0 v.items) ∷ []) (let e : core ≡ core + 0 = omega arith in e)
+log_more_suc logs core (suc n) (v ∷ vs) d below =
+    ap (λ rest. map (numbered logs) (core_entries core 0 v.items) ∷ rest) (log_more_suc logs (suc core) n vs d (omega arith)
+    ∙ ap (λ c. numbered_from logs (suc core) (record_lists (take n vs)) ++ map (numbered logs) (core_entries c 0 (get_or vs n d).items) ∷ []) (let e : suc core + n ≡ core + suc n = omega arith in e))
+
+log_more : (logs : List (List Record)) (core n : ℕ) (vs : List (Vec Record)) (d : Vec Record) → n < length vs
+    → numbered_from logs core (record_lists (take (n + 1) vs)) ≡ numbered_from logs core (record_lists (take n vs)) ++ map (numbered logs) (core_entries (core + n) 0 (get_or vs n d).items) ∷ []
+log_more logs core n vs d below = ap (λ k. numbered_from logs core (record_lists (take k vs))) (add-one n) ∙ log_more_suc logs core n vs d below
+
+-- so the next log comes behind those that were made
+pub log_pushed : (logs : List (List Record)) (vs made : List (Vec Record)) (v d : Vec Record) (n : ℕ) → n < length vs → record_lists made ≡ numbered_from logs 0 (record_lists (take n vs))
+    → v.items ≡ map (numbered logs) (core_entries n 0 (get_or vs n d).items) → record_lists (made ++ v ∷ []) ≡ numbered_from logs 0 (record_lists (take (n + 1) vs))
+log_pushed logs vs made v d n below so_far here =
+    map-append (λ (log : Vec Record). log.items) made (v ∷ []) ∙ ap (λ (ls : List (List Record)). ls ++ v.items ∷ []) so_far
+    ∙ ap (λ (l : List Record). numbered_from logs 0 (record_lists (take n vs)) ++ l ∷ []) (here ∙ ap (λ c. map (numbered logs) (core_entries c 0 (get_or vs n d).items)) (let e : n ≡ 0 + n = omega arith in e))
+    ∙ sym (log_more logs 0 n vs d below)
+
+-- ---- how many
+
+long_from : (logs : List (List Record)) (core : ℕ) (more : List (List Record)) → length (numbered_from logs core more) ≡ length more
+long_from logs core [] = refl
+long_from logs core (log ∷ more) = ap suc (long_from logs (suc core) more)
+
+short_from : (logs : List (List Record)) (core : ℕ) (more : List (List Record)) → All (λ log. length log ≤ operation_limit) more → All (λ log. length log ≤ operation_limit) (numbered_from logs core more)
+short_from logs core [] short k d below = absurd (omega arith)
+short_from logs core (log ∷ more) short zero d below =
+    let long = length-map (core_entries core 0 log) (numbered logs) in
+    let as_many = length-core_entries core 0 log in
+    let few : length log ≤ operation_limit = short zero log (omega arith) in
+    omega arith
+short_from logs core (log ∷ more) short (suc k) d below =
+    short_from logs (suc core) more (λ j e under. short (suc j) e (omega (arith, under))) k d (omega (arith, below))
+
+-- of vectors that hold a list of lists each is as short as its list
+pub vecs_short : (vs : List (Vec Record)) (lists : List (List Record)) → record_lists vs ≡ lists → All (λ log. length log ≤ operation_limit) lists → All (λ log. vec_len log ≤ operation_limit) vs
+vecs_short [] lists same short k d below = absurd (omega arith)
+vecs_short (v ∷ vs) [] same short k d below = absurd (let e : v.items ∷ record_lists vs ≡ [] = same in cc)
+vecs_short (v ∷ vs) (list ∷ lists) same short zero d below =
+    let e : v.items ∷ record_lists vs ≡ list ∷ lists = same in
+    let is : v.items ≡ list = cc in
+    let few : length v.items ≤ operation_limit = subst (λ (l : List Record). length l ≤ operation_limit) (sym is) (short zero list (omega arith)) in
+    let filled = v.ok in
+    omega (arith, few, filled)
+vecs_short (v ∷ vs) (list ∷ lists) same short (suc k) d below =
+    let e : v.items ∷ record_lists vs ≡ list ∷ lists = same in
+    let rest : record_lists vs ≡ lists = cc in
+    vecs_short vs lists rest (λ j e under. short (suc j) e (omega (arith, under))) k d (omega (arith, below))
+
+pub lists_short : (vs : List (Vec Record)) → All (λ log. vec_len log ≤ operation_limit) vs → All (λ log. length log ≤ operation_limit) (record_lists vs)
+lists_short [] short k d below = absurd (omega arith)
+lists_short (v ∷ vs) short zero d below =
+    let few : vec_len v ≤ operation_limit = short zero v (omega arith) in
+    let filled = v.ok in
+    omega (arith, few, filled)
+lists_short (v ∷ vs) short (suc k) d below = lists_short vs (λ j e under. short (suc j) e (omega (arith, under))) k d (omega (arith, below))
+
+-- so a set with sources in place of words isn't too large for a trace
+pub made_few : (logs made : List (Vec Record)) → record_lists made ≡ numbered_from (record_lists logs) 0 (record_lists logs) → length logs ≤ 64 → length made ≤ 64
+made_few logs made same few =
+    let a : length (record_lists made) ≡ length (record_lists logs) = ap length same ∙ long_from (record_lists logs) 0 (record_lists logs) in
+    let b = length-map made (λ (log : Vec Record). log.items) in
+    let c = length-map logs (λ (log : Vec Record). log.items) in
+    omega (arith, a, b, c, few)
+
+pub made_short : (logs made : List (Vec Record)) → record_lists made ≡ numbered_from (record_lists logs) 0 (record_lists logs) → All (λ log. vec_len log ≤ operation_limit) logs → All (λ log. vec_len log ≤ operation_limit) made
+made_short logs made same short =
+    vecs_short made (numbered_from (record_lists logs) 0 (record_lists logs)) same (short_from (record_lists logs) 0 (record_lists logs) (lists_short logs short))
+
+-- ---- what stands at an id
+
+entry_at : (core i : ℕ) (log : List Record) (k : ℕ) → slice_get (core_entries core i log) k ≡ option_map (λ r. at (record { core = core; index = i + k }) r) (slice_get log k)
+entry_at core i [] k = refl
+entry_at core i (r ∷ log) zero = ap (λ j. Some (at (record { core = core; index = j }) r)) (let e : i ≡ i + 0 = omega arith in e)
+entry_at core i (r ∷ log) (suc k) =
+    entry_at core (suc i) log k ∙ ap (λ j. option_map (λ r. at (record { core = core; index = j }) r) (slice_get log k)) (let e : suc i + k ≡ i + suc k = omega arith in e)
+
+log_at : (logs : List (List Record)) (core : ℕ) (more : List (List Record)) (k : ℕ) → slice_get (numbered_from logs core more) k ≡ option_map (λ log. map (numbered logs) (core_entries (core + k) 0 log)) (slice_get more k)
+log_at logs core [] k = refl
+log_at logs core (log ∷ more) zero = ap (λ c. Some (map (numbered logs) (core_entries c 0 log))) (let e : core ≡ core + 0 = omega arith in e)
+log_at logs core (log ∷ more) (suc k) =
+    log_at logs (suc core) more k ∙ ap (λ c. option_map (λ log. map (numbered logs) (core_entries c 0 log)) (slice_get more k)) (let e : suc core + k ≡ core + suc k = omega arith in e)
+
+-- the operation with numbers of a record
+abbrev number_of : List (List Record) → OpId → Record → Operation
+number_of logs id r = operation_of (numbered logs (at id r))
+
+pub numbered_at : (logs : List (List Record)) (id : OpId) → record_at (numbered_from logs 0 logs) id ≡ option_map (λ r. numbered logs (at id r)) (record_at logs id)
+numbered_at logs id = ap (option_and_then (λ log. slice_get log id.index)) (log_at logs 0 logs id.core) ∙ go (slice_get logs id.core)
+  where
+    of_record : (o : Option Record) → option_map (numbered logs) (option_map (λ r. at (record { core = 0 + id.core; index = 0 + id.index }) r) o) ≡ option_map (λ r. numbered logs (at id r)) o
+    of_record None = refl
+    of_record (Some r) = ap (λ (i : OpId). Some (numbered logs (at i r))) (same_id (record { core = 0 + id.core; index = 0 + id.index }) id (omega arith) (omega arith))
+
+    go : (o : Option (List Record)) → option_and_then (λ log. slice_get log id.index) (option_map (λ log. map (numbered logs) (core_entries (0 + id.core) 0 log)) o)
+        ≡ option_map (λ r. numbered logs (at id r)) (option_and_then (λ log. slice_get log id.index) o)
+    go None = refl
+    go (Some log) =
+        slice_get-map (numbered logs) (core_entries (0 + id.core) 0 log) id.index ∙ ap (option_map (numbered logs)) (entry_at (0 + id.core) 0 log id.index) ∙ of_record (slice_get log id.index)
+
+number_at : (logs : List (List Record)) (id : OpId) → operation_at (sourced_operations logs) id ≡ option_map (number_of logs id) (record_at logs id)
+number_at logs id = operation_at-operations_of (numbered_from logs 0 logs) id ∙ ap (option_map operation_of) (numbered_at logs id) ∙ go (record_at logs id)
+  where
+    go : (o : Option Record) → option_map operation_of (option_map (λ r. numbered logs (at id r)) o) ≡ option_map (number_of logs id) o
+    go None = refl
+    go (Some r) = refl
+
+-- ---- numbers
+
+-- a store is one to the same address, and leaves its number there
+same_stores : (logs : List (List Record)) (id : OpId) (value ts rank addr : ℕ) (act : Act) (a : ℕ)
+    → is_store_to a (operation_of (numbered_by logs id (record { value = value; ts = ts; rank = rank; addr = addr; act = act }) act)) ≡ is_store_to a (operation_by act addr value)
+same_stores logs id value ts rank addr (Load source) a = refl
+same_stores logs id value ts rank addr Store a = refl
+same_stores logs id value ts rank addr (Swap source read) a = refl
+
+leaves_number : (logs : List (List Record)) (id : OpId) (value ts rank addr : ℕ) (act : Act) (a : ℕ) → is_store_to a (operation_by act addr value) ≡ true
+    → word_left (operation_of (numbered_by logs id (record { value = value; ts = ts; rank = rank; addr = addr; act = act }) act)) ≡ store_number id
+leaves_number logs id value ts rank addr (Load source) a is = absurd (let wrong : false ≡ true = is in cc)
+leaves_number logs id value ts rank addr Store a is = refl
+leaves_number logs id value ts rank addr (Swap source read) a is = refl
+
+clash : (b : Bool) → b ≡ true → b ≡ false → ⊥
+clash b is isnt = let wrong : true ≡ false = sym is ∙ isnt in cc
+
+module _ (logs : List (List Record)) (few : length logs ≤ 64) (short : All (λ log. length log ≤ operation_limit) logs) where
+  -- an id that stands in the set is in range
+  in_range : (id : OpId) (r : Record) → record_at logs id ≡ Some r → (id.core < 64) × (id.index < 1048576)
+  in_range id r there = go (slice_get logs id.core) refl there
+    where
+      go : (o : Option (List Record)) → slice_get logs id.core ≡ o → option_and_then (λ log. slice_get log id.index) o ≡ Some r → (id.core < 64) × (id.index < 1048576)
+      go None is found = absurd cc
+      go (Some log) is found =
+          let core = slice_get_within logs id.core log is in
+          let index = slice_get_within log id.index r found in
+          let same : get_or logs id.core log ≡ log = get_or_from_slice_get logs id.core log log is in
+          let most : length log ≤ 1048576 = subst (λ (l : List Record). length l ≤ operation_limit) same (short id.core log core) in
+          (omega (arith, core, few), omega (arith, index, most))
+
+  -- stores have different numbers
+  one_number : (a b : OpId) (r s : Record) → record_at logs a ≡ Some r → record_at logs b ≡ Some s → store_number a ≡ store_number b → a ≡ b
+  one_number a b r s at_a at_b same =
+      let p : a.index < 1048576 = (in_range a r at_a).1 in
+      let q : b.index < 1048576 = (in_range b s at_b).1 in
+      let n : 1 + a.core * 1048576 + a.index ≡ 1 + b.core * 1048576 + b.index = same in
+      same_id a b (omega (arith, p, q, n)) (omega (arith, p, q, n))
+
+  -- a read of 0 read the initial 0
+  zero_of : (source : Source) (addr word : ℕ) → may_give logs source addr word ≡ true → source_number source ≡ 0 → word ≡ 0
+  zero_of Init addr word gives is = eqb-true word 0 gives
+  zero_of (From id) addr word gives is = absurd (let n : 1 + id.core * 1048576 + id.index ≡ 0 = is in omega (arith, n))
+
+  reads_zero : (source : Source) (addr word : ℕ) → number_read logs source addr word ≡ 0 → word ≡ 0
+  reads_zero source addr word is = go (may_give logs source addr word) refl is
+    where
+      go : (b : Bool) → may_give logs source addr word ≡ b → (if b then source_number source else no_number) ≡ 0 → word ≡ 0
+      go false gives is = absurd (let n : 18446744073709551615 ≡ 0 = is in omega (arith, n))
+      go true gives is = zero_of source addr word gives is
+
+  -- and one of a store's number read the word of that store
+  word_of : (source : Source) (addr word : ℕ) (id : OpId) (r : Record) → record_at logs id ≡ Some r → may_give logs source addr word ≡ true → source_number source ≡ store_number id
+      → word_left (operation_of r) ≡ word
+  word_of Init addr word id r there gives is = absurd (let n : 0 ≡ 1 + id.core * 1048576 + id.index = is in omega (arith, n))
+  word_of (From other) addr word id r there gives is = by_record (record_at logs other) refl gives
+    where
+      by_record : (o : Option Record) → record_at logs other ≡ o → option_map_or (λ s. stores addr word (operation_of s)) o false ≡ true → word_left (operation_of r) ≡ word
+      by_record None at_other gives = absurd (clash false gives refl)
+      by_record (Some s) at_other gives =
+          let same : other ≡ id = one_number other id s r at_other there is in
+          let found : Some s ≡ Some r = sym at_other ∙ ap (record_at logs) same ∙ there in
+          let one : s ≡ r = cc in
+          let parts = and_parts (is_store_to addr (operation_of s)) (word_left (operation_of s) == word) gives in
+          ap (λ (x : Record). word_left (operation_of x)) (sym one) ∙ eqb-true _ _ parts.1
+
+  reads_store : (source : Source) (addr word : ℕ) (id : OpId) (r : Record) → record_at logs id ≡ Some r → number_read logs source addr word ≡ store_number id → word_left (operation_of r) ≡ word
+  reads_store source addr word id r there is = go (may_give logs source addr word) refl is
+    where
+      go : (b : Bool) → may_give logs source addr word ≡ b → (if b then source_number source else no_number) ≡ store_number id → word_left (operation_of r) ≡ word
+      go false gives is = absurd (
+          let p = in_range id r there in
+          let core : id.core < 64 = p.0 in
+          let index : id.index < 1048576 = p.1 in
+          let n : 18446744073709551615 ≡ 1 + id.core * 1048576 + id.index = is in
+          omega (arith, core, index, n))
+      go true gives is = word_of source addr word id r there gives is
+
+-- ---- an order
+
+abbrev words : List (List Record) → List OpId → List Operation
+words logs order = filter_map (operation_at (operations_of logs)) order
+
+abbrev numbers : List (List Record) → List OpId → List Operation
+numbers logs order = filter_map (operation_at (sourced_operations logs)) order
+
+-- the record at a place of the order
+record Placed (logs : List (List Record)) (order : List OpId) (k : ℕ) : Type 0 where
+  pub id : OpId
+  pub r : Record
+  pub here : slice_get order k ≡ Some id
+  pub there : record_at logs id ≡ Some r
+
+module _ (logs : List (List Record)) (few : length logs ≤ 64) (short : All (λ log. length log ≤ operation_limit) logs)
+    (order : List OpId) (sequential : IsSequentialOrder (sourced_operations logs) order) where
+  serial : IsSerialOrder (operations_of logs) order
+  serial id =
+      sequential.serial id ∙ ap (λ b. if b then 1 else 0) (ap is_some (number_at logs id) ∙ go (record_at logs id) ∙ sym (ap is_some (operation_at-operations_of logs id)))
+    where
+      go : (o : Option Record) → is_some (option_map (number_of logs id) o) ≡ is_some (option_map operation_of o)
+      go None = refl
+      go (Some r) = refl
+
+  word_by_id : (k : ℕ) → slice_get (words logs order) k ≡ option_and_then (operation_at (operations_of logs)) (slice_get order k)
+  word_by_id k = operations_in (operations_of logs) order (λ j id h. is_there (operations_of logs) order serial id j h) k
+
+  number_by_id : (k : ℕ) → slice_get (numbers logs order) k ≡ option_and_then (operation_at (sourced_operations logs)) (slice_get order k)
+  number_by_id k = operations_in (sourced_operations logs) order (λ j id h. is_there (sourced_operations logs) order sequential.serial id j h) k
+
+  word_there : (k : ℕ) (p : Placed logs order k) → slice_get (words logs order) k ≡ Some (operation_of p.r)
+  word_there k p =
+      word_by_id k ∙ ap (option_and_then (operation_at (operations_of logs))) p.here
+      ∙ operation_at-operations_of logs p.id ∙ ap (option_map operation_of) p.there
+
+  number_there : (k : ℕ) (p : Placed logs order k) → slice_get (numbers logs order) k ≡ Some (number_of logs p.id p.r)
+  number_there k p =
+      number_by_id k ∙ ap (option_and_then (operation_at (sourced_operations logs))) p.here
+      ∙ number_at logs p.id ∙ ap (option_map (number_of logs p.id)) p.there
+
+  placed_word : (k : ℕ) (z : Operation) → slice_get (words logs order) k ≡ Some z → Placed logs order k
+  placed_word k z is = go (slice_get order k) refl (sym (word_by_id k) ∙ is)
+    where
+      of_id : (id : OpId) (o : Option Record) → slice_get order k ≡ Some id → record_at logs id ≡ o → option_map operation_of o ≡ Some z → Placed logs order k
+      of_id id None here there is = absurd cc
+      of_id id (Some r) here there is = record { id = id; r = r; here = here; there = there }
+
+      go : (o : Option OpId) → slice_get order k ≡ o → option_and_then (operation_at (operations_of logs)) o ≡ Some z → Placed logs order k
+      go None here is = absurd cc
+      go (Some id) here is = of_id id (record_at logs id) here refl (sym (operation_at-operations_of logs id) ∙ is)
+
+  placed_number : (k : ℕ) (z : Operation) → slice_get (numbers logs order) k ≡ Some z → Placed logs order k
+  placed_number k z is = go (slice_get order k) refl (sym (number_by_id k) ∙ is)
+    where
+      of_id : (id : OpId) (o : Option Record) → slice_get order k ≡ Some id → record_at logs id ≡ o → option_map (number_of logs id) o ≡ Some z → Placed logs order k
+      of_id id None here there is = absurd cc
+      of_id id (Some r) here there is = record { id = id; r = r; here = here; there = there }
+
+      go : (o : Option OpId) → slice_get order k ≡ o → option_and_then (operation_at (sourced_operations logs)) o ≡ Some z → Placed logs order k
+      go None here is = absurd cc
+      go (Some id) here is = of_id id (record_at logs id) here refl (sym (number_at logs id) ∙ is)
+
+  -- at a place both store to an address, or neither does
+  both_store : (a k : ℕ) (p : Placed logs order k) → is_store_to a (number_of logs p.id p.r) ≡ is_store_to a (operation_of p.r)
+  both_store a k p = same_stores logs p.id p.r.value p.r.ts p.r.rank p.r.addr p.r.act a
+
+  is_word : (k : ℕ) (p : Placed logs order k) (y : Operation) → slice_get (words logs order) k ≡ Some y → y ≡ operation_of p.r
+  is_word k p y at_word = let e : Some y ≡ Some (operation_of p.r) = sym at_word ∙ word_there k p in cc
+
+  is_number : (k : ℕ) (p : Placed logs order k) (z : Operation) → slice_get (numbers logs order) k ≡ Some z → z ≡ number_of logs p.id p.r
+  is_number k p z at_number = let e : Some z ≡ Some (number_of logs p.id p.r) = sym at_number ∙ number_there k p in cc
+
+  -- a word that is stored has a number, and the other way round
+  store_of_word : (a k : ℕ) (p : Placed logs order k) (y : Operation) → slice_get (words logs order) k ≡ Some y → is_store_to a y ≡ true → is_store_to a (number_of logs p.id p.r) ≡ true
+  store_of_word a k p y at_word does = both_store a k p ∙ ap (is_store_to a) (sym (is_word k p y at_word)) ∙ does
+
+  store_of_number : (a k : ℕ) (p : Placed logs order k) (z : Operation) → slice_get (numbers logs order) k ≡ Some z → is_store_to a z ≡ true → is_store_to a (operation_of p.r) ≡ true
+  store_of_number a k p z at_number does = sym (both_store a k p) ∙ ap (is_store_to a) (sym (is_number k p z at_number)) ∙ does
+
+  -- what is read is the last word
+  last_word : (k addr word : ℕ) (source : Source) → NoneOrLast addr (numbers logs order) k (last_value addr (take k (numbers logs order)))
+      → NoneOrLast addr (words logs order) k (last_value addr (take k (words logs order)))
+      → number_read logs source addr word ≡ last_value addr (take k (numbers logs order)) → word ≡ last_value addr (take k (words logs order))
+  last_word k addr word source (inl none) (inl also) reads = reads_zero logs few short source addr word (reads ∙ none.0) ∙ sym also.0
+  last_word k addr word source (inl none) (inr last) reads =
+      let p = placed_word last.place last.store last.here in
+      absurd (clash _ (store_of_word addr last.place p last.store last.here last.stores) (none.1 last.place (number_of logs p.id p.r) last.earlier (number_there last.place p)))
+  last_word k addr word source (inr last) (inl none) reads =
+      let p = placed_number last.place last.store last.here in
+      absurd (clash _ (store_of_number addr last.place p last.store last.here last.stores) (none.1 last.place (operation_of p.r) last.earlier (word_there last.place p)))
+  last_word k addr word source (inr last) (inr also) reads = elim (cases_lt last.place also.place) [
+    | inl before ↦ (
+        let p = placed_word also.place also.store also.here in
+        absurd (clash _ (store_of_word addr also.place p also.store also.here also.stores) (last.none also.place (number_of logs p.id p.r) before also.earlier (number_there also.place p))))
+    | inr not_before ↦ elim (cases_lt also.place last.place) [
+      | inl after ↦ (
+          let p = placed_number last.place last.store last.here in
+          absurd (clash _ (store_of_number addr last.place p last.store last.here last.stores) (also.none last.place (operation_of p.r) after last.earlier (word_there last.place p))))
+      | inr not_after ↦ (
+          let p = placed_word also.place also.store also.here in
+          let same : last.place ≡ also.place = omega (arith, not_before, not_after) in
+          let here : slice_get (numbers logs order) also.place ≡ Some last.store = subst (λ i. slice_get (numbers logs order) i ≡ Some last.store) same last.here in
+          let is : also.store ≡ operation_of p.r = is_word also.place p also.store also.here in
+          let number : word_left last.store ≡ store_number p.id =
+          ap word_left (is_number also.place p last.store here) ∙ leaves_number logs p.id p.r.value p.r.ts p.r.rank p.r.addr p.r.act addr (ap (is_store_to addr) (sym is) ∙ also.stores) in
+          sym (reads_store logs few short source addr word p.id p.r p.there (reads ∙ sym last.word ∙ number)) ∙ ap word_left (sym is) ∙ also.word)
+    ]
+  ]
+
+  read_right : (k addr word : ℕ) (source : Source) (y z : Operation) → slice_get (words logs order) k ≡ Some y → slice_get (numbers logs order) k ≡ Some z
+      → number_read logs source addr word ≡ last_value addr (take k (numbers logs order)) → word ≡ last_value addr (take k (words logs order))
+  read_right k addr word source y z at_word at_number reads =
+      let w = slice_get_within (words logs order) k y at_word in
+      let n = slice_get_within (numbers logs order) k z at_number in
+      last_word k addr word source (last_store addr (numbers logs order) k (omega (arith, n))) (last_store addr (words logs order) k (omega (arith, w))) reads
+
+  -- a load, by its record
+  load_right : (k addr word : ℕ) (id : OpId) (value ts rank a : ℕ) (act : Act) → slice_get (words logs order) k ≡ Some (operation_by act a value)
+      → slice_get (numbers logs order) k ≡ Some (operation_of (numbered_by logs id (record { value = value; ts = ts; rank = rank; addr = a; act = act }) act))
+      → operation_by act a value ≡ Loaded addr word → word ≡ last_value addr (take k (words logs order))
+  load_right k addr word id value ts rank a (Load source) at_word at_number is =
+      let e : Loaded a value ≡ Loaded addr word = is in
+      let a-is : a ≡ addr = cc in
+      let v-is : value ≡ word = cc in
+      let right : value ≡ last_value a (take k (words logs order)) = read_right k a value source _ _ at_word at_number (sequential.flat.loads k a (number_read logs source a value) at_number) in
+      sym v-is ∙ right ∙ ap (λ x. last_value x (take k (words logs order))) a-is
+  load_right k addr word id value ts rank a Store at_word at_number is = absurd (let e : Stored a value ≡ Loaded addr word = is in cc)
+  load_right k addr word id value ts rank a (Swap source read) at_word at_number is = absurd (let e : Swapped a read value ≡ Loaded addr word = is in cc)
+
+  swap_right : (k addr word stored : ℕ) (id : OpId) (value ts rank a : ℕ) (act : Act) → slice_get (words logs order) k ≡ Some (operation_by act a value)
+      → slice_get (numbers logs order) k ≡ Some (operation_of (numbered_by logs id (record { value = value; ts = ts; rank = rank; addr = a; act = act }) act))
+      → operation_by act a value ≡ Swapped addr word stored → word ≡ last_value addr (take k (words logs order))
+  swap_right k addr word stored id value ts rank a (Load source) at_word at_number is = absurd (let e : Loaded a value ≡ Swapped addr word stored = is in cc)
+  swap_right k addr word stored id value ts rank a Store at_word at_number is = absurd (let e : Stored a value ≡ Swapped addr word stored = is in cc)
+  swap_right k addr word stored id value ts rank a (Swap source read) at_word at_number is =
+      let e : Swapped a read value ≡ Swapped addr word stored = is in
+      let a-is : a ≡ addr = cc in
+      let r-is : read ≡ word = cc in
+      let right : read ≡ last_value a (take k (words logs order)) = read_right k a read source _ _ at_word at_number (sequential.flat.swaps k a (number_read logs source a read) (store_number id) at_number) in
+      sym r-is ∙ right ∙ ap (λ x. last_value x (take k (words logs order))) a-is
+
+  explains : IsSequentialOrder (operations_of logs) order
+  explains = record {
+    serial = serial;
+    program = sequential.program;
+    flat = record {
+      loads = λ k addr word is. (
+          let p = placed_word k (Loaded addr word) is in
+          load_right k addr word p.id p.r.value p.r.ts p.r.rank p.r.addr p.r.act (word_there k p) (number_there k p) (sym (is_word k p (Loaded addr word) is)));
+      swaps = λ k addr word stored is. (
+          let p = placed_word k (Swapped addr word stored) is in
+          swap_right k addr word stored p.id p.r.value p.r.ts p.r.rank p.r.addr p.r.act (word_there k p) (number_there k p) (sym (is_word k p (Swapped addr word stored) is)));
+    };
+  }
+
+pub order_explains : (logs : List (List Record)) (order : List OpId) → length logs ≤ 64 → All (λ log. length log ≤ operation_limit) logs
+    → IsSequentialOrder (sourced_operations logs) order → IsSequentialOrder (operations_of logs) order
+order_explains logs order few short sequential = explains logs few short order sequential

@@ -1,0 +1,8 @@
+-- The logs so far have numbers.
+use Rattle.std.proofs.Common.{◌≡◌, take}
+use Rattle.log_record.specs.Entries.{record_lists}
+use Rattle.commands.specs.Sources.{numbered_from}
+use Rattle.commands.proofs.sources.numbered_logs.Given as goal
+
+abbrev pub invariant-loop-c : goal.invariant-loop-c
+invariant-loop-c l = record_lists l.made.items ≡ numbered_from (record_lists l.logs) 0 (record_lists (take l.c l.logs))
