@@ -13,4 +13,4 @@ returns-in-Logs c = λ logs held.
 
 pub returns-in-Index : goal.returns-in-Index
 returns-in-Index c = λ logs held.
-    ap (λ (es : List Entry). length es) c.all.ensures.value ∙ index_counted logs c.in-Index.index.now (subst (HoldsRecords logs) c.in-Index.is held)
+    ap (λ (es : List Entry). length es) c.all.ensures.value ∙ index_counted logs c.in-Index.index (subst (HoldsRecords logs) c.in-Index.is held)
