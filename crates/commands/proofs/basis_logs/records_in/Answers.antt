@@ -1,5 +1,6 @@
-use Rattle.std.proofs.Common.{rules, ◌≡◌, ◌∙◌, List, length, subst}
+use Rattle.std.proofs.Common.{◌≡◌, ◌∙◌, ap, List, length, subst}
 use Rattle.log_record.specs.Entries.{operations_of}
+use Rattle.log_record.specs.declared.record.Entry.{Entry}
 use Rattle.log_record.specs.declared.record.Record.{Record}
 use Rattle.refutation_text.specs.FirstLines.{operation_count}
 use Rattle.commands.specs.inner.ReadLogs.{HoldsRecords}
@@ -12,5 +13,4 @@ returns-in-Logs c = λ logs held.
 
 pub returns-in-Index : goal.returns-in-Index
 returns-in-Index c = λ logs held.
-    let many : c.len.result ≡ length c.in-Index.index.now = search rules in
-    many ∙ index_counted logs c.in-Index.index.now (subst (HoldsRecords logs) c.in-Index.is held)
+    ap (λ (es : List Entry). length es) c.all.ensures.value ∙ index_counted logs c.in-Index.index (subst (HoldsRecords logs) c.in-Index.is held)
