@@ -4,6 +4,9 @@ use super::touches::Touches;
 use numbered_trace::{Classes, Operation, Operations, Place, Stop, Tried, at, put};
 use std::alloc::Global;
 
+/// As many pairs of cores are looked at in a step, where a state is looked at.
+const PAIRS: usize = 20;
+
 /// How far each core is and what memory holds. It is changed in place.
 #[derive(Drop)]
 pub(crate) struct State<'a> {
@@ -27,7 +30,7 @@ pub(crate) struct State<'a> {
     pub(crate) clocks: Vec<Place>,
     /// Equal states have one number, and others nearly never have it too.
     pub(crate) number: u64,
-    /// How many operations were ever performed.
+    /// How many operations were ever performed, and how many steps were made beside.
     pub(crate) performed: u64,
 }
 
@@ -108,6 +111,12 @@ impl<'a> State<'a> {
         let left = entries.map(|(entry, position)| entry.saturating_sub(*position));
         let known = left.fold(0u32, |sum, count| sum.saturating_add(count));
         known.max(place.saturating_sub(position).saturating_add(1))
+    }
+
+    /// Counts a look at the state, which takes longer the more cores there are.
+    pub(crate) fn count_look(&mut self) {
+        let pairs = self.cores.len().saturating_mul(self.cores.len()) / PAIRS;
+        self.performed = self.performed.wrapping_add(pairs as u64);
     }
 
     /// Performs a core's next operation.

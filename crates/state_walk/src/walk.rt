@@ -233,6 +233,7 @@ impl<'a> Walk<'a> {
         if self.state.is_final() {
             return Ok(true);
         }
+        self.state.count_look();
         if self.visited.insert(self.state.number)? && self.state.dead(ruined).is_none() {
             let child = self.child(parent, core, depth)?;
             if self.tree.node(self.deepest)?.length < child.length {
