@@ -5,6 +5,9 @@ use numbered_trace::{NONE, Place, START, Tried, at, put};
 use std::alloc::Global;
 use std::iter::successors;
 
+/// As many places are looked at in a step.
+pub(crate) const PLACES: u64 = 16;
+
 /// A place that a walk came to, by a fact from one that it had come to before.
 #[derive(Clone, Copy)]
 struct Hop {
@@ -46,7 +49,8 @@ impl Knowledge<'_> {
             let Some(hop) = walk.hops.get(number as usize).copied() else {
                 break;
             };
-            self.budget.spend(1)?;
+            let places = u64::from(hop.until.saturating_sub(hop.place));
+            self.budget.spend(places / PLACES + 1)?;
             if self.walk_from(&mut walk, number, hop)? {
                 return Ok(Some(walk.chain(self.alloc)?));
             }

@@ -33,6 +33,7 @@ impl Closing<'_> {
         let mut count = 0;
         for doubling in 0..u32::BITS {
             let addresses = walk.deepest_addresses(self.alloc, 1u32.wrapping_shl(doubling))?;
+            budget.use_up(addresses.len() as u64);
             if addresses.len() > count {
                 count = addresses.len();
                 if let Some(found) = self.attempt(addresses, budget, watch)? {

@@ -1,5 +1,6 @@
 //! Why a case is closed, from the conflict back to what was known at first.
 
+use super::chains::PLACES;
 use super::facts::{Fact, Reason};
 use super::knowledge::Knowledge;
 use super::proof::{Derived, Line, Proof, Rule};
@@ -119,6 +120,7 @@ impl Knowledge<'_> {
         let stores = self
             .classes
             .candidates_of(&operation, self.operations, core);
+        self.budget.spend(stores.len() as u64 / PLACES)?;
         let count = self.count_not_after(closing, stores)?;
         let rest = cut(stores, 0, count);
         let first = rest.iter().position(|store| self.is_kept(closing, *store));

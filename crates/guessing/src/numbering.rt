@@ -13,7 +13,7 @@ struct Numbering<'a> {
     operations: &'a Operations,
     /// The operations that the lines name by their numbers in this list.
     places: &'a [Place],
-    /// The facts in force.
+    /// The facts in force, in the order of their numbers.
     facts: Vec<u32>,
     /// The facts of the cases that wait, each with how many facts it stands on.
     waiting: Vec<(u32, usize)>,
@@ -108,8 +108,8 @@ impl Numbering<'_> {
 
     /// The place of a fact among those in force.
     fn number(&self, fact: u32) -> Tried<usize> {
-        let place = self.facts.iter().rposition(|number| *number == fact);
-        place.ok_or(Stop::GivenUp)
+        let place = self.facts.binary_search(&fact);
+        place.ok().ok_or(Stop::GivenUp)
     }
 
     /// The path by these facts.

@@ -8,6 +8,9 @@ use numbered_trace::{
 /// How many operations of a core come in before the next core's.
 const TURN: u32 = 4;
 
+/// As many pairs of cores are looked at in a step, where an open read is looked at.
+const PAIRS: u64 = 20;
+
 /// Where the candidates of a read lie that aren't excluded.
 #[derive(Clone, Copy)]
 enum Left {
@@ -127,7 +130,8 @@ impl Knowledge<'_> {
                 break;
             };
             idle = idle.saturating_add(1);
-            self.budget.spend(1)?;
+            let cores = u64::from(self.operations.cores().end);
+            self.budget.spend(cores.saturating_mul(cores) / PAIRS + 1)?;
             self.budget.tell(watch)?;
             if self.settle(read)? {
                 idle = 0;

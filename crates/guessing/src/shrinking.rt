@@ -86,7 +86,7 @@ impl Shrinking<'_> {
         let before = self.named.to_vec(self.alloc)?;
         self.attempt(&before)?;
         for place in &before {
-            if self.budget.tell(watch).is_err() {
+            if self.budget.left() == 0 || self.budget.tell(watch).is_err() {
                 return Ok(false);
             }
             if self.named.contains(place) {

@@ -1,6 +1,10 @@
 //! How many steps a search may make.
 
+ghost use Rattle.std.specs.Prelude.{◌≡◌, ◌+◌, ◌-◌, ◌≤◌, ◌<◌, OnErr, OnOk};
+ghost use Rattle.numbered_trace.specs.Steps.{Steps};
+
 use super::stop::{Stop, Tried};
+use std::marker::Model;
 
 /// How many steps are made, at least, between two calls of a watch.
 const STEPS: u64 = 4096;
@@ -8,7 +12,8 @@ const STEPS: u64 = 4096;
 /// What watches a search while it lasts. But that it may stop the search it changes nothing of it.
 pub trait SearchWatch {
     /// Called each few thousand steps: the search has made so many of so many. It gives up where the answer is false.
-    fn steps(&self, made: u64, budget: u64) -> bool;
+    fn steps(&self, made: u64, budget: u64) -> bool
+        requires { made ≤ budget };
 
     /// Called when the search is over, before anything is told of what it found.
     fn found(&self);
@@ -37,9 +42,24 @@ pub struct Budget {
     told: u64,
 }
 
+impl Model for Budget {
+    ghost use Rattle.std.specs.Prelude.{◌≤◌};
+    ghost use Rattle.numbered_trace.specs.Steps.{Steps};
+
+    ghost Value = { Steps };
+
+    ghost view = { λ b. record { all = b.all; left = b.left; kept = b.kept; told = b.told } };
+
+    ghost invariant = { λ b. b.left ≤ b.all };
+
+    ghost inverse = { λ s. record { all = s.all; left = s.left; kept = s.kept; told = s.told } };
+}
+
 impl Budget {
     /// So many steps.
-    pub fn new(steps: u64) -> Budget {
+    pub fn new(steps: u64) -> Budget
+        ensures { result ≡ record { all = steps; left = steps; kept = 0; told = 0 } }
+    {
         Budget {
             all: steps,
             left: steps,
@@ -49,17 +69,26 @@ impl Budget {
     }
 
     /// How many steps may be made still.
-    pub fn left(&self) -> u64 {
+    pub fn left(&self) -> u64
+        ensures { result ≡ self.now.left - self.now.kept }
+    {
         self.left.saturating_sub(self.kept)
     }
 
     /// Keeps all but so many of the steps that are left for what comes later.
-    pub fn allow(&mut self, steps: u64) {
+    pub fn allow(&mut self, steps: u64)
+        ensures { self.new ≡ record self.old { kept = self.old.left - steps } }
+    {
         self.kept = self.left.saturating_sub(steps);
     }
 
-    /// Makes steps. The search gives up where not so many are left.
-    pub fn spend(&mut self, steps: u64) -> Tried<()> {
+    /// Makes steps. The search gives up where not so many may be made.
+    pub fn spend(&mut self, steps: u64) -> Tried<()>
+        ensures made { OnOk result (self.new ≡ record self.old { left = self.old.left - steps }) }
+        ensures within { OnOk result (steps ≤ self.old.left - self.old.kept) }
+        ensures kept { OnErr result (self.new ≡ self.old) }
+        ensures beyond { OnErr result (self.old.left - self.old.kept < steps) }
+    {
         if self.left() < steps {
             return Err(Stop::GivenUp);
         }
@@ -68,13 +97,19 @@ impl Budget {
     }
 
     /// Makes as many of these steps as may be made.
-    pub fn use_up(&mut self, steps: u64) {
+    pub fn use_up(&mut self, steps: u64)
+        ensures few { self.old.left - self.new.left ≤ steps }
+        ensures within { self.old.left - self.new.left ≤ self.old.left - self.old.kept }
+        ensures rest { self.new ≡ record self.old { left = self.new.left } }
+    {
         self.left = self.left.saturating_sub(steps.min(self.left()));
     }
 
     /// Tells a watch how many steps were made, where these are a few thousand more than it was told. The search gives up where the
     /// watch asks for it.
-    pub fn tell<W: SearchWatch>(&mut self, watch: &W) -> Tried<()> {
+    pub fn tell<W: SearchWatch>(&mut self, watch: &W) -> Tried<()>
+        ensures { self.new ≡ record self.old { told = self.new.told } }
+    {
         let made = self.all.saturating_sub(self.left);
         if made.saturating_sub(self.told) >= STEPS {
             self.told = made;

@@ -50,7 +50,7 @@ impl<'a> ClosedSet<'a> {
         watch: &W,
     ) -> Tried<bool> {
         self.state.settle()?;
-        self.enter(0)?;
+        self.enter(None)?;
         for _ in 0..u64::MAX {
             if self.state.is_final() || self.states.len() > most || budget.left() == 0 {
                 return Ok(false);
@@ -60,23 +60,25 @@ impl<'a> ClosedSet<'a> {
             };
             let performed = self.state.performed;
             self.state.undo(length)?;
+            let ruined = self.state.ruined_by(core);
             self.state.perform(core)?;
             self.state.settle()?;
-            self.enter(length)?;
+            self.enter(ruined)?;
             budget.use_up(self.state.performed.saturating_sub(performed));
             budget.tell(watch)?;
         }
         Ok(true)
     }
 
-    /// Enters the state behind the store of this number in the order, unless it was entered, and its moves, unless it is dead.
-    fn enter(&mut self, number: usize) -> Tried<()> {
+    /// Enters the state, to which a store led that wrote over a class, unless it was entered, and its moves, unless it is dead.
+    fn enter(&mut self, ruined: Option<u32>) -> Tried<()> {
         if !self.visited.insert(self.state.number)? {
             return Ok(());
         }
+        self.state.count_look();
         let words = self.words()?;
         let next = self.next()?;
-        let Some(dead) = self.state.dead(number) else {
+        let Some(dead) = self.state.dead(ruined) else {
             self.states.push(refutation::State::Open { next, words })?;
             return self.enter_moves();
         };

@@ -13,9 +13,8 @@ pub(crate) enum Dead {
 }
 
 impl State<'_> {
-    /// Why nothing leads from here to the end, after the store of this number in the order, where something tells it.
-    pub(crate) fn dead(&self, number: usize) -> Option<Dead> {
-        let ruined = self.ruined_by(number);
+    /// Why nothing leads from here to the end, after a class was written over, where something tells it.
+    pub(crate) fn dead(&self, ruined: Option<u32>) -> Option<Dead> {
         let starved = ruined.and_then(|class| self.starved(class));
         starved.or_else(|| self.deadlocked())
     }

@@ -19,7 +19,7 @@ impl State<'_> {
     pub(crate) fn is_harmless(&self, core: u32, store: &Operation) -> bool {
         let over = at(&self.memory, store.address);
         let stored = store.stored().unwrap_or(over);
-        !self.is_read_after(core, over) && !self.is_read_after(core, stored)
+        !self.is_read_after(core, stored) && !self.is_read_after(core, over)
     }
 
     /// Whether a class is read from here on, but by a core's next operation.
@@ -39,8 +39,8 @@ impl State<'_> {
         false
     }
 
-    /// How long a core's next operation, a store, keeps others from its address: how many operations a core has to perform until it has
-    /// read for the last time what it stores. None where what it writes over is still read.
+    /// How long a core's next operation, a store, keeps others from its address: how many operations have to be performed, as far as that is
+    /// known, until a core has read for the last time what it stores. None where what it writes over is still read.
     pub(crate) fn hold(&self, core: u32, store: &Operation) -> Option<u32> {
         if self.is_read_after(core, at(&self.memory, store.address)) {
             return None;
@@ -51,8 +51,7 @@ impl State<'_> {
             let Some(touched) = next else {
                 break;
             };
-            let position = at(&self.positions, touched.core);
-            hold = hold.max(touched.last_read.saturating_add(1).saturating_sub(position));
+            hold = hold.max(self.count_up_to(touched.core, touched.last_read));
             next = self.touches.next(&touched);
         }
         Some(hold)

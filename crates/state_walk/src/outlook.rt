@@ -77,8 +77,11 @@ impl State<'_> {
     /// How far ahead another core's nearest store of a class is.
     fn nearest_store(&self, class: u32, core: u32) -> Option<Place> {
         let mut stores = self.classes.stores_of(class);
+        let first = stores
+            .first()
+            .map_or(0, |store| self.operations.core(*store));
         let mut nearest = None;
-        for other in &self.cores {
+        for other in self.cores.iter().filter(|other| **other >= first) {
             let position = at(&self.positions, *other);
             let done = stores.partition_point(|store| *store < position);
             stores = stores.get(done..).unwrap_or(&[]);

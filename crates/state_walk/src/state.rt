@@ -4,6 +4,9 @@ use super::touches::Touches;
 use numbered_trace::{Classes, Operation, Operations, Place, Stop, Tried, at, put};
 use std::alloc::Global;
 
+/// As many pairs of cores are looked at in a step, where a state is looked at.
+const PAIRS: usize = 20;
+
 /// How far each core is and what memory holds. It is changed in place.
 #[derive(Drop)]
 pub(crate) struct State<'a> {
@@ -20,14 +23,14 @@ pub(crate) struct State<'a> {
     pub(crate) memory: Vec<u32>,
     /// The operations that were performed.
     pub(crate) order: Vec<Place>,
-    /// Of each of them the class of the word that it found.
+    /// Of each store among them the class of the word that it found.
     found: Vec<u32>,
     /// Of each operation, one after the other, and each core a place: the core's operations below it come before the operation.
     /// Empty where nothing is known.
     pub(crate) clocks: Vec<Place>,
     /// Equal states have one number, and others nearly never have it too.
     pub(crate) number: u64,
-    /// How many operations were ever performed.
+    /// How many operations were ever performed, and how many steps were made beside.
     pub(crate) performed: u64,
 }
 
@@ -72,35 +75,57 @@ impl<'a> State<'a> {
         self.operations.next(&self.positions, core)
     }
 
-    /// A core's next operation, where it can be performed.
+    /// A core's next operation, where it can be performed: memory has its word, and all that has to come before it was performed.
     pub(crate) fn able(&self, core: u32) -> Option<Operation> {
         let (place, next) = self.next(core)?;
-        self.can_perform(place, &next).then_some(next)
+        (self.has_word(&next) && !self.waits(place)).then_some(next)
     }
 
-    /// Whether a core's next operation can be performed: memory has its word, and all that has to come before it was performed.
-    fn can_perform(&self, place: Place, next: &Operation) -> bool {
-        next.fits(at(&self.memory, next.address)) && !self.waits(place)
+    /// Whether memory has the word that an operation read, if it read one.
+    fn has_word(&self, operation: &Operation) -> bool {
+        operation.fits(at(&self.memory, operation.address))
     }
 
     /// Whether something that is known to be before a core's next operation wasn't performed. The own core's entry of its clock
     /// alone is right behind it.
     fn waits(&self, place: Place) -> bool {
+        let own = place.wrapping_add(1);
+        let mut entries = self.clock(place).iter().zip(&self.positions);
+        entries.any(|(entry, position)| entry > position && *entry != own)
+    }
+
+    /// What is known to be before the operation at a place: of each core a place, if of any.
+    fn clock(&self, place: Place) -> &[Place] {
         let count = self.positions.len();
         let row = (place as usize).wrapping_mul(count);
-        let clock = self.clocks.get(row..row.wrapping_add(count)).unwrap_or(&[]);
-        let own = place.wrapping_add(1);
-        let mut entries = clock.iter().zip(&self.positions);
-        entries.any(|(entry, position)| entry > position && *entry != own)
+        self.clocks.get(row..row.wrapping_add(count)).unwrap_or(&[])
+    }
+
+    /// How many operations weren't performed up to a core's at this place: those of its core, and those that are known to be before it.
+    pub(crate) fn count_up_to(&self, core: u32, place: Place) -> u32 {
+        let position = at(&self.positions, core);
+        if place < position {
+            return 0;
+        }
+        let entries = self.clock(place).iter().zip(&self.positions);
+        let left = entries.map(|(entry, position)| entry.saturating_sub(*position));
+        let known = left.fold(0u32, |sum, count| sum.saturating_add(count));
+        known.max(place.saturating_sub(position).saturating_add(1))
+    }
+
+    /// Counts a look at the state, which takes longer the more cores there are.
+    pub(crate) fn count_look(&mut self) {
+        let pairs = self.cores.len().saturating_mul(self.cores.len()) / PAIRS;
+        self.performed = self.performed.wrapping_add(pairs as u64);
     }
 
     /// Performs a core's next operation.
     pub(crate) fn perform(&mut self, core: u32) -> Tried<()> {
         let (place, next) = self.next(core).ok_or(Stop::GivenUp)?;
-        let word = at(&self.memory, next.address);
         self.order.push(place)?;
-        self.found.push(word)?;
         if let Some(stored) = next.stored() {
+            let word = at(&self.memory, next.address);
+            self.found.push(word)?;
             put(&mut self.memory, next.address, stored)?;
             self.number ^= of_class(word) ^ of_class(stored);
         }
@@ -112,19 +137,21 @@ impl<'a> State<'a> {
     /// Takes operations back until so many are left.
     pub(crate) fn undo(&mut self, length: usize) -> Tried<()> {
         for _ in length..self.order.len() {
-            let (Some(place), Some(word)) = (self.order.pop(), self.found.pop()) else {
+            let Some(place) = self.order.pop() else {
                 break;
             };
-            self.take_back(place, word)?;
+            self.take_back(place)?;
         }
         Ok(())
     }
 
-    /// Takes back the operation at a place, which found this word.
-    fn take_back(&mut self, place: Place, word: u32) -> Tried<()> {
+    /// Takes back the operation at a place.
+    fn take_back(&mut self, place: Place) -> Tried<()> {
         let operation = self.operations.get(place);
         let core = operation.core();
-        if let Some(stored) = operation.stored() {
+        if let Some(stored) = operation.stored()
+            && let Some(word) = self.found.pop()
+        {
             put(&mut self.memory, operation.address, word)?;
             self.number ^= of_class(word) ^ of_class(stored);
         }
@@ -132,8 +159,31 @@ impl<'a> State<'a> {
         put(&mut self.positions, core, place)
     }
 
-    /// Performs what leaves memory as it is, as long as something can be performed: nothing is lost by it.
+    /// Performs what leaves memory as it is, as long as something can be performed: nothing is lost by it, and what is known to be before
+    /// needn't be looked at.
     pub(crate) fn settle(&mut self) -> Tried<()> {
+        for place in 0..self.cores.len() {
+            let core = self.cores.get(place).copied().unwrap_or(0);
+            self.settle_core(core)?;
+        }
+        Ok(())
+    }
+
+    /// Performs what leaves memory as it is of a core.
+    fn settle_core(&mut self, core: u32) -> Tried<()> {
+        for _ in 0..u32::MAX {
+            match self.next(core) {
+                Some((_, next)) if next.is_quiet() && self.has_word(&next) => self.perform(core)?,
+                _ => break,
+            }
+        }
+        Ok(())
+    }
+
+    /// Performs what leaves memory as it is, and stores that harm nobody, as long as something can be performed: nothing is lost by that,
+    /// either.
+    pub(crate) fn go_on(&mut self) -> Tried<()> {
+        self.settle()?;
         let count = self.cores.len();
         let mut idle = 0;
         for turn in 0..usize::MAX {
@@ -142,34 +192,35 @@ impl<'a> State<'a> {
             }
             idle += 1;
             let core = self.cores.get(turn % count).copied().unwrap_or(0);
-            if self.settle_core(core)? && !self.clocks.is_empty() {
+            if self.store_harmlessly(core)? {
                 idle = 1;
             }
         }
         Ok(())
     }
 
-    /// Performs what leaves memory as it is of a core. Says whether there was something.
-    fn settle_core(&mut self, core: u32) -> Tried<bool> {
+    /// Performs a core's stores that harm nobody, and what leaves memory as it is behind them. Says whether there was one.
+    fn store_harmlessly(&mut self, core: u32) -> Tried<bool> {
         let before = self.order.len();
         for _ in 0..u32::MAX {
-            let Some((place, next)) = self.next(core) else {
-                break;
-            };
-            if !next.is_quiet() || !self.can_perform(place, &next) {
-                break;
+            match self.next(core) {
+                Some((_, store)) if self.has_word(&store) && self.is_harmless(core, &store) => {
+                    self.perform(core)?;
+                }
+                _ => break,
             }
-            self.perform(core)?;
+            self.settle_core(core)?;
         }
         Ok(self.order.len() > before)
     }
 
-    /// The class that the operation of a number in the order wrote over, where it stored another one.
-    pub(crate) fn ruined_by(&self, number: usize) -> Option<u32> {
-        let place = *self.order.get(number)?;
-        let word = *self.found.get(number)?;
-        let stored = self.operations.get(place).stored()?;
-        (stored != word).then_some(word)
+    /// The class that a core's next operation writes over, if it stores another one.
+    pub(crate) fn ruined_by(&self, core: u32) -> Option<u32> {
+        let (_, next) = self.next(core)?;
+        let word = at(&self.memory, next.address);
+        next.stored()
+            .is_some_and(|stored| stored != word)
+            .then_some(word)
     }
 }
 

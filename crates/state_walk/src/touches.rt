@@ -13,7 +13,7 @@ pub(crate) struct Touched {
     next: u32,
 }
 
-/// The cores that touch each class.
+/// The cores that touch each class that is read.
 #[derive(Drop)]
 pub(crate) struct Touches {
     all: Vec<Touched>,
@@ -22,31 +22,34 @@ pub(crate) struct Touches {
 }
 
 impl Touches {
-    /// Which of so many classes these cores touch.
+    /// Which of so many classes these cores touch, as far as they are read.
     pub(crate) fn new(
         alloc: Global,
         operations: &Operations,
         cores: &[u32],
         classes: usize,
     ) -> Tried<Touches> {
+        let are_read = are_read(alloc, operations, cores, classes)?;
         let mut touches = Touches {
             all: Vec::new(alloc),
             latest: vec![in alloc; NONE; classes]?,
         };
         for core in cores {
-            touches.enter(operations, *core)?;
+            touches.enter(operations, *core, &are_read)?;
         }
         Ok(touches)
     }
 
-    /// Enters what a core touches, after all others.
-    fn enter(&mut self, operations: &Operations, core: u32) -> Tried<()> {
+    /// Enters what a core touches, after all others, of these classes.
+    fn enter(&mut self, operations: &Operations, core: u32, are_read: &[bool]) -> Tried<()> {
         for place in at(&operations.starts, core)..operations.end(core) {
             let operation = operations.get(place);
             if let Some(class) = operation.read() {
                 self.of_core(class, core)?.last_read = place;
             }
-            if let Some(class) = operation.stored() {
+            if let Some(class) = operation.stored()
+                && are_read.get(class as usize) == Some(&true)
+            {
                 self.of_core(class, core)?.last_store = place;
             }
         }
@@ -83,4 +86,23 @@ impl Touches {
     pub(crate) fn next(&self, touched: &Touched) -> Option<Touched> {
         self.get(touched.next)
     }
+}
+
+/// Of so many classes whether one of these cores reads them.
+fn are_read(
+    alloc: Global,
+    operations: &Operations,
+    cores: &[u32],
+    classes: usize,
+) -> Tried<Vec<bool>> {
+    let mut are_read = vec![in alloc; false; classes]?;
+    let places = cores.iter().flat_map(|core| at(&operations.starts, *core)..operations.end(*core));
+    for place in places {
+        if let Some(class) = operations.get(place).read()
+            && let Some(is_read) = are_read.get_mut(class as usize)
+        {
+            *is_read = true;
+        }
+    }
+    Ok(are_read)
 }

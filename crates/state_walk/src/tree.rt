@@ -1,7 +1,7 @@
 //! The states that were come to, as a tree.
 
 use super::outlook::EVEN;
-use numbered_trace::{Stop, Tried, short};
+use numbered_trace::{NONE, Stop, Tried, at, put, short};
 use std::alloc::Global;
 use std::cmp::Reverse;
 use std::collections::BinaryHeap;
@@ -23,6 +23,7 @@ pub(crate) struct Node {
 /// The states to which so many stores lead.
 #[derive(Drop)]
 struct Layer {
+    depth: u32,
     /// Those from which the walk didn't go on yet, the likeliest first, then the oldest.
     open: BinaryHeap<(u64, Reverse<u32>)>,
     /// How many it went on from.
@@ -34,9 +35,15 @@ struct Layer {
 pub(crate) struct Tree {
     alloc: Global,
     pub(crate) nodes: Vec<Node>,
+    /// How many stores led to the deepest node.
+    depth: u32,
     layers: Vec<Layer>,
+    /// Of each depth the number of its layer, or NONE.
+    numbers: Vec<u32>,
     /// The layers with open states, foremost ones first: a layer stands back by one for each state that was left in it.
     queue: BinaryHeap<(u64, u32)>,
+    /// States whose likeliest child was taken and that are open again, deepest last. Each stands back by one.
+    halves: Vec<u32>,
     /// The state from which the walk goes on before any of them.
     next: Option<u32>,
 }
@@ -47,8 +54,11 @@ impl Tree {
         let mut tree = Tree {
             alloc,
             nodes: Vec::new(alloc),
+            depth: 0,
             layers: Vec::new(alloc),
+            numbers: Vec::new(alloc),
             queue: BinaryHeap::new(alloc),
+            halves: Vec::new(alloc),
             next: None,
         };
         let root = Node {
@@ -58,7 +68,7 @@ impl Tree {
             core: 0,
             is_half: false,
         };
-        tree.add(root, EVEN)?;
+        tree.next = Some(tree.push(root)?);
         Ok(tree)
     }
 
@@ -72,75 +82,108 @@ impl Tree {
 
     /// Adds a state that looks so likely, and gives its number.
     pub(crate) fn add(&mut self, node: Node, outlook: u64) -> Tried<u32> {
-        let number = short(self.nodes.len())?;
-        self.nodes.push(node)?;
-        if self.layers.len() <= node.depth as usize {
-            self.layers.push(Layer {
-                open: BinaryHeap::new(self.alloc),
-                left: 0,
-            })?;
-        }
-        self.open(number, node.depth, outlook)?;
+        let layer = self.layer_of(node.depth)?;
+        let number = self.push(node)?;
+        self.open(layer, number, outlook)?;
         Ok(number)
     }
 
-    /// Adds a state beside which its parent has no other yet, and gives its number. The walk goes on from it where no state is as deep.
+    /// Adds a state that is its parent's likeliest child, and gives its number. The walk goes on from it where no state is as deep.
     pub(crate) fn add_only(&mut self, node: Node) -> Tried<u32> {
-        if self.layers.len() > node.depth as usize {
+        if node.depth <= self.depth {
             return self.add(node, EVEN);
         }
-        let number = short(self.nodes.len())?;
-        self.nodes.push(node)?;
-        self.layers.push(Layer {
-            open: BinaryHeap::new(self.alloc),
-            left: 1,
-        })?;
+        let number = self.push(node)?;
         self.next = Some(number);
         Ok(number)
     }
 
-    /// Opens a state again whose likeliest child was taken, behind all others of its layer.
-    pub(crate) fn open_half(&mut self, number: u32) -> Tried<()> {
+    /// Adds a node, and gives its number.
+    fn push(&mut self, node: Node) -> Tried<u32> {
+        let number = short(self.nodes.len())?;
+        self.nodes.push(node)?;
+        self.depth = self.depth.max(node.depth);
+        Ok(number)
+    }
+
+    /// Opens a state again whose likeliest child is taken: behind all others of its layer, unless it is deeper than all that were opened so.
+    pub(crate) fn halve(&mut self, number: u32) -> Tried<()> {
         let node = self.nodes.get_mut(number as usize).ok_or(Stop::GivenUp)?;
         node.is_half = true;
         let depth = node.depth;
-        self.open(number, depth, 0)
+        let last = self.halves.last().copied();
+        if let Some(last) = last
+            && depth <= self.node(last)?.depth
+        {
+            let layer = self.layer_of(depth)?;
+            return self.open(layer, number, 0);
+        }
+        Ok(self.halves.push(number)?)
     }
 
-    /// Opens a state of a depth.
-    fn open(&mut self, number: u32, depth: u32, outlook: u64) -> Tried<()> {
-        let layer = self.layers.get_mut(depth as usize).ok_or(Stop::GivenUp)?;
-        let is_queued = !layer.open.is_empty();
-        layer.open.push((outlook, Reverse(number)))?;
+    /// The number of the layer of a depth, which is made where there is none. Where a state is so deep, the walk went on from it.
+    fn layer_of(&mut self, depth: u32) -> Tried<u32> {
+        let number = at(&self.numbers, depth);
+        if number != NONE {
+            return Ok(number);
+        }
+        let number = short(self.layers.len())?;
+        self.layers.push(Layer {
+            depth,
+            open: BinaryHeap::new(self.alloc),
+            left: u32::from(depth <= self.depth),
+        })?;
+        let length = (depth as usize).saturating_add(1).max(self.numbers.len());
+        self.numbers.resize(length, NONE)?;
+        put(&mut self.numbers, depth, number)?;
+        Ok(number)
+    }
+
+    /// Opens a state of a layer.
+    fn open(&mut self, layer: u32, number: u32, outlook: u64) -> Tried<()> {
+        let of_layer = self.layers.get_mut(layer as usize).ok_or(Stop::GivenUp)?;
+        let is_queued = !of_layer.open.is_empty();
+        of_layer.open.push((outlook, Reverse(number)))?;
         if !is_queued {
-            self.queue_layer(depth)?;
+            let foremost = foremost(of_layer.depth, of_layer.left);
+            self.queue.push((foremost, layer))?;
         }
         Ok(())
     }
 
-    /// Puts a layer into the queue.
-    fn queue_layer(&mut self, depth: u32) -> Tried<()> {
-        let layer = self.layers.get(depth as usize).ok_or(Stop::GivenUp)?;
-        let foremost = EVEN
-            .saturating_add(u64::from(depth))
-            .saturating_sub(u64::from(layer.left));
-        Ok(self.queue.push((foremost, depth))?)
-    }
-
-    /// Takes the open state from which the walk goes on: the likeliest one of the foremost layer. None where no state is open.
+    /// Takes the open state from which the walk goes on: the foremost one, of a layer the likeliest. None where no state is open.
     pub(crate) fn take(&mut self) -> Tried<Option<u32>> {
         if let Some(number) = self.next.take() {
             return Ok(Some(number));
         }
-        let Some((_, depth)) = self.queue.pop() else {
-            return Ok(None);
-        };
-        let layer = self.layers.get_mut(depth as usize).ok_or(Stop::GivenUp)?;
-        layer.left = layer.left.saturating_add(1);
-        let (_, Reverse(number)) = layer.open.pop().ok_or(Stop::GivenUp)?;
-        if !layer.open.is_empty() {
-            self.queue_layer(depth)?;
+        let best = self.queue.peek().map_or(0, |(best, _)| *best);
+        if let Some(half) = self.halves.last().copied()
+            && foremost(self.node(half)?.depth, 1) >= best
+        {
+            self.halves.pop();
+            return Ok(Some(half));
         }
-        Ok(Some(number))
+        match self.queue.pop() {
+            Some((_, layer)) => Ok(Some(self.take_of(layer)?)),
+            None => Ok(None),
+        }
     }
+
+    /// Takes the likeliest open state of a layer.
+    fn take_of(&mut self, layer: u32) -> Tried<u32> {
+        let of_layer = self.layers.get_mut(layer as usize).ok_or(Stop::GivenUp)?;
+        let (_, Reverse(number)) = of_layer.open.pop().ok_or(Stop::GivenUp)?;
+        of_layer.left = of_layer.left.saturating_add(1);
+        if !of_layer.open.is_empty() {
+            let foremost = foremost(of_layer.depth, of_layer.left);
+            self.queue.push((foremost, layer))?;
+        }
+        Ok(number)
+    }
+}
+
+/// How far in front a layer of a depth is, so many of whose states were left: the more the farther.
+fn foremost(depth: u32, left: u32) -> u64 {
+    EVEN.saturating_add(u64::from(depth))
+        .saturating_sub(u64::from(left))
 }

@@ -3,7 +3,7 @@
 use numbered_trace::{Stop, Tried};
 use std::alloc::Global;
 
-/// A table of numbers, at most half of whose slots are taken; a slot that isn't has 0.
+/// A table of numbers, at most three of four of whose slots are taken; a slot that isn't has 0.
 #[derive(Drop)]
 pub(crate) struct Visited {
     alloc: Global,
@@ -23,7 +23,7 @@ impl Visited {
 
     /// Adds a number. Says whether it wasn't there.
     pub(crate) fn insert(&mut self, number: u64) -> Tried<bool> {
-        if self.count >= self.slots.len() / 2 {
+        if self.count >= self.slots.len() / 4 * 3 {
             self.grow()?;
         }
         let is_new = take_slot(&mut self.slots, number.max(1))?;

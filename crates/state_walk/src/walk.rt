@@ -24,17 +24,6 @@ pub enum Walked {
     GivenUp,
 }
 
-/// Which store is tried first from a state.
-#[derive(Clone, Copy, PartialEq, Eq)]
-enum First {
-    /// This core's harms nobody, so no other has to be tried.
-    Harmless(u32),
-    /// This core's seems to harm nobody.
-    Likely(u32),
-    /// None stands out.
-    Any,
-}
-
 /// A walk over the states of the operations of some cores.
 #[derive(Drop)]
 pub struct Walk<'a> {
@@ -45,7 +34,7 @@ pub struct Walk<'a> {
     visited: Visited,
     /// The nodes on the way down to a node.
     path: Vec<u32>,
-    /// The node to which the most stores lead.
+    /// The node to which the most operations lead.
     deepest: u32,
     /// Whether nearly each word is stored once.
     are_distinct: bool,
@@ -62,7 +51,7 @@ impl<'a> Walk<'a> {
         are_distinct: bool,
     ) -> Tried<Walk<'a>> {
         let mut state = State::new(alloc, operations, classes, cores)?;
-        state.settle()?;
+        state.go_on()?;
         let mut visited = Visited::new(alloc)?;
         visited.insert(state.number)?;
         Ok(Walk {
@@ -182,23 +171,22 @@ impl<'a> Walk<'a> {
         Ok(from)
     }
 
-    /// Performs a core's store, and what can be performed then without harm.
+    /// Performs a core's store, and all by which nothing is lost then.
     fn step(&mut self, core: u32) -> Tried<()> {
         self.state.perform(core)?;
-        self.state.settle()
+        self.state.go_on()
     }
 
-    /// Adds the children of a node, at whose state the walk is. Says whether one of them is final.
+    /// Adds the children of a node, at whose state the walk is: the likeliest one first, where one stands out. Says whether one of them is
+    /// final.
     fn expand(&mut self, number: u32) -> Tried<bool> {
-        let is_half = self.tree.node(number)?.is_half;
-        match self.first() {
-            First::Harmless(core) => self.visit(number, core, true),
-            First::Likely(core) if !is_half => {
-                self.tree.open_half(number)?;
-                self.visit(number, core, true)
-            }
-            First::Likely(_) | First::Any => self.expand_all(number),
+        if !self.tree.node(number)?.is_half
+            && let Some(core) = self.likely()
+        {
+            self.tree.halve(number)?;
+            return self.visit(number, core, true);
         }
+        self.expand_all(number)
     }
 
     /// Adds all children of a node.
@@ -212,20 +200,16 @@ impl<'a> Walk<'a> {
         Ok(false)
     }
 
-    /// Which store is tried first.
-    fn first(&self) -> First {
-        let mut likely = First::Any;
+    /// The core whose store is tried first: it seems to harm nobody. None where none stands out.
+    fn likely(&self) -> Option<u32> {
+        let mut likely = None;
         let mut least = u32::MAX;
         for core in &self.state.cores {
-            if let Some(store) = self.state.able(*core) {
-                if self.state.is_harmless(*core, &store) {
-                    return First::Harmless(*core);
-                }
-                if let Some(harm) = self.harm(*core, &store)
-                    && harm < least
-                {
-                    (likely, least) = (First::Likely(*core), harm);
-                }
+            if let Some(store) = self.state.able(*core)
+                && let Some(harm) = self.harm(*core, &store)
+                && harm < least
+            {
+                (likely, least) = (Some(*core), harm);
             }
         }
         likely
@@ -244,13 +228,15 @@ impl<'a> Walk<'a> {
     /// child.
     fn visit(&mut self, parent: u32, core: u32, is_only: bool) -> Tried<bool> {
         let Node { length, depth, .. } = self.tree.node(parent)?;
+        let ruined = self.state.ruined_by(core);
         self.step(core)?;
         if self.state.is_final() {
             return Ok(true);
         }
-        if self.visited.insert(self.state.number)? && self.state.dead(length as usize).is_none() {
+        self.state.count_look();
+        if self.visited.insert(self.state.number)? && self.state.dead(ruined).is_none() {
             let child = self.child(parent, core, depth)?;
-            if self.tree.node(self.deepest)?.depth < child.depth {
+            if self.tree.node(self.deepest)?.length < child.length {
                 self.deepest = short(self.tree.nodes.len())?;
             }
             if is_only {
