@@ -75,7 +75,6 @@ impl<'a> ClosedSet<'a> {
         if !self.visited.insert(self.state.number)? {
             return Ok(());
         }
-        self.state.count_look();
         let words = self.words()?;
         let next = self.next()?;
         let Some(dead) = self.state.dead(ruined) else {

@@ -4,7 +4,7 @@ use super::touches::Touches;
 use numbered_trace::{Classes, Operation, Operations, Place, Stop, Tried, at, put};
 use std::alloc::Global;
 
-/// As many pairs of cores are looked at in a step, where a state is looked at.
+/// As many pairs of cores are looked at in a step, where it is asked how a state looks.
 const PAIRS: usize = 20;
 
 /// How far each core is and what memory holds. It is changed in place.
@@ -113,7 +113,7 @@ impl<'a> State<'a> {
         known.max(place.saturating_sub(position).saturating_add(1))
     }
 
-    /// Counts a look at the state, which takes longer the more cores there are.
+    /// Counts a look at how the state looks, which takes longer the more cores there are.
     pub(crate) fn count_look(&mut self) {
         let pairs = self.cores.len().saturating_mul(self.cores.len()) / PAIRS;
         self.performed = self.performed.wrapping_add(pairs as u64);

@@ -233,7 +233,6 @@ impl<'a> Walk<'a> {
         if self.state.is_final() {
             return Ok(true);
         }
-        self.state.count_look();
         if self.visited.insert(self.state.number)? && self.state.dead(ruined).is_none() {
             let child = self.child(parent, core, depth)?;
             if self.tree.node(self.deepest)?.length < child.length {
@@ -243,6 +242,7 @@ impl<'a> Walk<'a> {
                 self.at = self.tree.add_only(child)?;
                 return Ok(false);
             }
+            self.state.count_look();
             self.tree.add(child, self.state.outlook())?;
         }
         self.state.undo(length as usize)?;
