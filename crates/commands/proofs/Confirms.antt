@@ -21,8 +21,8 @@ use Rattle.commands.specs.declared.refusal.Refusal.TheVariants.{Judge, Trace, Ce
 -- the answer that a text certifies is right
 pub right_of : (files : TraceFiles) (cores : List (List Operation)) (text : List ℕ) (answer : SearchAnswer) → Certifies files cores text answer → IsRightOf cores answer
 right_of files cores text (Yes operations) ((order, is, spells), many) = ((order, is), many)
-right_of files cores text (No operations) ((steps, spells, is), no) = subst (IsRightOf cores) (sym no) (no_right files cores (refutations-hold cores steps is))
-right_of files cores text (NoBySources operations) ((steps, spells, is), no) = subst (IsRightOf cores) (sym no) (no_right files cores (refutations-hold cores steps is))
+right_of files cores text (No operations) ((steps, spells, is), told) = subst (IsRightOf cores) (sym told) (no_right files cores (refutations-hold cores steps is))
+right_of files cores text (NoBySources operations) ((steps, spells, is), told) = subst (IsRightOf cores) (sym told) (no_right files cores (refutations-hold cores steps is))
 
 -- the files tell no trace
 pub traceless : (old new : Files) (unread : List ℕ → Type 0) (asked : Confirm) (fault : Refusal) → AreTraceless old.told unread asked.trace fault

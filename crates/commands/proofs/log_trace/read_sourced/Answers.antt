@@ -34,4 +34,4 @@ pub returns-clause-ok : goal.returns-clause-ok
 returns-clause-ok g c =
     let told = (g.F.Folder.files c.args.folder.now).told in
     let range : IsInRange (length c.args.names.now) = search rules in
-    (range, sources_spelled told c.args.names.now c.in_ok-logs.logs.items c.as_slice.result.now c.in_ok-trace.trace c.as_slice.ensures.value c.in_ok-logs.ensures.ok c.in_ok-trace.ensures)
+    rw c.sourced.ensures (range, sources_spelled told c.args.names.now c.in_ok-logs.logs.items c.as_slice.result.now c.in_ok-trace.trace c.as_slice.ensures.value c.in_ok-logs.ensures.ok c.in_ok-trace.ensures)

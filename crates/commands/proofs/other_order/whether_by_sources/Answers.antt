@@ -13,6 +13,6 @@ pub returns-in-Refutation : goal.returns-in-Refutation
 returns-in-Refutation g c =
     tells_by_others string_bytes c.args.sourced.now c.args.trace.now c.in_ok-searched.field-0 _ c.whether_any.result c.in_ok-searched.ensures c.in-Refutation.is (search rules)
 
-pub returns-in-Undecided : goal.returns-in-Undecided
-returns-in-Undecided g c =
+pub returns : goal.returns
+returns g c =
     tells_any string_bytes c.args.sourced.now c.args.trace.now c.whether_any-in-Undecided.result (search rules)
