@@ -33,25 +33,25 @@ pub checked : (told : List ℕ → Option (List ℕ)) (unread : List ℕ → Typ
     → (IsErrOf answer (BadConfig Workers) → IsInRange (vec_len asked.files) × IsOutOfRange asked.workers)
     → (IsErrOf answer (BadConfig ProgramCount) → AreNotAsMany (vec_len asked.files) programs)
     → ((file : ℕ) → answer ≡ Err (Read file) → IsUnreadAt unread asked.files.items file) → IsCheckedAgainst told unread programs asked answer
-checked told unread programs asked (Ok verdict) texts range tell answers yes files workers counted reads = (range, (texts, tell, answers, yes))
-checked told unread programs asked (Err (Log file line fault)) texts range tell answers yes files workers counted reads = (range, (texts, tell, answers, yes))
-checked told unread programs asked (Err (BadConfig FileCount)) texts range tell answers yes files workers counted reads = files refl
-checked told unread programs asked (Err (BadConfig Workers)) texts range tell answers yes files workers counted reads = workers refl
-checked told unread programs asked (Err (BadConfig ProgramCount)) texts range tell answers yes files workers counted reads = (range, counted refl)
-checked told unread programs asked (Err (Read file)) texts range tell answers yes files workers counted reads = (range, reads file refl)
-checked told unread programs asked (Err OutOfMemory) texts range tell answers yes files workers counted reads = tt
+checked told unread programs asked (Ok verdict) texts range tell answers says files workers counted reads = (range, (texts, tell, answers, says))
+checked told unread programs asked (Err (Log file line fault)) texts range tell answers says files workers counted reads = (range, (texts, tell, answers, says))
+checked told unread programs asked (Err (BadConfig FileCount)) texts range tell answers says files workers counted reads = files refl
+checked told unread programs asked (Err (BadConfig Workers)) texts range tell answers says files workers counted reads = workers refl
+checked told unread programs asked (Err (BadConfig ProgramCount)) texts range tell answers says files workers counted reads = (range, counted refl)
+checked told unread programs asked (Err (Read file)) texts range tell answers says files workers counted reads = (range, reads file refl)
+checked told unread programs asked (Err OutOfMemory) texts range tell answers says files workers counted reads = tt
 
 -- ---- what a Yes says
 
 -- the set is consistent
 pub consistent_files : (told : List ℕ → Option (List ℕ)) (unread : List ℕ → Type 0) (asked : Check) (verdict : Verdict) → IsChecked told unread asked (Ok verdict) → IsYes verdict
     → FilesAreConsistent told asked
-consistent_files told unread asked verdict (programs, are, (range, (texts, tell, answers, yes))) said = (texts, tell, (yes said).0)
+consistent_files told unread asked verdict (programs, are, (range, (texts, tell, answers, says))) said = (texts, tell, (says said).0)
 
 -- and its operations are those of a run of the programs
 pub flat_files : (told : List ℕ → Option (List ℕ)) (unread : List ℕ → Type 0) (asked : Check) (verdict : Verdict) → IsChecked told unread asked (Ok verdict) → IsYes verdict
     → FilesRunFlat told asked
-flat_files told unread asked verdict (programs, are, (range, (texts, tell, answers, yes))) said = (programs, are, flat_by programs (yes said).1)
+flat_files told unread asked verdict (programs, are, (range, (texts, tell, answers, says))) said = (programs, are, flat_by programs (says said).1)
   where
     flat_by : (given : Option (List (List Instruction))) → SpellFlatRunBy given texts → FilesRunFlatBy told asked given
     flat_by None runs = tt

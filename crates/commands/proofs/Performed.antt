@@ -80,6 +80,7 @@ low (Explained verdict) two = verdict_low verdict two
 low (Readable kind cores) two = absurd (omega (arith, two))
 low (Searched (searched.Yes operations)) two = absurd (omega (arith, two))
 low (Searched (searched.No operations)) two = absurd (omega (arith, two))
+low (Searched (searched.NoBySources operations)) two = absurd (omega (arith, two))
 low (Replayed (replayed.Yes count)) two = absurd (omega (arith, two))
 low (Replayed (replayed.No wrong)) two = absurd (omega (arith, two))
 low (Counted true) two = absurd (omega (arith, two))
