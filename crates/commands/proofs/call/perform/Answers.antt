@@ -124,7 +124,7 @@ pub returns-in_ok-order-in-Order : goal.returns-in_ok-order-in-Order
 returns-in_ok-order-in-Order g c =
     let sink = sink_of g.O.ByteSink.contents g.O.ByteSink.failed in
     rw c.in-Order.is (answered _ _ _ _ _ _ (Ordered c.in_ok-order-in-Order.field-0) (keeps_files _ _ _ c.in_ok-order-in-Order.ensures.read)
-    (λ zero. record { sound = consistent (g.F.Folder.files c.args.folder.now).told c.in-Order.asked.files.items (sink c.args.out.now) (sink c.order.new.out) (c.in_ok-order-in-Order.ensures.order (yes_of _ zero)); flat = tt; order = c.in_ok-order-in-Order.ensures.order (yes_of _ zero); upgraded = tt; yes = λ apart. tt }) (order_no _ (IsUnread g.F.Source.ByteSource.remaining g.F.Source.ByteSource.failed (g.F.Folder.files c.args.folder.now)) c.in-Order.asked _ _ _ c.in_ok-order-in-Order.ensures.exact))
+    (λ zero. record { sound = consistent (g.F.Folder.files c.args.folder.now).told c.in-Order.asked.files.items (sink_of g.O.ByteSink.contents g.O.ByteSink.failed c.args.out.now) (sink_of g.O.ByteSink.contents g.O.ByteSink.failed c.order.new.out) (c.in_ok-order-in-Order.ensures.order (yes_of _ zero)); flat = tt; order = c.in_ok-order-in-Order.ensures.order (yes_of _ zero); upgraded = tt; yes = λ apart. tt }) (order_no _ (IsUnread g.F.Source.ByteSource.remaining g.F.Source.ByteSource.failed (g.F.Folder.files c.args.folder.now)) c.in-Order.asked _ _ _ c.in_ok-order-in-Order.ensures.exact))
 
 pub returns-in_ok-explain-in-Explain : goal.returns-in_ok-explain-in-Explain
 returns-in_ok-explain-in-Explain g c =

@@ -1,9 +1,11 @@
-use Rattle.std.proofs.Common.{◌≡◌, ◌++◌, subst, sym}
+use Rattle.std.proofs.Common.{◌≡◌, ◌++◌, Ok, subst, sym}
 use Rattle.std.specs.Prelude.{string_bytes}
 use Rattle.commands.specs.Sinks.{line}
 use Rattle.host_files.specs.Files.{IsUnread}
 use Rattle.verdict.specs.Bases.{IsExaminationOf}
 use Rattle.verdict.specs.Texts.{verdict_text}
+use Rattle.verdict.specs.declared.answer.Verdict.{Verdict}
+use Rattle.commands.specs.Checking.{IsChecked}
 use Rattle.commands.specs.OtherOrders.{TellsOther}
 use Rattle.commands.proofs.Explained.{given_is, logs_examined}
 use Rattle.commands.proofs.explain_files.tell.Goals as goal
@@ -30,3 +32,9 @@ returns-clause-text g c =
     let other = subst (λ verdict. TellsOther c.args.asked.now.no_search verdict logs (string_bytes c.in_ok-last.last)) (sym c.in_ok-told.ensures.verdict) (c.in_ok-last.ensures logs are) in
     let (why, is_told) = c.in_ok-told.ensures.text in
     (why, string_bytes c.in_ok-last.last, subst (λ last. string_bytes c.in_ok-told.told.text ≡ line (verdict_text c.in_ok-told.told.verdict) ++ (why ++ last)) c.as_str.ensures.value is_told, (texts, tell, (logs, spell, other)))
+
+pub returns-clause-exact : goal.returns-clause-exact
+returns-clause-exact g c =
+    let old = g.F.Folder.files c.args.folder.now in
+    let unread = IsUnread g.F.Source.ByteSource.remaining g.F.Source.ByteSource.failed old in
+    subst (λ (verdict : Verdict). IsChecked old.told unread c.args.asked.now.check (Ok verdict)) (sym c.in_ok-told.ensures.verdict) c.in_ok-found.ensures.exact
