@@ -13,6 +13,11 @@ use state_walk::{Precedence, Walked};
 use std::alloc::{AllocError, Global};
 use trace::Trace;
 
+/// How many steps the walk that knows of no fact may make: so many, and so many more for each operation, and half of all at most.
+const FIRST: u64 = 4_000_000;
+
+const FIRST_EACH: u64 = 40;
+
 /// An order of a trace's operations or a refutation, which nobody has confirmed; undecided where neither was found in so
 /// many steps. A watch is told how far the search is. Err where memory was refused.
 pub fn guess<W: SearchWatch>(
@@ -54,7 +59,9 @@ fn find_numbered<'a, W: SearchWatch>(
         budget,
     };
     if !are_distinct {
-        finding.walk(budget.left() / 4, watch)?;
+        let each = FIRST_EACH.saturating_mul(operations.all.len() as u64);
+        let steps = FIRST.saturating_add(each).min(budget.left() / 2);
+        finding.walk(steps, watch)?;
     }
     finding.run(watch)
 }
