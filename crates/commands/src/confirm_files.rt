@@ -49,7 +49,6 @@ pub fn confirm<R: Threads + Sync, F: Folder, O: ByteSink>(
         (λ cores. IsRightOf cores answer)) }
     ensures own { IfOk result (λ answer. search_status answer ≡ 0
         → TellsTrace (F.files folder.old).told (own_files asked.now.trace) IsConsistent) }
-    ensures quiet { OnOk result (F.files folder.new ≡ F.files folder.old) }
     ensures read { IsOnlyRead (F.files folder.old) (F.files folder.new) }
 {
     let read = read_files(rt, alloc, folder, &asked.trace)?;

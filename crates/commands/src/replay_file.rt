@@ -38,7 +38,6 @@ pub fn replay<W: ReplayWatch, F: Folder, O: ByteSink>(
         (F.files folder.old) (F.files folder.new)) asked.now result }
     ensures sound { IfOk result (λ verdict. verdict_status verdict ≡ 0 → replaying.TellsText
         (F.files folder.old).told asked.now.trace.now replaying.IsConsistentText) }
-    ensures quiet { OnOk result (F.files folder.new ≡ F.files folder.old) }
     ensures read { IsOnlyRead (F.files folder.old) (F.files folder.new) }
 {
     let mut stores = asked.why.then(|| StoresByWord::new(alloc));

@@ -5,7 +5,8 @@ use Rattle.commands.proofs.log_files.open_all.Goals as goal
 pub returns-in-Err-Read-clause-err : goal.returns-in-Err-Read-clause-err
 returns-in-Err-Read-clause-err g c =
     let files = g.F.Folder.files in
-    refused_at (files c.args.folder.now) (files c.opening.folder) (files c.open_file.new.self) c.args.names.now c.opening.file _ c.opening.invariant.quiet c.opening-test.true c.in-Err-Read.ensures.refused
+    let refused = rw c.in-Err-Read.field-0-is at c.in-Err-Read.ensures.refused in
+    refused_at (files c.args.folder.now) (files c.opening.folder) (files c.open_file.new.self) c.args.names.now c.opening.file _ c.opening.invariant.quiet c.opening-test.true refused
 
 pub opening-preserved : goal.opening-preserved
 opening-preserved g c =
