@@ -100,7 +100,7 @@ typedef struct TardisFinding {
 } TardisFinding;
 
 /* Searches an order of operations that have no times: those of each core in program order. It makes at most budget steps;
- * the command `tardis search` makes 100,000,000, and 100 for each operation. The answer depends on the operations and the
+ * the command `tardis search` makes 100,000,000. The answer depends on the operations and the
  * budget alone.
  *
  * After TARDIS_YES the text that shows it is an order (docs/FORMATS.md), after TARDIS_NO a refutation (docs/SEARCH.md): the

@@ -149,7 +149,7 @@ const SEARCH: Subcommand<'static> = Subcommand {
         Argument::Flag("sources", SOURCES_HELP),
         Argument::Number(
             "budget",
-            "How many steps the search may make, 0 to 18446744073709551615 [default: 100000000, plus 100 for each operation]",
+            "How many steps the search may make, 0 to 18446744073709551615 [default: 100000000]",
         ),
         Argument::File("order", "The file that an order goes to [default: none]"),
         Argument::File(

@@ -20,11 +20,11 @@ use Rattle.commands.specs.Refusals.{from_judge}
 use Rattle.commands.specs.declared.refusal.Refusal.{Refusal}
 
 -- a file can't be opened
-pub not_opened : {S : Type 0} (remaining : S → Option (List ℕ)) (failed : S → ℕ) (old : Files) (programs : Option (List (List Instruction))) (asked : Check) (fault : JudgeFault) → AreInRange asked
-    → IsOpenFault old asked.files.items fault → IsCheckedAgainst old.told (IsUnread remaining failed old) programs asked (Err fault)
-not_opened remaining failed old programs asked (Read file) range why = (range, unopened_at remaining failed old asked.files.items file why)
-not_opened remaining failed old programs asked OutOfMemory range why = tt
-not_opened remaining failed old programs asked other range why = absurd why
+pub not_opened : {S : Type 0} (remaining : S → Option (List ℕ)) (failed : S → ℕ) (old new : Files) (programs : Option (List (List Instruction))) (asked : Check) (fault : JudgeFault) → AreInRange asked
+    → IsOpenFault old new asked.files.items fault → IsCheckedAgainst old.told (IsUnread remaining failed old new) programs asked (Err fault)
+not_opened remaining failed old new programs asked (Read file) range why = (range, unopened_at remaining failed old new asked.files.items file why)
+not_opened remaining failed old new programs asked OutOfMemory range why = tt
+not_opened remaining failed old new programs asked other range why = absurd why
 
 -- the judge's answer is that of the check
 pub checked : (told : List ℕ → Option (List ℕ)) (unread : List ℕ → Type 0) (programs : Option (List (List Instruction))) (asked : Check) (answer : Result Verdict JudgeFault) (texts : List (List ℕ))

@@ -14,8 +14,9 @@ use Rattle.verdict.specs.SetFaults.{from_set}
 use Rattle.verdict.specs.declared.judge_fault.Count.TheVariants.{Files as FileCount, Workers, Programs as ProgramCount}
 use Rattle.verdict.specs.declared.judge_fault.JudgeFault.{JudgeFault}
 use Rattle.verdict.specs.declared.judge_fault.JudgeFault.TheVariants.{BadConfig, Log, Read, OutOfMemory}
-use Rattle.host_files.specs.Files.{Files, IsOnlyRead, IsUnread}
+use Rattle.host_files.specs.Files.{Files, IsFirstRefused, IsOnlyRead, IsUnread, refusing}
 use Rattle.commands.specs.LogFiles.{AreSourcesOf, AreTextsOf, IsOpenFault, IsUnreadAt, IsUnspelled}
+use Rattle.commands.proofs.Files.{first_refused}
 
 -- the next file's source, after those of the files before it
 one_source_more : {S : Type 0} (told : List ℕ → Option (List ℕ)) (remaining : S → Option (List ℕ)) (sources : List S) (names : List (Bor (List ℕ)))
@@ -65,30 +66,30 @@ at_name R (s ∷ sources) (name ∷ names) (suc file) source are is =
     (omega (arith, further.0), further.1)
 
 -- the reader of a file failed
-pub unread_at : {S : Type 0} (remaining : S → Option (List ℕ)) (failed : S → ℕ) (old : Files) (sources later : List S) (names : List (Bor (List ℕ))) (file : ℕ)
-    → AreSourcesOf old.told remaining sources names → ReaderFailed failed sources later file → IsUnreadAt (IsUnread remaining failed old) names file
-unread_at remaining failed old sources later names file are (before, (after, is, is', fails)) =
+pub unread_at : {S : Type 0} (remaining : S → Option (List ℕ)) (failed : S → ℕ) (old new : Files) (sources later : List S) (names : List (Bor (List ℕ))) (file : ℕ)
+    → AreSourcesOf old.told remaining sources names → ReaderFailed failed sources later file → IsUnreadAt (IsUnread remaining failed old new) names file
+unread_at remaining failed old new sources later names file are (before, (after, is, is', fails)) =
     let there = at_name (λ source (name : Bor (List ℕ)). IfSome (old.told name.now) (λ bytes. remaining source ≡ Some bytes)) sources names file before are is in
     (there.0, λ d. inr (before, after, there.1 d, fails))
 
--- an opening of a file failed, in a folder that is as it was
-pub refused_at : (old now : Files) (names : List (Bor (List ℕ))) (file : ℕ) (e : Bor (List ℕ)) → now ≡ old → file < length names
-    → IsTrue (now.may_refuse (slice_index_or names file e).now) → IsUnreadAt (λ name. IsTrue (old.may_refuse name)) names file
-refused_at old now names file e same there refuses = (
+-- a file was refused, by a folder that was as it had been
+pub refused_at : (old now new : Files) (names : List (Bor (List ℕ))) (file : ℕ) (e : Bor (List ℕ)) → now ≡ old → file < length names
+    → IsTrue (now.may_refuse (slice_index_or names file e).now) × (new ≡ refusing now (slice_index_or names file e).now) → IsUnreadAt (IsFirstRefused old new) names file
+refused_at old now new names file e same there refused = (
   there,
-  λ d. subst (λ (files : Files). IsTrue (files.may_refuse (slice_index_or names file d).now)) same
-      (subst (λ (name : Bor (List ℕ)). IsTrue (now.may_refuse name.now)) (get_or_default names file e d there) refuses),
+  λ d. subst (λ (name : Bor (List ℕ)). IsFirstRefused old new name.now) (get_or_default names file e d there)
+      (first_refused old now new (slice_index_or names file e).now same refused),
 )
 
-pub unopened_at : {S : Type 0} (remaining : S → Option (List ℕ)) (failed : S → ℕ) (old : Files) (names : List (Bor (List ℕ))) (file : ℕ)
-    → IsUnreadAt (λ name. IsTrue (old.may_refuse name)) names file → IsUnreadAt (IsUnread remaining failed old) names file
-unopened_at remaining failed old names file (there, refuses) = (there, λ d. inl (refuses d))
+pub unopened_at : {S : Type 0} (remaining : S → Option (List ℕ)) (failed : S → ℕ) (old new : Files) (names : List (Bor (List ℕ))) (file : ℕ)
+    → IsUnreadAt (IsFirstRefused old new) names file → IsUnreadAt (IsUnread remaining failed old new) names file
+unopened_at remaining failed old new names file (there, refused) = (there, λ d. inl (refused d))
 
 -- ---- no logs are read
 
-pub unopened_files : {S : Type 0} (remaining : S → Option (List ℕ)) (failed : S → ℕ) (old new : Files) (names : List (Bor (List ℕ))) (fault : JudgeFault) → IsOpenFault old names fault
-    → IsOnlyRead old new → IsUnspelled old new (IsUnread remaining failed old) names fault
-unopened_files remaining failed old new names (Read file) why read = (read, unopened_at remaining failed old names file why)
+pub unopened_files : {S : Type 0} (remaining : S → Option (List ℕ)) (failed : S → ℕ) (old new : Files) (names : List (Bor (List ℕ))) (fault : JudgeFault) → IsOpenFault old new names fault
+    → IsOnlyRead old new → IsUnspelled old new (IsUnread remaining failed old new) names fault
+unopened_files remaining failed old new names (Read file) why read = (read, unopened_at remaining failed old new names file why)
 unopened_files remaining failed old new names OutOfMemory why read = read
 unopened_files remaining failed old new names (BadConfig count) why read = absurd why
 unopened_files remaining failed old new names (Log file line fault) why read = absurd why
@@ -98,12 +99,12 @@ pub faulty : (old new : Files) (unread : List ℕ → Type 0) (names : List (Bor
     → new ≡ old → AreTextsOf old.told names texts → IsSetFault texts file fault → (fault ≡ ReadFailed → IsUnreadAt unread names file)
     → IsUnspelled old new unread names (from_set file fault)
 faulty old new unread names texts file (At line fault) same tell is reads = (same, texts, tell, is)
-faulty old new unread names texts file NoLogMemory same tell is reads = same
-faulty old new unread names texts file ReadFailed same tell is reads = (same, reads refl)
+faulty old new unread names texts file NoLogMemory same tell is reads = inl same
+faulty old new unread names texts file ReadFailed same tell is reads = (inl same, reads refl)
 
 -- and the folder was only read
 pub only_read : (old new : Files) (unread : List ℕ → Type 0) (names : List (Bor (List ℕ))) (fault : JudgeFault) → IsUnspelled old new unread names fault → IsOnlyRead old new
-only_read old new unread names (Log file line fault) why = why.0
+only_read old new unread names (Log file line fault) why = inl why.0
 only_read old new unread names (Read file) why = why.0
 only_read old new unread names OutOfMemory why = why
 only_read old new unread names (BadConfig count) why = absurd why

@@ -41,12 +41,12 @@ not_counted told unread asked sink n fault same (is, out) =
     subst (λ (f : JudgeFault). IsOrdered told unread asked sink sink (Err (from_judge f))) (sym is) (subst IsOutOfRange same out, nothing sink)
 
 -- a file can't be opened
-pub not_opened : {S : Type 0} (remaining : S → Option (List ℕ)) (failed : S → ℕ) (old : Files) (asked : Order) (sink : Sink) (fault : JudgeFault) → IsInRange (vec_len asked.files)
-    → IsOpenFault old asked.files.items fault → IsOrdered old.told (IsUnread remaining failed old) asked sink sink (Err (from_judge fault))
-not_opened remaining failed old asked sink (Read file) range why =
-    ((range, unopened_at remaining failed old asked.files.items file why), nothing sink)
-not_opened remaining failed old asked sink OutOfMemory range why = (tt, nothing sink)
-not_opened remaining failed old asked sink other range why = absurd why
+pub not_opened : {S : Type 0} (remaining : S → Option (List ℕ)) (failed : S → ℕ) (old new : Files) (asked : Order) (sink : Sink) (fault : JudgeFault) → IsInRange (vec_len asked.files)
+    → IsOpenFault old new asked.files.items fault → IsOrdered old.told (IsUnread remaining failed old new) asked sink sink (Err (from_judge fault))
+not_opened remaining failed old new asked sink (Read file) range why =
+    ((range, unopened_at remaining failed old new asked.files.items file why), nothing sink)
+not_opened remaining failed old new asked sink OutOfMemory range why = (tt, nothing sink)
+not_opened remaining failed old new asked sink other range why = absurd why
 
 abbrev pub lifted : Result Verdict MergeFault → Result Verdict Refusal
 lifted (Ok verdict) = Ok verdict
@@ -84,8 +84,8 @@ pub consistent : (told : List ℕ → Option (List ℕ)) (names : List (Bor (Lis
 consistent told names old new (texts, tell, (written, appends, (logs, (spell, (order, is, text))))) = (texts, tell, (logs, spell, (order, is)))
 
 -- a failed read of the merge is that of a reader
-pub reads_at : {S : Type 0} (remaining : S → Option (List ℕ)) (failed : S → ℕ) (old : Files) (sources later : List S) (names : List (Bor (List ℕ))) (result : Result Verdict MergeFault)
+pub reads_at : {S : Type 0} (remaining : S → Option (List ℕ)) (failed : S → ℕ) (old new : Files) (sources later : List S) (names : List (Bor (List ℕ))) (result : Result Verdict MergeFault)
     → AreSourcesOf old.told remaining sources names → IfErr result (λ fault. (file : ℕ) → fault ≡ MergeJudge (Read file) → ReaderFailed failed sources later file)
-    → IfErr result (λ fault. (file : ℕ) → fault ≡ MergeJudge (Read file) → IsUnreadAt (IsUnread remaining failed old) names file)
-reads_at remaining failed old sources later names (Ok verdict) are reads = tt
-reads_at remaining failed old sources later names (Err fault) are reads = λ file is. unread_at remaining failed old sources later names file are (reads file is)
+    → IfErr result (λ fault. (file : ℕ) → fault ≡ MergeJudge (Read file) → IsUnreadAt (IsUnread remaining failed old new) names file)
+reads_at remaining failed old new sources later names (Ok verdict) are reads = tt
+reads_at remaining failed old new sources later names (Err fault) are reads = λ file is. unread_at remaining failed old new sources later names file are (reads file is)

@@ -1,6 +1,8 @@
 -- What a request came to, from what its command answered, and what a call promises of it.
-use Rattle.std.proofs.Common.{arith, rules, ◌≡◌, ◌≤◌, ◌⊎◌, ◌∙◌, ap, subst, sym, refl, ℕ, true, false, List, Option, Result, Ok, Err, inl, inr}
+use Rattle.std.proofs.Common.{arith, rules, ◌≡◌, ◌≤◌, ◌⊎◌, ◌∙◌, ap, subst, sym, refl, ℕ, true, false, List, Option, None, Some, Result, Ok, Err, inl, inr}
 use Rattle.std.specs.Prelude.{◌-◌, IfErr, IfOk}
+use Rattle.std.specs.Borrow.{Bor}
+use Rattle.std.specs.Option.{IsSomeAnd}
 use Rattle.command_line.specs.declared.request.Check.{Check}
 use Rattle.command_line.specs.declared.request.Order.{Order}
 use Rattle.command_line.specs.declared.request.Replay.{Replay}
@@ -8,18 +10,20 @@ use Rattle.command_line.specs.declared.request.Request.{Request}
 use Rattle.command_line.specs.declared.request.Request.TheVariants as request
 use Rattle.command_line.specs.declared.request.TraceFiles.{TraceFiles}
 use Rattle.command_line.specs.declared.request.Upgrade.{Upgrade}
-use Rattle.host_files.specs.Files.{Files, IsOnlyRead, KeepsFiles}
+use Rattle.host_files.specs.Files.{Files, IsOnlyRead, IsUnread, KeepsFiles}
 use Rattle.mem_op.specs.Consistency.{IsConsistent}
 use Rattle.verdict.specs.Judgement.{IsYes}
 use Rattle.verdict.specs.Statuses.{verdict_status}
 use Rattle.verdict.specs.declared.answer.Verdict.{Verdict}
 use Rattle.verdict.specs.declared.answer.Verdict.TheVariants.{Yes, No}
 use Rattle.verdict.specs.declared.judge_fault.JudgeFault.{JudgeFault}
+use Rattle.verdict.specs.declared.judge_fault.JudgeFault.TheVariants.{Read}
+use Rattle.commands.proofs.Files.{keeps_told, still_first}
 use Rattle.commands.proofs.Refused.{IsOfTable}
 use Rattle.commands.specs.Answers.{answer_status}
 use Rattle.commands.specs.Checking.{FilesGetNo, IsChecked}
 use Rattle.commands.specs.Ordering.{IsOrdered, TextsGetNo}
-use Rattle.commands.specs.Promises.{AreWrong, IsPutName, IsRefused, IsRefusedCall, IsUnended, LeavesSoFar}
+use Rattle.commands.specs.Promises.{AreWrong, IsPutName, IsRefused, IsRefusedCall, IsUnended, IsUnreadThere, LeavesSoFar, file_at}
 use Rattle.commands.specs.Refusals.{judge_fault_status, refusal_status, refusal_text}
 use Rattle.commands.specs.Replaying.{IsOutOfOrder, IsReplayedBy, TellsText}
 use Rattle.commands.specs.SearchAnswers.{IsRightOf, search_status}
@@ -32,7 +36,7 @@ use Rattle.commands.specs.Upgrading.{IsUpgraded, LeavesAnew}
 use Rattle.commands.specs.declared.answer.Answer.{Answer}
 use Rattle.commands.specs.declared.answer.Answer.TheVariants.{Judged, Ordered, Explained, Readable, Searched, Replayed, Counted, Done, Version}
 use Rattle.commands.specs.declared.refusal.Refusal.{Refusal}
-use Rattle.commands.specs.declared.refusal.Refusal.TheVariants.{Judge, Collect, Unwritten, OutOfMemory}
+use Rattle.commands.specs.declared.refusal.Refusal.TheVariants.{Judge, Collect, Unread, Unwritten, OutOfMemory}
 use Rattle.commands.specs.declared.search_answer.SearchAnswer.{SearchAnswer}
 use Rattle.commands.specs.declared.search_answer.SearchAnswer.TheVariants as searched
 use Rattle.commands.specs.inner.Performing.{Came, IsRight, IsToldMore, IsUnprinted}
@@ -166,38 +170,57 @@ module _ (old new : Files) (Unreadable : List ℕ → Type 0) (out out' : Sink) 
 
 -- ---- after more was told of a refusal
 
--- of such a refusal nothing is said of standard output
-told_more : (old new : Files) (unread : List ℕ → Type 0) (out sink sink' : Sink) (asked : Request) (refusal : Refusal) → IsRefused old new unread out sink asked refusal
-    → IsToldMore asked → IsRefused old new unread out sink' asked refusal
-told_more old new unread out sink sink' (request.Explain asked) refusal is more = record { kept = is.kept; left = tt; unread = is.unread; unended = tt }
-told_more old new unread out sink sink' (request.Inspect asked) refusal is more = record { kept = is.kept; left = tt; unread = is.unread; unended = tt }
-told_more old new unread out sink sink' other refusal is more = absurd more
+-- a file that couldn't be read is one still
+pub still_unread : {S : Type 0} (remaining : S → Option (List ℕ)) (failed : S → ℕ) (old middle new : Files) → IsOnlyRead middle new → (name : List ℕ)
+    → IsUnread remaining failed old middle name → IsUnread remaining failed old new name
+still_unread remaining failed old middle new (inl same) name unread = subst (λ (files : Files). IsUnread remaining failed old files name) (sym same) unread
+still_unread remaining failed old middle new (inr (other, is)) name (inl first) = inl (still_first old middle new name other first is)
+still_unread remaining failed old middle new (inr more) name (inr read) = inr read
 
-told_after : (old middle new : Files) (unread : List ℕ → Type 0) (out sink sink' : Sink) (asked : Request) (refusal : Refusal) → IsRefused old middle unread out sink asked refusal
-    → IsToldMore asked ⊎ (sink' ≡ sink) → IsOnlyRead middle new → IsRefused old new unread out sink' asked refusal
-told_after old middle new unread out sink sink' asked refusal is (inl more) read =
-    subst (λ (files : Files). IsRefused old files unread out sink' asked refusal) (sym read) (told_more old middle unread out sink sink' asked refusal is more)
-told_after old middle new unread out sink sink' asked refusal is (inr same) read =
-    subst (λ (files : Files). IsRefused old files unread out sink' asked refusal) (sym read)
-    (subst (λ (s : Sink). IsRefused old middle unread out s asked refusal) (sym same) is)
+some_still : (P Q : List ℕ → Type 0) → ((name : List ℕ) → P name → Q name) → (given : Option (Bor (List ℕ))) → IsSomeAnd given (λ name. P name.now)
+    → IsSomeAnd given (λ name. Q name.now)
+some_still P Q turned None is = is
+some_still P Q turned (Some name) is = turned name.now is
 
-pub refused_call : (old middle new : Files) (unread : List ℕ → Type 0) (out sink sink' err err' : Sink) (asked : Request) (refusal told : Refusal) (status : ℕ)
-    → IsRefused old middle unread out sink asked refusal → IsToldMore asked ⊎ (sink' ≡ sink) → IsOnlyRead middle new
-    → (told ≡ refusal) ⊎ (told ≡ OutOfMemory) → Takes err err' (line (refusal_text told))
-    → status ≡ refusal_status told → IsRefusedCall old new unread out sink' err err' status asked
-refused_call old middle new unread out sink sink' err err' asked refusal told status is more read which takes same =
+unread_there : (P Q : List ℕ → Type 0) → ((name : List ℕ) → P name → Q name) → (asked : Request) (refusal : Refusal) → IsUnreadThere P asked refusal → IsUnreadThere Q asked refusal
+unread_there P Q turned asked (Judge (Read file)) is = (is.0, λ d. turned _ (is.1 d))
+unread_there P Q turned asked (Unread place) is = some_still P Q turned (file_at asked place) is
+unread_there P Q turned asked other is = tt
+
+told_more : (old middle new : Files) (P Q : List ℕ → Type 0) (out sink sink' : Sink) (asked : Request) (refusal : Refusal) → IsRefused old middle P out sink asked refusal
+    → IsToldMore asked → IsOnlyRead middle new → ((name : List ℕ) → P name → Q name) → IsRefused old new Q out sink' asked refusal
+told_more old middle new P Q out sink sink' (request.Explain asked) refusal is more read turned =
+    record { kept = λ first. keeps_told middle new read ∙ is.kept first; left = tt; unread = unread_there P Q turned (request.Explain asked) refusal is.unread; unended = tt }
+told_more old middle new P Q out sink sink' (request.Inspect asked) refusal is more read turned =
+    record { kept = λ first. keeps_told middle new read ∙ is.kept first; left = tt; unread = unread_there P Q turned (request.Inspect asked) refusal is.unread; unended = tt }
+told_more old middle new P Q out sink sink' other refusal is more read turned = absurd more
+
+told_after : (old middle new : Files) (unread : Files → List ℕ → Type 0) (out sink sink' : Sink) (asked : Request) (refusal : Refusal)
+    → IsRefused old middle (unread middle) out sink asked refusal → IsToldMore asked ⊎ ((new ≡ middle) × (sink' ≡ sink)) → IsOnlyRead middle new
+    → ((name : List ℕ) → unread middle name → unread new name) → IsRefused old new (unread new) out sink' asked refusal
+told_after old middle new unread out sink sink' asked refusal is (inl more) read turned =
+    told_more old middle new (unread middle) (unread new) out sink sink' asked refusal is more read turned
+told_after old middle new unread out sink sink' asked refusal is (inr same) read turned =
+    subst (λ (files : Files). IsRefused old files (unread files) out sink' asked refusal) (sym same.0)
+    (subst (λ (s : Sink). IsRefused old middle (unread middle) out s asked refusal) (sym same.1) is)
+
+pub refused_call : (old middle new : Files) (unread : Files → List ℕ → Type 0) (out sink sink' err err' : Sink) (asked : Request) (refusal told : Refusal) (status : ℕ)
+    → IsRefused old middle (unread middle) out sink asked refusal → IsToldMore asked ⊎ ((new ≡ middle) × (sink' ≡ sink)) → IsOnlyRead middle new
+    → ((name : List ℕ) → unread middle name → unread new name) → (told ≡ refusal) ⊎ (told ≡ OutOfMemory) → Takes err err' (line (refusal_text told))
+    → status ≡ refusal_status told → IsRefusedCall old new (unread new) out sink' err err' status asked
+refused_call old middle new unread out sink sink' err err' asked refusal told status is more read turned which takes same =
     (told, record { text = takes; status = same }, go which)
   where
-    after : IsRefused old new unread out sink' asked refusal
-    after = told_after old middle new unread out sink sink' asked refusal is more read
+    after : IsRefused old new (unread new) out sink' asked refusal
+    after = told_after old middle new unread out sink sink' asked refusal is more read turned
 
-    go : (told ≡ refusal) ⊎ (told ≡ OutOfMemory) → IsRefused old new unread out sink' asked told
-    go (inl own) = subst (IsRefused old new unread out sink' asked) (sym own) after
-    go (inr memory) = subst (IsRefused old new unread out sink' asked) (sym memory) (unprinted old new unread out sink' asked OutOfMemory tt after.unended)
+    go : (told ≡ refusal) ⊎ (told ≡ OutOfMemory) → IsRefused old new (unread new) out sink' asked told
+    go (inl own) = subst (IsRefused old new (unread new) out sink' asked) (sym own) after
+    go (inr memory) = subst (IsRefused old new (unread new) out sink' asked) (sym memory) (unprinted old new (unread new) out sink' asked OutOfMemory tt after.unended)
 
-pub wrong_after : (told : List ℕ → Option (List ℕ)) (out sink sink' : Sink) (asked : Request) → AreWrong told out sink asked
-    → IsToldMore asked ⊎ (sink' ≡ sink) → AreWrong told out sink' asked
-wrong_after told out sink sink' asked wrong (inr same) = subst (λ (s : Sink). AreWrong told out s asked) (sym same) wrong
-wrong_after told out sink sink' (request.Explain asked) wrong (inl more) = wrong
-wrong_after told out sink sink' (request.Inspect asked) wrong (inl more) = tt
-wrong_after told out sink sink' other wrong (inl more) = absurd more
+pub wrong_after : (told : List ℕ → Option (List ℕ)) (middle new : Files) (out sink sink' : Sink) (asked : Request) → AreWrong told out sink asked
+    → IsToldMore asked ⊎ ((new ≡ middle) × (sink' ≡ sink)) → AreWrong told out sink' asked
+wrong_after told middle new out sink sink' asked wrong (inr same) = subst (λ (s : Sink). AreWrong told out s asked) (sym same.1) wrong
+wrong_after told middle new out sink sink' (request.Explain asked) wrong (inl more) = wrong
+wrong_after told middle new out sink sink' (request.Inspect asked) wrong (inl more) = tt
+wrong_after told middle new out sink sink' other wrong (inl more) = absurd more

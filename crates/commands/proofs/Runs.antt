@@ -58,12 +58,12 @@ unprogrammed old new unread asked other sound why read = absurd why
 
 -- there is no schedule
 pub unscheduled : {S : Type 0} (remaining : S → Option (List ℕ)) (failed : S → ℕ) (old now new : Files) (asked : Sim) (set : SetParts) (fault : Refusal) → first_bad (config_of asked.limits) ≡ None
-    → AreProgramsIn old.told asked.programs.now set → now ≡ old → IsUnscheduled now.told (IsUnread remaining failed now) asked.schedule (length set.programs) fault
-    → IsOnlyRead old new → IsRun old new (IsUnread remaining failed old) asked (Err fault)
+    → AreProgramsIn old.told asked.programs.now set → now ≡ old → IsUnscheduled now.told (IsUnread remaining failed now new) asked.schedule (length set.programs) fault
+    → IsOnlyRead old new → IsRun old new (IsUnread remaining failed old new) asked (Err fault)
 unscheduled remaining failed old now new asked set fault sound read same why only =
-    go fault (subst (λ (files : Files). IsUnscheduled files.told (IsUnread remaining failed files) asked.schedule (length set.programs) fault) same why)
+    go fault (subst (λ (files : Files). IsUnscheduled files.told (IsUnread remaining failed files new) asked.schedule (length set.programs) fault) same why)
   where
-    go : (fault : Refusal) → IsUnscheduled old.told (IsUnread remaining failed old) asked.schedule (length set.programs) fault → IsRun old new (IsUnread remaining failed old) asked (Err fault)
+    go : (fault : Refusal) → IsUnscheduled old.told (IsUnread remaining failed old new) asked.schedule (length set.programs) fault → IsRun old new (IsUnread remaining failed old new) asked (Err fault)
     go (Schedule reason) why = (only, (sound, set, read, why))
     go (Unread input.Schedule) why = (only, (sound, set, read, why))
     go OutOfMemory why = tt

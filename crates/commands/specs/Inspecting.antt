@@ -1,9 +1,8 @@
 -- What a look at a file of a litmus test, or of programs, answers.
-use Rattle.std.specs.Prelude.{◌≡◌, ℕ, List, Option, Result, Ok, Err, length}
+use Rattle.std.specs.Prelude.{◌≡◌, ℕ, List, Option, length}
 use Rattle.commands.specs.Programs.{AreProgramsIn, IsUnprogrammed}
 use Rattle.command_line.specs.declared.request.FileKind.{FileKind}
 use Rattle.command_line.specs.declared.request.FileKind.TheVariants.{Litmus, Programs}
-use Rattle.command_line.specs.declared.request.Inspect.{Inspect}
 use Rattle.core_program.specs.SetParts.{SetParts}
 use Rattle.litmus_test.specs.Parts.{LitmusParts}
 use Rattle.commands.specs.Tabling.{IsTestIn, IsUntested}
@@ -18,8 +17,3 @@ AreCoresIn told Programs name cores = (set : SetParts) × AreProgramsIn told nam
 abbrev pub IsUnreadable : (List ℕ → Option (List ℕ)) → (List ℕ → Type 0) → FileKind → List ℕ → Refusal → Type 0
 IsUnreadable told unread Litmus name fault = IsUntested told unread name fault
 IsUnreadable told unread Programs name fault = IsUnprogrammed told unread name fault
-
--- what a look at the file that was asked for answers
-abbrev pub IsInspected : (List ℕ → Option (List ℕ)) → (List ℕ → Type 0) → Inspect → Result ℕ Refusal → Type 0
-IsInspected told unread asked (Ok cores) = AreCoresIn told asked.kind asked.file.now cores
-IsInspected told unread asked (Err fault) = IsUnreadable told unread asked.kind asked.file.now fault

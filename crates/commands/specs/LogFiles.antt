@@ -1,5 +1,5 @@
 -- The logs in files, or why there are none. `told` gives what the folder tells of the file of each name.
-use Rattle.std.specs.Prelude.{◌≡◌, ◌<◌, ⊤, ℕ, List, length, Option, Some, IfSome, IsTrue}
+use Rattle.std.specs.Prelude.{◌≡◌, ◌<◌, ⊤, ℕ, List, length, Option, Some, IfSome}
 use Rattle.std.specs.Borrow.{Bor}
 use Rattle.std.specs.List.{AllZip, HoldsAt}
 use Rattle.log_file.specs.Devices.{Tells}
@@ -7,7 +7,7 @@ use Rattle.log_file.specs.Sets.{IsFirstOfSet, SpellSet}
 use Rattle.log_record.specs.declared.record.Record.{Record}
 use Rattle.verdict.specs.declared.judge_fault.JudgeFault.{JudgeFault}
 use Rattle.verdict.specs.declared.judge_fault.JudgeFault.TheVariants.{Log, Read, OutOfMemory}
-use Rattle.host_files.specs.Files.{Files, IsOnlyRead}
+use Rattle.host_files.specs.Files.{Files, IsFirstRefused, IsOnlyRead}
 
 -- these are sources of the files of these names: each tells the bytes that the folder tells
 abbrev pub AreSourcesOf : {S : Type 0} → (List ℕ → Option (List ℕ)) → (S → Option (List ℕ)) → List S → List (Bor (List ℕ)) → Type 0
@@ -28,11 +28,11 @@ Spelled told names Holds =
 abbrev pub IsUnreadAt : (List ℕ → Type 0) → List (Bor (List ℕ)) → ℕ → Type 0
 IsUnreadAt unread names file = (file < length names) × HoldsAt (λ name. unread name.now) names file
 
--- this file couldn't be opened, or memory ran out
-abbrev pub IsOpenFault : Files → List (Bor (List ℕ)) → JudgeFault → Type 0
-IsOpenFault files names (Read file) = IsUnreadAt (λ name. IsTrue (files.may_refuse name)) names file
-IsOpenFault files names OutOfMemory = ⊤
-IsOpenFault files names other = ⊥
+-- this file was refused, the first of them, or memory ran out
+abbrev pub IsOpenFault : Files → Files → List (Bor (List ℕ)) → JudgeFault → Type 0
+IsOpenFault old new names (Read file) = IsUnreadAt (IsFirstRefused old new) names file
+IsOpenFault old new names OutOfMemory = ⊤
+IsOpenFault old new names other = ⊥
 
 -- Why no logs are read from the files of these names: their first fault, a file that can't be opened or read, of whose name `unread` holds,
 -- or lack of memory. The folder is as it was.

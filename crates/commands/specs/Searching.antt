@@ -1,5 +1,5 @@
 -- What a search of a trace answers, and which files were put. The folder was `old` before and is `new` after.
-use Rattle.std.specs.Prelude.{◌≡◌, ◌⊎◌, ⊤, ℕ, ◌*◌, ◌+◌, List, Option, Result, Ok, Err, unwrap_or}
+use Rattle.std.specs.Prelude.{◌≡◌, ◌⊎◌, ⊤, ℕ, List, Option, Result, Ok, Err, unwrap_or}
 use Rattle.host_files.specs.Files.{Files, IsOnlyRead}
 use Rattle.commands.specs.Outputs.{FailsPutAt, IsNameOf, PutsAt, PutsSuchAt}
 use Rattle.command_line.specs.declared.request.Search.{Search}
@@ -21,9 +21,9 @@ use Rattle.commands.specs.declared.place.Output.TheVariants as output
 use Rattle.commands.specs.declared.refusal.Refusal.{Refusal}
 use Rattle.commands.specs.declared.refusal.Refusal.TheVariants.{Undecided, OutOfMemory, Unwritten}
 
--- how many steps a search may make where nothing is said: 100,000,000, and 100 for each operation
-abbrev pub budget_or_default : Option ℕ → ℕ → ℕ
-budget_or_default given operations = unwrap_or given (operations * 100 + 100000000)
+-- how many steps a search may make: 100,000,000 where nothing is said
+abbrev pub budget_or_default : Option ℕ → ℕ
+budget_or_default given = unwrap_or given 100000000
 
 -- a name under which the search may put a file
 abbrev pub IsOutputName : Search → List ℕ → Type 0

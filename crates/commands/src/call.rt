@@ -66,7 +66,8 @@ pub fn command<
         (texts words.entry.now) (promises.sink_of O.contents O.failed out.old)
         (promises.sink_of O.contents O.failed out.new) result
         ⊎ promises.AskFor (texts words.entry.now) (promises.IsRefusedCall (F.files folder.old) (F.files folder.new)
-        (IsUnread F.Source.remaining F.Source.failed (F.files folder.old))
+        (IsUnread F.Source.remaining F.Source.failed
+        (F.files folder.old) (F.files folder.new))
         (promises.sink_of O.contents O.failed out.old)
         (promises.sink_of O.contents O.failed out.new)
         (promises.sink_of E.contents E.failed err.old)
@@ -107,7 +108,8 @@ fn perform<
     out: &mut O,
 ) -> Result<Answer, Refusal>
     ensures { Came (F.files folder.old) (F.files folder.new)
-        (IsUnread F.Source.remaining F.Source.failed (F.files folder.old))
+        (IsUnread F.Source.remaining F.Source.failed
+        (F.files folder.old) (F.files folder.new))
         (promises.sink_of O.contents O.failed out.old)
         (promises.sink_of O.contents O.failed out.new) request.now result }
 {

@@ -1,6 +1,6 @@
 //! The check of the logs of a set.
 
-ghost use Rattle.std.specs.Prelude.{IfErr, IfOk, MatchResult, option_map};
+ghost use Rattle.std.specs.Prelude.{◌≡◌, IfErr, IfOk, MatchResult, option_map, OnOk};
 ghost use Rattle.host_files.specs.Files.{IsOnlyRead, IsUnread};
 ghost use Rattle.commands.specs.LogFiles.{Spelled};
 ghost use Rattle.verdict.specs.Bases.{IsExaminationOf, verdict_in};
@@ -34,7 +34,9 @@ pub fn check<R: Threads + Sync, F: Folder>(
     asked: &Check<'_>,
 ) -> Result<Verdict, Refusal>
     ensures exact { checking.IsChecked (F.files folder.old).told
-        (IsUnread F.Source.remaining F.Source.failed (F.files folder.old)) asked.now result }
+        (IsUnread F.Source.remaining F.Source.failed
+        (F.files folder.old) (F.files folder.new)) asked.now result }
+    ensures quiet { OnOk result (F.files folder.new ≡ F.files folder.old) }
     ensures read { IsOnlyRead (F.files folder.old) (F.files folder.new) }
 {
     match examine_asked(rt, alloc, folder, asked) {
@@ -52,11 +54,14 @@ pub(crate) fn examine_asked<R: Threads + Sync, F: Folder>(
 ) -> Result<Found, Refusal>
     ensures exact { MatchResult result
         (λ found. checking.IsChecked (F.files folder.old).told
-        (IsUnread F.Source.remaining F.Source.failed (F.files folder.old))
+        (IsUnread F.Source.remaining F.Source.failed
+        (F.files folder.old) (F.files folder.new))
         asked.now (Ok found.examined.verdict))
         (λ fault. checking.IsChecked (F.files folder.old).told
-        (IsUnread F.Source.remaining F.Source.failed (F.files folder.old))
+        (IsUnread F.Source.remaining F.Source.failed
+        (F.files folder.old) (F.files folder.new))
         asked.now (Err fault)) }
+    ensures quiet { OnOk result (F.files folder.new ≡ F.files folder.old) }
     ensures read { IsOnlyRead (F.files folder.old) (F.files folder.new) }
     ensures examined { IfOk result (λ found. Spelled (F.files folder.old).told asked.now.files.items
         (λ logs. IsExaminationOf (option_map (λ set. set.programs) found.programs) logs found.examined)) }
@@ -76,7 +81,9 @@ fn read_given<F: Folder>(
     ensures ok { IfOk result (λ programs. checking.AreProgramsOf (F.files folder.old).told name.entry
         (option_map (λ set. set.programs) programs)) }
     ensures err { IfErr result (checking.IsUnprogrammedBy (F.files folder.old).told
-        (IsUnread F.Source.remaining F.Source.failed (F.files folder.old)) name.entry) }
+        (IsUnread F.Source.remaining F.Source.failed
+        (F.files folder.old) (F.files folder.new)) name.entry) }
+    ensures quiet { OnOk result (F.files folder.new ≡ F.files folder.old) }
     ensures read { IsOnlyRead (F.files folder.old) (F.files folder.new) }
 {
     match name {
@@ -98,8 +105,10 @@ fn examine_files<R: Threads + Sync, F: Folder>(
 ) -> Result<Examined, JudgeFault>
     requires { checking.AreInRange asked.now }
     ensures exact { checking.IsCheckedAgainst (F.files folder.old).told
-        (IsUnread F.Source.remaining F.Source.failed (F.files folder.old))
+        (IsUnread F.Source.remaining F.Source.failed
+        (F.files folder.old) (F.files folder.new))
         (given programs.entry) asked.now (verdict_in result) }
+    ensures quiet { OnOk result (F.files folder.new ≡ F.files folder.old) }
     ensures read { IsOnlyRead (F.files folder.old) (F.files folder.new) }
     ensures examined { IfOk result (λ examined. Spelled (F.files folder.old).told asked.now.files.items
         (λ logs. IsExaminationOf (given programs.entry) logs examined)) }

@@ -43,7 +43,8 @@ pub fn confirm<R: Threads + Sync, F: Folder, O: ByteSink>(
     out: &mut O,
 ) -> Result<SearchAnswer, Refusal>
     ensures exact { confirming.IsConfirmed (F.files folder.old) (F.files folder.new)
-        (IsUnread F.Source.remaining F.Source.failed (F.files folder.old)) asked.now result }
+        (IsUnread F.Source.remaining F.Source.failed
+        (F.files folder.old) (F.files folder.new)) asked.now result }
     ensures sound { IfOk result (λ answer. TellsTrace (F.files folder.old).told asked.now.trace
         (λ cores. IsRightOf cores answer)) }
     ensures own { IfOk result (λ answer. search_status answer ≡ 0
@@ -65,8 +66,9 @@ fn read_certificate<F: Folder>(
     name: &str,
 ) -> Result<Vec<u8>, Refusal>
     ensures ok { IfOk result (λ text. Tells ((F.files folder.old).told name.now) text.items) }
+    ensures err { IfErr result (IsNoCertificate (IsUnread F.Source.remaining F.Source.failed
+        (F.files folder.old) (F.files folder.new)) name.now) }
     ensures quiet { OnOk result (F.files folder.new ≡ F.files folder.old) }
-    ensures err { IfErr result (IsNoCertificate (IsUnread F.Source.remaining F.Source.failed (F.files folder.old)) name.now) }
     ensures read { IsOnlyRead (F.files folder.old) (F.files folder.new) }
 {
     match read_text(alloc, folder, name) {

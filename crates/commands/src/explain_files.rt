@@ -56,7 +56,8 @@ pub fn explain<R: Threads + Sync, W: SearchWatch, F: Folder, O: ByteSink>(
     out: &mut O,
 ) -> Result<Verdict, Refusal>
     ensures exact { explaining.IsExplained (F.files folder.old) (F.files folder.new)
-        (IsUnread F.Source.remaining F.Source.failed (F.files folder.old)) asked.now
+        (IsUnread F.Source.remaining F.Source.failed
+        (F.files folder.old) (F.files folder.new)) asked.now
         (sink_of O.contents O.failed out.old)
         (sink_of O.contents O.failed out.new) result }
     ensures files { KeepsFiles (F.files folder.old).told (F.files folder.new).told
@@ -98,11 +99,14 @@ fn tell<R: Threads + Sync, W: SearchWatch, F: Folder>(
 ) -> Result<Told, Refusal>
     ensures exact { MatchResult result
         (λ told. checking.IsChecked (F.files folder.old).told
-        (IsUnread F.Source.remaining F.Source.failed (F.files folder.old))
+        (IsUnread F.Source.remaining F.Source.failed
+        (F.files folder.old) (F.files folder.new))
         asked.now.check (Ok told.verdict))
         (λ fault. checking.IsChecked (F.files folder.old).told
-        (IsUnread F.Source.remaining F.Source.failed (F.files folder.old))
+        (IsUnread F.Source.remaining F.Source.failed
+        (F.files folder.old) (F.files folder.new))
         asked.now.check (Err fault)) }
+    ensures quiet { OnOk result (F.files folder.new ≡ F.files folder.old) }
     ensures read { IsOnlyRead (F.files folder.old) (F.files folder.new) }
     ensures text { IfOk result (λ told. explaining.TellsVerdict (F.files folder.old).told asked.now
         told.verdict (string_bytes told.text)) }

@@ -1,6 +1,6 @@
 //! What a search finds.
 
-ghost use Rattle.std.specs.Prelude.{◌≡◌, ◌≤◌, ◌^◌, IfErr, IfOk};
+ghost use Rattle.std.specs.Prelude.{◌≡◌, IfErr, IfOk};
 ghost use Rattle.commands.specs.Searching.{AnswersBy, IsProof, budget_or_default};
 ghost use Rattle.commands.specs.inner.Finding.{IsGivenUp};
 
@@ -13,12 +13,14 @@ use search::{SearchWatch, search_watched};
 use std::alloc::Global;
 use trace::Trace;
 
-/// The number of steps that a search of so many operations may make.
-fn budget(given: Option<u64>, operations: u64) -> u64
-    requires { operations ≤ 2 ^ 26 }
-    ensures { result ≡ budget_or_default given operations }
+/// How many steps a search may make where nothing is said, which take a minute at most.
+const STEPS: u64 = 100_000_000;
+
+/// The number of steps that a search may make.
+fn budget(given: Option<u64>) -> u64
+    ensures { result ≡ budget_or_default given }
 {
-    given.unwrap_or(operations * 100 + 100_000_000)
+    given.unwrap_or(STEPS)
 }
 
 /// An order of a trace, or a refutation: 44 where the search gives up, and 10 where a growth was refused. A watch is told how far the
@@ -32,7 +34,7 @@ pub(crate) fn find<W: SearchWatch>(
     ensures proof { IfOk result (IsProof trace.now) }
     ensures err { IfErr result IsGivenUp }
 {
-    match search_watched(alloc, trace, budget(given, count_of(trace) as u64), watch)? {
+    match search_watched(alloc, trace, budget(given), watch)? {
         Answer::Order(order) => Ok(Answer::Order(order)),
         Answer::Refutation(steps) => Ok(Answer::Refutation(steps)),
         Answer::Undecided => Err(Refusal::Undecided),

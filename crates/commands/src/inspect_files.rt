@@ -1,6 +1,6 @@
 //! A look at a file of a litmus test, or of programs.
 
-ghost use Rattle.std.specs.Prelude.{MatchResult};
+ghost use Rattle.std.specs.Prelude.{◌≡◌, MatchResult, OnOk};
 ghost use Rattle.host_files.specs.Files.{IsOnlyRead, IsUnread};
 ghost use Rattle.command_line.specs.declared.request.FileKind.TheVariants as of_file;
 ghost use Rattle.commands.specs.Inspecting as inspecting;
@@ -21,7 +21,9 @@ pub fn inspect<F: Folder>(
     ensures cores { MatchResult result
         (inspecting.AreCoresIn (F.files folder.old).told asked.now.kind asked.now.file.now)
         (inspecting.IsUnreadable (F.files folder.old).told
-        (IsUnread F.Source.remaining F.Source.failed (F.files folder.old)) asked.now.kind asked.now.file.now) }
+        (IsUnread F.Source.remaining F.Source.failed
+        (F.files folder.old) (F.files folder.new)) asked.now.kind asked.now.file.now) }
+    ensures quiet { OnOk result (F.files folder.new ≡ F.files folder.old) }
     ensures read { IsOnlyRead (F.files folder.old) (F.files folder.new) }
 {
     match asked.kind {
@@ -35,7 +37,9 @@ fn cores_of_test<F: Folder>(alloc: Global, folder: &mut F, name: &str) -> Result
     ensures cores { MatchResult result
         (inspecting.AreCoresIn (F.files folder.old).told of_file.Litmus name.now)
         (inspecting.IsUnreadable (F.files folder.old).told
-        (IsUnread F.Source.remaining F.Source.failed (F.files folder.old)) of_file.Litmus name.now) }
+        (IsUnread F.Source.remaining F.Source.failed
+        (F.files folder.old) (F.files folder.new)) of_file.Litmus name.now) }
+    ensures quiet { OnOk result (F.files folder.new ≡ F.files folder.old) }
     ensures read { IsOnlyRead (F.files folder.old) (F.files folder.new) }
 {
     let test = read_test(alloc, folder, name)?;
@@ -47,7 +51,9 @@ fn cores_of_programs<F: Folder>(alloc: Global, folder: &mut F, name: &str) -> Re
     ensures cores { MatchResult result
         (inspecting.AreCoresIn (F.files folder.old).told of_file.Programs name.now)
         (inspecting.IsUnreadable (F.files folder.old).told
-        (IsUnread F.Source.remaining F.Source.failed (F.files folder.old)) of_file.Programs name.now) }
+        (IsUnread F.Source.remaining F.Source.failed
+        (F.files folder.old) (F.files folder.new)) of_file.Programs name.now) }
+    ensures quiet { OnOk result (F.files folder.new ≡ F.files folder.old) }
     ensures read { IsOnlyRead (F.files folder.old) (F.files folder.new) }
 {
     let programs = read_programs(alloc, folder, name)?;

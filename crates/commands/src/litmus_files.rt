@@ -47,7 +47,9 @@ pub(crate) fn read_test<F: Folder>(
 ) -> Result<Litmus, Refusal>
     ensures ok { IfOk result (λ test. tabling.IsTestIn (F.files folder.old).told name.now test) }
     ensures err { IfErr result (tabling.IsUntested (F.files folder.old).told
-        (IsUnread F.Source.remaining F.Source.failed (F.files folder.old)) name.now) }
+        (IsUnread F.Source.remaining F.Source.failed
+        (F.files folder.old) (F.files folder.new)) name.now) }
+    ensures quiet { OnOk result (F.files folder.new ≡ F.files folder.old) }
     ensures read { IsOnlyRead (F.files folder.old) (F.files folder.new) }
 {
     let text = match read_text(alloc, folder, name) {
@@ -88,7 +90,9 @@ fn collected_of<R: Threads + Wait + Sync, F: Folder>(
     ensures ok { IfOk result (λ collected.
         tabling.Tabled (F.files folder.old).told asked.now (λ made. made ≡ collected)) }
     ensures err { IfErr result (tabling.IsUntabled (F.files folder.old).told
-        (IsUnread F.Source.remaining F.Source.failed (F.files folder.old)) asked.now) }
+        (IsUnread F.Source.remaining F.Source.failed
+        (F.files folder.old) (F.files folder.new)) asked.now) }
+    ensures quiet { OnOk result (F.files folder.new ≡ F.files folder.old) }
     ensures read { IsOnlyRead (F.files folder.old) (F.files folder.new) }
 {
     let config = config_of(&asked.limits)?;
@@ -139,7 +143,8 @@ pub fn count_outcomes<R: Threads + Wait + Sync, F: Folder, O: ByteSink>(
     out: &mut O,
 ) -> Result<bool, Refusal>
     ensures exact { tabling.IsCounted (F.files folder.old) (F.files folder.new)
-        (IsUnread F.Source.remaining F.Source.failed (F.files folder.old)) asked.now
+        (IsUnread F.Source.remaining F.Source.failed
+        (F.files folder.old) (F.files folder.new)) asked.now
         (sink_of O.contents O.failed out.old) (sink_of O.contents O.failed out.new) result }
     ensures files { KeepsFiles (F.files folder.old).told (F.files folder.new).told
         (IsNameOf asked.now.statistics) }

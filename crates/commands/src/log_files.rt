@@ -1,13 +1,13 @@
 //! The logs in files, and their trace.
 
-ghost use Rattle.std.specs.Prelude.{◌≡◌, ◌≤◌, All, IfErr, IfOk, length, vec_len};
+ghost use Rattle.std.specs.Prelude.{◌≡◌, ◌≤◌, All, IfErr, IfOk, length, vec_len, OnOk};
 ghost use Rattle.mem_op.specs.Limits.{operation_limit};
 ghost use Rattle.log_record.specs.Entries.{operations_of, record_lists};
 ghost use Rattle.host_files.specs.Files.{IsOnlyRead, IsUnread};
 ghost use Rattle.commands.specs.LogFiles.{AreSourcesOf, IsOpenFault, IsUnspelled, Spelled};
 
 use host_files::Folder;
-use log_file::LogSet;
+use log_file::{LogSet, ReadFault};
 use log_record::Record;
 use std::alloc::{AllocError, Global};
 use std::thread::Threads;
@@ -22,13 +22,16 @@ pub fn open_all<F: Folder>(
 ) -> Result<Vec<F::Source>, JudgeFault>
     ensures ok { IfOk result (λ sources. AreSourcesOf (F.files folder.old).told
         F.Source.remaining sources.items names.now) }
+    ensures quiet { OnOk result (F.files folder.new ≡ F.files folder.old) }
     ensures read { IsOnlyRead (F.files folder.old) (F.files folder.new) }
-    ensures err { IfErr result (IsOpenFault (F.files folder.old) names.now) }
+    ensures err { IfErr result (IsOpenFault (F.files folder.old) (F.files folder.new) names.now) }
 {
     let mut sources = Vec::new(alloc);
     'opening: for (file, name) in names.iter().enumerate() {
-        let Ok(source) = folder.open_file(name) else {
-            return Err(JudgeFault::Read { file });
+        let source = match folder.open_file(name) {
+            Ok(source) => source,
+            Err(ReadFault::Read) => return Err(JudgeFault::Read { file }),
+            Err(ReadFault::OutOfMemory) => return Err(JudgeFault::OutOfMemory),
         };
         if sources.push(source).is_err() {
             return Err(JudgeFault::OutOfMemory);
@@ -50,9 +53,11 @@ pub fn read_log_files<R: Threads + Sync, F: Folder>(
         (λ read. read ≡ record_lists logs.items)) }
     ensures count { IfOk result (λ logs. vec_len logs ≡ length names.now) }
     ensures short { IfOk result (λ logs. All (λ log. vec_len log ≤ operation_limit) logs.items) }
+    ensures quiet { OnOk result (F.files folder.new ≡ F.files folder.old) }
     ensures read { IsOnlyRead (F.files folder.old) (F.files folder.new) }
     ensures err { IfErr result (IsUnspelled (F.files folder.old) (F.files folder.new)
-        (IsUnread F.Source.remaining F.Source.failed (F.files folder.old)) names.now) }
+        (IsUnread F.Source.remaining F.Source.failed
+        (F.files folder.old) (F.files folder.new)) names.now) }
 {
     let mut sources = open_all(alloc, folder, names)?;
     let set = LogSet::read(rt, alloc, sources.as_mut_slice(), 1)?;

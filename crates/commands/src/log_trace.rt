@@ -26,9 +26,10 @@ pub(crate) fn read_logs<R: Threads + Sync, F: Folder>(
 ) -> Result<Trace, Refusal>
     ensures ok { IfOk result (λ cores. IsInRange (length names.now)
         × traces.SpellLogsAt (F.files folder.old).told names.now cores) }
-    ensures quiet { OnOk result (F.files folder.new ≡ F.files folder.old) }
     ensures err { IfErr result (AreLogless (F.files folder.old).told
-        (IsUnread F.Source.remaining F.Source.failed (F.files folder.old)) names.now) }
+        (IsUnread F.Source.remaining F.Source.failed
+        (F.files folder.old) (F.files folder.new)) names.now) }
+    ensures quiet { OnOk result (F.files folder.new ≡ F.files folder.old) }
     ensures read { IsOnlyRead (F.files folder.old) (F.files folder.new) }
 {
     check_counts(names.len(), 1)?;
@@ -45,9 +46,10 @@ pub(crate) fn read_sourced<R: Threads + Sync, F: Folder>(
 ) -> Result<AskedTrace, Refusal>
     ensures ok { IfOk result (λ read. IsInRange (length names.now)
         × traces.SpellSourcesAt (F.files folder.old).told names.now read.trace) }
-    ensures quiet { OnOk result (F.files folder.new ≡ F.files folder.old) }
     ensures err { IfErr result (AreLogless (F.files folder.old).told
-        (IsUnread F.Source.remaining F.Source.failed (F.files folder.old)) names.now) }
+        (IsUnread F.Source.remaining F.Source.failed
+        (F.files folder.old) (F.files folder.new)) names.now) }
+    ensures quiet { OnOk result (F.files folder.new ≡ F.files folder.old) }
     ensures read { IsOnlyRead (F.files folder.old) (F.files folder.new) }
 {
     check_counts(names.len(), 1)?;

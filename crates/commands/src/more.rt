@@ -25,7 +25,8 @@ pub(crate) fn tell_more<F: Folder, O: ByteSink>(
 )
     ensures read { IsOnlyRead (F.files folder.old) (F.files folder.new) }
     ensures quiet { IsToldMore request.now
-        ⊎ (sink_of O.contents O.failed out.new ≡ sink_of O.contents O.failed out.old) }
+        ⊎ ((F.files folder.new ≡ F.files folder.old)
+        × (sink_of O.contents O.failed out.new ≡ sink_of O.contents O.failed out.old)) }
 {
     if let Some(refused) = refused_file(request, refusal) {
         let _ = tell_refusal(alloc, folder, refused, out);

@@ -1,6 +1,6 @@
 //! The order of the logs of a set.
 
-ghost use Rattle.std.specs.Prelude.{IfOk};
+ghost use Rattle.std.specs.Prelude.{◌≡◌, IfOk, OnOk};
 ghost use Rattle.host_files.specs.Files.{IsOnlyRead, IsUnread};
 ghost use Rattle.verdict.specs.Judgement.{IsYes};
 ghost use Rattle.commands.specs.Checking as checking;
@@ -26,11 +26,13 @@ pub fn order<F: Folder, O: ByteSink>(
     out: &mut O,
 ) -> Result<Verdict, Refusal>
     ensures exact { ordering.IsOrdered (F.files folder.old).told
-        (IsUnread F.Source.remaining F.Source.failed (F.files folder.old)) asked.now
+        (IsUnread F.Source.remaining F.Source.failed
+        (F.files folder.old) (F.files folder.new)) asked.now
         (sink_of O.contents O.failed out.old) (sink_of O.contents O.failed out.new) result }
     ensures order { IfOk result (λ verdict. IsYes verdict
         → ordering.TakesOrder (F.files folder.old).told asked.now.files.items
         (sink_of O.contents O.failed out.old) (sink_of O.contents O.failed out.new)) }
+    ensures quiet { OnOk result (F.files folder.new ≡ F.files folder.old) }
     ensures read { IsOnlyRead (F.files folder.old) (F.files folder.new) }
 {
     check_counts(asked.files.len(), 1)?;

@@ -1,5 +1,6 @@
 //! Files that were refused, read again.
 
+ghost use Rattle.std.specs.Prelude.{◌≡◌, IsSome};
 ghost use Rattle.host_files.specs.Files.{IsOnlyRead};
 
 use super::refused_file::RefusedLog;
@@ -17,7 +18,8 @@ pub(crate) fn log_again<F: Folder>(
     folder: &mut F,
     log: RefusedLog<'_>,
 ) -> Option<Vec<u8>>
-    ensures { IsOnlyRead (F.files folder.old) (F.files folder.new) }
+    ensures quiet { IsSome result → F.files folder.new ≡ F.files folder.old }
+    ensures read { IsOnlyRead (F.files folder.old) (F.files folder.new) }
 {
     let bytes = read_text(alloc, folder, log.name).ok()?;
     let core = CoreId::new(log.file as u64).ok()?;

@@ -1,6 +1,6 @@
 //! The replay of a trace.
 
-ghost use Rattle.std.specs.Prelude.{◌≡◌, ℕ, List, IfErr, IfOk, IsErrOf};
+ghost use Rattle.std.specs.Prelude.{◌≡◌, ℕ, List, IfErr, IfOk, IsErrOf, OnOk};
 ghost use Rattle.host_files.specs.Files.{IsOnlyRead, IsUnread};
 ghost use Rattle.log_file.specs.Devices.{Failed, Tells};
 ghost use Rattle.trace_replay.specs.Answers.{IsVerdict};
@@ -12,7 +12,7 @@ use super::place::Input;
 use super::refusal::Refusal;
 use command_line::Replay;
 use host_files::Folder;
-use log_file::{ByteSink, ByteSource, write_all};
+use log_file::{ByteSink, ByteSource, ReadFault, write_all};
 use std::alloc::{AllocError, Global};
 use trace::TraceFault;
 use trace_replay::{ReplayFault, ReplayVerdict, StepId, StoresByWord, WrongLoad};
@@ -34,7 +34,8 @@ pub fn replay<W: ReplayWatch, F: Folder, O: ByteSink>(
     out: &mut O,
 ) -> Result<ReplayVerdict, Refusal>
     ensures exact { replaying.IsReplayedBy (F.files folder.old) (F.files folder.new)
-        (IsUnread F.Source.remaining F.Source.failed (F.files folder.old)) asked.now result }
+        (IsUnread F.Source.remaining F.Source.failed
+        (F.files folder.old) (F.files folder.new)) asked.now result }
     ensures sound { IfOk result (λ verdict. verdict_status verdict ≡ 0 → replaying.TellsText
         (F.files folder.old).told asked.now.trace.now replaying.IsConsistentText) }
     ensures read { IsOnlyRead (F.files folder.old) (F.files folder.new) }
@@ -99,12 +100,16 @@ fn replay_trace<F: Folder>(
     ensures ok { IfOk result (λ verdict. replaying.TellsText (F.files folder.old).told name.now
         (λ text. IsVerdict text verdict)) }
     ensures err { IfErr result (IsUndecided (F.files folder.old).told
-        (IsUnread F.Source.remaining F.Source.failed (F.files folder.old))
+        (IsUnread F.Source.remaining F.Source.failed
+        (F.files folder.old) (F.files folder.new))
         name.now) }
+    ensures quiet { OnOk result (F.files folder.new ≡ F.files folder.old) }
     ensures read { IsOnlyRead (F.files folder.old) (F.files folder.new) }
 {
-    let Ok(mut source) = folder.open_file(name) else {
-        return Err(Refusal::Unread(Input::Trace));
+    let mut source = match folder.open_file(name) {
+        Ok(source) => source,
+        Err(ReadFault::Read) => return Err(Refusal::Unread(Input::Trace)),
+        Err(ReadFault::OutOfMemory) => return Err(Refusal::OutOfMemory),
     };
     replay_source(alloc, &mut source, stores)
 }

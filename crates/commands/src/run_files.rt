@@ -28,7 +28,8 @@ pub fn run<R: Threads + Wait + Sync, W: Watch + Sync, F: Folder>(
 ) -> Result<u64, Refusal>
     ensures exact { running.IsThreadRun (F.files folder.old)
         (F.files folder.new)
-        (IsUnread F.Source.remaining F.Source.failed (F.files folder.old)) asked.now result }
+        (IsUnread F.Source.remaining F.Source.failed
+        (F.files folder.old) (F.files folder.new)) asked.now result }
     ensures files { KeepsFiles (F.files folder.old).told (F.files folder.new).told
         (IsLeftName asked.now.out.now asked.now.statistics) }
 {

@@ -32,7 +32,8 @@ pub fn search<R: Threads + Sync, W: SearchWatch, F: Folder, O: ByteSink>(
     out: &mut O,
 ) -> Result<SearchAnswer, Refusal>
     ensures exact { searching.IsSearched (F.files folder.old) (F.files folder.new)
-        (IsUnread F.Source.remaining F.Source.failed (F.files folder.old)) asked.now result }
+        (IsUnread F.Source.remaining F.Source.failed
+        (F.files folder.old) (F.files folder.new)) asked.now result }
     ensures sound { IfOk result (λ answer. TellsTrace (F.files folder.old).told asked.now.trace
         (λ cores. IsRightOf cores answer)) }
     ensures own { IfOk result (λ answer. search_status answer ≡ 0

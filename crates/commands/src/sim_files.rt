@@ -1,6 +1,6 @@
 //! Programs run on the core machine, one event after the other.
 
-ghost use Rattle.std.specs.Prelude.{◌≤◌, IfErr, IfOk};
+ghost use Rattle.std.specs.Prelude.{◌≡◌, ◌≤◌, IfErr, IfOk, OnOk};
 ghost use Rattle.host_files.specs.Files.{IsOnlyRead, IsUnread, KeepsFiles};
 ghost use Rattle.commands.specs.Numbers.{IsLeftName};
 ghost use Rattle.commands.specs.Simulating as simulating;
@@ -25,7 +25,8 @@ use tardis_core::Core;
 pub fn sim<F: Folder>(alloc: Global, folder: &mut F, asked: &Sim<'_>) -> Result<u64, Refusal>
     ensures exact { simulating.IsRun (F.files folder.old)
         (F.files folder.new)
-        (IsUnread F.Source.remaining F.Source.failed (F.files folder.old)) asked.now result }
+        (IsUnread F.Source.remaining F.Source.failed
+        (F.files folder.old) (F.files folder.new)) asked.now result }
     ensures files { KeepsFiles (F.files folder.old).told (F.files folder.new).told
         (IsLeftName asked.now.out.now asked.now.statistics) }
 {
@@ -59,7 +60,9 @@ fn read_schedule<F: Folder>(
     ensures ok { IfOk result (λ commands.
         simulating.AreCommandsOf (F.files folder.old).told name.entry cores commands.items) }
     ensures err { IfErr result (simulating.IsUnscheduled (F.files folder.old).told
-        (IsUnread F.Source.remaining F.Source.failed (F.files folder.old)) name.entry cores) }
+        (IsUnread F.Source.remaining F.Source.failed
+        (F.files folder.old) (F.files folder.new)) name.entry cores) }
+    ensures quiet { OnOk result (F.files folder.new ≡ F.files folder.old) }
     ensures read { IsOnlyRead (F.files folder.old) (F.files folder.new) }
 {
     let Some(name) = name else {

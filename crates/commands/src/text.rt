@@ -1,6 +1,6 @@
 //! The texts of files.
 
-ghost use Rattle.std.specs.Prelude.{IfErr, IfOk};
+ghost use Rattle.std.specs.Prelude.{◌≡◌, IfErr, IfOk, OnOk};
 ghost use Rattle.log_file.specs.Devices.{Tells};
 ghost use Rattle.host_files.specs.Files.{IsOnlyRead, IsUnread};
 ghost use Rattle.commands.specs.Programs.{AreProgramsIn, IsUnprogrammed};
@@ -16,12 +16,12 @@ use std::alloc::Global;
 /// The text of a file of the folder: 28 where it can't be opened or read, and 10 where a growth was refused.
 pub fn read_text<F: Folder>(alloc: Global, folder: &mut F, name: &str) -> Result<Vec<u8>, ReadFault>
     ensures ok { IfOk result (λ text. Tells ((F.files folder.old).told name.now) text.items) }
-    ensures err { IfErr result (IsNoText (IsUnread F.Source.remaining F.Source.failed (F.files folder.old)) name.now) }
+    ensures err { IfErr result (IsNoText (IsUnread F.Source.remaining F.Source.failed
+        (F.files folder.old) (F.files folder.new)) name.now) }
+    ensures quiet { OnOk result (F.files folder.new ≡ F.files folder.old) }
     ensures read { IsOnlyRead (F.files folder.old) (F.files folder.new) }
 {
-    let Ok(mut source) = folder.open_file(name) else {
-        return Err(ReadFault::Read);
-    };
+    let mut source = folder.open_file(name)?;
     read_all(alloc, &mut source)
 }
 
@@ -34,8 +34,10 @@ pub fn read_programs<F: Folder>(
 ) -> Result<ProgramSet, Refusal>
     ensures ok { IfOk result (AreProgramsIn (F.files folder.old).told name.now) }
     ensures err { IfErr result (IsUnprogrammed (F.files folder.old).told
-        (IsUnread F.Source.remaining F.Source.failed (F.files folder.old))
+        (IsUnread F.Source.remaining F.Source.failed
+        (F.files folder.old) (F.files folder.new))
         name.now) }
+    ensures quiet { OnOk result (F.files folder.new ≡ F.files folder.old) }
     ensures read { IsOnlyRead (F.files folder.old) (F.files folder.new) }
 {
     let text = match read_text(alloc, folder, name) {

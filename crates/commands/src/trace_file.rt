@@ -1,6 +1,6 @@
 //! The trace in a file.
 
-ghost use Rattle.std.specs.Prelude.{◌<◌, ℕ, List, IfErr, IfOk, IsErrOf};
+ghost use Rattle.std.specs.Prelude.{◌≡◌, ◌<◌, ℕ, List, IfErr, IfOk, IsErrOf, OnOk};
 ghost use Rattle.host_files.specs.Files.{IsOnlyRead, IsUnread};
 ghost use Rattle.log_file.specs.Devices.{Failed, Tells};
 ghost use Rattle.commands.specs.Traces.{SpellsTraceAt};
@@ -9,7 +9,7 @@ ghost use Rattle.commands.specs.inner.ReadTraces.{IsNoTrace, IsReadOf};
 use super::place::Input;
 use super::refusal::Refusal;
 use host_files::Folder;
-use log_file::ByteSource;
+use log_file::{ByteSource, ReadFault};
 use std::alloc::Global;
 use trace::{Trace, TraceReader};
 
@@ -46,12 +46,16 @@ pub(crate) fn read_trace<F: Folder>(
 ) -> Result<Trace, Refusal>
     ensures ok { IfOk result (SpellsTraceAt (F.files folder.old).told name.now) }
     ensures err { IfErr result (IsNoTrace (F.files folder.old).told
-        (IsUnread F.Source.remaining F.Source.failed (F.files folder.old))
+        (IsUnread F.Source.remaining F.Source.failed
+        (F.files folder.old) (F.files folder.new))
         name.now) }
+    ensures quiet { OnOk result (F.files folder.new ≡ F.files folder.old) }
     ensures read { IsOnlyRead (F.files folder.old) (F.files folder.new) }
 {
-    let Ok(mut source) = folder.open_file(name) else {
-        return Err(Refusal::Unread(Input::Trace));
+    let mut source = match folder.open_file(name) {
+        Ok(source) => source,
+        Err(ReadFault::Read) => return Err(Refusal::Unread(Input::Trace)),
+        Err(ReadFault::OutOfMemory) => return Err(Refusal::OutOfMemory),
     };
     read_pieces(alloc, &mut source)
 }

@@ -79,9 +79,10 @@ pub(crate) fn read_files<R: Threads + Sync, F: Folder>(
     files: &TraceFiles<'_>,
 ) -> Result<AskedTrace, Refusal>
     ensures ok { IfOk result (λ read. IsTraceIn (F.files folder.old).told files.now read.trace) }
-    ensures quiet { OnOk result (F.files folder.new ≡ F.files folder.old) }
     ensures err { IfErr result (AreTraceless (F.files folder.old).told
-        (IsUnread F.Source.remaining F.Source.failed (F.files folder.old)) files.now) }
+        (IsUnread F.Source.remaining F.Source.failed
+        (F.files folder.old) (F.files folder.new)) files.now) }
+    ensures quiet { OnOk result (F.files folder.new ≡ F.files folder.old) }
     ensures read { IsOnlyRead (F.files folder.old) (F.files folder.new) }
 {
     match files {

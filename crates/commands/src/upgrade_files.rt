@@ -46,7 +46,8 @@ pub fn upgrade<R: Threads + Sync, F: Folder>(
     asked: &Upgrade<'_>,
 ) -> Result<u64, Refusal>
     ensures exact { upgrading.IsUpgraded (F.files folder.old) (F.files folder.new)
-        (IsUnread F.Source.remaining F.Source.failed (F.files folder.old)) asked.now result }
+        (IsUnread F.Source.remaining F.Source.failed
+        (F.files folder.old) (F.files folder.new)) asked.now result }
     ensures files { logs.KeepsOthers (F.files folder.old).told (F.files folder.new).told asked.now.out.now 64 }
 {
     check_counts(asked.files.len(), 1)?;

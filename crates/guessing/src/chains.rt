@@ -8,23 +8,23 @@ use std::iter::successors;
 /// As many places are looked at in a step.
 pub(crate) const PLACES: u64 = 16;
 
-/// A place that a walk came to, by a fact from one that it had come to before.
+/// A place that was come to, by a fact from one that had been come to before.
 #[derive(Clone, Copy)]
 struct Hop {
     place: Place,
-    /// The place of the same core from which on the walk had come to all.
+    /// The place of the same core from which on all had been come to.
     until: Place,
-    /// The fact, or NONE where the walk begins.
+    /// The fact, or NONE where the way begins.
     fact: u32,
     /// The number of the hop from which the fact leads, or NONE.
     from: u32,
 }
 
-/// A walk from one operation to another, by facts and along program order, shortest chains first.
+/// A look for a way from one operation to another, by facts and along program order, shortest chains first.
 #[derive(Drop)]
-struct Walk {
+struct Way {
     hops: Vec<Hop>,
-    /// Of each core the place from which on the walk came to all, or that is too late to lead to the end.
+    /// Of each core the place from which on all were come to, or that is too late to lead to the end.
     reached: Vec<Place>,
     end_core: u32,
     /// Facts of this number and above aren't used.
@@ -38,28 +38,28 @@ impl Knowledge<'_> {
         if from == START || from <= to && core == end_core {
             return Ok(Some(Vec::new(self.alloc)));
         }
-        let mut walk = Walk {
+        let mut way = Way {
             hops: Vec::new(self.alloc),
             reached: self.clocks.of(to).to_vec(self.alloc)?,
             end_core,
             limit,
         };
-        walk.hop(from, core, NONE, NONE)?;
+        way.hop(from, core, NONE, NONE)?;
         for number in 0..u32::MAX {
-            let Some(hop) = walk.hops.get(number as usize).copied() else {
+            let Some(hop) = way.hops.get(number as usize).copied() else {
                 break;
             };
             let places = u64::from(hop.until.saturating_sub(hop.place));
             self.budget.spend(places / PLACES + 1)?;
-            if self.walk_from(&mut walk, number, hop)? {
-                return Ok(Some(walk.chain(self.alloc)?));
+            if self.go_from(&mut way, number, hop)? {
+                return Ok(Some(way.chain(self.alloc)?));
             }
         }
         Ok(None)
     }
 
     /// Goes on by the facts that lead from the places of a hop. Says whether the end was reached.
-    fn walk_from(&self, walk: &mut Walk, from: u32, hop: Hop) -> Tried<bool> {
+    fn go_from(&self, way: &mut Way, from: u32, hop: Hop) -> Tried<bool> {
         let facts = &self.facts;
         let led = (hop.place..hop.until).flat_map(|place| {
             let led = successors(facts.latest(place), move |(_, fact)| facts.get(fact.next));
@@ -67,7 +67,7 @@ impl Knowledge<'_> {
         });
         for (number, fact) in led {
             let core = self.operations.core(fact.later);
-            if number < walk.limit && walk.hop(fact.later, core, number, from)? {
+            if number < way.limit && way.hop(fact.later, core, number, from)? {
                 return Ok(true);
             }
         }
@@ -75,7 +75,7 @@ impl Knowledge<'_> {
     }
 }
 
-impl Walk {
+impl Way {
     /// Comes to a place of a core by a fact, where it wasn't come to. Says whether it leads to the end.
     fn hop(&mut self, place: Place, core: u32, fact: u32, from: u32) -> Tried<bool> {
         let until = at(&self.reached, core);

@@ -1,8 +1,8 @@
-//! Refutations by a closed set of states.
+//! Closed sets of states.
 
 use numbered_trace::{Budget, Classes, Operations, SearchWatch, Tried};
-use refutation::{Numbers, Refutation, State, StateSet, Step};
-use state_walk::{ClosedSet, Walk};
+use refutation::{Numbers, State, StateSet, Step};
+use state_walk::{ClosedSet, Precedence, Walk};
 use std::alloc::Global;
 
 /// How much memory the states of a set may take, in bytes.
@@ -17,19 +17,30 @@ pub(crate) struct Closing<'a> {
     pub(crate) alloc: Global,
     pub(crate) operations: &'a Operations,
     pub(crate) classes: &'a Classes,
+    /// What is known to be before what, in order.
+    pub(crate) known: &'a [Precedence],
     /// Which part of the steps that are left may be made for a set of some addresses: the half of them, where this is 2.
     pub(crate) share: u64,
 }
 
+/// A closed set.
+#[derive(Drop)]
+pub(crate) struct Closed {
+    /// The step of a refutation by it.
+    pub(crate) step: Step,
+    /// The facts under which it is closed.
+    pub(crate) facts: Vec<u32>,
+}
+
 impl Closing<'_> {
-    /// A refutation by a closed set, if one is found. What has no order at some addresses has none at all: first those are tried at
+    /// A closed set, if one is found. What has no order at some addresses has none at all: first those are tried at
     /// which the walk came deepest, of more and more operations, and then all.
-    pub(crate) fn refutation<W: SearchWatch>(
+    pub(crate) fn close<W: SearchWatch>(
         &self,
         walk: &mut Walk,
         budget: &mut Budget,
         watch: &W,
-    ) -> Tried<Option<Refutation>> {
+    ) -> Tried<Option<Closed>> {
         let mut count = 0;
         for doubling in 0..u32::BITS {
             let addresses = walk.deepest_addresses(self.alloc, 1u32.wrapping_shl(doubling))?;
@@ -45,18 +56,18 @@ impl Closing<'_> {
         self.attempt(addresses, budget, watch)
     }
 
-    /// A refutation by a closed set of the operations at these addresses, or at some of them, if one is found.
+    /// A closed set of the operations at these addresses, or at some of them, if one is found.
     fn attempt<W: SearchWatch>(
         &self,
         addresses: Vec<u32>,
         budget: &mut Budget,
         watch: &W,
-    ) -> Tried<Option<Refutation>> {
+    ) -> Tried<Option<Closed>> {
         budget.allow(budget.left().checked_div(self.share).unwrap_or(0));
-        let states = self.states(&addresses, self.most(addresses.len()), budget, watch)?;
+        let set = self.set(&addresses, self.most(addresses.len()), budget, watch)?;
         budget.allow(u64::MAX);
-        match states {
-            Some(states) => self.smaller(addresses, states, budget, watch).map(Some),
+        match set {
+            Some(set) => self.smaller(&addresses, set, budget, watch).map(Some),
             None => Ok(None),
         }
     }
@@ -69,55 +80,56 @@ impl Closing<'_> {
         MEMORY.checked_div(bytes).unwrap_or(0)
     }
 
-    /// The states that can be reached of the operations at these addresses, where none is final, and they are no more than so many.
-    fn states<W: SearchWatch>(
+    /// The states that can be reached of the operations at these addresses, with the facts that are needed for it, where none is final, and they
+    /// are no more than so many.
+    fn set<W: SearchWatch>(
         &self,
         addresses: &[u32],
         most: usize,
         budget: &mut Budget,
         watch: &W,
-    ) -> Tried<Option<Vec<State>>> {
+    ) -> Tried<Option<(Vec<State>, Vec<u32>)>> {
         budget.use_up(self.operations.all.len() as u64);
         let operations = self.operations.only(self.alloc, addresses)?;
-        let mut set = ClosedSet::new(self.alloc, &operations, self.classes, addresses)?;
+        let mut set = ClosedSet::new(self.alloc, &operations, self.classes, addresses, self.known)?;
         let is_closed = set.close(most, budget, watch)?;
-        Ok(is_closed.then_some(set.states))
+        Ok(is_closed.then_some((set.states, set.used)))
     }
 
-    /// The refutation by a closed set, after addresses were left out, one after the other, without which the set is closed with no more
-    /// states.
+    /// The closed set, after addresses were left out, one after the other, without which it is closed with no more states.
     fn smaller<W: SearchWatch>(
         &self,
-        addresses: Vec<u32>,
-        states: Vec<State>,
+        addresses: &[u32],
+        set: (Vec<State>, Vec<u32>),
         budget: &mut Budget,
         watch: &W,
-    ) -> Tried<Refutation> {
+    ) -> Tried<Closed> {
         let mut kept = addresses.to_vec(self.alloc)?;
-        let mut best = states;
-        for address in &addresses {
+        let mut best = set;
+        for address in addresses {
             let mut others = kept.to_vec(self.alloc)?;
             others.retain(|other| *other != *address);
             if budget.left() > 0
-                && let Some(fewer) = self.states(&others, best.len(), budget, watch)?
+                && let Some(fewer) = self.set(&others, best.0.len(), budget, watch)?
             {
                 (kept, best) = (others, fewer);
             }
         }
-        self.by_states(&kept, best)
+        let (states, facts) = best;
+        let step = self.step(&kept, states)?;
+        Ok(Closed { step, facts })
     }
 
-    /// The refutation of one step, by these states.
-    fn by_states(&self, addresses: &[u32], states: Vec<State>) -> Tried<Refutation> {
+    /// The step of a refutation by these states.
+    fn step(&self, addresses: &[u32], states: Vec<State>) -> Tried<Step> {
         let names = &self.classes.addresses;
         let addresses = addresses.iter().map(|address| names
             .get(*address as usize)
             .copied()
             .unwrap_or(0));
-        let step = Step::States {
+        Ok(Step::States {
             addresses: Numbers::new(addresses.collect(self.alloc)?),
             set: StateSet::new(states),
-        };
-        Ok(Refutation::new(vec![in self.alloc; step]?))
+        })
     }
 }

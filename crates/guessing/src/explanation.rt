@@ -16,7 +16,7 @@ type Hiding = (Derived, Vec<u32>);
 
 /// The cases of a read with the steps that close them.
 #[derive(Drop)]
-struct Closing {
+struct Cases {
     read: Place,
     /// The range of its candidates that isn't excluded.
     kept: Option<(Place, Place)>,
@@ -53,19 +53,33 @@ impl Knowledge<'_> {
                 proof.close(number, path.ok_or(Stop::GivenUp)?)?;
             }
         }
+        self.show(&mut proof)?;
+        Ok(proof)
+    }
+
+    /// What shows these facts: its lines, last one first.
+    pub(crate) fn showing(&mut self, facts: &[u32]) -> Tried<Vec<Line>> {
+        let mut proof = Proof::new(self.alloc);
+        proof.need(facts)?;
+        self.show(&mut proof)?;
+        Ok(proof.reversed)
+    }
+
+    /// Puts before a proof what shows the facts that it needs.
+    fn show(&mut self, proof: &mut Proof) -> Tried<()> {
         for _ in 0..self.facts.all.len() {
             let Some(number) = proof.take_need() else {
                 break;
             };
             let (_, fact) = self.facts.get(number).ok_or(Stop::GivenUp)?;
             match fact.reason {
-                Reason::Rule(source) => self.derive(&mut proof, number, fact, source)?,
+                Reason::Rule(source) => self.derive(proof, number, fact, source)?,
                 Reason::Source(last) => {
-                    self.close_read(&mut proof, fact.later, Some((fact.earlier, last)), number)?;
+                    self.close_read(proof, fact.later, Some((fact.earlier, last)), number)?;
                 }
             }
         }
-        Ok(proof)
+        Ok(())
     }
 
     /// Puts before a proof the step of from-read or of write-order that shows a fact.
@@ -97,7 +111,7 @@ impl Knowledge<'_> {
         kept: Option<(Place, Place)>,
         fact: u32,
     ) -> Tried<()> {
-        let mut closing = Closing {
+        let mut cases = Cases {
             read,
             kept,
             fact,
@@ -105,49 +119,49 @@ impl Knowledge<'_> {
             steps: Proof::new(self.alloc),
         };
         for core in self.operations.cores() {
-            self.close_core(&mut closing, core)?;
+            self.close_core(&mut cases, core)?;
         }
-        closing.ranges.extend(kept)?;
-        closing.steps.reversed.reverse();
-        proof.prepend_proof(&mut closing.steps)?;
-        Ok(proof.reversed.push(Line::Read(read, closing.ranges, fact))?)
+        cases.ranges.extend(kept)?;
+        cases.steps.reversed.reverse();
+        proof.prepend_proof(&mut cases.steps)?;
+        Ok(proof.reversed.push(Line::Read(read, cases.ranges, fact))?)
     }
 
     /// Closes the cases of one core's candidates: a range for all that are after the read, and one for each run of others that are
     /// hidden from it, before those that are kept and behind them. What hides the last one of a run hides them all.
-    fn close_core(&mut self, closing: &mut Closing, core: u32) -> Tried<()> {
-        let operation = self.operations.get(closing.read);
+    fn close_core(&mut self, cases: &mut Cases, core: u32) -> Tried<()> {
+        let operation = self.operations.get(cases.read);
         let stores = self
             .classes
             .candidates_of(&operation, self.operations, core);
         self.budget.spend(stores.len() as u64 / PLACES)?;
-        let count = self.count_not_after(closing, stores)?;
+        let count = self.count_not_after(cases, stores)?;
         let rest = cut(stores, 0, count);
-        let first = rest.iter().position(|store| self.is_kept(closing, *store));
+        let first = rest.iter().position(|store| self.is_kept(cases, *store));
         let first = first.unwrap_or(count);
         let behind = cut(rest, first, count);
-        let kept = behind.partition_point(|store| self.is_kept(closing, *store));
-        self.close_hidden(closing, cut(rest, 0, first))?;
-        self.close_hidden(closing, cut(behind, kept, behind.len()))?;
-        self.close_after(closing, cut(stores, count, stores.len()))
+        let kept = behind.partition_point(|store| self.is_kept(cases, *store));
+        self.close_hidden(cases, cut(rest, 0, first))?;
+        self.close_hidden(cases, cut(behind, kept, behind.len()))?;
+        self.close_after(cases, cut(stores, count, stores.len()))
     }
 
     /// Whether a candidate lies in the range that is kept.
-    fn is_kept(&self, closing: &Closing, store: Place) -> bool {
-        let kept = closing.kept;
+    fn is_kept(&self, cases: &Cases, store: Place) -> bool {
+        let kept = cases.kept;
         kept.is_some_and(|(first, last)| self.lies_in(store, first, last))
     }
 
     /// How many of one core's candidates, the first ones, aren't the read itself and aren't known to be after it.
-    fn count_not_after(&mut self, closing: &Closing, stores: &[Place]) -> Tried<usize> {
+    fn count_not_after(&mut self, cases: &Cases, stores: &[Place]) -> Tried<usize> {
         let (mut low, mut high) = (0, stores.len());
         for _ in 0..usize::BITS {
             if low >= high {
                 break;
             }
             let middle = low.wrapping_add(high.wrapping_sub(low) / 2);
-            let store = stores.get(middle).copied().unwrap_or(closing.read);
-            if self.chain(closing.read, store, closing.fact)?.is_some() {
+            let store = stores.get(middle).copied().unwrap_or(cases.read);
+            if self.chain(cases.read, store, cases.fact)?.is_some() {
                 high = middle;
             } else {
                 low = middle.wrapping_add(1);
@@ -157,44 +171,44 @@ impl Knowledge<'_> {
     }
 
     /// Closes the cases of one core's candidates that are after the read, but for those that are kept and for the read itself.
-    fn close_after(&mut self, closing: &mut Closing, stores: &[Place]) -> Tried<()> {
-        let (mut first, mut last) = (closing.read, closing.read);
+    fn close_after(&mut self, cases: &mut Cases, stores: &[Place]) -> Tried<()> {
+        let (mut first, mut last) = (cases.read, cases.read);
         for store in stores {
-            if *store != closing.read && !self.is_kept(closing, *store) {
+            if *store != cases.read && !self.is_kept(cases, *store) {
                 last = *store;
-                if first == closing.read {
+                if first == cases.read {
                     first = *store;
                 }
             }
         }
-        if first != closing.read
-            && let Some(path) = self.chain(closing.read, first, closing.fact)?
+        if first != cases.read
+            && let Some(path) = self.chain(cases.read, first, cases.fact)?
         {
-            closing.ranges.push((first, last))?;
-            closing.steps.close(closing.fact, path)?;
+            cases.ranges.push((first, last))?;
+            cases.steps.close(cases.fact, path)?;
         }
         Ok(())
     }
 
     /// Closes the cases of one core's candidates of which the last is hidden from the read.
-    fn close_hidden(&mut self, closing: &mut Closing, stores: &[Place]) -> Tried<()> {
+    fn close_hidden(&mut self, cases: &mut Cases, stores: &[Place]) -> Tried<()> {
         if let [first, ..] = stores
             && let [.., last] = stores
-            && let Some((from_read, path)) = self.least_hiding(closing, *last)?
+            && let Some((from_read, path)) = self.least_hiding(cases, *last)?
         {
-            closing.ranges.push((*first, *last))?;
-            closing.steps.derive(from_read)?;
-            closing.steps.close(CASE_FROM_READ, path)?;
+            cases.ranges.push((*first, *last))?;
+            cases.steps.derive(from_read)?;
+            cases.steps.close(CASE_FROM_READ, path)?;
         }
         Ok(())
     }
 
     /// What hides a candidate by the fewest facts.
-    fn least_hiding(&mut self, closing: &Closing, hidden: Place) -> Tried<Option<Hiding>> {
+    fn least_hiding(&mut self, cases: &Cases, hidden: Place) -> Tried<Option<Hiding>> {
         let mut least = None;
         let mut length = usize::MAX;
-        for last in &self.last_stores(closing.read)? {
-            if let Some((step, path)) = self.hiding(closing, hidden, *last)? {
+        for last in &self.last_stores(cases.read)? {
+            if let Some((step, path)) = self.hiding(cases, hidden, *last)? {
                 let facts = step.path.len().saturating_add(path.len());
                 if facts < length {
                     (least, length) = (Some((step, path)), facts);
@@ -206,19 +220,19 @@ impl Knowledge<'_> {
 
     /// The last store of a core, up to this one, that hides another from the read by facts that were known then: the clocks
     /// may have risen since.
-    fn hiding(&mut self, closing: &Closing, hidden: Place, last: Place) -> Tried<Option<Hiding>> {
+    fn hiding(&mut self, cases: &Cases, hidden: Place, last: Place) -> Tried<Option<Hiding>> {
         let core = self.operations.core(last);
         let mut store = last;
         for _ in 0..last {
             if !self.hides(store, hidden) {
                 break;
             }
-            if let Some(to_read) = self.chain(store, closing.read, closing.fact)?
-                && let Some(path) = self.chain(hidden, store, closing.fact)?
+            if let Some(to_read) = self.chain(store, cases.read, cases.fact)?
+                && let Some(path) = self.chain(hidden, store, cases.fact)?
             {
                 let from_read = Derived {
                     rule: Rule::FromRead,
-                    source: closing.fact,
+                    source: cases.fact,
                     store,
                     path,
                     fact: CASE_FROM_READ,

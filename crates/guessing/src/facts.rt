@@ -1,6 +1,7 @@
 //! What is known to be before what, and why.
 
 use numbered_trace::{NONE, Place, Tried, at, put, short};
+use state_walk::Precedence;
 use std::alloc::Global;
 
 /// Why a fact holds.
@@ -70,6 +71,19 @@ impl Facts {
         let length = (read as usize).saturating_add(1).max(self.ranges.len());
         self.ranges.resize(length, NONE)?;
         put(&mut self.ranges, read, number)
+    }
+
+    /// What the facts say to be before what, in order.
+    pub(crate) fn precedences(&self, alloc: Global) -> Tried<Vec<Precedence>> {
+        let facts = self.all.iter().zip(0..=u32::MAX);
+        let precedences = facts.map(|(fact, number)| Precedence {
+            later: fact.later,
+            fact: number,
+            earlier: fact.earlier,
+        });
+        let mut precedences: Vec<Precedence> = precedences.collect(alloc)?;
+        precedences.sort_unstable();
+        Ok(precedences)
     }
 
     /// Whether a fact says which a read's source is.

@@ -1,15 +1,22 @@
 //! What is found of a trace: the ways to search are tried one after the other.
 
-use super::closing::Closing;
+use super::closing::{Closed, Closing};
 use super::knowledge::Knowledge;
-use super::numbering::refutation;
+use super::numbering::steps;
 use super::shrinking::shrink;
 use super::walks::Walks;
-use numbered_trace::{Budget, Classes, Operations, Place, SearchWatch, Stop, Tried, id, number};
-use refutation::Answer;
-use state_walk::Walked;
+use numbered_trace::{
+    Budget, Classes, Operations, Place, SearchWatch, Stop, Tried, id, number, short,
+};
+use refutation::{Answer, Refutation};
+use state_walk::{Precedence, Walked};
 use std::alloc::{AllocError, Global};
 use trace::Trace;
+
+/// How many steps the walk that knows of no fact may make: so many, and so many more for each operation, and half of all at most.
+const FIRST: u64 = 4_000_000;
+
+const FIRST_EACH: u64 = 40;
 
 /// An order of a trace's operations or a refutation, which nobody has confirmed; undecided where neither was found in so
 /// many steps. A watch is told how far the search is. Err where memory was refused.
@@ -52,7 +59,9 @@ fn find_numbered<'a, W: SearchWatch>(
         budget,
     };
     if !are_distinct {
-        finding.walk(budget.left() / 4, watch)?;
+        let each = FIRST_EACH.saturating_mul(operations.all.len() as u64);
+        let steps = FIRST.saturating_add(each).min(budget.left() / 2);
+        finding.walk(steps, watch)?;
     }
     finding.run(watch)
 }
@@ -116,8 +125,8 @@ impl Finding<'_> {
         match known.refute(watch) {
             Ok(Some(reversed)) => {
                 let (lines, places) = shrink(self.trace.cores(), &mut known, reversed, watch)?;
-                let found = refutation(self.alloc, self.operations, &places, &lines)?;
-                return Ok(Some(Answer::Refutation(found)));
+                let steps = steps(self.alloc, self.operations, &places, &lines)?;
+                return Ok(Some(Answer::Refutation(Refutation::new(steps))));
             }
             Ok(None) | Err(Stop::GivenUp) => {}
             Err(stop) => return Err(stop),
@@ -131,21 +140,56 @@ impl Finding<'_> {
         Ok(None)
     }
 
-    /// A refutation by a closed set of states, if one is found where the walk stopped. Where it came to all states nothing else is
-    /// left to be done.
+    /// A refutation by a closed set of states, if one is found where the walk stopped: without facts, or else with them.
     fn by_states<W: SearchWatch>(&mut self, watch: &W) -> Tried<Option<Answer>> {
+        if let Some(Closed { step, .. }) = self.close(&[], watch)? {
+            let steps = vec![in self.alloc; step]?;
+            return Ok(Some(Answer::Refutation(Refutation::new(steps))));
+        }
+        self.budget.allow(self.budget.left() / 2);
+        let mut known = Knowledge::new(self.alloc, self.operations, self.classes, self.budget)?;
+        let saturated = known.saturate(watch);
+        self.budget = known.budget;
+        self.budget.allow(u64::MAX);
+        match saturated {
+            Ok(()) => self.by_facts(&mut known, watch),
+            Err(Stop::GivenUp) => Ok(None),
+            Err(stop) => Err(stop),
+        }
+    }
+
+    /// A refutation by a closed set of states under what is known, if one is found.
+    fn by_facts<W: SearchWatch>(
+        &mut self,
+        known: &mut Knowledge,
+        watch: &W,
+    ) -> Tried<Option<Answer>> {
+        let precedences = known.facts.precedences(self.alloc)?;
+        let Some(Closed { step, facts }) = self.close(&precedences, watch)? else {
+            return Ok(None);
+        };
+        known.budget = self.budget;
+        let lines = known.showing(&facts)?;
+        let places = 0..short(self.operations.all.len())?;
+        let places: Vec<Place> = places.collect(self.alloc)?;
+        let mut steps = steps(self.alloc, self.operations, &places, &lines)?;
+        steps.push(step)?;
+        Ok(Some(Answer::Refutation(Refutation::new(steps))))
+    }
+
+    /// A closed set of states, where moves wait for what is known, if one is found. Where the walk came to all states nothing else is left to be
+    /// done.
+    fn close<W: SearchWatch>(&mut self, known: &[Precedence], watch: &W) -> Tried<Option<Closed>> {
         let is_closed = self.walks.walked == Walked::Closed;
         let closing = Closing {
             alloc: self.alloc,
             operations: self.operations,
             classes: self.classes,
+            known,
             share: if is_closed { 2 } else { 16 },
         };
-        let Some(walk) = &mut self.walks.stopped else {
-            return Ok(None);
-        };
-        match closing.refutation(walk, &mut self.budget, watch)? {
-            Some(found) => Ok(Some(Answer::Refutation(found))),
+        match &mut self.walks.stopped {
+            Some(walk) => closing.close(walk, &mut self.budget, watch),
             None => Ok(None),
         }
     }

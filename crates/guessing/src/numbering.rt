@@ -3,7 +3,7 @@
 use super::proof::{Derived, Line, Rule};
 use mem_op::OpId;
 use numbered_trace::{Operations, Place, START, Stop, Tried, at, id};
-use refutation::{Path, Point, Range, Ranges, Refutation, Step};
+use refutation::{Path, Point, Range, Ranges, Step};
 use std::alloc::Global;
 
 /// What the steps of a refutation are made with.
@@ -19,13 +19,13 @@ struct Numbering<'a> {
     waiting: Vec<(u32, usize)>,
 }
 
-/// The refutation that the lines of a proof are, last one first.
-pub(crate) fn refutation(
+/// The steps of a refutation that the lines of a proof are, last one first.
+pub(crate) fn steps(
     alloc: Global,
     operations: &Operations,
     places: &[Place],
     reversed: &[Line],
-) -> Tried<Refutation> {
+) -> Tried<Vec<Step>> {
     let mut numbering = Numbering {
         alloc,
         operations,
@@ -34,7 +34,7 @@ pub(crate) fn refutation(
         waiting: Vec::new(alloc),
     };
     let steps = reversed.iter().rev().map(|line| numbering.step(line));
-    Ok(Refutation::new(steps.try_collect(alloc)?))
+    steps.try_collect(alloc)
 }
 
 impl Numbering<'_> {

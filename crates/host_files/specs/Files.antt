@@ -1,27 +1,42 @@
 -- What is known of a folder.
-use Rattle.std.specs.Prelude.{◌≡◌, ◌⊎◌, ℕ, List, Bool, Option, Some, IfSome, IsTrue}
+use Rattle.std.specs.Prelude.{◌≡◌, ◌⊎◌, ◌∷◌, ◌++◌, [], ℕ, List, Bool, Option, Some, Result, Err, IfSome, IsTrue}
 use Rattle.log_file.specs.Devices.{Failed}
+use Rattle.log_file.specs.declared.device_fault.ReadFault.{ReadFault}
+use Rattle.log_file.specs.declared.device_fault.ReadFault.TheVariants.{Read}
 
--- What it tells of its files, the bytes of each of which it tells any; the names whose files it may refuse to open; how many puts have failed: at
--- most 18,446,744,073,709,551,615 are counted.
+-- What it tells of its files, the bytes of each of which it tells any; the names whose files it may refuse to open, and those whose it has refused, in
+-- their order; how many puts have failed: at most 18,446,744,073,709,551,615 are counted.
 pub record Files : Type 0 where
   pub told : List ℕ → Option (List ℕ)
   pub may_refuse : List ℕ → Bool
+  pub refused : List (List ℕ)
   pub failed : ℕ
 
--- files are opened and read, and the folder is as it was
+-- the same, after it refused the file of this name
+abbrev pub refusing : Files → List ℕ → Files
+refusing files name = record { told = files.told; may_refuse = files.may_refuse; refused = files.refused ++ name ∷ []; failed = files.failed }
+
+-- the file of this name is opened: 28 comes only where the folder refused it, and else all is as it was
+abbrev pub IsOpened : {S : Type 0} → List ℕ → Result S ReadFault → Files → Files → Type 0
+IsOpened name (Err Read) old new = IsTrue (old.may_refuse name) × (new ≡ refusing old name)
+IsOpened name result old new = new ≡ old
+
+-- files are opened and read: a file may have been refused, and all else is as it was
 abbrev pub IsOnlyRead : Files → Files → Type 0
-IsOnlyRead old new = new ≡ old
+IsOnlyRead old new = (new ≡ old) ⊎ ((name : List ℕ) × (new ≡ refusing old name))
+
+-- the first file that was refused is that of this name
+abbrev pub IsFirstRefused : Files → Files → List ℕ → Type 0
+IsFirstRefused old new name = IsTrue (old.may_refuse name) × ((later : List (List ℕ)) × (new.refused ≡ old.refused ++ name ∷ later))
 
 -- a source of the file of this name failed a read
 abbrev pub HasFailedRead : {S : Type 0} → (S → Option (List ℕ)) → (S → ℕ) → Files → List ℕ → Type 0
 HasFailedRead {S} remaining failed files name =
     (before : S) × (after : S) × IfSome (files.told name) (λ bytes. remaining before ≡ Some bytes) × Failed (failed before) (failed after)
 
--- The file of this name couldn't be opened, or a source of it failed a read. Of a folder that isn't known, that it may refuse a name is known only
--- by an opening of that name that failed.
-abbrev pub IsUnread : {S : Type 0} → (S → Option (List ℕ)) → (S → ℕ) → Files → List ℕ → Type 0
-IsUnread remaining failed files name = IsTrue (files.may_refuse name) ⊎ HasFailedRead remaining failed files name
+-- the file of this name was refused, before any other, or a source of it failed a read
+abbrev pub IsUnread : {S : Type 0} → (S → Option (List ℕ)) → (S → ℕ) → Files → Files → List ℕ → Type 0
+IsUnread remaining failed old new name = IsFirstRefused old new name ⊎ HasFailedRead remaining failed old name
 
 -- what the folder tells of other names is what it told
 abbrev pub KeepsFiles : (List ℕ → Option (List ℕ)) → (List ℕ → Option (List ℕ)) → (List ℕ → Type 0) → Type 0

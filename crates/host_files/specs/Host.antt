@@ -8,5 +8,5 @@ abbrev pub is_on_disk : List ℕ → Bool
 is_on_disk name = not (bytes_eq name (codes "/dev/stdin"))
 
 -- a file tells none of its bytes, and each may be refused but the standard input
-abbrev pub files_of_host : ℕ → Files
-files_of_host failed = record { told = λ name. None; may_refuse = is_on_disk; failed = failed }
+abbrev pub files_of_host : List (List ℕ) → ℕ → Files
+files_of_host refused failed = record { told = λ name. None; may_refuse = is_on_disk; refused = refused; failed = failed }

@@ -1,3 +1,4 @@
 pub mod Files
 pub mod Host
+pub mod Names
 pub mod Sources

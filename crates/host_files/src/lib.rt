@@ -4,8 +4,10 @@
 mod folder;
 mod host_folder;
 mod putting;
+mod refused;
 mod source;
 
 pub use folder::Folder;
 pub use host_folder::HostFolder;
+pub use refused::RefusedNames;
 pub use source::{HostSource, open};

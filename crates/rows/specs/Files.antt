@@ -22,5 +22,5 @@ told_of given put name = option_or (told_in put name) (told_in given name)
 abbrev pub may_refuse_of : List File → List File → List ℕ → Bool
 may_refuse_of given put name = is_some (told_in put name) || is_none (told_in given name)
 
-abbrev pub files_in : List File → List File → ℕ → Files
-files_in given put failed = record { told = told_of given put; may_refuse = may_refuse_of given put; failed = failed }
+abbrev pub files_in : List File → List File → List (List ℕ) → ℕ → Files
+files_in given put refused failed = record { told = told_of given put; may_refuse = may_refuse_of given put; refused = refused; failed = failed }

@@ -1,14 +1,15 @@
 //! A folder in memory.
 
 ghost use Rattle.std.specs.Prelude.{◌≡◌, ◌∷◌, ◌++◌, [], OnErr, OnOk, IfNone, IfSome, IsTrue, Some, string_bytes};
+ghost use Rattle.host_files.specs.Names.{names_in};
 ghost use Rattle.log_file.specs.InMemory.{bytes_left};
 ghost use Rattle.rows.specs.Files.{files_in, may_refuse_of, told_of};
 ghost use Rattle.rows.specs.Held.{files_held};
 ghost use Rattle.rows.specs.declared.file.File.{File};
 
 use super::file::{File, find};
-use host_files::Folder;
-use log_file::{MemSource, ReadFailed, Step, WriteFailed};
+use host_files::{Folder, RefusedNames};
+use log_file::{MemSource, ReadFault, Step, WriteFailed};
 use std::alloc::Global;
 
 /// Files by their names, and how the reads of one of them go.
@@ -28,18 +29,20 @@ pub struct MemoryFolder<'a> {
     alloc: Global,
     given: Given<'a>,
     put: Vec<File>,
+    refused: RefusedNames,
     failures: u64,
 }
 
 impl<'a> MemoryFolder<'a> {
     /// The folder of these files.
     pub fn new(alloc: Global, given: Given<'a>) -> MemoryFolder<'a>
-        ensures { files_held result ≡ files_in given.entry.files.now [] 0 }
+        ensures { files_held result ≡ files_in given.entry.files.now [] [] 0 }
     {
         MemoryFolder {
             alloc,
             given,
             put: Vec::new(alloc),
+            refused: RefusedNames::new(alloc),
             failures: 0,
         }
     }
@@ -74,6 +77,7 @@ impl<'a> MemoryFolder<'a> {
             × (self.new.put.items ≡ self.old.put.items ++ file ∷ [])) }
         ensures err { OnErr result (self.new.put.items ≡ self.old.put.items) }
         ensures given { self.new.given ≡ self.old.given }
+        ensures refused { names_in self.new.refused ≡ names_in self.old.refused }
         ensures failures { self.new.failures ≡ self.old.failures }
     {
         if self.put.len() >= self.given.room {
@@ -94,10 +98,13 @@ impl<'a> Folder for MemoryFolder<'a> {
 
     type Source = MemSource<'a>;
 
-    fn open_file(&mut self, name: &str) -> Result<MemSource<'a>, ReadFailed> {
+    fn open_file(&mut self, name: &str) -> Result<MemSource<'a>, ReadFault> {
         match self.source(name) {
             Some(source) => Ok(source),
-            None => Err(ReadFailed),
+            None => {
+                self.refused.push(self.alloc, name)?;
+                Err(ReadFault::Read)
+            }
         }
     }
 

@@ -1,3 +1,2 @@
 pub mod Commands
-pub mod Lines
 pub mod Texts

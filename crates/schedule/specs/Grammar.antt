@@ -1,6 +1,6 @@
 -- The texts of commands and of schedules, and which commands have a text.
-use Rattle.std.specs.Prelude.{ℕ, ◌<◌, ◌≤◌, min, List, [], ◌∷◌, ◌++◌, codes}
-use Rattle.std.specs.List.{flat_map, join_with_byte, AllByRecursion}
+use Rattle.std.specs.Prelude.{ℕ, ◌<◌, ◌≤◌, min, List, [], ◌∷◌, codes}
+use Rattle.std.specs.List.{join_with_byte}
 use Rattle.decimal_text.specs.Numbers.{numeral}
 use Rattle.line_stamps.specs.declared.message.RecallKind.{RecallKind}
 use Rattle.line_stamps.specs.declared.message.RecallKind.TheVariants.{WriteBack, Flush}
@@ -29,10 +29,6 @@ fields_of (Finish core) = codes "finish" ∷ numeral core ∷ []
 unfoldable pub command_text : Command → List ℕ
 command_text command = join_with_byte 32 (fields_of command)
 
--- a schedule: the lines of its commands, each with its line feed
-abbrev pub schedule_text : List Command → List ℕ
-schedule_text commands = flat_map (λ command. command_text command ++ 10 ∷ []) commands
-
 -- the core of a command is below their number and below 64, and its numbers are in range
 abbrev pub Fits : ℕ → Command → Type 0
 Fits cores (Turn core) = core < min cores 64
@@ -45,6 +41,3 @@ Fits cores (Bump core) = core < min cores 64
 Fits cores (Round core) = core < min cores 64
 Fits cores (Op core) = core < min cores 64
 Fits cores (Finish core) = core < min cores 64
-
-abbrev pub EachFits : ℕ → List Command → Type 0
-EachFits cores commands = AllByRecursion (Fits cores) commands

@@ -2,8 +2,9 @@
 
 ghost use Rattle.std.specs.Prelude.{◌≡◌, min};
 ghost use Rattle.decimal_text.specs.Reading.{front_now};
-ghost use Rattle.schedule.specs.inner.Reading.{below, core_at, addr_at, kind_at, last_core, last_addr, last_stamp};
+ghost use Rattle.schedule.specs.inner.Reading.{core_at, addr_at, kind_at, last_core, last_addr, last_stamp};
 ghost use Rattle.schedule.specs.inner.Reading.{recall_of, evict_of, command_of};
+ghost use Rattle.text_lines.specs.Fields.{below};
 
 use super::command::Command;
 use decimal_text::{after_text, read_field, read_last};
@@ -23,7 +24,7 @@ fn core_of(cores: usize, number: u64) -> Option<CoreId>
 }
 
 /// A core with a space after it, and the bytes after them.
-#[tactic(auto, unfolding(crate::specs::inner::Reading::core_at))]
+#[tactic(auto, unfolding(text_lines::specs::Fields::field_below))]
 fn core_field(cores: usize, bytes: &[u8]) -> Option<(CoreId, &[u8])>
     ensures { front_now result ≡ core_at cores bytes.now }
 {
@@ -32,7 +33,7 @@ fn core_field(cores: usize, bytes: &[u8]) -> Option<(CoreId, &[u8])>
 }
 
 /// An address with a space after it, and the bytes after them.
-#[tactic(auto, unfolding(crate::specs::inner::Reading::addr_at))]
+#[tactic(auto, unfolding(text_lines::specs::Fields::field_below))]
 fn addr_field(bytes: &[u8]) -> Option<(Addr, &[u8])>
     ensures { front_now result ≡ addr_at bytes.now }
 {
@@ -53,7 +54,7 @@ fn kind_field(bytes: &[u8]) -> Option<(RecallKind, &[u8])>
 }
 
 /// A core that is all there is.
-#[tactic(auto, unfolding(crate::specs::inner::Reading::last_core))]
+#[tactic(auto, unfolding(text_lines::specs::Fields::last_below))]
 fn last_core(cores: usize, bytes: &[u8]) -> Option<CoreId>
     ensures { result ≡ last_core cores bytes.now }
 {
@@ -61,7 +62,7 @@ fn last_core(cores: usize, bytes: &[u8]) -> Option<CoreId>
 }
 
 /// An address that is all there is.
-#[tactic(auto, unfolding(crate::specs::inner::Reading::last_addr))]
+#[tactic(auto, unfolding(text_lines::specs::Fields::last_below))]
 fn last_addr(bytes: &[u8]) -> Option<Addr>
     ensures { result ≡ last_addr bytes.now }
 {
@@ -69,7 +70,7 @@ fn last_addr(bytes: &[u8]) -> Option<Addr>
 }
 
 /// A stamp that is all there is.
-#[tactic(auto, unfolding(crate::specs::inner::Reading::last_stamp))]
+#[tactic(auto, unfolding(text_lines::specs::Fields::last_below))]
 fn last_stamp(bytes: &[u8]) -> Option<Stamp>
     ensures { result ≡ last_stamp bytes.now }
 {

@@ -1,14 +1,13 @@
 //! Reads the text of a schedule.
 
-ghost use Rattle.std.specs.Prelude.{◌≡◌, ◌∷◌, ◌++◌, IfSome, IsNone, MatchResult};
+ghost use Rattle.std.specs.Prelude.{IfSome, IsNone, MatchResult};
 ghost use Rattle.schedule.specs.Answers.{CommandInFront, NoCommandInFront, IsFault, Spells};
-ghost use Rattle.schedule.specs.inner.Lines.{IsOneLine};
 
 use super::command::Command;
 use super::fault::ScheduleFault;
 use super::reading::read_command;
-use memchr::memchr;
 use std::alloc::Global;
+use text_lines::next_line;
 
 /// The commands whose text this is, one a line, each line ended by a line feed, for this number of cores,
 /// at most 64. BadScheduleLine at the first line that isn't a command's, that names a core that isn't there, or
@@ -40,14 +39,4 @@ fn next_command(cores: usize, text: &[u8]) -> Option<(Command, &[u8])>
 {
     let (line, rest) = next_line(text)?;
     Some((read_command(cores, line)?, rest))
-}
-
-/// The first line, without its line feed, and the bytes after it; None where no line feed is there.
-fn next_line(text: &[u8]) -> Option<(&[u8], &[u8])>
-    ensures found { IfSome result (λ split.
-        IsOneLine split.0.now × (text.now ≡ split.0.now ++ 10 ∷ split.1.now)) }
-    ensures none { IsNone result → IsOneLine text.now }
-{
-    let at = memchr(b'\n', text)?;
-    Some((&text[..at], &text[at + 1..]))
 }

@@ -7,6 +7,17 @@ use numbered_trace::{Budget, Classes, Operations, Place, SearchWatch, Tried, at}
 use refutation::Numbers;
 use std::alloc::Global;
 
+/// By the fact of a number, one operation is before a later one.
+#[derive(Clone, Copy, PartialEq, Eq, PartialOrd, Ord)]
+pub struct Precedence {
+    /// The later one.
+    pub later: Place,
+    /// The number of the fact.
+    pub fact: u32,
+    /// The earlier one.
+    pub earlier: Place,
+}
+
 /// All states of some operations that can be reached, as a walk comes to them.
 #[derive(Drop)]
 pub struct ClosedSet<'a> {
@@ -14,31 +25,39 @@ pub struct ClosedSet<'a> {
     classes: &'a Classes,
     /// The addresses that are looked at.
     addresses: &'a [u32],
+    /// What is known to be before what, in order.
+    known: &'a [Precedence],
     state: State<'a>,
     visited: Visited,
     /// The moves that weren't made: how many operations led to the state from which it leads, and its core.
     moves: Vec<(usize, u32)>,
     /// The states, as a refutation tells them.
     pub states: Vec<refutation::State>,
+    /// The facts by which some core couldn't go on from them.
+    pub used: Vec<u32>,
 }
 
 impl<'a> ClosedSet<'a> {
-    /// A walk over the states of operations of which those at other addresses than these neither read nor store.
+    /// A walk over the states of operations of which those at other addresses than these neither read nor store. What may change memory
+    /// waits for what is known to be before it, as this list tells in order.
     pub fn new(
         alloc: Global,
         operations: &'a Operations,
         classes: &'a Classes,
         addresses: &'a [u32],
+        known: &'a [Precedence],
     ) -> Tried<ClosedSet<'a>> {
         let cores: Vec<u32> = operations.cores().collect(alloc)?;
         Ok(ClosedSet {
             alloc,
             classes,
             addresses,
+            known,
             state: State::new(alloc, operations, classes, cores)?,
             visited: Visited::new(alloc)?,
             moves: Vec::new(alloc),
             states: Vec::new(alloc),
+            used: Vec::new(alloc),
         })
     }
 
@@ -97,10 +116,26 @@ impl<'a> ClosedSet<'a> {
         for place in 0..self.state.cores.len() {
             let core = self.state.cores.get(place).copied().unwrap_or(0);
             if self.state.able(core).is_some() {
-                self.moves.push((length, core))?;
+                match self.awaited(core) {
+                    Some(fact) => self.used.push(fact)?,
+                    None => self.moves.push((length, core))?,
+                }
             }
         }
         Ok(())
+    }
+
+    /// The first fact by which a core's next operation waits for one that wasn't performed.
+    fn awaited(&self, core: u32) -> Option<u32> {
+        let next = at(&self.state.positions, core);
+        let first = self.known.partition_point(|known| known.later < next);
+        let of_next = self.known.get(first..)?.iter();
+        let mut of_next = of_next.take_while(|known| known.later == next);
+        let awaited = of_next.find(|known| {
+            let core = self.state.operations.core(known.earlier);
+            known.earlier >= at(&self.state.positions, core)
+        });
+        awaited.map(|known| known.fact)
     }
 
     /// The words at the addresses that are looked at.

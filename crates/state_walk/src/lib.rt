@@ -12,6 +12,6 @@ mod tree;
 mod visited;
 mod walk;
 
-pub use closed::ClosedSet;
+pub use closed::{ClosedSet, Precedence};
 pub use groups::groups_of;
 pub use walk::{Walk, Walked};

@@ -42,7 +42,7 @@ pub(crate) struct Tree {
     numbers: Vec<u32>,
     /// The layers with open states, foremost ones first: a layer stands back by one for each state that was left in it.
     queue: BinaryHeap<(u64, u32)>,
-    /// States whose likeliest child was taken and that are open again, deepest last. Each stands back by one.
+    /// States whose likeliest child was taken and that are open again, deepest last, as long as they aren't in their layers.
     halves: Vec<u32>,
     /// The state from which the walk goes on before any of them.
     next: Option<u32>,
@@ -78,6 +78,11 @@ impl Tree {
             .get(number as usize)
             .copied()
             .ok_or(Stop::GivenUp)
+    }
+
+    /// Whether no state is deeper than those of a depth.
+    pub(crate) fn is_deepest(&self, depth: u32) -> bool {
+        self.depth <= depth
     }
 
     /// Adds a state that looks so likely, and gives its number.
@@ -151,22 +156,37 @@ impl Tree {
         Ok(())
     }
 
-    /// Takes the open state from which the walk goes on: the foremost one, of a layer the likeliest. None where no state is open.
+    /// Takes the open state from which the walk goes on: the likeliest one of the foremost layer. None where no state is open.
     pub(crate) fn take(&mut self) -> Tried<Option<u32>> {
         if let Some(number) = self.next.take() {
             return Ok(Some(number));
         }
-        let best = self.queue.peek().map_or(0, |(best, _)| *best);
-        if let Some(half) = self.halves.last().copied()
-            && foremost(self.node(half)?.depth, 1) >= best
-        {
-            self.halves.pop();
-            return Ok(Some(half));
-        }
+        self.open_halves()?;
         match self.queue.pop() {
             Some((_, layer)) => Ok(Some(self.take_of(layer)?)),
             None => Ok(None),
         }
+    }
+
+    /// Puts the states that are open again into their layers, behind all others, as long as one may be foremost.
+    fn open_halves(&mut self) -> Tried<()> {
+        for _ in 0..self.halves.len() {
+            let Some(half) = self.halves.last().copied() else {
+                break;
+            };
+            let depth = self.node(half)?.depth;
+            if self
+                .queue
+                .peek()
+                .is_some_and(|(best, _)| *best > foremost(depth, 1))
+            {
+                break;
+            }
+            self.halves.pop();
+            let layer = self.layer_of(depth)?;
+            self.open(layer, half, 0)?;
+        }
+        Ok(())
     }
 
     /// Takes the likeliest open state of a layer.

@@ -233,7 +233,7 @@ impl<'a> Walk<'a> {
         if self.state.is_final() {
             return Ok(true);
         }
-        if self.visited.insert(self.state.number)? && self.state.dead(ruined).is_none() {
+        if self.is_new(depth, is_only)? && self.state.dead(ruined).is_none() {
             let child = self.child(parent, core, depth)?;
             if self.tree.node(self.deepest)?.length < child.length {
                 self.deepest = short(self.tree.nodes.len())?;
@@ -247,6 +247,16 @@ impl<'a> Walk<'a> {
         }
         self.state.undo(length as usize)?;
         Ok(false)
+    }
+
+    /// Notes that the state was visited, to which the likeliest store led from one of this depth, or another. Says whether it is new, as one is that is
+    /// deeper than all others.
+    fn is_new(&mut self, depth: u32, is_likeliest: bool) -> Tried<bool> {
+        if is_likeliest && self.tree.is_deepest(depth) {
+            self.visited.add(self.state.number)?;
+            return Ok(true);
+        }
+        self.visited.insert(self.state.number)
     }
 
     /// The node of the state where the walk is, to which a core's store leads from its parent.

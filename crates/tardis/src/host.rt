@@ -3,7 +3,7 @@
 use super::progress::Progress;
 use super::shown::Shown;
 use host_files::Folder;
-use log_file::{ReadFailed, WriteFailed};
+use log_file::{ReadFault, WriteFailed};
 
 /// A folder that does what the one in it does. Of its files the lines are counted.
 #[derive(Drop)]
@@ -17,13 +17,13 @@ impl<'a, F: Folder> Folder for ShownFolder<'a, F> {
 
     type Source = Shown<'a, F::Source>;
 
-    fn open_file(&mut self, name: &str) -> Result<Shown<'a, F::Source>, ReadFailed> {
+    fn open_file(&mut self, name: &str) -> Result<Shown<'a, F::Source>, ReadFault> {
         match self.folder.open_file(name) {
             Ok(device) => Ok(Shown {
                 device,
                 progress: self.progress,
             }),
-            Err(failed) => Err(failed),
+            Err(fault) => Err(fault),
         }
     }
 

@@ -13,9 +13,11 @@ use Rattle.trace.specs.declared.fault.TraceFault.TheVariants.{BadTraceLine, TooM
 use Rattle.trace.specs.declared.line.TraceLine.{TraceLine}
 use Rattle.trace.specs.Grammar.{IsLine}
 use Rattle.trace.specs.Growing.{IsOfSize}
-use Rattle.trace.specs.Reading.{Reading, IsOneLine, text_of, WasFed}
+use Rattle.trace.specs.Reading.{Reading, WasFed}
 use Rattle.trace.specs.Texts.{SpellsTrace, IsFaultAt, HasFirstFault, IsFault}
 use Rattle.trace.specs.inner.Taking.{TakesLine}
+use Rattle.text_lines.specs.Lines.{IsOneLine, text_of}
+use Rattle.text_lines.proofs.Items.{each_push}
 
 -- ---- lines
 
@@ -48,10 +50,6 @@ whole_lines (line ∷ whole) more each =
     ∙ ap (λ rest. strip_carriage_return line ∷ rest) (whole_lines whole more each.1)
 
 -- ---- lists
-
-each_push : (whole : List (List ℕ)) (line : List ℕ) → AllByRecursion IsOneLine whole → IsOneLine line → AllByRecursion IsOneLine (whole ++ line ∷ [])
-each_push [] line each one = (one, tt)
-each_push (first ∷ whole) line each one = (each.0, each_push whole line each.1 one)
 
 pub says_push : (ls : List (List ℕ)) (said : List TraceLine) (line : List ℕ) (last : TraceLine) → AllZip IsLine ls said → IsLine line last
     → AllZip IsLine (ls ++ line ∷ []) (said ++ last ∷ [])
@@ -95,7 +93,7 @@ fed_line s t bytes part w one takes empty same =
     record {
       faultless = same ∙ w.faultless;
       whole = w.whole ++ line ∷ [];
-      each = each_push w.whole line w.each (All-append (λ b. (b == 10) ≡ false) s.begun part w.one one);
+      each = each_push IsOneLine w.whole line w.each (All-append (λ b. (b == 10) ≡ false) s.begun part w.one one);
       one = subst IsOneLine (sym empty) (λ k d l. absurd (omega arith));
       bytes_are = text_with_line w.whole s.begun part bytes [] w.bytes_are
           ∙ sym (flat_map-append (λ (l : List ℕ). l ++ 10 ∷ []) w.whole (line ∷ []) ∙ ap (λ r. text_of w.whole ++ r) (append-nil (line ++ 10 ∷ [])))

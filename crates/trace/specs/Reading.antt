@@ -1,6 +1,6 @@
 -- What a reader of a trace was fed, and what it answers.
-use Rattle.std.specs.Prelude.{◌≡◌, ℕ, ◌==◌, false, All, List, [], ◌∷◌, ◌++◌, length, map, Option, None}
-use Rattle.std.specs.List.{AllByRecursion, AllZip, flat_map}
+use Rattle.std.specs.Prelude.{◌≡◌, ℕ, List, ◌++◌, length, map, Option, None}
+use Rattle.std.specs.List.{AllByRecursion, AllZip}
 use Rattle.std.specs.Str.Lines.{strip_carriage_return}
 use Rattle.mem_op.specs.Consistency.{Operation}
 use Rattle.trace.specs.declared.fault.TraceFault.{TraceFault}
@@ -8,6 +8,7 @@ use Rattle.trace.specs.declared.line.TraceLine.{TraceLine}
 use Rattle.trace.specs.Grammar.{IsLine}
 use Rattle.trace.specs.Growing.{IsOfSize}
 use Rattle.trace.specs.Texts.{trace_of, line_number, IsFault}
+use Rattle.text_lines.specs.Lines.{IsOneLine, text_of}
 
 -- a reader: the trace of the whole lines, how many these are, the bytes of the line that isn't whole yet, and the
 -- fault that it answers from then on
@@ -16,14 +17,6 @@ pub record Reading : Type 0 where
   pub count : ℕ
   pub begun : List ℕ
   pub fault : Option TraceFault
-
--- it has no line feed
-abbrev pub IsOneLine : List ℕ → Type 0
-IsOneLine line = All (λ b. (b == 10) ≡ false) line
-
--- the bytes of lines, each with its line feed
-abbrev pub text_of : List (List ℕ) → List ℕ
-text_of whole = flat_map (λ line. line ++ 10 ∷ []) whole
 
 -- the trace so far and the number of lines are of what these lines said
 pub record Stands (cores : List (List Operation)) (count : ℕ) (said : List TraceLine) : Type 0 where

@@ -17,6 +17,6 @@ pub use flat_replay::{Access, Address, Operations, replays};
 pub use laws::{one_fault, spelled_is_read, spells_one};
 pub use line::TraceLine;
 pub use parsing::parse_line;
-pub use reader::{TraceReader, next_line, without_return};
+pub use reader::{TraceReader, without_return};
 pub use refusal::Refusal;
 pub use trace::Trace;

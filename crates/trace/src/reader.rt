@@ -1,9 +1,9 @@
 //! A trace read in pieces.
 
-ghost use Rattle.std.specs.Prelude.{◌≡◌, ◌++◌, ◌∷◌, ℕ, List, [], None, Some, IfSome, IsNone, MatchResult, length};
+ghost use Rattle.std.specs.Prelude.{◌≡◌, ◌++◌, ℕ, List, [], None, Some, IfSome, MatchResult, length};
 ghost use Rattle.std.specs.Str.Lines.{strip_carriage_return};
 ghost use Rattle.trace.specs.declared.line.TraceLine.{TraceLine};
-ghost use Rattle.trace.specs.Reading.{IsOneLine, IsSettled, Stands, WasFed};
+ghost use Rattle.trace.specs.Reading.{IsSettled, Stands, WasFed};
 ghost use Rattle.trace.specs.Texts.{IsFault, IsFaultAt, SpellsTrace};
 ghost use Rattle.trace.specs.inner.Taking.{TakesLine};
 
@@ -11,9 +11,9 @@ use super::fault::TraceFault;
 use super::line::read_line;
 use super::refusal::Refusal;
 use super::trace::Trace;
-use memchr::memchr;
 use std::alloc::Global;
 use std::marker::Model;
+use text_lines::next_line;
 
 /// A line without the carriage return at its end.
 pub fn without_return(line: &[u8]) -> &[u8]
@@ -41,16 +41,6 @@ fn take_line(trace: &mut Trace, count: &mut u64, line: &[u8]) -> Result<(), Trac
         Err(Refusal::TooMany) => Err(TraceFault::TooMany { line: number }),
         Err(Refusal::OutOfMemory) => Err(TraceFault::OutOfMemory),
     }
-}
-
-/// The first line, without its line feed, and the bytes after it; None where no line feed is there.
-pub fn next_line(text: &[u8]) -> Option<(&[u8], &[u8])>
-    ensures found { IfSome result (λ split.
-        IsOneLine split.0.now × (text.now ≡ split.0.now ++ 10 ∷ split.1.now)) }
-    ensures none { IsNone result → IsOneLine text.now }
-{
-    let at = memchr(b'\n', text)?;
-    Some((&text[..at], &text[at + 1..]))
 }
 
 /// Reads the text of a trace, fed in pieces of any cutting. It keeps no bytes but those of the line that a piece cuts.

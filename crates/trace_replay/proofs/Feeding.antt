@@ -7,7 +7,6 @@ use Rattle.std.proofs.lemmas.List.Elements.{All-append}
 use Rattle.std.proofs.lemmas.List.Sums.{fold_push}
 use Rattle.mem_op.specs.Consistency.{Operation, IsSequentialOrder}
 use Rattle.trace.specs.Grammar.{IsLine}
-use Rattle.trace.specs.Reading.{IsOneLine}
 use Rattle.trace.specs.Texts.{line_number, with_line}
 use Rattle.trace.specs.declared.line.TraceLine.{TraceLine}
 use Rattle.trace.specs.declared.line.TraceLine.TheVariants.{Nothing, Performs}
@@ -23,6 +22,7 @@ use Rattle.trace_replay.specs.declared.replayer.Replayer.{Replayer}
 use Rattle.trace_replay.specs.declared.stop.Stop.{Stop}
 use Rattle.trace_replay.specs.declared.stop.Stop.TheVariants.{Wrong, Refused}
 use Rattle.trace_replay.specs.inner.Feeding.{Stands, TakesLine, IsStopAt, IsStopBy, WasFed, IsStopOf}
+use Rattle.text_lines.specs.Lines.{IsOneLine}
 
 -- ---- the steps that lines tell
 

@@ -4,9 +4,9 @@ use Rattle.std.specs.List.{AllZip}
 use Rattle.std.specs.Str.Lines.{lines}
 use Rattle.std.specs.Io.KnownBytes.{Consumes}
 use Rattle.trace.specs.Grammar.{IsLine}
-use Rattle.trace.specs.Reading.{IsOneLine}
 use Rattle.trace.specs.declared.line.TraceLine.{TraceLine}
 use Rattle.trace_replay.specs.Answers.{StandInOrder}
+use Rattle.text_lines.specs.Lines.{IsOneLine}
 
 -- the whole lines of the bytes, and the beginning of one more
 pub record AreCut (bytes : List ℕ) (whole : List (List ℕ)) (begun : List ℕ) : Type 0 where

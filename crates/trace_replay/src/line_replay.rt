@@ -15,7 +15,8 @@ use super::stop::Stop;
 use super::stores_by_word::StoresByWord;
 use flat_replay::Access;
 use std::alloc::{AllocError, Global};
-use trace::{TraceLine, next_line, parse_line, without_return};
+use text_lines::next_line;
+use trace::{TraceLine, parse_line, without_return};
 
 /// Lines that were replayed.
 #[derive(Drop)]

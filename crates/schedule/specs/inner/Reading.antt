@@ -1,26 +1,19 @@
 -- Reading a line from left to right, as functions on its bytes. Private contracts cite these; the public ones
 -- speak of the texts alone.
-use Rattle.std.specs.Prelude.{ℕ, min, nat_lt, if◌then◌else◌, List, Option, Some, None, is_some, option_map, codes}
-use Rattle.decimal_text.specs.Reading.{◌>>=◌, after, field_at, last_number}
+use Rattle.std.specs.Prelude.{ℕ, min, if◌then◌else◌, List, Option, Some, None, is_some, option_map, codes}
+use Rattle.decimal_text.specs.Reading.{◌>>=◌, after}
 use Rattle.line_stamps.specs.declared.message.RecallKind.{RecallKind}
 use Rattle.line_stamps.specs.declared.message.RecallKind.TheVariants.{WriteBack, Flush}
 use Rattle.schedule.specs.declared.command.Command.{Command}
 use Rattle.schedule.specs.declared.command.Command.TheVariants.{Turn, Serve, Take, Recall, Evict, Spill, Bump, Round, Op, Finish}
-
--- the number, where it is less than this
-abbrev pub below : ℕ → ℕ → Option ℕ
-below limit n = if nat_lt n limit then Some n else None
-
--- the number, where it is less than this, and the bytes after it
-abbrev pub front_below : ℕ → ℕ × List ℕ → Option (ℕ × List ℕ)
-front_below limit x = if nat_lt x.0 limit then Some x else None
+use Rattle.text_lines.specs.Fields.{field_below, last_below, named}
 
 -- a core or an address with a space after it
-unfoldable pub core_at : ℕ → List ℕ → Option (ℕ × List ℕ)
-core_at cores bytes = field_at 32 bytes >>= front_below (min cores 64)
+abbrev pub core_at : ℕ → List ℕ → Option (ℕ × List ℕ)
+core_at cores bytes = field_below (min cores 64) bytes
 
-unfoldable pub addr_at : List ℕ → Option (ℕ × List ℕ)
-addr_at bytes = field_at 32 bytes >>= front_below 65536
+abbrev pub addr_at : List ℕ → Option (ℕ × List ℕ)
+addr_at bytes = field_below 65536 bytes
 
 -- a way to give a line back, and the bytes after it
 abbrev pub kind_front : RecallKind → List ℕ → RecallKind × List ℕ
@@ -34,14 +27,14 @@ kind_at bytes =
     else option_map (kind_front Flush) (after (codes "flush ") bytes)
 
 -- a core, an address or a stamp that is all there is
-unfoldable pub last_core : ℕ → List ℕ → Option ℕ
-last_core cores bytes = last_number bytes >>= below (min cores 64)
+abbrev pub last_core : ℕ → List ℕ → Option ℕ
+last_core cores bytes = last_below (min cores 64) bytes
 
-unfoldable pub last_addr : List ℕ → Option ℕ
-last_addr bytes = last_number bytes >>= below 65536
+abbrev pub last_addr : List ℕ → Option ℕ
+last_addr bytes = last_below 65536 bytes
 
-unfoldable pub last_stamp : List ℕ → Option ℕ
-last_stamp bytes = last_number bytes >>= below 281474976710657
+abbrev pub last_stamp : List ℕ → Option ℕ
+last_stamp bytes = last_below 281474976710657 bytes
 
 -- the command whose fields these are, after its name
 abbrev pub of_core : (ℕ → Command) → ℕ → List ℕ → Option Command
@@ -54,10 +47,6 @@ recall_of cores bytes =
 
 unfoldable pub evict_of : ℕ → List ℕ → Option Command
 evict_of cores bytes = core_at cores bytes >>= λ core. last_addr core.1 >>= λ addr. Some (Evict core.0 addr)
-
--- what a reading of the fields makes of a line that begins with this name, else what another reading makes of it
-abbrev pub named : List ℕ → (List ℕ → Option Command) → List ℕ → Option Command → Option Command
-named name fields line other = if is_some (after name line) then (after name line >>= fields) else other
 
 -- the command whose line this is
 unfoldable pub command_of : ℕ → List ℕ → Option Command

@@ -2,7 +2,7 @@ use Rattle.std.proofs.Common.{◌∙◌, inl, inr, refl, subst, sym, ℕ, List}
 use Rattle.host_files.specs.Files.{IsUnread}
 use Rattle.commands.proofs.Files.{keeps_files}
 use Rattle.command_line.specs.Asking.{IsRefusalOf, texts}
-use Rattle.commands.proofs.Performed.{memory_status, not_refused, refused_call, told_no, told_not_zero, wrong_after}
+use Rattle.commands.proofs.Performed.{memory_status, not_refused, refused_call, still_unread, told_no, told_not_zero, wrong_after}
 use Rattle.commands.proofs.Unread.{put_unread}
 use Rattle.commands.specs.Sinks.{sink_of}
 use Rattle.commands.proofs.call.command.Goals as goal
@@ -70,7 +70,7 @@ returns-clause-no g c one =
     let (told, which, takes, status) = c.refuse-status.ensures in (
       c.in-Ok.request,
       c.in-Ok.ensures.request,
-      wrong_after (files c.args.folder.now).told (sink c.args.out.now) (sink c.perform.new.out) (sink c.tell_more.new.out) c.in-Ok.request (told_no _ c.in-Err.refusal told _ c.in-Err.ensures.refuted which status one) c.tell_more.ensures.quiet,
+      wrong_after (files c.args.folder.now).told _ _ (sink c.args.out.now) (sink c.perform.new.out) (sink c.tell_more.new.out) c.in-Ok.request (told_no _ c.in-Err.refusal told _ c.in-Err.ensures.refuted which status one) c.tell_more.ensures.quiet,
     )
 
 pub returns-clause-order : goal.returns-clause-order
@@ -104,5 +104,5 @@ returns-clause-refused g c two =
       c.in-Ok.request,
       c.in-Ok.ensures.request,
       refused_call old _ _ (IsUnread remaining failed old) _ _ _ _ _ c.in-Ok.request c.in-Err.refusal told _ c.in-Err.ensures.refused c.tell_more.ensures.quiet c.tell_more.ensures.read
-          which takes status,
+          (still_unread remaining failed old _ _ c.tell_more.ensures.read) which takes status,
     )

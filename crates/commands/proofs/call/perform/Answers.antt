@@ -15,7 +15,7 @@ returns-in_err-verdict-in-Check g c =
     let files = g.F.Folder.files in
     let old = files c.args.folder.now in
     let new = files c.check.new.folder in
-    let unread = IsUnread g.F.Source.ByteSource.remaining g.F.Source.ByteSource.failed old in
+    let unread = IsUnread g.F.Source.ByteSource.remaining g.F.Source.ByteSource.failed old new in
     let sink = sink_of g.O.ByteSink.contents g.O.ByteSink.failed in
     let refusal = c.in_err-verdict-in-Check.field-0.0 in
     let is : c.from_residual.result ≡ Err refusal = search rules in
@@ -26,7 +26,7 @@ returns-in_err-order-in-Order g c =
     let files = g.F.Folder.files in
     let old = files c.args.folder.now in
     let new = files c.order.new.folder in
-    let unread = IsUnread g.F.Source.ByteSource.remaining g.F.Source.ByteSource.failed old in
+    let unread = IsUnread g.F.Source.ByteSource.remaining g.F.Source.ByteSource.failed old new in
     let sink = sink_of g.O.ByteSink.contents g.O.ByteSink.failed in
     let refusal = c.in_err-order-in-Order.field-0.0 in
     let is : c.from_residual-in_err-order-in-Order.result ≡ Err refusal = search rules in
@@ -37,7 +37,7 @@ returns-in_err-explain-in-Explain g c =
     let files = g.F.Folder.files in
     let old = files c.args.folder.now in
     let new = files c.explain.new.folder in
-    let unread = IsUnread g.F.Source.ByteSource.remaining g.F.Source.ByteSource.failed old in
+    let unread = IsUnread g.F.Source.ByteSource.remaining g.F.Source.ByteSource.failed old new in
     let sink = sink_of g.O.ByteSink.contents g.O.ByteSink.failed in
     let refusal = c.in_err-explain-in-Explain.field-0.0 in
     let is : c.from_residual-in_err-explain-in-Explain.result ≡ Err refusal = search rules in
@@ -72,7 +72,7 @@ returns-in_err-search-in-Search g c =
     let files = g.F.Folder.files in
     let old = files c.args.folder.now in
     let new = files c.search.new.folder in
-    let unread = IsUnread g.F.Source.ByteSource.remaining g.F.Source.ByteSource.failed old in
+    let unread = IsUnread g.F.Source.ByteSource.remaining g.F.Source.ByteSource.failed old new in
     let sink = sink_of g.O.ByteSink.contents g.O.ByteSink.failed in
     let refusal = c.in_err-search-in-Search.field-0.0 in
     let is : c.from_residual-in_err-search-in-Search.result ≡ Err refusal = search rules in
@@ -83,7 +83,7 @@ returns-in_err-confirm-in-Confirm g c =
     let files = g.F.Folder.files in
     let old = files c.args.folder.now in
     let new = files c.confirm.new.folder in
-    let unread = IsUnread g.F.Source.ByteSource.remaining g.F.Source.ByteSource.failed old in
+    let unread = IsUnread g.F.Source.ByteSource.remaining g.F.Source.ByteSource.failed old new in
     let sink = sink_of g.O.ByteSink.contents g.O.ByteSink.failed in
     let refusal = c.in_err-confirm-in-Confirm.field-0.0 in
     let is : c.from_residual-in_err-confirm-in-Confirm.result ≡ Err refusal = search rules in
@@ -98,7 +98,7 @@ returns-in_err-count_outcomes-in-Litmus g c =
 pub returns-in_ok-verdict-in-Check : goal.returns-in_ok-verdict-in-Check
 returns-in_ok-verdict-in-Check g c =
     rw c.in-Check.is (printed _ _ _ _ _ _ (Judged c.in_ok-verdict-in-Check.verdict) _ c.print_answer.ensures.ok c.print_answer.ensures.err (keeps_files _ _ _ c.in_ok-verdict-in-Check.ensures.read)
-    (λ zero. record { sound = consistent_files (g.F.Folder.files c.args.folder.now).told (IsUnread g.F.Source.ByteSource.remaining g.F.Source.ByteSource.failed (g.F.Folder.files c.args.folder.now)) c.in-Check.asked _ c.in_ok-verdict-in-Check.ensures.exact (yes_of _ zero); flat = flat_files (g.F.Folder.files c.args.folder.now).told (IsUnread g.F.Source.ByteSource.remaining g.F.Source.ByteSource.failed (g.F.Folder.files c.args.folder.now)) c.in-Check.asked _ c.in_ok-verdict-in-Check.ensures.exact (yes_of _ zero); order = tt; upgraded = tt; yes = λ apart. tt }) (check_no _ (IsUnread g.F.Source.ByteSource.remaining g.F.Source.ByteSource.failed (g.F.Folder.files c.args.folder.now)) c.in-Check.asked _ c.in_ok-verdict-in-Check.ensures.exact) tt)
+    (λ zero. record { sound = consistent_files (g.F.Folder.files c.args.folder.now).told (IsUnread g.F.Source.ByteSource.remaining g.F.Source.ByteSource.failed (g.F.Folder.files c.args.folder.now) (g.F.Folder.files c.check.new.folder)) c.in-Check.asked _ c.in_ok-verdict-in-Check.ensures.exact (yes_of _ zero); flat = flat_files (g.F.Folder.files c.args.folder.now).told (IsUnread g.F.Source.ByteSource.remaining g.F.Source.ByteSource.failed (g.F.Folder.files c.args.folder.now) (g.F.Folder.files c.check.new.folder)) c.in-Check.asked _ c.in_ok-verdict-in-Check.ensures.exact (yes_of _ zero); order = tt; upgraded = tt; yes = λ apart. tt }) (check_no _ (IsUnread g.F.Source.ByteSource.remaining g.F.Source.ByteSource.failed (g.F.Folder.files c.args.folder.now) (g.F.Folder.files c.check.new.folder)) c.in-Check.asked _ c.in_ok-verdict-in-Check.ensures.exact) tt)
 
 pub returns-in_ok-cores-in-Inspect : goal.returns-in_ok-cores-in-Inspect
 returns-in_ok-cores-in-Inspect g c =
@@ -108,28 +108,28 @@ returns-in_ok-cores-in-Inspect g c =
 pub returns-in_ok-operations-in-Sim : goal.returns-in_ok-operations-in-Sim
 returns-in_ok-operations-in-Sim g c =
     rw c.in-Sim.is (printed _ _ _ _ _ _ (Done c.in_ok-operations-in-Sim.operations) _ c.print_answer-in-Sim.ensures.ok c.print_answer-in-Sim.ensures.err c.in_ok-operations-in-Sim.ensures.files
-    (λ zero. record { sound = tt; flat = tt; order = tt; upgraded = tt; yes = sim_leaves (g.F.Folder.files c.args.folder.now) (g.F.Folder.files c.sim.new.folder) (IsUnread g.F.Source.ByteSource.remaining g.F.Source.ByteSource.failed (g.F.Folder.files c.args.folder.now)) c.in-Sim.asked c.in_ok-operations-in-Sim.operations c.in_ok-operations-in-Sim.ensures.exact }) (λ one. tt) tt)
+    (λ zero. record { sound = tt; flat = tt; order = tt; upgraded = tt; yes = sim_leaves (g.F.Folder.files c.args.folder.now) (g.F.Folder.files c.sim.new.folder) (IsUnread g.F.Source.ByteSource.remaining g.F.Source.ByteSource.failed (g.F.Folder.files c.args.folder.now) (g.F.Folder.files c.sim.new.folder)) c.in-Sim.asked c.in_ok-operations-in-Sim.operations c.in_ok-operations-in-Sim.ensures.exact }) (λ one. tt) tt)
 
 pub returns-in_ok-operations-in-Run : goal.returns-in_ok-operations-in-Run
 returns-in_ok-operations-in-Run g c =
     rw c.in-Run.is (printed _ _ _ _ _ _ (Done c.in_ok-operations-in-Run.operations) _ c.print_answer-in-Run.ensures.ok c.print_answer-in-Run.ensures.err c.in_ok-operations-in-Run.ensures.files
-    (λ zero. record { sound = tt; flat = tt; order = tt; upgraded = tt; yes = run_leaves (g.F.Folder.files c.args.folder.now) (g.F.Folder.files c.run.new.folder) (IsUnread g.F.Source.ByteSource.remaining g.F.Source.ByteSource.failed (g.F.Folder.files c.args.folder.now)) c.in-Run.asked c.in_ok-operations-in-Run.operations c.in_ok-operations-in-Run.ensures.exact }) (λ one. tt) tt)
+    (λ zero. record { sound = tt; flat = tt; order = tt; upgraded = tt; yes = run_leaves (g.F.Folder.files c.args.folder.now) (g.F.Folder.files c.run.new.folder) (IsUnread g.F.Source.ByteSource.remaining g.F.Source.ByteSource.failed (g.F.Folder.files c.args.folder.now) (g.F.Folder.files c.run.new.folder)) c.in-Run.asked c.in_ok-operations-in-Run.operations c.in_ok-operations-in-Run.ensures.exact }) (λ one. tt) tt)
 
 pub returns-in_ok-operations-in-Upgrade : goal.returns-in_ok-operations-in-Upgrade
 returns-in_ok-operations-in-Upgrade g c =
     rw c.in-Upgrade.is (printed _ _ _ _ _ _ (Done c.in_ok-operations-in-Upgrade.operations) _ c.print_answer-in-Upgrade.ensures.ok c.print_answer-in-Upgrade.ensures.err (λ name none. c.in_ok-operations-in-Upgrade.ensures.files name (λ core below same. none (core, below, same)))
-    (λ zero. record { sound = tt; flat = tt; order = tt; upgraded = anew (g.F.Folder.files c.args.folder.now) (g.F.Folder.files c.upgrade.new.folder) (IsUnread g.F.Source.ByteSource.remaining g.F.Source.ByteSource.failed (g.F.Folder.files c.args.folder.now)) c.in-Upgrade.asked c.in_ok-operations-in-Upgrade.operations c.in_ok-operations-in-Upgrade.ensures.exact; yes = λ apart. tt }) (λ one. tt) tt)
+    (λ zero. record { sound = tt; flat = tt; order = tt; upgraded = anew (g.F.Folder.files c.args.folder.now) (g.F.Folder.files c.upgrade.new.folder) (IsUnread g.F.Source.ByteSource.remaining g.F.Source.ByteSource.failed (g.F.Folder.files c.args.folder.now) (g.F.Folder.files c.upgrade.new.folder)) c.in-Upgrade.asked c.in_ok-operations-in-Upgrade.operations c.in_ok-operations-in-Upgrade.ensures.exact; yes = λ apart. tt }) (λ one. tt) tt)
 
 pub returns-in_ok-order-in-Order : goal.returns-in_ok-order-in-Order
 returns-in_ok-order-in-Order g c =
     let sink = sink_of g.O.ByteSink.contents g.O.ByteSink.failed in
     rw c.in-Order.is (answered _ _ _ _ _ _ (Ordered c.in_ok-order-in-Order.field-0) (keeps_files _ _ _ c.in_ok-order-in-Order.ensures.read)
-    (λ zero. record { sound = consistent (g.F.Folder.files c.args.folder.now).told c.in-Order.asked.files.items (sink_of g.O.ByteSink.contents g.O.ByteSink.failed c.args.out.now) (sink_of g.O.ByteSink.contents g.O.ByteSink.failed c.order.new.out) (c.in_ok-order-in-Order.ensures.order (yes_of _ zero)); flat = tt; order = c.in_ok-order-in-Order.ensures.order (yes_of _ zero); upgraded = tt; yes = λ apart. tt }) (order_no _ (IsUnread g.F.Source.ByteSource.remaining g.F.Source.ByteSource.failed (g.F.Folder.files c.args.folder.now)) c.in-Order.asked _ _ _ c.in_ok-order-in-Order.ensures.exact))
+    (λ zero. record { sound = consistent (g.F.Folder.files c.args.folder.now).told c.in-Order.asked.files.items (sink_of g.O.ByteSink.contents g.O.ByteSink.failed c.args.out.now) (sink_of g.O.ByteSink.contents g.O.ByteSink.failed c.order.new.out) (c.in_ok-order-in-Order.ensures.order (yes_of _ zero)); flat = tt; order = c.in_ok-order-in-Order.ensures.order (yes_of _ zero); upgraded = tt; yes = λ apart. tt }) (order_no _ (IsUnread g.F.Source.ByteSource.remaining g.F.Source.ByteSource.failed (g.F.Folder.files c.args.folder.now) (g.F.Folder.files c.order.new.folder)) c.in-Order.asked _ _ _ c.in_ok-order-in-Order.ensures.exact))
 
 pub returns-in_ok-explain-in-Explain : goal.returns-in_ok-explain-in-Explain
 returns-in_ok-explain-in-Explain g c =
     rw c.in-Explain.is (answered _ _ _ _ _ _ (Explained c.in_ok-explain-in-Explain.field-0) c.in_ok-explain-in-Explain.ensures.files
-    (λ zero. record { sound = consistent_files (g.F.Folder.files c.args.folder.now).told (IsUnread g.F.Source.ByteSource.remaining g.F.Source.ByteSource.failed (g.F.Folder.files c.args.folder.now)) c.in-Explain.asked.check _ c.in_ok-explain-in-Explain.ensures.exact.0 (yes_of _ zero); flat = flat_files (g.F.Folder.files c.args.folder.now).told (IsUnread g.F.Source.ByteSource.remaining g.F.Source.ByteSource.failed (g.F.Folder.files c.args.folder.now)) c.in-Explain.asked.check _ c.in_ok-explain-in-Explain.ensures.exact.0 (yes_of _ zero); order = tt; upgraded = tt; yes = λ apart. tt }) (check_no _ (IsUnread g.F.Source.ByteSource.remaining g.F.Source.ByteSource.failed (g.F.Folder.files c.args.folder.now)) c.in-Explain.asked.check _ c.in_ok-explain-in-Explain.ensures.exact.0))
+    (λ zero. record { sound = consistent_files (g.F.Folder.files c.args.folder.now).told (IsUnread g.F.Source.ByteSource.remaining g.F.Source.ByteSource.failed (g.F.Folder.files c.args.folder.now) (g.F.Folder.files c.explain.new.folder)) c.in-Explain.asked.check _ c.in_ok-explain-in-Explain.ensures.exact.0 (yes_of _ zero); flat = flat_files (g.F.Folder.files c.args.folder.now).told (IsUnread g.F.Source.ByteSource.remaining g.F.Source.ByteSource.failed (g.F.Folder.files c.args.folder.now) (g.F.Folder.files c.explain.new.folder)) c.in-Explain.asked.check _ c.in_ok-explain-in-Explain.ensures.exact.0 (yes_of _ zero); order = tt; upgraded = tt; yes = λ apart. tt }) (check_no _ (IsUnread g.F.Source.ByteSource.remaining g.F.Source.ByteSource.failed (g.F.Folder.files c.args.folder.now) (g.F.Folder.files c.explain.new.folder)) c.in-Explain.asked.check _ c.in_ok-explain-in-Explain.ensures.exact.0))
 
 pub returns-in_ok-search-in-Search : goal.returns-in_ok-search-in-Search
 returns-in_ok-search-in-Search g c =
@@ -156,7 +156,7 @@ returns-in_err-replay-in-Replay g c =
     let files = g.F.Folder.files in
     let old = files c.args.folder.now in
     let new = files c.replay.new.folder in
-    let unread = IsUnread g.F.Source.ByteSource.remaining g.F.Source.ByteSource.failed old in
+    let unread = IsUnread g.F.Source.ByteSource.remaining g.F.Source.ByteSource.failed old new in
     let sink = sink_of g.O.ByteSink.contents g.O.ByteSink.failed in
     let refusal = c.in_err-replay-in-Replay.field-0.0 in
     let is : c.from_residual-in_err-replay-in-Replay.result ≡ Err refusal = search rules in
@@ -165,4 +165,4 @@ returns-in_err-replay-in-Replay g c =
 pub returns-in_ok-replay-in-Replay : goal.returns-in_ok-replay-in-Replay
 returns-in_ok-replay-in-Replay g c =
     rw c.in-Replay.is (answered _ _ _ _ _ _ (Replayed c.in_ok-replay-in-Replay.field-0) (keeps_files _ _ _ c.in_ok-replay-in-Replay.ensures.read)
-    (λ zero. record { sound = c.in_ok-replay-in-Replay.ensures.sound zero; flat = tt; order = tt; upgraded = tt; yes = λ apart. tt }) (replayed_no (g.F.Folder.files c.args.folder.now) (g.F.Folder.files c.replay.new.folder) (IsUnread g.F.Source.ByteSource.remaining g.F.Source.ByteSource.failed (g.F.Folder.files c.args.folder.now)) c.in-Replay.asked c.in_ok-replay-in-Replay.field-0 c.in_ok-replay-in-Replay.ensures.exact))
+    (λ zero. record { sound = c.in_ok-replay-in-Replay.ensures.sound zero; flat = tt; order = tt; upgraded = tt; yes = λ apart. tt }) (replayed_no (g.F.Folder.files c.args.folder.now) (g.F.Folder.files c.replay.new.folder) (IsUnread g.F.Source.ByteSource.remaining g.F.Source.ByteSource.failed (g.F.Folder.files c.args.folder.now) (g.F.Folder.files c.replay.new.folder)) c.in-Replay.asked c.in_ok-replay-in-Replay.field-0 c.in_ok-replay-in-Replay.ensures.exact))

@@ -16,11 +16,11 @@ use Rattle.commands.proofs.check_files.examine_asked.Goals as goal
 
 -- the reading of the programs left the folder as it was, and these are the programs
 as_it_was : {S : Type 0} (remaining : S → Option (List ℕ)) (failed : S → ℕ) (old now new : Files) (asked : Check) (lent programs : Option (List (List Instruction))) (answer : Result Verdict JudgeFault)
-    → now ≡ old → lent ≡ programs → checking.IsCheckedAgainst now.told (IsUnread remaining failed now) lent asked answer
-    → checking.IsCheckedAgainst old.told (IsUnread remaining failed old) programs asked answer
+    → now ≡ old → lent ≡ programs → checking.IsCheckedAgainst now.told (IsUnread remaining failed now new) lent asked answer
+    → checking.IsCheckedAgainst old.told (IsUnread remaining failed old new) programs asked answer
 as_it_was remaining failed old now new asked lent programs answer is same checked =
-    subst (λ (files : Files). checking.IsCheckedAgainst files.told (IsUnread remaining failed files) programs asked answer) is
-    (subst (λ given. checking.IsCheckedAgainst now.told (IsUnread remaining failed now) given asked answer) same checked)
+    subst (λ (files : Files). checking.IsCheckedAgainst files.told (IsUnread remaining failed files new) programs asked answer) is
+    (subst (λ given. checking.IsCheckedAgainst now.told (IsUnread remaining failed now new) given asked answer) same checked)
 
 pub returns-in_err-programs-clause-exact : goal.returns-in_err-programs-clause-exact
 returns-in_err-programs-clause-exact g c =
@@ -38,10 +38,10 @@ returns-in_err-examined-clause-exact g c =
     let programs = option_map (λ s. s.programs) c.in_ok-programs.programs in
     let is = given_is c.as_ref.result c.in_ok-programs.programs c.as_ref.ensures.value in
     let refused : c.from_residual-in_err-examined.result ≡ Err (from_judge c.in_err-examined.field-0.0) = search rules in
-    rw refused (against old.told (IsUnread remaining failed old) c.args.asked.now (Err c.in_err-examined.field-0.0) (
+    rw refused (against old.told (IsUnread remaining failed old new) c.args.asked.now (Err c.in_err-examined.field-0.0) (
       programs,
       c.in_ok-programs.ensures.ok,
-      as_it_was remaining failed old _ new c.args.asked.now _ programs (Err c.in_err-examined.field-0.0) c.in_ok-programs.ensures.read is c.in_err-examined.ensures.exact,
+      as_it_was remaining failed old _ new c.args.asked.now _ programs (Err c.in_err-examined.field-0.0) c.in_ok-programs.ensures.quiet is c.in_err-examined.ensures.exact,
     ))
 
 pub returns-clause-exact : goal.returns-clause-exact
@@ -56,18 +56,18 @@ returns-clause-exact g c =
     let is = given_is c.as_ref.result c.in_ok-programs.programs c.as_ref.ensures.value in (
       programs,
       c.in_ok-programs.ensures.ok,
-      as_it_was remaining failed old _ new asked _ programs (Ok c.in_ok-examined.examined.verdict) c.in_ok-programs.ensures.read is c.in_ok-examined.ensures.exact,
+      as_it_was remaining failed old _ new asked _ programs (Ok c.in_ok-examined.examined.verdict) c.in_ok-programs.ensures.quiet is c.in_ok-examined.ensures.exact,
     )
 
 pub returns-in_err-examined-clause-read : goal.returns-in_err-examined-clause-read
-returns-in_err-examined-clause-read g c = only_read_after _ _ _ c.in_ok-programs.ensures.read c.in_err-examined.ensures.read
+returns-in_err-examined-clause-read g c = only_read_after _ _ _ c.in_ok-programs.ensures.quiet c.in_err-examined.ensures.read
 
 pub returns-clause-examined : goal.returns-clause-examined
 returns-clause-examined g c =
     let names = c.args.asked.now.files.items in
     let is = given_is c.as_ref.result c.in_ok-programs.programs c.as_ref.ensures.value in
-    subst (λ (files : Files). Spelled files.told names (λ logs. IsExaminationOf (option_map (λ s. s.programs) c.in_ok-programs.programs) logs c.in_ok-examined.examined)) c.in_ok-programs.ensures.read
+    subst (λ (files : Files). Spelled files.told names (λ logs. IsExaminationOf (option_map (λ s. s.programs) c.in_ok-programs.programs) logs c.in_ok-examined.examined)) c.in_ok-programs.ensures.quiet
     (subst (λ given. Spelled (g.F.Folder.files c.read_given.new.folder).told names (λ logs. IsExaminationOf given logs c.in_ok-examined.examined)) is c.in_ok-examined.ensures.examined)
 
 pub returns-clause-read : goal.returns-clause-read
-returns-clause-read g c = only_read_after _ _ _ c.in_ok-programs.ensures.read c.in_ok-examined.ensures.read
+returns-clause-read g c = only_read_after _ _ _ c.in_ok-programs.ensures.quiet c.in_ok-examined.ensures.read

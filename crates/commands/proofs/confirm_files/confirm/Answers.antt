@@ -15,7 +15,7 @@ returns-in_err-read-clause-exact g c =
     let files = g.F.Folder.files in
     let old = files c.args.folder.now in
     let new = files c.read_files.new.folder in
-    let unread = IsUnread g.F.Source.ByteSource.remaining g.F.Source.ByteSource.failed old in
+    let unread = IsUnread g.F.Source.ByteSource.remaining g.F.Source.ByteSource.failed old new in
     let is : c.from_residual.result ≡ Err c.in_err-read.field-0.0 = search rules in
     rw is (traceless old new unread c.args.asked.now c.in_err-read.field-0.0 c.in_err-read.ensures.err)
 
@@ -28,8 +28,8 @@ returns-in_err-text-clause-exact g c =
     let unread = IsUnread g.F.Source.ByteSource.remaining g.F.Source.ByteSource.failed in
     let asked = c.args.asked.now in
     let is : c.from_residual-in_err-text.result ≡ Err c.in_err-text.field-0.0 = search rules in
-    rw is (uncertified old new (unread old) asked c.in_ok-read.read.trace c.in_err-text.field-0.0 c.in_ok-read.ensures.ok
-    (subst (λ (f : Files). IsNoCertificate (unread f) asked.certificate.now c.in_err-text.field-0.0) c.in_ok-read.ensures.quiet c.in_err-text.ensures.err))
+    rw is (uncertified old new (unread old new) asked c.in_ok-read.read.trace c.in_err-text.field-0.0 c.in_ok-read.ensures.ok
+    (subst (λ (f : Files). IsNoCertificate (unread f new) asked.certificate.now c.in_err-text.field-0.0) c.in_ok-read.ensures.quiet c.in_err-text.ensures.err))
 
 pub returns-in_err-text-clause-read : goal.returns-in_err-text-clause-read
 returns-in_err-text-clause-read g c = only_read_after _ _ _ c.in_ok-read.ensures.quiet c.in_err-text.ensures.read
@@ -40,7 +40,7 @@ returns-in_err-answer-clause-exact g c =
     let old = files c.args.folder.now in
     let now = files c.read_files.new.folder in
     let new = files c.read_certificate.new.folder in
-    let unread = IsUnread g.F.Source.ByteSource.remaining g.F.Source.ByteSource.failed old in
+    let unread = IsUnread g.F.Source.ByteSource.remaining g.F.Source.ByteSource.failed old new in
     let asked = c.args.asked.now in
     let is : c.from_residual-in_err-answer.result ≡ Err c.in_err-answer.field-0.0 = search rules in
     let tells = subst (λ (f : Files). Tells (f.told asked.certificate.now) c.in_ok-text.text.items) c.in_ok-read.ensures.quiet c.in_ok-text.ensures.ok in
@@ -76,7 +76,7 @@ returns-clause-sound g c =
     let files = g.F.Folder.files in
     let old = files c.args.folder.now in
     let new = files c.read_certificate.new.folder in
-    let unread = IsUnread g.F.Source.ByteSource.remaining g.F.Source.ByteSource.failed old in
+    let unread = IsUnread g.F.Source.ByteSource.remaining g.F.Source.ByteSource.failed old new in
     right old new unread c.args.asked.now (Ok c.in_ok-answer.answer) (returns-clause-exact g c)
 
 pub returns-clause-own : goal.returns-clause-own

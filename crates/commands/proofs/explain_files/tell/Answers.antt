@@ -13,7 +13,7 @@ use Rattle.commands.proofs.explain_files.tell.Goals as goal
 pub last_lines-requires : goal.last_lines-requires
 last_lines-requires g c =
     let files = g.F.Folder.files in
-    let unread = IsUnread g.F.Source.ByteSource.remaining g.F.Source.ByteSource.failed (files c.args.folder.now) in
+    let unread = IsUnread g.F.Source.ByteSource.remaining g.F.Source.ByteSource.failed (files c.args.folder.now) (files c.examine_asked.new.folder) in
     let (texts, tell, (logs, spell, is)) = c.in_ok-found.ensures.examined in
     (logs, logs_examined (files c.args.folder.now).told unread _ c.args.asked.now.check texts logs c.in_ok-found.found.examined c.in_ok-found.ensures.exact tell spell is)
 
@@ -26,7 +26,7 @@ words-requires g c =
 pub returns-clause-text : goal.returns-clause-text
 returns-clause-text g c =
     let files = g.F.Folder.files in
-    let unread = IsUnread g.F.Source.ByteSource.remaining g.F.Source.ByteSource.failed (files c.args.folder.now) in
+    let unread = IsUnread g.F.Source.ByteSource.remaining g.F.Source.ByteSource.failed (files c.args.folder.now) (files c.examine_asked.new.folder) in
     let (texts, tell, (logs, spell, is)) = c.in_ok-found.ensures.examined in
     let are = logs_examined (files c.args.folder.now).told unread _ c.args.asked.now.check texts logs c.in_ok-found.found.examined c.in_ok-found.ensures.exact tell spell is in
     let other = subst (λ verdict. TellsOther c.args.asked.now.no_search verdict logs (string_bytes c.in_ok-last.last)) (sym c.in_ok-told.ensures.verdict) (c.in_ok-last.ensures logs are) in
@@ -35,6 +35,7 @@ returns-clause-text g c =
 
 pub returns-clause-exact : goal.returns-clause-exact
 returns-clause-exact g c =
-    let old = g.F.Folder.files c.args.folder.now in
-    let unread = IsUnread g.F.Source.ByteSource.remaining g.F.Source.ByteSource.failed old in
+    let files = g.F.Folder.files in
+    let old = files c.args.folder.now in
+    let unread = IsUnread g.F.Source.ByteSource.remaining g.F.Source.ByteSource.failed old (files c.examine_asked.new.folder) in
     subst (λ (verdict : Verdict). IsChecked old.told unread c.args.asked.now.check (Ok verdict)) (sym c.in_ok-told.ensures.verdict) c.in_ok-found.ensures.exact

@@ -31,7 +31,7 @@ same_text before after (Some name) made text same puts = subst (λ (t : List ℕ
 pub returns-in_err-collected-clause-exact : goal.returns-in_err-collected-clause-exact
 returns-in_err-collected-clause-exact g c =
     let files = g.F.Folder.files in
-    let unread = IsUnread g.F.Source.ByteSource.remaining g.F.Source.ByteSource.failed (files c.args.folder.now) in
+    let unread = IsUnread g.F.Source.ByteSource.remaining g.F.Source.ByteSource.failed (files c.args.folder.now) (files c.collected_of.new.folder) in
     let is : c.from_residual.result ≡ Err c.in_err-collected.field-0.0 = search rules in
     rw is (untabled (files c.args.folder.now) (files c.collected_of.new.folder) unread c.args.asked.now (sink_of g.O.ByteSink.contents g.O.ByteSink.failed c.args.out.now) c.in_err-collected.field-0.0
     c.in_err-collected.ensures.err c.collected_of.ensures.read)
@@ -54,7 +54,7 @@ returns-clause-exact g c =
         (
           c.has_forbidden.ensures,
           c.in_ok-write_table.ensures.written,
-          subst (λ (before : Files). PutsAt before after asked.statistics (totals_text collected.totals)) c.in_ok-collected.ensures.read puts,
+          subst (λ (before : Files). PutsAt before after asked.statistics (totals_text collected.totals)) c.in_ok-collected.ensures.quiet puts,
         ),
       ),
     )

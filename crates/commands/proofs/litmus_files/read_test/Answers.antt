@@ -22,5 +22,5 @@ returns-in_err-test-clause-err g c =
     let files = g.F.Folder.files in
     let tells : Tells ((files c.args.folder.now).told c.args.name.now) c.as_slice.result.now = search rules in
     let is : c.from_residual.result ≡ Err (from_test c.in_err-test.field-0.0) = search rules in
-    rw is (untested (files c.args.folder.now).told (IsUnread g.F.Source.ByteSource.remaining g.F.Source.ByteSource.failed (files c.args.folder.now)) c.args.name.now
+    rw is (untested (files c.args.folder.now).told (IsUnread g.F.Source.ByteSource.remaining g.F.Source.ByteSource.failed (files c.args.folder.now) (files c.read_text.new.folder)) c.args.name.now
     c.as_slice.result.now c.in_err-test.field-0.0 tells c.in_err-test.ensures)

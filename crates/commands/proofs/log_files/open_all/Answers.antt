@@ -2,10 +2,11 @@ use Rattle.std.proofs.Common.{rules, ◌≡◌, ◌++◌, ◌∷◌, ◌∙◌, 
 use Rattle.commands.proofs.LogFiles.{one_file_more, refused_at}
 use Rattle.commands.proofs.log_files.open_all.Goals as goal
 
-pub returns-in_default-clause-err : goal.returns-in_default-clause-err
-returns-in_default-clause-err g c =
+pub returns-in-Err-Read-clause-err : goal.returns-in-Err-Read-clause-err
+returns-in-Err-Read-clause-err g c =
     let files = g.F.Folder.files in
-    refused_at (files c.args.folder.now) (files c.opening.folder) c.args.names.now c.opening.file _ c.opening.invariant.quiet c.opening-test.true c.in_default.ensures.refused
+    let refused = rw c.in-Err-Read.field-0-is at c.in-Err-Read.ensures.refused in
+    refused_at (files c.args.folder.now) (files c.opening.folder) (files c.open_file.new.self) c.args.names.now c.opening.file _ c.opening.invariant.quiet c.opening-test.true refused
 
 pub opening-preserved : goal.opening-preserved
 opening-preserved g c =
@@ -14,5 +15,5 @@ opening-preserved g c =
     record {
       sources = rw items (one_file_more (files c.args.folder.now) (files c.opening.folder) _ _ _ c.opening.file c.in-Ok.source _ c.opening.invariant.quiet c.opening-test.true c.opening.invariant.sources
           c.in-Ok.ensures.opened);
-      quiet = c.open_file.ensures.kept ∙ c.opening.invariant.quiet;
+      quiet = c.in-Ok.ensures.refused ∙ c.opening.invariant.quiet;
     }

@@ -1,4 +1,4 @@
-use Rattle.std.proofs.Common.{rules, ◌≡◌, ◌≤◌, ◌∙◌, length, refl, sym, Err, arith}
+use Rattle.std.proofs.Common.{rules, inl, ◌≡◌, ◌≤◌, ◌∙◌, length, refl, sym, Err, arith}
 use Rattle.std.proofs.lemmas.Slice.Zip.{AllZip-long}
 use Rattle.log_record.specs.Entries.{record_lists}
 use Rattle.verdict.specs.SetFaults.{from_set}
@@ -34,13 +34,13 @@ returns-in_err-set-clause-err g c =
     let e = c.in_err-set.field-0.0 in
     let (texts, tell, is) = c.in_err-set.ensures.answer in
     let told_so : c.from_residual-in_err-set.result ≡ Err (from_set e.file e.fault) = search rules in
-    rw told_so (faulty old new (IsUnread remaining failed old) names texts e.file e.fault c.in_ok-sources.ensures.read (told_by_sources old.told remaining _ names texts are tell) is
-    (λ fails. unread_at remaining failed old _ _ names e.file are (c.in_err-set.ensures.read fails)))
+    rw told_so (faulty old new (IsUnread remaining failed old new) names texts e.file e.fault c.in_ok-sources.ensures.quiet (told_by_sources old.told remaining _ names texts are tell) is
+    (λ fails. unread_at remaining failed old new _ _ names e.file are (c.in_err-set.ensures.read fails)))
 
 pub returns-in_err-logs-clause-err : goal.returns-in_err-logs-clause-err
 returns-in_err-logs-clause-err g c =
     let is : c.from_residual-in_err-logs.result ≡ Err OutOfMemory = search rules in
-    rw is c.in_ok-sources.ensures.read
+    rw is (inl c.in_ok-sources.ensures.quiet)
 
 pub returns-clause-ok : goal.returns-clause-ok
 returns-clause-ok g c =

@@ -10,7 +10,7 @@ pub returns-in_err-check_counts-clause-err : goal.returns-in_err-check_counts-cl
 returns-in_err-check_counts-clause-err g c =
     let old = g.F.Folder.files c.args.folder.now in
     let is : c.from_residual.result ≡ Err (from_judge c.in_err-check_counts.field-0.0) = search rules in
-    rw is (not_counted old.told (IsUnread g.F.Source.ByteSource.remaining g.F.Source.ByteSource.failed old) c.args.names.now c.in_err-check_counts.field-0.0
+    rw is (not_counted old.told (IsUnread g.F.Source.ByteSource.remaining g.F.Source.ByteSource.failed old old) c.args.names.now c.in_err-check_counts.field-0.0
     (files_refused (length c.args.names.now) c.in_err-check_counts.field-0.0
     c.in_err-check_counts.ensures.ok c.in_err-check_counts.ensures.err c.in_err-check_counts.ensures.files c.in_err-check_counts.ensures.workers))
 
@@ -21,14 +21,14 @@ returns-in_err-logs-clause-err g c =
     let new = files c.read_log_files.new.folder in
     let range : IsInRange (length c.args.names.now) = search rules in
     let is : c.from_residual-in_err-logs.result ≡ Err (from_judge c.in_err-logs.field-0.0) = search rules in
-    rw is (not_read old new (IsUnread g.F.Source.ByteSource.remaining g.F.Source.ByteSource.failed old) c.args.names.now c.in_err-logs.field-0.0 range c.in_err-logs.ensures.err)
+    rw is (not_read old new (IsUnread g.F.Source.ByteSource.remaining g.F.Source.ByteSource.failed old new) c.args.names.now c.in_err-logs.field-0.0 range c.in_err-logs.ensures.err)
 
 pub returns-in_err-logs-clause-read : goal.returns-in_err-logs-clause-read
 returns-in_err-logs-clause-read g c =
     let files = g.F.Folder.files in
     let old = files c.args.folder.now in
     let new = files c.read_log_files.new.folder in
-    only_read old new (IsUnread g.F.Source.ByteSource.remaining g.F.Source.ByteSource.failed old) c.args.names.now c.in_err-logs.field-0.0 c.in_err-logs.ensures.err
+    only_read old new (IsUnread g.F.Source.ByteSource.remaining g.F.Source.ByteSource.failed old new) c.args.names.now c.in_err-logs.field-0.0 c.in_err-logs.ensures.err
 
 pub returns-clause-ok : goal.returns-clause-ok
 returns-clause-ok g c =

@@ -10,7 +10,7 @@ returns-in_err-verdict-clause-exact g c =
     let files = g.F.Folder.files in
     let old = files c.args.folder.now in
     let new = files c.replay_trace.new.folder in
-    let unread = IsUnread g.F.Source.ByteSource.remaining g.F.Source.ByteSource.failed old in
+    let unread = IsUnread g.F.Source.ByteSource.remaining g.F.Source.ByteSource.failed old new in
     let is : c.from_residual.result ≡ Err c.in_err-verdict.field-0.0 = search rules in
     rw is (undecided old new unread c.args.asked.now c.in_err-verdict.field-0.0 c.in_err-verdict.ensures.err)
 
@@ -23,10 +23,10 @@ pub returns-in_err-write_all-clause-exact : goal.returns-in_err-write_all-clause
 returns-in_err-write_all-clause-exact g c =
     let is : c.from_residual-in_err-write_all.result ≡ Err (Unwritten output.Standard) = search rules in
     let (text, tells, verdict) = c.in_ok-verdict.ensures.ok in
-    rw is ((text, tells, (c.in_ok-verdict.verdict, verdict)), c.in_ok-verdict.ensures.read)
+    rw is ((text, tells, (c.in_ok-verdict.verdict, verdict)), c.in_ok-verdict.ensures.quiet)
 
 pub returns-clause-exact : goal.returns-clause-exact
-returns-clause-exact g c = (c.in_ok-verdict.ensures.ok, c.in_ok-verdict.ensures.read)
+returns-clause-exact g c = (c.in_ok-verdict.ensures.ok, c.in_ok-verdict.ensures.quiet)
 
 pub returns-clause-sound : goal.returns-clause-sound
 returns-clause-sound g c =

@@ -18,7 +18,7 @@ returns-in_err-programs-clause-exact g c =
     let files = g.F.Folder.files in
     let old = files c.args.folder.now in
     let new = files c.read_programs.new.folder in
-    let unread = IsUnread g.F.Source.ByteSource.remaining g.F.Source.ByteSource.failed old in
+    let unread = IsUnread g.F.Source.ByteSource.remaining g.F.Source.ByteSource.failed old new in
     rw is (unprogrammed old new unread c.args.asked.now c.in_err-programs.field-0.0 sound c.in_err-programs.ensures.err c.in_err-programs.ensures.read)
 
 pub returns-in_err-programs-clause-files : goal.returns-in_err-programs-clause-files
@@ -29,7 +29,7 @@ returns-in-Ok-clause-exact g c =
     let files = g.F.Folder.files in
     let old = files c.args.folder.now in
     let new = files c.leave.new.folder in
-    let unread = IsUnread g.F.Source.ByteSource.remaining g.F.Source.ByteSource.failed old in
+    let unread = IsUnread g.F.Source.ByteSource.remaining g.F.Source.ByteSource.failed old new in
     let asked = c.args.asked.now in
     let set = c.in_ok-programs.programs in
     let sound : first_bad (config_of asked.limits) ≡ None = search rules in
@@ -43,8 +43,8 @@ returns-in-Ok-clause-exact g c =
     let many : c.len.result ≡ length set.programs = search rules in
     let same : c.log_format.result ≡ log_format set.format = search rules in
     let parts : c.slices.result ≡ asked.limits.slices = search rules in
-    let left = subst (λ (f : Files). OnOk c.leave.result (AreLeft c.log_format.result f new asked.out.now c.len.result (kept_log us) asked.statistics (numbers_of c.len.result c.slices.result us ss))) c.in_ok-programs.ensures.read c.leave.ensures.left in
-    let why = subst (λ (f : Files). IfErr c.leave.result (IsUnleft c.log_format.result f new asked.out.now c.len.result (kept_log us) asked.statistics)) c.in_ok-programs.ensures.read c.leave.ensures.err in
+    let left = subst (λ (f : Files). OnOk c.leave.result (AreLeft c.log_format.result f new asked.out.now c.len.result (kept_log us) asked.statistics (numbers_of c.len.result c.slices.result us ss))) c.in_ok-programs.ensures.quiet c.leave.ensures.left in
+    let why = subst (λ (f : Files). IfErr c.leave.result (IsUnleft c.log_format.result f new asked.out.now c.len.result (kept_log us) asked.statistics)) c.in_ok-programs.ensures.quiet c.leave.ensures.err in
     came old new unread asked set us sound read ss run events c.leave.result
     (rw (← many) c.leave.ensures.ok) (rw (← many, ← same, ← parts) left) (rw (← many, ← same) why)
 
@@ -53,7 +53,7 @@ returns-clause-exact g c =
     let files = g.F.Folder.files in
     let old = files c.args.folder.now in
     let new = files c.leave-left.new.folder in
-    let unread = IsUnread g.F.Source.ByteSource.remaining g.F.Source.ByteSource.failed old in
+    let unread = IsUnread g.F.Source.ByteSource.remaining g.F.Source.ByteSource.failed old new in
     let asked = c.args.asked.now in
     let set = c.in_ok-programs.programs in
     let sound : first_bad (config_of asked.limits) ≡ None = search rules in
@@ -67,7 +67,7 @@ returns-clause-exact g c =
     let many : c.len.result ≡ length set.programs = search rules in
     let same : c.log_format.result ≡ log_format set.format = search rules in
     let parts : c.slices.result ≡ asked.limits.slices = search rules in
-    let far = subst (λ (f : Files). AreLeftAsFar c.log_format.result f new asked.out.now c.len.result (kept_log us) asked.statistics (numbers_of c.len.result c.slices.result us ss)) c.in_ok-programs.ensures.read c.leave-left.ensures.far in
+    let far = subst (λ (f : Files). AreLeftAsFar c.log_format.result f new asked.out.now c.len.result (kept_log us) asked.statistics (numbers_of c.len.result c.slices.result us ss)) c.in_ok-programs.ensures.quiet c.leave-left.ensures.far in
     left old new unread asked set us sound read c.of.result ss are (rw (← many, ← same, ← parts) far)
 
 -- what was put after the reading was put in all
@@ -75,7 +75,7 @@ put_after : (old now : Files) (told : List ℕ → Option (List ℕ)) (IsPut : L
 put_after old now told IsPut as_it_was others = subst (λ (files : Files). KeepsFiles files.told told IsPut) as_it_was others
 
 pub returns-in-Ok-clause-files : goal.returns-in-Ok-clause-files
-returns-in-Ok-clause-files g c = put_after _ _ _ _ c.in_ok-programs.ensures.read c.leave.ensures.others
+returns-in-Ok-clause-files g c = put_after _ _ _ _ c.in_ok-programs.ensures.quiet c.leave.ensures.others
 
 pub returns-clause-files : goal.returns-clause-files
-returns-clause-files g c = put_after _ _ _ _ c.in_ok-programs.ensures.read c.leave-left.ensures.others
+returns-clause-files g c = put_after _ _ _ _ c.in_ok-programs.ensures.quiet c.leave-left.ensures.others

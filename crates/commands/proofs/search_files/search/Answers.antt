@@ -14,7 +14,7 @@ returns-in_err-read-clause-exact g c =
     let files = g.F.Folder.files in
     let old = files c.args.folder.now in
     let new = files c.read_files.new.folder in
-    let unread = IsUnread g.F.Source.ByteSource.remaining g.F.Source.ByteSource.failed old in
+    let unread = IsUnread g.F.Source.ByteSource.remaining g.F.Source.ByteSource.failed old new in
     let is : c.from_residual.result ≡ Err c.in_err-read.field-0.0 = search rules in
     rw is (traceless old new unread c.args.asked.now c.in_err-read.field-0.0 c.in_err-read.ensures.err c.in_err-read.ensures.read)
 
@@ -26,7 +26,7 @@ returns-in_err-proof-clause-exact g c =
     let files = g.F.Folder.files in
     let old = files c.args.folder.now in
     let new = files c.read_files.new.folder in
-    let unread = IsUnread g.F.Source.ByteSource.remaining g.F.Source.ByteSource.failed old in
+    let unread = IsUnread g.F.Source.ByteSource.remaining g.F.Source.ByteSource.failed old new in
     let is : c.from_residual-in_err-proof.result ≡ Err c.in_err-proof.field-0.0 = search rules in
     rw is (given_up old new unread c.args.asked.now c.in_ok-read.read.trace c.in_err-proof.field-0.0 c.in_ok-read.ensures.ok c.in_ok-read.ensures.quiet
     c.in_err-proof.ensures.err)
@@ -41,7 +41,7 @@ returns-in_err-put_proof-clause-exact g c =
     let files = g.F.Folder.files in
     let old = files c.args.folder.now in
     let new = files c.put_proof.new.folder in
-    let unread = IsUnread g.F.Source.ByteSource.remaining g.F.Source.ByteSource.failed old in
+    let unread = IsUnread g.F.Source.ByteSource.remaining g.F.Source.ByteSource.failed old new in
     let asked = c.args.asked.now in
     let is : c.from_residual-in_err-put_proof.result ≡ Err c.in_err-put_proof.field-0.0 = search rules in
     rw is (unput old new unread asked c.in_ok-read.read.trace c.in_ok-proof.proof c.in_err-put_proof.field-0.0 c.in_ok-read.ensures.ok c.in_ok-proof.ensures.proof
@@ -82,7 +82,7 @@ returns-clause-sound g c =
     let files = g.F.Folder.files in
     let old = files c.args.folder.now in
     let new = files c.put_proof.new.folder in
-    let unread = IsUnread g.F.Source.ByteSource.remaining g.F.Source.ByteSource.failed old in
+    let unread = IsUnread g.F.Source.ByteSource.remaining g.F.Source.ByteSource.failed old new in
     right old new unread c.args.asked.now (Ok c.answer-answer.result) (returns-clause-exact g c)
 
 pub returns-clause-own : goal.returns-clause-own

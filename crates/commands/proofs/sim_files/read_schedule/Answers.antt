@@ -20,5 +20,5 @@ returns-in_err-commands-clause-err g c =
     let files = g.F.Folder.files in
     let tells : Tells ((files c.args.folder.now).told c.in-Some.name.now) c.as_slice.result.now = search rules in
     let is : c.from_residual.result ≡ Err (from_schedule c.in_err-commands.field-0.0) = search rules in
-    rw (is, c.in-Some.is) (unscheduled (files c.args.folder.now).told (IsUnread g.F.Source.ByteSource.remaining g.F.Source.ByteSource.failed (files c.args.folder.now)) c.in-Some.name
+    rw (is, c.in-Some.is) (unscheduled (files c.args.folder.now).told (IsUnread g.F.Source.ByteSource.remaining g.F.Source.ByteSource.failed (files c.args.folder.now) (files c.read_text.new.folder)) c.in-Some.name
     c.args.cores c.as_slice.result.now c.in_err-commands.field-0.0 tells c.in_err-commands.ensures)

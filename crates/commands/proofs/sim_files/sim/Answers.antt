@@ -22,7 +22,7 @@ returns-in_err-programs-clause-exact g c =
     let files = g.F.Folder.files in
     let old = files c.args.folder.now in
     let new = files c.read_programs.new.folder in
-    let unread = IsUnread g.F.Source.ByteSource.remaining g.F.Source.ByteSource.failed old in
+    let unread = IsUnread g.F.Source.ByteSource.remaining g.F.Source.ByteSource.failed old new in
     rw is (unprogrammed old new unread c.args.asked.now c.in_err-programs.field-0.0 sound c.in_err-programs.ensures.err c.in_err-programs.ensures.read)
 
 pub returns-in_err-programs-clause-files : goal.returns-in_err-programs-clause-files
@@ -39,14 +39,14 @@ returns-in_err-commands-clause-exact g c =
     let sound : first_bad (config_of asked.limits) ≡ None = search rules in
     let read : AreProgramsIn old.told asked.programs.now set = search rules in
     let is : c.from_residual-in_err-commands.result ≡ Err c.in_err-commands.field-0.0 = search rules in
-    rw is (unscheduled g.F.Source.ByteSource.remaining g.F.Source.ByteSource.failed old now new asked set c.in_err-commands.field-0.0 sound read c.in_ok-programs.ensures.read (search rules)
-    (only_read_after _ _ _ c.in_ok-programs.ensures.read c.in_err-commands.ensures.read))
+    rw is (unscheduled g.F.Source.ByteSource.remaining g.F.Source.ByteSource.failed old now new asked set c.in_err-commands.field-0.0 sound read c.in_ok-programs.ensures.quiet (search rules)
+    (only_read_after _ _ _ c.in_ok-programs.ensures.quiet c.in_err-commands.ensures.read))
 
 pub returns-in_err-commands-clause-files : goal.returns-in_err-commands-clause-files
-returns-in_err-commands-clause-files g c = keeps_files _ _ _ (only_read_after _ _ _ c.in_ok-programs.ensures.read c.in_err-commands.ensures.read)
+returns-in_err-commands-clause-files g c = keeps_files _ _ _ (only_read_after _ _ _ c.in_ok-programs.ensures.quiet c.in_err-commands.ensures.read)
 
 pub returns-in_default-clause-files : goal.returns-in_default-clause-files
-returns-in_default-clause-files g c = keeps_files _ _ _ (only_read_after _ _ _ c.in_ok-programs.ensures.read c.in_ok-commands.ensures.read)
+returns-in_default-clause-files g c = keeps_files _ _ _ (only_read_after _ _ _ c.in_ok-programs.ensures.quiet c.in_ok-commands.ensures.read)
 
 pub returns-in_err-ended-clause-exact : goal.returns-in_err-ended-clause-exact
 returns-in_err-ended-clause-exact g c =
@@ -54,16 +54,16 @@ returns-in_err-ended-clause-exact g c =
     let old = files c.args.folder.now in
     let now = files c.read_schedule.new.folder in
     let new = files c.leave-left.new.folder in
-    let unread = IsUnread g.F.Source.ByteSource.remaining g.F.Source.ByteSource.failed old in
+    let unread = IsUnread g.F.Source.ByteSource.remaining g.F.Source.ByteSource.failed old new in
     let asked = c.args.asked.now in
     let set = c.in_ok-programs.programs in
     let commands = c.in_ok-commands.commands.items in
     let q = c.simulate-ended.new.machine in
-    let as_it_was : now ≡ old = c.in_ok-commands.ensures.read ∙ c.in_ok-programs.ensures.read in
+    let as_it_was : now ≡ old = c.in_ok-commands.ensures.quiet ∙ c.in_ok-programs.ensures.quiet in
     let sound : first_bad (config_of asked.limits) ≡ None = search rules in
     let read : AreProgramsIn old.told asked.programs.now set = search rules in
     let parsed : AreCommandsOf old.told asked.schedule (length set.programs) commands =
-    subst (λ (f : Files). AreCommandsOf f.told asked.schedule (length set.programs) commands) c.in_ok-programs.ensures.read (search rules) in
+    subst (λ (f : Files). AreCommandsOf f.told asked.schedule (length set.programs) commands) c.in_ok-programs.ensures.quiet (search rules) in
     let is : c.from_residual-in_err-ended.result ≡ Err (Simulation c.in_err-ended.field-0.0) = search rules in
     let fault : IsSimulationFault commands asked.seed (opening_parts set.programs (config_of asked.limits)) q c.in_err-ended.field-0.0 = search rules in
     let many : c.len-2.result ≡ length set.programs = search rules in
@@ -79,16 +79,16 @@ returns-clause-exact g c =
     let old = files c.args.folder.now in
     let now = files c.read_schedule.new.folder in
     let new = files c.leave-left.new.folder in
-    let unread = IsUnread g.F.Source.ByteSource.remaining g.F.Source.ByteSource.failed old in
+    let unread = IsUnread g.F.Source.ByteSource.remaining g.F.Source.ByteSource.failed old new in
     let asked = c.args.asked.now in
     let set = c.in_ok-programs.programs in
     let commands = c.in_ok-commands.commands.items in
     let q = c.simulate-ended.new.machine in
-    let as_it_was : now ≡ old = c.in_ok-commands.ensures.read ∙ c.in_ok-programs.ensures.read in
+    let as_it_was : now ≡ old = c.in_ok-commands.ensures.quiet ∙ c.in_ok-programs.ensures.quiet in
     let sound : first_bad (config_of asked.limits) ≡ None = search rules in
     let read : AreProgramsIn old.told asked.programs.now set = search rules in
     let parsed : AreCommandsOf old.told asked.schedule (length set.programs) commands =
-    subst (λ (f : Files). AreCommandsOf f.told asked.schedule (length set.programs) commands) c.in_ok-programs.ensures.read (search rules) in
+    subst (λ (f : Files). AreCommandsOf f.told asked.schedule (length set.programs) commands) c.in_ok-programs.ensures.quiet (search rules) in
     let simulated : IsSimulated commands asked.seed (opening_parts set.programs (config_of asked.limits)) q = search rules in
     let many : c.len-2.result ≡ length set.programs = search rules in
     let same : c.log_format.result ≡ log_format set.format = search rules in
@@ -104,7 +104,7 @@ put_after : (old now : Files) (told : List ℕ → Option (List ℕ)) (IsPut : L
 put_after old now told IsPut as_it_was others = subst (λ (files : Files). KeepsFiles files.told told IsPut) as_it_was others
 
 pub returns-in_err-ended-clause-files : goal.returns-in_err-ended-clause-files
-returns-in_err-ended-clause-files g c = put_after _ _ _ _ (c.in_ok-commands.ensures.read ∙ c.in_ok-programs.ensures.read) c.leave-left.ensures.others
+returns-in_err-ended-clause-files g c = put_after _ _ _ _ (c.in_ok-commands.ensures.quiet ∙ c.in_ok-programs.ensures.quiet) c.leave-left.ensures.others
 
 pub returns-clause-files : goal.returns-clause-files
-returns-clause-files g c = put_after _ _ _ _ (c.in_ok-commands.ensures.read ∙ c.in_ok-programs.ensures.read) c.leave-left.ensures.others
+returns-clause-files g c = put_after _ _ _ _ (c.in_ok-commands.ensures.quiet ∙ c.in_ok-programs.ensures.quiet) c.leave-left.ensures.others

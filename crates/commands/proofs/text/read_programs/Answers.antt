@@ -21,5 +21,5 @@ returns-in_err-parse-clause-err g c =
     let files = g.F.Folder.files in
     let tells : Tells ((files c.args.folder.now).told c.args.name.now) c.as_slice.result.now = search rules in
     let is : c.from_residual.result ≡ Err (from_program c.in_err-parse.field-0.0) = search rules in
-    rw is (unprogrammed (files c.args.folder.now).told (IsUnread g.F.Source.ByteSource.remaining g.F.Source.ByteSource.failed (files c.args.folder.now)) c.args.name.now
+    rw is (unprogrammed (files c.args.folder.now).told (IsUnread g.F.Source.ByteSource.remaining g.F.Source.ByteSource.failed (files c.args.folder.now) (files c.read_text.new.folder)) c.args.name.now
     c.as_slice.result.now c.in_err-parse.field-0.0 tells c.in_err-parse.ensures)

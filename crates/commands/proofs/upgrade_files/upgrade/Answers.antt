@@ -20,7 +20,7 @@ returns-in_err-check_counts-clause-exact g c =
     let old = g.F.Folder.files c.args.folder.now in
     let is : c.from_residual.result ≡ Err (from_judge c.in_err-check_counts.field-0.0) = search rules in
     let files : c.len.result ≡ vec_len c.args.asked.now.files = search rules in
-    rw is (not_counted old (IsUnread g.F.Source.ByteSource.remaining g.F.Source.ByteSource.failed old) c.args.asked.now c.len.result c.in_err-check_counts.field-0.0 files
+    rw is (not_counted old (IsUnread g.F.Source.ByteSource.remaining g.F.Source.ByteSource.failed old old) c.args.asked.now c.len.result c.in_err-check_counts.field-0.0 files
     (files_refused c.len.result c.in_err-check_counts.field-0.0 c.in_err-check_counts.ensures.ok c.in_err-check_counts.ensures.err c.in_err-check_counts.ensures.files c.in_err-check_counts.ensures.workers))
 
 pub returns-in_err-read-clause-exact : goal.returns-in_err-read-clause-exact
@@ -28,7 +28,7 @@ returns-in_err-read-clause-exact g c =
     let files = g.F.Folder.files in
     let old = files c.args.folder.now in
     let new = files c.read_log_files.new.folder in
-    let unread = IsUnread g.F.Source.ByteSource.remaining g.F.Source.ByteSource.failed old in
+    let unread = IsUnread g.F.Source.ByteSource.remaining g.F.Source.ByteSource.failed old new in
     let is : c.from_residual-in_err-read.result ≡ Err (from_judge c.in_err-read.field-0.0) = search rules in
     let range : IsInRange (vec_len c.args.asked.now.files) = search rules in
     rw is (not_read old new unread c.args.asked.now c.in_err-read.field-0.0 range
@@ -39,7 +39,7 @@ returns-in_err-read-clause-files g c name none =
     let files = g.F.Folder.files in
     let old = files c.args.folder.now in
     let new = files c.read_log_files.new.folder in
-    let unread = IsUnread g.F.Source.ByteSource.remaining g.F.Source.ByteSource.failed old in
+    let unread = IsUnread g.F.Source.ByteSource.remaining g.F.Source.ByteSource.failed old new in
     ap (λ (told : List ℕ → Option (List ℕ)). told name) (keeps_told old new (only_read old new unread c.as_slice.result.now c.in_err-read.field-0.0 c.in_err-read.ensures.err))
 
 -- the logs that were read are those that are written
@@ -58,9 +58,9 @@ returns-in_err-write_logs-clause-exact g c =
     let many : length c.as_slice-logs.result.now ≡ vec_len c.args.asked.now.files = search rules in
     let read = read_logs old.told _ _ _ _ c.as_slice.ensures.value (sym c.as_slice-logs.ensures.value) c.in_ok-read.ensures.ok in
     let unwritten = subst (λ (f : Files). IsUnwritten (ArePutUpTo Two f new c.args.asked.now.out.now (length c.as_slice-logs.result.now) (read_log_of c.as_slice-logs.result.now)) c.in_err-write_logs.field-0.0)
-    c.in_ok-read.ensures.read c.in_err-write_logs.ensures.err in
+    c.in_ok-read.ensures.quiet c.in_err-write_logs.ensures.err in
     let is : c.from_residual-in_err-write_logs.result ≡ Err c.in_err-write_logs.field-0.0 = search rules in
-    rw is (not_written old new (IsUnread g.F.Source.ByteSource.remaining g.F.Source.ByteSource.failed old) c.args.asked.now c.as_slice-logs.result.now (length c.as_slice-logs.result.now) many range read
+    rw is (not_written old new (IsUnread g.F.Source.ByteSource.remaining g.F.Source.ByteSource.failed old new) c.args.asked.now c.as_slice-logs.result.now (length c.as_slice-logs.result.now) many range read
     c.in_err-write_logs.field-0.0 unwritten)
 
 pub returns-clause-exact : goal.returns-clause-exact
@@ -71,14 +71,14 @@ returns-clause-exact g c =
     let range : IsInRange (vec_len c.args.asked.now.files) = search rules in
     let many : length c.as_slice-logs.result.now ≡ vec_len c.args.asked.now.files = search rules in
     let read = read_logs old.told _ _ _ _ c.as_slice.ensures.value (sym c.as_slice-logs.ensures.value) c.in_ok-read.ensures.ok in
-    let put = subst (λ (f : Files). ArePut Two f new c.args.asked.now.out.now (length c.as_slice-logs.result.now) (read_log_of c.as_slice-logs.result.now)) c.in_ok-read.ensures.read c.in_ok-write_logs.ensures.logs in
-    written old new (IsUnread g.F.Source.ByteSource.remaining g.F.Source.ByteSource.failed old) c.args.asked.now c.as_slice-logs.result.now (length c.as_slice-logs.result.now) many range read
+    let put = subst (λ (f : Files). ArePut Two f new c.args.asked.now.out.now (length c.as_slice-logs.result.now) (read_log_of c.as_slice-logs.result.now)) c.in_ok-read.ensures.quiet c.in_ok-write_logs.ensures.logs in
+    written old new (IsUnread g.F.Source.ByteSource.remaining g.F.Source.ByteSource.failed old new) c.args.asked.now c.as_slice-logs.result.now (length c.as_slice-logs.result.now) many range read
     c.in_ok-write_logs.field-0 c.in_ok-write_logs.ensures.ok put
 
 pub returns-in_err-write_logs-clause-files : goal.returns-in_err-write_logs-clause-files
 returns-in_err-write_logs-clause-files g c =
-    subst (λ (f : Files). KeepsOthers f.told (g.F.Folder.files c.write_logs.new.folder).told c.args.asked.now.out.now 64) c.in_ok-read.ensures.read c.in_err-write_logs.ensures.others
+    subst (λ (f : Files). KeepsOthers f.told (g.F.Folder.files c.write_logs.new.folder).told c.args.asked.now.out.now 64) c.in_ok-read.ensures.quiet c.in_err-write_logs.ensures.others
 
 pub returns-clause-files : goal.returns-clause-files
 returns-clause-files g c =
-    subst (λ (f : Files). KeepsOthers f.told (g.F.Folder.files c.write_logs.new.folder).told c.args.asked.now.out.now 64) c.in_ok-read.ensures.read c.in_ok-write_logs.ensures.others
+    subst (λ (f : Files). KeepsOthers f.told (g.F.Folder.files c.write_logs.new.folder).told c.args.asked.now.out.now 64) c.in_ok-read.ensures.quiet c.in_ok-write_logs.ensures.others

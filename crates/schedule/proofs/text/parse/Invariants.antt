@@ -1,10 +1,11 @@
 -- The commands so far are those of the lines before the rest.
 use Rattle.std.proofs.Common.{length}
-use Rattle.schedule.proofs.Texts.{SoFar}
+use Rattle.schedule.specs.Grammar.{command_text, Fits}
 use Rattle.schedule.proofs.text.parse.Given as goal
+use Rattle.text_lines.proofs.Items.{SoFar}
 
 abbrev pub invariant-loop-command : goal.invariant-loop-command
-invariant-loop-command l = SoFar l.cores l.text l.commands.items l.rest
+invariant-loop-command l = SoFar command_text (Fits l.cores) l.text l.commands.items l.rest
 
 abbrev pub decreases-loop-command : goal.decreases-loop-command
 decreases-loop-command l = length l.rest
