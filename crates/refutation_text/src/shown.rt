@@ -6,6 +6,24 @@ use refutation::{Point, Range};
 use std::fmt;
 use trace::{Access, Address, Trace};
 
+/// The greatest number that is shown in decimal alone.
+const MOST_DECIMAL: u64 = 9_999_999;
+
+/// A word or an address, in hexadecimal too where it is long.
+#[derive(Clone, Copy)]
+pub(crate) struct Number(pub(crate) u64);
+
+impl fmt::Display for Number {
+    fn fmt<W: fmt::Write>(&self, f: &mut fmt::Formatter<W>) -> fmt::Result {
+        let number = self.0;
+        if number <= MOST_DECIMAL {
+            write!(f, "{number}")
+        } else {
+            write!(f, "{number} (0x{number:x})")
+        }
+    }
+}
+
 /// A point: an operation by its id.
 #[derive(Clone, Copy)]
 pub(crate) struct Shown(pub(crate) Point);
@@ -76,7 +94,7 @@ impl<'a> fmt::Display for Addresses<'a> {
         }
         f.write_str(if count == 1 { "address " } else { "addresses " })?;
         for (place, addr) in self.0.iter().enumerate() {
-            write!(f, "{}{addr}", between(place, count, " and "))?;
+            write!(f, "{}{}", between(place, count, " and "), Number(*addr))?;
         }
         Ok(())
     }
@@ -88,11 +106,11 @@ pub(crate) struct Sought<'a>(pub(crate) &'a Option<Access>, pub(crate) Word);
 
 impl<'a> fmt::Display for Sought<'a> {
     fn fmt<W: fmt::Write>(&self, f: &mut fmt::Formatter<W>) -> fmt::Result {
-        let there = self.1;
         let Some(access) = self.0 else {
             return f.write_str("nothing");
         };
-        let (addr, read) = (access.addr(), access.read().unwrap_or(there));
+        let (addr, read) = (access.addr(), access.read().unwrap_or(self.1));
+        let (read, addr, there) = (Number(read), Number(addr), Number(self.1));
         write!(f, "a {read} at address {addr}, which has {there}")
     }
 }
@@ -106,13 +124,15 @@ impl<'a> fmt::Display for Did<'a> {
         let Some(access) = self.0 else {
             return f.write_str("did nothing");
         };
-        let (addr, left) = (access.addr(), access.word_left());
+        let (addr, left) = (Number(access.addr()), Number(access.word_left()));
         match access.read() {
             None => write!(f, "stored {left} to address {addr}"),
-            Some(read) if access.is_store_to(addr) => {
-                write!(f, "swapped {left} into address {addr} and loaded {read}")
-            }
-            Some(read) => write!(f, "loaded {read} from address {addr}"),
+            Some(read) if access.is_store_to(access.addr()) => write!(
+                f,
+                "swapped {left} into address {addr} and loaded {}",
+                Number(read)
+            ),
+            Some(read) => write!(f, "loaded {} from address {addr}", Number(read)),
         }
     }
 }
@@ -126,7 +146,7 @@ impl<'a> fmt::Display for Stored<'a> {
         let Some(access) = self.0 else {
             return f.write_str("did nothing");
         };
-        write!(f, "stored {} there", access.word_left())?;
+        write!(f, "stored {} there", Number(access.word_left()))?;
         f.write_str(if access.read().is_some() {
             " in a swap"
         } else {

@@ -17,6 +17,9 @@ use refutation::{Point, Range, Refutation, State, Step};
 use std::alloc::{AllocError, Global};
 use trace::{Access, Address, Trace};
 
+/// The most lines of an argument that are told.
+const MOST_LINES: usize = 100;
+
 /// A refutation of a trace as an argument: the line that says No, and then its steps, one after the other. The cases of a
 /// split stand under `either` and `or`, each to its end.
 pub fn tell(alloc: Global, trace: &Trace, refutation: &Refutation) -> Result<String, AllocError>
@@ -56,7 +59,24 @@ pub fn push_argument(
     ensures { OnOk result (IsGrown (string_bytes text.old) (string_bytes text.new)) }
 {
     let argument = argue(alloc, trace, refutation)?;
-    text.push_str(argument.as_str())
+    let beginning = beginning_of(alloc, argument.as_str())?;
+    text.push_str(beginning.as_str())
+}
+
+/// The first lines of an argument, and how many more there are.
+fn beginning_of(alloc: Global, argument: &str) -> Result<String, AllocError> {
+    let mut beginning = String::new(alloc);
+    for line in argument.lines().take(MOST_LINES) {
+        write!(beginning, "{line}\n")?;
+    }
+    let more = argument.lines().count().saturating_sub(MOST_LINES);
+    if more > 0 {
+        write!(
+            beginning,
+            "and {more} lines more; search --refutation OUT writes all steps\n"
+        )?;
+    }
+    Ok(beginning)
 }
 
 /// How many operations these cores have.
