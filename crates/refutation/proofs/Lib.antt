@@ -20,4 +20,3 @@ pub mod StepLines
 pub mod Times
 pub mod Timings
 pub mod Waitings
-pub mod Words

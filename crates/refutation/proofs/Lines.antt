@@ -1,5 +1,5 @@
 -- Lines of a text, one by one.
-use Rattle.std.proofs.Common.{◌≡◌, ◌≢◌, ℕ, suc, ◌<◌, ◌^◌, Bool, true, false, eqb, List, [], ◌∷◌, ◌++◌, length, Option, Some, None, refl, sym, ap, subst, ◌∙◌, arith, append_assoc, length-append}
+use Rattle.std.proofs.Common.{◌≡◌, ℕ, ◌<◌, ◌^◌, Bool, true, false, List, [], ◌∷◌, ◌++◌, Option, Some, None, refl, sym, ap, ◌∙◌, append_assoc}
 use Rattle.std.specs.Prelude.{codes, flat_map, if◌then◌else◌}
 use Rattle.std.proofs.lemmas.List.{append_cancel_left}
 use Rattle.decimal_text.specs.Numbers.{numeral, as_u64}
@@ -13,12 +13,14 @@ use Rattle.refutation.specs.declared.step.Point.TheVariants.{Init, At}
 use Rattle.refutation.specs.declared.step.Range.{Range}
 use Rattle.refutation.specs.declared.step.Step.{Step}
 use Rattle.refutation.specs.declared.step.Step.TheVariants.{Read, FromRead, WriteOrder, Cycle, States}
-use Rattle.refutation.specs.Grammar.{spaced, state_text, id_text, point_text, is_same_point, range_text, reason_text, fields_text, step_text, steps_text, header_line, end_line, Fits, EachFits}
-use Rattle.refutation.specs.Texts.{StepInFront, NoStepInFront}
-use Rattle.refutation.specs.inner.Lines.{IsOneLine}
+use Rattle.refutation.specs.Grammar.{state_text, id_text, point_text, is_same_point, range_text, reason_text, fields_text, step_text, steps_text, header_line, end_line, EachFits}
+use Rattle.refutation.specs.Texts.{NoStepInFront}
 use Rattle.refutation.specs.inner.Telling.{TellsLine}
 use Rattle.refutation.proofs.StateTexts.{states_no_lf}
-use Rattle.refutation.proofs.Words.{spaced_no_lf}
+use Rattle.text_lines.specs.Lines.{IsOneLine}
+use Rattle.text_lines.specs.Words.{spaced}
+use Rattle.text_lines.proofs.SpacedWords.{spaced_no_lf}
+use Rattle.text_lines.proofs.TextLines.{first_line}
 
 -- ---- no line feed
 
@@ -58,39 +60,10 @@ step_no_lf (States addresses set) = NoLf-append (codes "states") (fields_text (S
 
 -- ---- the first line
 
-no_lf_from : (xs : List ℕ) → IsOneLine xs → NoLf xs
-no_lf_from [] one = tt
-no_lf_from (x ∷ xs) one = (one 0 x (omega arith), no_lf_from xs (λ k d lt. one (suc k) d (omega arith)))
-
--- a line feed in a text without one
-no_feed : (xs line rest : List ℕ) → NoLf xs → xs ≡ line ++ 10 ∷ rest → ⊥
-no_feed [] [] rest none e = cc
-no_feed [] (b ∷ line) rest none e = cc
-no_feed (x ∷ xs) [] rest none e = let is : x ≡ 10 = cc in let wrong : eqb 10 10 ≡ false = subst (λ (b : ℕ). eqb b 10 ≡ false) is none.0 in cc
-no_feed (x ∷ xs) (b ∷ line) rest none e = no_feed xs line rest none.1 cc
-
-pub line_once : (l m xs ys : List ℕ) → NoLf l → NoLf m → l ++ 10 ∷ xs ≡ m ++ 10 ∷ ys → (l ≡ m) × (xs ≡ ys)
-line_once [] [] xs ys p q e = (refl, cc)
-line_once [] (b ∷ m) xs ys p q e = let is : b ≡ 10 = cc in let wrong : eqb 10 10 ≡ false = subst (λ (c : ℕ). eqb c 10 ≡ false) is q.0 in absurd cc
-line_once (b ∷ l) [] xs ys p q e = let is : b ≡ 10 = cc in let wrong : eqb 10 10 ≡ false = subst (λ (c : ℕ). eqb c 10 ≡ false) is p.0 in absurd cc
-line_once (b ∷ l) (c ∷ m) xs ys p q e =
-    let first : b ≡ c = cc in
-    let more = line_once l m xs ys p.1 q.1 cc in
-    let rest : l ≡ m = more.0 in
-    (cc, more.1)
-
--- none, where no line feed is there
-pub none_without_feed : (text : List ℕ) → IsOneLine text → NoStepInFront text
-none_without_feed text one = λ step rest there. no_feed text (step_text step) rest (no_lf_from text one) there.1
-
 -- none, where the first line isn't a step's
 pub none_of_other : (text line behind : List ℕ) → TellsLine line None → IsOneLine line → text ≡ line ++ 10 ∷ behind → NoStepInFront text
 none_of_other text line behind none one is = λ step rest there.
-    none step there.0 (line_once line (step_text step) behind rest (no_lf_from line one) (step_no_lf step) (sym is ∙ there.1)).0
-
--- the step whose line is the first
-pub first_of_line : (text line behind : List ℕ) (step : Step) → TellsLine line (Some step) → text ≡ line ++ 10 ∷ behind → StepInFront step text behind
-first_of_line text line behind step told is = (told.0, is ∙ ap (λ (l : List ℕ). l ++ 10 ∷ behind) told.1)
+    none step there.0 (first_line text line behind (step_text step) rest one (step_no_lf step) is there.1)
 
 -- ---- steps read so far
 
@@ -98,31 +71,6 @@ first_of_line text line behind step told is = (told.0, is ∙ ap (λ (l : List �
 pub record SoFar (text : List ℕ) (steps : List Step) (rest : List ℕ) : Type 0 where
   pub each_fits : EachFits steps
   pub text_is : text ≡ header_line ++ (steps_text steps ++ rest)
-
-each_fits_push : (steps : List Step) (step : Step) → EachFits steps → Fits step → EachFits (steps ++ step ∷ [])
-each_fits_push [] step all fits = (fits, tt)
-each_fits_push (s ∷ steps) step all fits = (all.0, each_fits_push steps step all.1 fits)
-
-pub text_cons : (step : Step) (steps : List Step) (rest : List ℕ) → steps_text (step ∷ steps) ++ rest ≡ step_text step ++ 10 ∷ (steps_text steps ++ rest)
-text_cons step steps rest =
-    append_assoc (step_text step ++ 10 ∷ []) (steps_text steps) rest ∙ append_assoc (step_text step) (10 ∷ []) (steps_text steps ++ rest)
-
-text_push : (steps : List Step) (step : Step) (behind : List ℕ) → steps_text (steps ++ step ∷ []) ++ behind ≡ steps_text steps ++ (step_text step ++ 10 ∷ behind)
-text_push [] step behind = text_cons step [] behind
-text_push (s ∷ steps) step behind =
-    text_cons s (steps ++ step ∷ []) behind
-    ∙ ap (λ (xs : List ℕ). step_text s ++ 10 ∷ xs) (text_push steps step behind)
-    ∙ sym (text_cons s steps (step_text step ++ 10 ∷ behind))
-
-pub one_more : (text : List ℕ) (steps : List Step) (step : Step) (rest behind : List ℕ) → SoFar text steps rest → StepInFront step rest behind → SoFar text (steps ++ step ∷ []) behind
-one_more text steps step rest behind far there = record {
-  each_fits = each_fits_push steps step far.each_fits there.0;
-  text_is = far.text_is ∙ ap (λ (xs : List ℕ). header_line ++ xs) (ap (λ (xs : List ℕ). steps_text steps ++ xs) there.1 ∙ sym (text_push steps step behind));
-}
-
--- a line is some bytes
-pub shorter : (step : Step) (rest behind : List ℕ) → StepInFront step rest behind → length behind < length rest
-shorter step rest behind there = omega (arith, ap length there.1, length-append (step_text step) (10 ∷ behind))
 
 -- ---- the last line
 
@@ -133,7 +81,3 @@ end_front rest behind more count front is read low end =
     let text : end_line count ++ more ≡ codes "end " ++ (numeral count ++ 10 ∷ more) = ap (λ (xs : List ℕ). codes "end " ++ xs) (append_assoc (numeral count) (10 ∷ []) more) in
     let same : behind ≡ numeral count ++ 10 ∷ more = append_cancel_left (codes "end ") behind (numeral count ++ 10 ∷ more) (sym is ∙ end ∙ text) in
     read ∙ ap (λ (xs : List ℕ). front_map as_u64 (field_at 10 xs)) same ∙ ap (front_map as_u64) (field_again 10 count more refl) ∙ ap (λ (n : Option ℕ). Some (n, more)) (sym (as_u64_some count low))
-
--- none, where the text isn't there
-pub end_none : (rest more : List ℕ) (count : ℕ) → ((behind : List ℕ) → rest ≢ codes "end " ++ behind) → rest ≡ end_line count ++ more → ⊥
-end_none rest more count none end = none ((numeral count ++ 10 ∷ []) ++ more) end

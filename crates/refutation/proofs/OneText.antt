@@ -1,40 +1,28 @@
 -- A text is that of one refutation, and has one first bad line.
-use Rattle.std.proofs.Common.{◌≡◌, ℕ, ◌<◌, ◌^◌, List, [], ◌∷◌, ◌++◌, length, Option, None, refl, sym, ap, subst, ◌∙◌, arith, inl, inr, append-nil}
+use Rattle.std.proofs.Common.{◌≡◌, ℕ, ◌<◌, ◌^◌, List, [], ◌∷◌, ◌++◌, length, refl, sym, ap, subst, ◌∙◌, arith, inl, inr, append-nil}
 use Rattle.std.specs.Prelude.{codes}
-use Rattle.std.specs.List.{AllByRecursion}
 use Rattle.std.proofs.lemmas.List.{append_cancel_left}
 use Rattle.decimal_text.specs.Numbers.{numeral}
-use Rattle.decimal_text.specs.Reading.{after}
 use Rattle.decimal_text.proofs.Reading.{some_is}
 use Rattle.mem_op.specs.declared.id.OpId.{OpId}
 use Rattle.refutation.specs.declared.fault.CertificateFault.{CertificateFault}
 use Rattle.refutation.specs.declared.fault.CertificateFault.TheVariants.{BadCertificate, OutOfMemory}
-use Rattle.refutation.specs.declared.step.Range.{Range}
 use Rattle.refutation.specs.declared.step.Step.{Step}
 use Rattle.refutation.specs.declared.step.Step.TheVariants.{Read, FromRead, WriteOrder, Cycle, States}
-use Rattle.refutation.specs.Grammar.{spaced, id_text, range_text, reason_text, name_text, fields_text, step_text, steps_text, header_line, end_line, IdFits, RangeFits, PathFits, Fits, EachFits}
+use Rattle.refutation.specs.Grammar.{id_text, range_text, reason_text, name_text, fields_text, step_text, steps_text, header_line, end_line, IdFits, PathFits, Fits}
 use Rattle.refutation.specs.Texts.{Spells, NoStepInFront, Begins, EndsBadly, IsFirstMisshapen, IsFault}
 use Rattle.refutation.specs.TextLaws.{SpelledIsRead, AtMostOneFault}
-use Rattle.refutation.specs.inner.Reading.{named_at, source_at, fact_at, range_at}
-use Rattle.refutation.proofs.Lines.{line_once, step_no_lf, text_cons}
-use Rattle.refutation.proofs.Parts.{named_again, source_again, facts_are_words, ranges_are_words}
+use Rattle.refutation.specs.inner.Reading.{named_at, source_at}
+use Rattle.refutation.proofs.Lines.{step_no_lf}
+use Rattle.refutation.proofs.Parts.{named_again, ranges_are_words}
 use Rattle.refutation.proofs.StateTexts.{set-once}
 use Rattle.refutation.proofs.StepLines.{first_of, name_of, name_first}
-use Rattle.refutation.proofs.Words.{HasWords, all_words}
+use Rattle.text_lines.specs.Words.{spaced}
+use Rattle.text_lines.proofs.Fields.{field_below_again}
+use Rattle.text_lines.proofs.Items.{AreLines, cut_once}
+use Rattle.text_lines.proofs.SpacedWords.{numbers_are_words, spaced_once}
 
 -- ---- a step's line is that of one step
-
-words-once : {A : Type 0} (word : A → List ℕ) (WordFits : A → Type 0) (read : List ℕ → Option (A × List ℕ)) → HasWords word WordFits read → read [] ≡ None → (xs ys : List A) → AllByRecursion WordFits xs → AllByRecursion WordFits ys → spaced word xs ≡ spaced word ys → xs ≡ ys
-words-once word WordFits read has none xs ys p q e =
-    (all_words word WordFits read has (spaced word xs) [] xs ys (record { each = p; text_is = sym (append-nil (spaced word xs)); ends = λ some. refl }) none q e).1
-
-path-once : (p q : List ℕ) → PathFits p → PathFits q → spaced numeral p ≡ spaced numeral q → p ≡ q
-unfolding fact_at after
-path-once p q f g e = words-once numeral (λ n. n < 2 ^ 64) fact_at facts_are_words refl p q f g e
-
-ranges-once : (p q : List Range) → AllByRecursion RangeFits p → AllByRecursion RangeFits q → spaced range_text p ≡ spaced range_text q → p ≡ q
-unfolding range_at after
-ranges-once p q f g e = words-once range_text RangeFits range_at ranges_are_words refl p q f g e
 
 named-once : (a b : OpId) (xs ys : List ℕ) → IdFits a → IdFits b → id_text a ++ (codes " :" ++ xs) ≡ id_text b ++ (codes " :" ++ ys) → (a ≡ b) × (xs ≡ ys)
 named-once a b xs ys p q e =
@@ -51,16 +39,16 @@ unfolding reason_text
 reason-once s t v w p q f g e =
     let xs = id_text v ++ (codes " :" ++ spaced numeral p) in
     let ys = id_text w ++ (codes " :" ++ spaced numeral q) in
-    let same : (s, xs) ≡ (t, ys) = some_is (s, xs) (t, ys) (sym (source_again s xs f.0) ∙ ap source_at e ∙ source_again t ys g.0) in
+    let same : (s, xs) ≡ (t, ys) = some_is (s, xs) (t, ys) (sym (field_below_again (2 ^ 64) s xs f.0) ∙ ap source_at e ∙ field_below_again (2 ^ 64) t ys g.0) in
     let rest = named-once v w (spaced numeral p) (spaced numeral q) f.1 g.1 (ap (λ (z : ℕ × List ℕ). z.1) same) in
-    record { source = ap (λ (z : ℕ × List ℕ). z.0) same; write = rest.0; path = path-once p q f.2 g.2 rest.1 }
+    record { source = ap (λ (z : ℕ × List ℕ). z.0) same; write = rest.0; path = spaced_once numbers_are_words p q f.2 g.2 rest.1 }
 
 fields-once : (a b : Step) → Fits a → Fits b → name_text a ≡ name_text b → fields_text a ≡ fields_text b → a ≡ b
 unfolding fields_text
 fields-once (Read read ranges) (Read read2 ranges2) p q name e =
     let same = named-once read read2 (spaced range_text ranges) (spaced range_text ranges2) p.0 q.0 e in
     let id : read ≡ read2 = same.0 in
-    let rest : ranges ≡ ranges2 = ranges-once ranges ranges2 p.1 q.1 same.1 in
+    let rest : ranges ≡ ranges2 = spaced_once ranges_are_words ranges ranges2 p.1 q.1 same.1 in
     λ i. Read (id i) (rest i)
 fields-once (FromRead source write path) (FromRead source2 write2 path2) p q name e =
     let same = reason-once source source2 write write2 path path2 p q e in
@@ -68,7 +56,7 @@ fields-once (FromRead source write path) (FromRead source2 write2 path2) p q nam
 fields-once (WriteOrder source write path) (WriteOrder source2 write2 path2) p q name e =
     let same = reason-once source source2 write write2 path path2 p q e in
     λ i. WriteOrder (same.source i) (same.write i) (same.path i)
-fields-once (Cycle path) (Cycle path2) p q name e = ap (λ (xs : List ℕ). Cycle xs) (path-once path path2 p q e)
+fields-once (Cycle path) (Cycle path2) p q name e = ap (λ (xs : List ℕ). Cycle xs) (spaced_once numbers_are_words path path2 p q e)
 fields-once (States addresses set) (States addresses2 set2) p q name e =
     let same = set-once addresses addresses2 set set2 p q e in
     λ i. States (same.0 i) (same.1 i)
@@ -79,18 +67,10 @@ step-once a b p q e =
     let name : name_text a ≡ name_text b = sym (name_first a (fields_text a)) ∙ ap (λ (xs : List ℕ). name_of (first_of xs)) e ∙ name_first b (fields_text b) in
     fields-once a b p q name (append_cancel_left (name_text a) (fields_text a) (fields_text b) (e ∙ ap (λ (xs : List ℕ). xs ++ fields_text b) (sym name)))
 
--- ---- all steps that come before bytes do so in one way
+-- ---- one text
 
-cut-once : (p q : List Step) (xs ys : List ℕ) → EachFits p → EachFits q → NoStepInFront xs → NoStepInFront ys → steps_text p ++ xs ≡ steps_text q ++ ys → (p ≡ q) × (xs ≡ ys)
-cut-once [] [] xs ys f g none-p none-q e = (refl, e)
-cut-once [] (d ∷ q) xs ys f g none-p none-q e = absurd (none-p d (steps_text q ++ ys) (g.0, e ∙ text_cons d q ys))
-cut-once (c ∷ p) [] xs ys f g none-p none-q e = absurd (none-q c (steps_text p ++ xs) (f.0, sym e ∙ text_cons c p xs))
-cut-once (c ∷ p) (d ∷ q) xs ys f g none-p none-q e =
-    let first = line_once (step_text c) (step_text d) (steps_text p ++ xs) (steps_text q ++ ys) (step_no_lf c) (step_no_lf d) (sym (text_cons c p xs) ∙ e ∙ text_cons d q ys) in
-    let same : c ≡ d = step-once c d f.0 g.0 first.0 in
-    let more = cut-once p q xs ys f.1 g.1 none-p none-q first.1 in
-    let rest : p ≡ q = more.0 in
-    (cc, more.1)
+step_lines : AreLines step_text Fits
+step_lines = record { no_lf = step_no_lf; once = step-once }
 
 -- the `end` line is no step's
 end-no_step : (count : ℕ) (more : List ℕ) → NoStepInFront (end_line count ++ more)
@@ -109,7 +89,7 @@ spelled-no_step steps = subst NoStepInFront (append-nil (end_line (length steps)
 -- what begins with the header does so in one way
 begun-once : (bytes : List ℕ) (p q : List Step) (xs ys : List ℕ) → Begins bytes p xs → Begins bytes q ys → (p ≡ q) × (xs ≡ ys)
 begun-once bytes p q xs ys a b =
-    cut-once p q xs ys a.each_fits b.each_fits a.none_in_front b.none_in_front (append_cancel_left header_line (steps_text p ++ xs) (steps_text q ++ ys) (sym a.text ∙ b.text))
+    cut_once step_lines p q xs ys a.each_fits b.each_fits a.none_in_front b.none_in_front (append_cancel_left header_line (steps_text p ++ xs) (steps_text q ++ ys) (sym a.text ∙ b.text))
 
 spelled-begun : (bytes : List ℕ) (steps : List Step) → Spells bytes steps → Begins bytes steps (end_line (length steps))
 spelled-begun bytes steps spells = record { each_fits = spells.0; text = spells.1; none_in_front = spelled-no_step steps }

@@ -1,11 +1,10 @@
 -- The parts of a step's line: what is read is the text that stands there, and that text is read again.
-use Rattle.std.proofs.Common.{◌≡◌, ℕ, ◌<◌, ◌^◌, Bool, true, false, if◌then◌else◌, List, [], ◌∷◌, ◌++◌, Option, Some, None, is_some, refl, sym, ap, subst, ◌∙◌, inl, inr, append_assoc, append-nil}
+use Rattle.std.proofs.Common.{◌≡◌, ℕ, Bool, true, false, if◌then◌else◌, List, [], ◌∷◌, ◌++◌, Option, Some, None, is_some, refl, sym, ap, subst, ◌∙◌, inl, inr, append_assoc, append-nil}
 use Rattle.std.specs.Prelude.{codes}
-use Rattle.std.proofs.lemmas.Bool.{cases_Bool, cases_eq, cond_below, cond-true, cond-false, ltb-true, ne_eqb, and_parts, eqb-true, eq-eqb}
-use Rattle.std.proofs.Math.Dec.{ltb}
+use Rattle.std.proofs.lemmas.Bool.{cases_Bool, cases_eq, cond-true, cond-false, ne_eqb, and_parts, eqb-true, eq-eqb}
 use Rattle.decimal_text.specs.Numbers.{numeral}
 use Rattle.decimal_text.specs.Reading.{◌>>=◌, after, field_at, number_at, is_digit}
-use Rattle.decimal_text.proofs.Numbers.{AreDigits, NoDigit, guard_some, after_takes, after_again, number_takes, number_again, numeral_digits, numeral_some}
+use Rattle.decimal_text.proofs.Numbers.{AreDigits, NoDigit, after_takes, after_again, number_takes, number_again, numeral_digits, numeral_some}
 use Rattle.decimal_text.proofs.Reading.{bind_some, some_is, field_takes, field_again}
 use Rattle.mem_op.specs.declared.id.OpId.{OpId}
 use Rattle.mem_op.specs.Limits.{operation_limit}
@@ -13,18 +12,11 @@ use Rattle.refutation.specs.declared.step.Point.{Point}
 use Rattle.refutation.specs.declared.step.Point.TheVariants.{Init, At}
 use Rattle.refutation.specs.declared.step.Range.{Range}
 use Rattle.refutation.specs.Grammar.{id_text, point_text, is_same_point, range_text, IdFits, PointFits, RangeFits}
-use Rattle.refutation.specs.inner.Reading.{ends_word, at_end, below, id_at, as_point, point_at, last_at, range_at, fact_at, named_at, source_at}
-use Rattle.refutation.proofs.Words.{at_end_is, ends_no_digit, HasWords}
-
--- ---- numbers in range
-
-below_is : (limit n m : ℕ) → below limit n ≡ Some m → (n ≡ m) × (m < limit)
-below_is limit n m e =
-    let g = guard_some (ltb n limit) n m e in
-    (g.1, subst (λ (k : ℕ). k < limit) g.1 (ltb-true n limit g.0))
-
-below_again : (limit n : ℕ) → n < limit → below limit n ≡ Some n
-below_again limit n lt = sym (cond_below n limit (Some n) None lt)
+use Rattle.refutation.specs.inner.Reading.{id_at, as_point, point_at, last_at, range_at, named_at}
+use Rattle.text_lines.specs.Fields.{below}
+use Rattle.text_lines.specs.Words.{at_end, ends_word}
+use Rattle.text_lines.proofs.Fields.{below_again, below_is}
+use Rattle.text_lines.proofs.SpacedWords.{HasWords, at_end_is, ends_no_digit}
 
 -- ---- ids
 
@@ -215,28 +207,6 @@ range_again range rest fits ends = go (is_same_point range.first range.last) ref
 pub ranges_are_words : HasWords range_text RangeFits range_at
 ranges_are_words = record { takes = λ bytes x rest e. range_takes bytes (x, rest) e; again = range_again }
 
--- ---- the numbers of facts
-
-fact_takes : (bytes : List ℕ) (x : ℕ × List ℕ) → fact_at bytes ≡ Some x → (x.0 < 2 ^ 64) × (bytes ≡ 32 ∷ (numeral x.0 ++ x.1)) × (ends_word x.1 ≡ true)
-unfolding fact_at
-fact_takes bytes x e =
-    let n = bind_some (after (codes " ") bytes >>= number_at) _ x e in
-    let space = bind_some (after (codes " ") bytes) number_at n.0 n.1 in
-    let number = bind_some (below (2 ^ 64) n.0.0) _ x n.2 in
-    let g = below_is (2 ^ 64) n.0.0 number.0 number.1 in
-    let end = at_end_is number.0 n.0.1 x number.2 in
-    let text : bytes ≡ 32 ∷ (numeral number.0 ++ n.0.1) =
-    after_takes (codes " ") bytes space.0 space.1 ∙ ap (λ (r : List ℕ). 32 ∷ r) (number_takes space.0 n.0 space.2) ∙ ap (λ (k : ℕ). 32 ∷ (numeral k ++ n.0.1)) g.0 in
-    subst (λ (y : ℕ × List ℕ). (y.0 < 2 ^ 64) × (bytes ≡ 32 ∷ (numeral y.0 ++ y.1)) × (ends_word y.1 ≡ true)) end.0 (g.1, text, end.1)
-
-fact_again : (n : ℕ) (rest : List ℕ) → n < 2 ^ 64 → ends_word rest ≡ true → fact_at (32 ∷ (numeral n ++ rest)) ≡ Some (n, rest)
-unfolding fact_at
-fact_again n rest lt ends =
-    rw (after_again (codes " ") (numeral n ++ rest), number_again n rest (ends_no_digit rest ends), below_again (2 ^ 64) n lt, ends) refl
-
-pub facts_are_words : HasWords numeral (λ n. n < 2 ^ 64) fact_at
-facts_are_words = record { takes = λ bytes x rest e. fact_takes bytes (x, rest) e; again = fact_again }
-
 -- ---- what comes before a list
 
 pub named_takes : (bytes : List ℕ) (x : OpId × List ℕ) → named_at bytes ≡ Some x → IdFits x.0 × (bytes ≡ id_text x.0 ++ (codes " :" ++ x.1))
@@ -251,16 +221,3 @@ named_takes bytes x e =
 pub named_again : (id : OpId) (rest : List ℕ) → IdFits id → named_at (id_text id ++ (codes " :" ++ rest)) ≡ Some (id, rest)
 unfolding named_at
 named_again id rest fits = rw (id_again id (codes " :" ++ rest) fits refl, after_again (codes " :") rest) refl
-
-pub source_takes : (bytes : List ℕ) (x : ℕ × List ℕ) → source_at bytes ≡ Some x → (x.0 < 2 ^ 64) × (bytes ≡ numeral x.0 ++ 32 ∷ x.1)
-unfolding source_at
-source_takes bytes x e =
-    let n = bind_some (field_at 32 bytes) _ x e in
-    let number = bind_some (below (2 ^ 64) n.0.0) _ x n.2 in
-    let g = below_is (2 ^ 64) n.0.0 number.0 number.1 in
-    let text : bytes ≡ numeral number.0 ++ 32 ∷ n.0.1 = field_takes 32 bytes n.0 n.1 ∙ ap (λ (k : ℕ). numeral k ++ 32 ∷ n.0.1) g.0 in
-    subst (λ (y : ℕ × List ℕ). (y.0 < 2 ^ 64) × (bytes ≡ numeral y.0 ++ 32 ∷ y.1)) {x = (number.0, n.0.1)} (some_is (number.0, n.0.1) x number.2) (g.1, text)
-
-pub source_again : (n : ℕ) (rest : List ℕ) → n < 2 ^ 64 → source_at (numeral n ++ 32 ∷ rest) ≡ Some (n, rest)
-unfolding source_at
-source_again n rest lt = rw (field_again 32 n rest refl, below_again (2 ^ 64) n lt) refl

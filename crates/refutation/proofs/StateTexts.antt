@@ -1,36 +1,34 @@
 -- The text of a set of states is that of no other.
-use Rattle.std.proofs.Common.{◌≡◌, ◌≢◌, ℕ, ◌<◌, true, List, [], ◌∷◌, ◌++◌, length, Some, None, refl, sym, ap, subst, ◌∙◌, arith, append_assoc, append-nil, length-append}
+use Rattle.std.proofs.Common.{◌≡◌, ◌≢◌, ℕ, ◌<◌, true, List, [], ◌∷◌, ◌++◌, length, None, refl, sym, ap, subst, ◌∙◌, arith, append_assoc, append-nil, length-append}
 use Rattle.std.specs.Prelude.{codes, flat_map}
 use Rattle.std.specs.List.{AllByRecursion}
 use Rattle.std.proofs.lemmas.List.{append_cancel_left}
 use Rattle.decimal_text.specs.Numbers.{numeral}
 use Rattle.decimal_text.specs.Reading.{after, number_at}
 use Rattle.decimal_text.proofs.Lines.{NoLf, NoLf-append, numeral_no_lf, const_no_lf}
-use Rattle.decimal_text.proofs.Reading.{some_is}
 use Rattle.refutation.specs.declared.state.State.{State}
 use Rattle.refutation.specs.declared.state.State.TheVariants.{Open, Dead}
-use Rattle.refutation.specs.Grammar.{spaced, state_text, PathFits, StateFits}
-use Rattle.refutation.specs.inner.Reading.{ends_word, fact_at}
+use Rattle.refutation.specs.Grammar.{state_text, PathFits, StateFits}
 use Rattle.refutation.specs.inner.StateLines.{NumbersInFront, BothInFront, NoneInFront, StateInFront, NoStateInFront}
-use Rattle.refutation.proofs.Parts.{facts_are_words}
-use Rattle.refutation.proofs.Words.{spaced_no_lf}
+use Rattle.text_lines.specs.Words.{ends_word, spaced, spaced_number}
+use Rattle.text_lines.proofs.SpacedWords.{numbers_are_words, spaced_no_lf, words_once}
 
 -- ---- numbers in front
 
 -- no number is read there, and no word goes on
 abbrev pub Stops : List ℕ → Type 0
-Stops rest = (fact_at rest ≡ None) × (ends_word rest ≡ true)
+Stops rest = (spaced_number rest ≡ None) × (ends_word rest ≡ true)
 
 stops-colon : (rest : List ℕ) → Stops (codes " :" ++ rest)
-unfolding fact_at after number_at
+unfolding spaced_number after number_at
 stops-colon rest = (refl, refl)
 
 stops-nil : Stops []
-unfolding fact_at after
+unfolding spaced_number after
 stops-nil = (refl, refl)
 
 pub stops-states : (states : List State) (rest : List ℕ) → Stops rest → Stops (flat_map state_text states ++ rest)
-unfolding fact_at after number_at state_text
+unfolding spaced_number after number_at state_text
 stops-states [] rest stops = stops
 stops-states (Open next words ∷ states) rest stops = (refl, refl)
 stops-states (Dead next words limits ∷ states) rest stops = (refl, refl)
@@ -38,29 +36,11 @@ stops-states (Dead next words limits ∷ states) rest stops = (refl, refl)
 -- a list of numbers, and what comes after it
 record IsFront (numbers rest : List ℕ) : Type 0 where
   each : PathFits numbers
-  none : fact_at rest ≡ None
+  none : spaced_number rest ≡ None
   ends : numbers ≢ [] → ends_word rest ≡ true
 
-ended : (x : ℕ) (xs rest : List ℕ) → IsFront (x ∷ xs) rest → ends_word (spaced numeral xs ++ rest) ≡ true
-ended x [] rest front = front.ends (λ e. cc)
-ended x (y ∷ xs) rest front = refl
-
-front-tail : (x : ℕ) (xs rest : List ℕ) → IsFront (x ∷ xs) rest → IsFront xs rest
-front-tail x xs rest front = record { each = front.each.1; none = front.none; ends = λ some. front.ends (λ e. cc) }
-
-first-number : (x : ℕ) (xs rest : List ℕ) → IsFront (x ∷ xs) rest → fact_at (spaced numeral (x ∷ xs) ++ rest) ≡ Some (x, spaced numeral xs ++ rest)
-first-number x xs rest front = ap fact_at (append_assoc (32 ∷ numeral x) (spaced numeral xs) rest) ∙ facts_are_words.again x (spaced numeral xs ++ rest) front.each.0 (ended x xs rest front)
-
 numbers-once : (xs ys rest more : List ℕ) → IsFront xs rest → IsFront ys more → spaced numeral xs ++ rest ≡ spaced numeral ys ++ more → (xs ≡ ys) × (rest ≡ more)
-numbers-once [] [] rest more p q e = (refl, e)
-numbers-once [] (y ∷ ys) rest more p q e = absurd (let f : None ≡ Some (y, spaced numeral ys ++ more) = sym p.none ∙ ap fact_at e ∙ first-number y ys more q in cc)
-numbers-once (x ∷ xs) [] rest more p q e = absurd (let f : None ≡ Some (x, spaced numeral xs ++ rest) = sym q.none ∙ ap fact_at (sym e) ∙ first-number x xs rest p in cc)
-numbers-once (x ∷ xs) (y ∷ ys) rest more p q e =
-    let same : (x, spaced numeral xs ++ rest) ≡ (y, spaced numeral ys ++ more) = some_is _ _ (sym (first-number x xs rest p) ∙ ap fact_at e ∙ first-number y ys more q) in
-    let x-is : x ≡ y = ap (λ (z : ℕ × List ℕ). z.0) same in
-    let later = numbers-once xs ys rest more (front-tail x xs rest p) (front-tail y ys more q) (ap (λ (z : ℕ × List ℕ). z.1) same) in
-    let xs-is : xs ≡ ys = later.0 in
-    (cc, later.1)
+numbers-once xs ys rest more p q e = words_once numbers_are_words xs ys rest more p.each q.each p.ends q.ends p.none q.none e
 
 as-front : (bytes numbers rest : List ℕ) → NumbersInFront bytes numbers rest → IsFront numbers rest
 as-front bytes numbers rest front = record { each = front.each; none = front.none; ends = front.ends }
@@ -217,7 +197,7 @@ state-once bytes (Dead n v l) (Dead m w k) rest more a b =
 pub record StatesSoFar (text : List ℕ) (states : List State) (rest : List ℕ) : Type 0 where
   pub each : AllByRecursion StateFits states
   pub text_is : text ≡ flat_map state_text states ++ rest
-  pub none : fact_at rest ≡ None
+  pub none : spaced_number rest ≡ None
   pub ends : states ≢ [] → ends_word rest ≡ true
 
 state-bytes : (state : State) → 0 < length (state_text state)
@@ -229,7 +209,7 @@ pub state_shorter : (state : State) (rest behind : List ℕ) → StateInFront st
 state_shorter state rest behind there = omega (arith, ap length there.text, length-append (state_text state) behind, state-bytes state)
 
 -- where no state is in front, the states so far are those of a text of states, and the bytes are at their end
-states-once : (xs ys : List State) (rest : List ℕ) → AllByRecursion StateFits xs → AllByRecursion StateFits ys → (xs ≢ [] → ends_word rest ≡ true) → fact_at rest ≡ None → NoStateInFront rest
+states-once : (xs ys : List State) (rest : List ℕ) → AllByRecursion StateFits xs → AllByRecursion StateFits ys → (xs ≢ [] → ends_word rest ≡ true) → spaced_number rest ≡ None → NoStateInFront rest
     → flat_map state_text xs ++ rest ≡ flat_map state_text ys → (xs ≡ ys) × (rest ≡ [])
 states-once [] [] rest p q ends none last e = (refl, e)
 states-once [] (y ∷ ys) rest p q ends none last e =

@@ -9,12 +9,14 @@ use Rattle.refutation.specs.declared.step.Range.{Range}
 use Rattle.refutation.specs.declared.state.State.{State}
 use Rattle.refutation.specs.declared.step.Step.{Step}
 use Rattle.refutation.specs.declared.step.Step.TheVariants.{Read, FromRead, WriteOrder, Cycle, States}
-use Rattle.refutation.specs.Grammar.{spaced, state_text, id_text, range_text, reason_text, name_text, fields_text, RangeFits, Fits}
+use Rattle.refutation.specs.Grammar.{state_text, id_text, range_text, reason_text, name_text, fields_text, RangeFits, Fits}
 use Rattle.refutation.specs.inner.Reading.{named_at, source_at}
 use Rattle.refutation.specs.inner.StateLines.{NumbersInFront, NoStateInFront}
 use Rattle.refutation.specs.inner.Telling.{TellsWords, TellsReason, TellsStep, TellsLine}
-use Rattle.refutation.proofs.Parts.{named_takes, named_again, source_takes, source_again}
+use Rattle.refutation.proofs.Parts.{named_takes, named_again}
 use Rattle.refutation.proofs.StateTexts.{StatesSoFar, set-whole}
+use Rattle.text_lines.specs.Words.{spaced}
+use Rattle.text_lines.proofs.Fields.{field_below_again, field_below_takes}
 
 -- ---- what is read once
 
@@ -92,7 +94,7 @@ pub reason-no_source : (bytes : List ℕ) → source_at bytes ≡ None → Tells
 unfolding reason_text
 reason-no_source bytes none source write path low fits each is =
     no_some (source_at bytes) (source, id_text write ++ (codes " :" ++ spaced numeral path)) none
-    (ap source_at is ∙ source_again source (id_text write ++ (codes " :" ++ spaced numeral path)) low)
+    (ap source_at is ∙ field_below_again (2 ^ 64) source (id_text write ++ (codes " :" ++ spaced numeral path)) low)
 
 -- what comes after the number
 behind_source : (bytes rest : List ℕ) (found source : ℕ) (write : OpId) (path : List ℕ) → source_at bytes ≡ Some (found, rest) → source < 2 ^ 64 → bytes ≡ reason_text source write path
@@ -100,7 +102,7 @@ behind_source : (bytes rest : List ℕ) (found source : ℕ) (write : OpId) (pat
 unfolding reason_text
 behind_source bytes rest found source write path e low is =
     one_rest (source_at bytes) found source rest (id_text write ++ (codes " :" ++ spaced numeral path)) e
-    (ap source_at is ∙ source_again source (id_text write ++ (codes " :" ++ spaced numeral path)) low)
+    (ap source_at is ∙ field_below_again (2 ^ 64) source (id_text write ++ (codes " :" ++ spaced numeral path)) low)
 
 pub reason-no_write : (bytes rest : List ℕ) (found : ℕ) → source_at bytes ≡ Some (found, rest) → named_at rest ≡ None → TellsReason bytes None
 reason-no_write bytes rest found e none source write path low fits each is =
@@ -111,9 +113,9 @@ pub reason-told : (bytes rest words : List ℕ) (source : ℕ) (write : OpId) (f
     → TellsReason bytes (option_map (λ path. record { source = source; write = write; path = path }) found)
 unfolding reason_text
 reason-told bytes rest words source write (Some path) told e f =
-    let s = source_takes bytes (source, rest) e in
+    let s = field_below_takes (2 ^ 64) bytes (source, rest) e in
     let w = named_takes rest (write, words) f in
-    (s.0, w.0, told.0, s.1 ∙ ap (λ (x : List ℕ). numeral source ++ 32 ∷ x) (w.1 ∙ ap (λ (x : List ℕ). id_text write ++ (codes " :" ++ x)) told.1))
+    (s.1, w.0, told.0, s.0 ∙ ap (λ (x : List ℕ). numeral source ++ 32 ∷ x) (w.1 ∙ ap (λ (x : List ℕ). id_text write ++ (codes " :" ++ x)) told.1))
 reason-told bytes rest words source write None told e f = λ other id path low fits each is.
     let behind = behind_source bytes rest source other id path e low is in
     told path each (one_rest (named_at rest) write id words (spaced numeral path) f (ap named_at behind ∙ named_again id (spaced numeral path) fits))

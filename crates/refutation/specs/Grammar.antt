@@ -12,12 +12,10 @@ use Rattle.refutation.specs.declared.state.State.{State}
 use Rattle.refutation.specs.declared.state.State.TheVariants.{Open, Dead}
 use Rattle.refutation.specs.declared.step.Step.{Step}
 use Rattle.refutation.specs.declared.step.Step.TheVariants.{Read, FromRead, WriteOrder, Cycle, States}
+use Rattle.text_lines.specs.Items.{lines_of}
+use Rattle.text_lines.specs.Words.{spaced}
 
 -- ---- the texts
-
--- words, each with a space before it
-abbrev pub spaced : {A : Type 0} → (A → List ℕ) → List A → List ℕ
-spaced word xs = flat_map (λ x. 32 ∷ word x) xs
 
 -- the core and the index, as `1.0`
 unfoldable pub id_text : OpId → List ℕ
@@ -70,7 +68,7 @@ step_text step = name_text step ++ fields_text step
 
 -- the lines of steps
 abbrev pub steps_text : List Step → List ℕ
-steps_text steps = flat_map (λ step. step_text step ++ 10 ∷ []) steps
+steps_text steps = lines_of step_text steps
 
 abbrev pub header_line : List ℕ
 header_line = codes "tardis-refutation 1" ++ 10 ∷ []

@@ -1,11 +1,12 @@
 -- What the bytes of a refutation say, and where they go wrong.
-use Rattle.std.specs.Prelude.{◌≡◌, ◌≢◌, ℕ, ◌+◌, ◌⊎◌, List, [], ◌∷◌, ◌++◌, length}
+use Rattle.std.specs.Prelude.{◌≡◌, ◌≢◌, ℕ, ◌+◌, ◌⊎◌, List, [], ◌++◌, length}
 use Rattle.mem_op.specs.Consistency.{Operation}
 use Rattle.refutation.specs.declared.fault.CertificateFault.{CertificateFault}
 use Rattle.refutation.specs.declared.fault.CertificateFault.TheVariants.{BadCertificate, OutOfMemory}
 use Rattle.refutation.specs.declared.step.Step.{Step}
 use Rattle.refutation.specs.Grammar.{header_line, step_text, steps_text, end_line, refutation_text, Fits, EachFits}
 use Rattle.refutation.specs.Refuting.{IsRefutation, IsFirstWrong}
+use Rattle.text_lines.specs.Items.{ItemInFront, NoItemInFront}
 
 -- the bytes are the text of these steps
 abbrev pub Spells : List ℕ → List Step → Type 0
@@ -13,11 +14,11 @@ Spells bytes steps = EachFits steps × (bytes ≡ refutation_text steps)
 
 -- the bytes begin with a step's line, and these come after it
 abbrev pub StepInFront : Step → List ℕ → List ℕ → Type 0
-StepInFront step bytes rest = Fits step × (bytes ≡ step_text step ++ 10 ∷ rest)
+StepInFront step bytes rest = ItemInFront step_text Fits step bytes rest
 
 -- the bytes don't begin with a step's line
 abbrev pub NoStepInFront : List ℕ → Type 0
-NoStepInFront bytes = (step : Step) (rest : List ℕ) → StepInFront step bytes rest → ⊥
+NoStepInFront bytes = NoItemInFront step_text Fits bytes
 
 -- the bytes begin with the header and the lines of these steps, and what comes after them with no step's line
 pub record Begins (bytes : List ℕ) (steps : List Step) (rest : List ℕ) : Type 0 where

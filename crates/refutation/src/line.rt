@@ -5,12 +5,13 @@ ghost use Rattle.decimal_text.specs.Numbers.{numeral};
 ghost use Rattle.refutation.specs.Grammar.{range_text, RangeFits};
 ghost use Rattle.refutation.specs.inner.Telling.{TellsWords, TellsReason, TellsStep, TellsLine};
 
-use super::reading::{fact, named, range, source};
+use super::reading::{named, range, source};
 use super::state_line::read_states;
 use super::step::{Path, Ranges, Step};
 use decimal_text::after_text;
 use mem_op::OpId;
 use std::alloc::{AllocError, Global};
+use text_lines::read_spaced;
 
 /// The ranges that the bytes are, each with a space before it; None where they aren't such.
 fn read_ranges(alloc: Global, bytes: &[u8]) -> Result<Option<Ranges>, AllocError>
@@ -35,7 +36,7 @@ fn read_path(alloc: Global, bytes: &[u8]) -> Result<Option<Path>, AllocError>
 {
     let mut facts = Vec::new(alloc);
     let mut rest = bytes;
-    while let Some((number, behind)) = fact(rest) {
+    while let Some((number, behind)) = read_spaced(rest) {
         facts.push(number as usize)?;
         rest = behind;
     }

@@ -2,7 +2,8 @@
 
 ghost use Rattle.std.specs.Prelude.{◌≡◌, ◌++◌, ◌∷◌, [], IfOk, OnOk, Some, flat_map, length, string_bytes};
 ghost use Rattle.decimal_text.specs.Numbers.{numeral};
-ghost use Rattle.refutation.specs.Grammar.{end_line, point_text, range_text, reason_text, refutation_text, spaced, state_text, step_text};
+ghost use Rattle.refutation.specs.Grammar.{end_line, point_text, range_text, reason_text, refutation_text, state_text, step_text};
+ghost use Rattle.text_lines.specs.Words.{spaced};
 
 use super::reading::is_same;
 use super::state::{Numbers, State};

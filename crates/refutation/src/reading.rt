@@ -3,18 +3,12 @@
 ghost use Rattle.std.specs.Prelude.{◌≡◌, ◌^◌};
 ghost use Rattle.decimal_text.specs.Reading.{front_now};
 ghost use Rattle.refutation.specs.Grammar.{is_same_point};
-ghost use Rattle.refutation.specs.inner.Reading.{ends_word, at_end, id_at, point_at, last_at, range_at, fact_at, named_at, source_at};
+ghost use Rattle.refutation.specs.inner.Reading.{id_at, point_at, last_at, range_at, named_at, source_at};
 
 use super::step::{Point, Range};
 use decimal_text::{after_text, read_field, read_number};
 use mem_op::{CoreId, OpId, OpIndex};
-
-/// Whether no word goes on with these bytes.
-pub(crate) fn ends_word(bytes: &[u8]) -> bool
-    ensures { result ≡ ends_word bytes.now }
-{
-    matches!(bytes, [] | [b' ', ..])
-}
+use text_lines::ends_word;
 
 /// An id, and the bytes after it.
 #[tactic(auto, unfolding(crate::specs::inner::Reading::id_at))]
@@ -82,16 +76,6 @@ pub(crate) fn range(bytes: &[u8]) -> Option<(Range, &[u8])>
     ends_word(rest).then_some((Range { first, last }, rest))
 }
 
-/// A space and then the number of a fact, and the bytes after them.
-#[tactic(auto, unfolding(crate::specs::inner::Reading::fact_at))]
-pub(crate) fn fact(bytes: &[u8]) -> Option<(u64, &[u8])>
-    ensures { front_now result ≡ fact_at bytes.now }
-{
-    let (number, rest) = read_number(after_text(b" ", bytes)?)?;
-    let number = number?;
-    ends_word(rest).then_some((number, rest))
-}
-
 /// An id with ` :` after it, and the bytes after them.
 #[tactic(auto, unfolding(crate::specs::inner::Reading::named_at))]
 pub(crate) fn named(bytes: &[u8]) -> Option<(OpId, &[u8])>
@@ -104,7 +88,7 @@ pub(crate) fn named(bytes: &[u8]) -> Option<(OpId, &[u8])>
 }
 
 /// The number of a fact with a space after it, and the bytes after them.
-#[tactic(auto, unfolding(crate::specs::inner::Reading::source_at))]
+#[tactic(auto, unfolding(text_lines::specs::Fields::field_below))]
 pub(crate) fn source(bytes: &[u8]) -> Option<(u64, &[u8])>
     ensures { front_now result ≡ source_at bytes.now }
 {

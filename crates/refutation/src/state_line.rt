@@ -5,11 +5,11 @@ ghost use Rattle.refutation.specs.declared.state.State.{State};
 ghost use Rattle.refutation.specs.inner.StateLines.{NumbersInFront, BothInFront, NoneInFront, StateInFront, NoStateInFront};
 ghost use Rattle.refutation.specs.inner.Telling.{TellsStep};
 
-use super::reading::{ends_word, fact};
 use super::state::{Numbers, State, StateSet};
 use super::step::Step;
 use decimal_text::after_text;
 use std::alloc::{AllocError, Global};
+use text_lines::{ends_word, read_spaced};
 
 /// Adds the numbers that the bytes begin with, each with a space before it, and answers the bytes after them.
 fn read_numbers<'a>(numbers: &mut Vec<u64>, bytes: &'a [u8]) -> Result<&'a [u8], AllocError>
@@ -17,7 +17,7 @@ fn read_numbers<'a>(numbers: &mut Vec<u64>, bytes: &'a [u8]) -> Result<&'a [u8],
     ensures { IfOk result (λ rest. NumbersInFront bytes.now numbers.new.items rest.now) }
 {
     let mut rest = bytes;
-    while let Some((number, behind)) = fact(rest) {
+    while let Some((number, behind)) = read_spaced(rest) {
         numbers.push(number)?;
         rest = behind;
     }

@@ -4,26 +4,16 @@ ghost use Rattle.std.specs.Prelude.{◌≡◌, ◌≢◌, ℕ, List, ◌≤◌, 
 ghost use Rattle.refutation.specs.declared.step.Step.{Step};
 ghost use Rattle.refutation.specs.Grammar.{end_line};
 ghost use Rattle.refutation.specs.Texts.{IsFault, IsFirstBad, NoStepInFront, Spells, SpellsRefutation, StepInFront};
-ghost use Rattle.refutation.specs.inner.Lines.{IsOneLine, TellsEnd, TellsText};
+ghost use Rattle.refutation.specs.inner.Lines.{TellsEnd, TellsText};
 
 use super::fault::CertificateFault;
 use super::line::read_step;
 use super::refuting::first_wrong_step;
 use super::step::{Refutation, Step};
 use decimal_text::{after_text, read_field};
-use memchr::memchr;
 use std::alloc::{AllocError, Global};
+use text_lines::next_line;
 use trace::Trace;
-
-/// The first line, without its line feed, and the bytes after it; None where no line feed is there.
-fn next_line(text: &[u8]) -> Option<(&[u8], &[u8])>
-    ensures found { IfSome result (λ split.
-        IsOneLine split.0.now × (text.now ≡ split.0.now ++ 10 ∷ split.1.now)) }
-    ensures none { IsNone result → IsOneLine text.now }
-{
-    let at = memchr(b'\n', text)?;
-    Some((&text[..at], &text[at + 1..]))
-}
 
 /// Adds the step whose line is the first, where it is a step's, and answers the bytes after it.
 fn push_step<'a>(

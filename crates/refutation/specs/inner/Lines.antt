@@ -1,12 +1,8 @@
--- Lines without their line feeds, and what is read of a text.
-use Rattle.std.specs.Prelude.{◌≡◌, ℕ, ◌==◌, false, All, ◌⊎◌, List, length, Option, Some, None}
+-- What is read of a text.
+use Rattle.std.specs.Prelude.{◌≡◌, ℕ, ◌⊎◌, List, length, Option, Some, None}
 use Rattle.refutation.specs.declared.text.Front.{Front}
 use Rattle.refutation.specs.Grammar.{end_line}
 use Rattle.refutation.specs.Texts.{Begins, EndsBadly, LacksHeader}
-
--- it has no line feed
-abbrev pub IsOneLine : List ℕ → Type 0
-IsOneLine line = All (λ b. (b == 10) ≡ false) line
 
 -- how the text goes on after the lines of so many steps
 abbrev pub TellsEnd : List ℕ → ℕ → Option ℕ → Type 0

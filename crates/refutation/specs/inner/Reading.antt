@@ -1,6 +1,6 @@
 -- Reading a step's line from left to right, as functions on its bytes. Private contracts cite these; the public ones
 -- speak of the texts alone.
-use Rattle.std.specs.Prelude.{ℕ, ◌^◌, ◌==◌, nat_lt, Bool, true, if◌then◌else◌, List, [], ◌∷◌, Option, Some, None, is_some, codes}
+use Rattle.std.specs.Prelude.{ℕ, ◌^◌, if◌then◌else◌, List, Option, Some, None, is_some, codes}
 use Rattle.decimal_text.specs.Reading.{◌>>=◌, after, field_at, number_at}
 use Rattle.mem_op.specs.declared.id.OpId.{OpId}
 use Rattle.mem_op.specs.Limits.{operation_limit}
@@ -8,19 +8,8 @@ use Rattle.refutation.specs.declared.step.Point.{Point}
 use Rattle.refutation.specs.declared.step.Point.TheVariants.{Init, At}
 use Rattle.refutation.specs.declared.step.Range.{Range}
 use Rattle.refutation.specs.Grammar.{is_same_point}
-
--- no word goes on with these bytes
-abbrev pub ends_word : List ℕ → Bool
-ends_word [] = true
-ends_word (b ∷ bs) = b == 32
-
--- what was read, where the word ends
-abbrev pub at_end : {A : Type 0} → A → List ℕ → Option (A × List ℕ)
-at_end x rest = if ends_word rest then Some (x, rest) else None
-
--- the number, where it is less than this
-abbrev pub below : ℕ → ℕ → Option ℕ
-below limit n = if nat_lt n limit then Some n else None
+use Rattle.text_lines.specs.Fields.{below, field_below}
+use Rattle.text_lines.specs.Words.{at_end}
 
 -- an id, and the bytes after it
 unfoldable pub id_at : List ℕ → Option (OpId × List ℕ)
@@ -47,14 +36,10 @@ range_at bytes =
     after (codes " ") bytes >>= point_at >>= λ first.
     if is_some (after (codes "..") first.1) then (after (codes "..") first.1 >>= last_at first.0) else at_end (record { first = first.0; last = first.0 }) first.1
 
--- a space and then the number of a fact, and the bytes after them
-unfoldable pub fact_at : List ℕ → Option (ℕ × List ℕ)
-fact_at bytes = after (codes " ") bytes >>= number_at >>= λ n. below (2 ^ 64) n.0 >>= λ number. at_end number n.1
-
 -- an id with ` :` after it, and the bytes after them
 unfoldable pub named_at : List ℕ → Option (OpId × List ℕ)
 named_at bytes = id_at bytes >>= λ id. after (codes " :") id.1 >>= λ rest. Some (id.0, rest)
 
 -- the number of a fact and a space
-unfoldable pub source_at : List ℕ → Option (ℕ × List ℕ)
-source_at bytes = field_at 32 bytes >>= λ n. below (2 ^ 64) n.0 >>= λ number. Some (number, n.1)
+abbrev pub source_at : List ℕ → Option (ℕ × List ℕ)
+source_at bytes = field_below (2 ^ 64) bytes

@@ -2,14 +2,14 @@
 use Rattle.std.specs.Prelude.{◌≡◌, ◌≢◌, ℕ, true, List, [], ◌++◌, None, codes}
 use Rattle.decimal_text.specs.Numbers.{numeral}
 use Rattle.refutation.specs.declared.state.State.{State}
-use Rattle.refutation.specs.Grammar.{spaced, state_text, PathFits, StateFits}
-use Rattle.refutation.specs.inner.Reading.{ends_word, fact_at}
+use Rattle.refutation.specs.Grammar.{state_text, PathFits, StateFits}
+use Rattle.text_lines.specs.Words.{ends_word, spaced, spaced_number}
 
 -- the bytes begin with these numbers, and these come after them, with no other number first
 pub record NumbersInFront (bytes : List ℕ) (numbers : List ℕ) (rest : List ℕ) : Type 0 where
   pub each : PathFits numbers
   pub text : bytes ≡ spaced numeral numbers ++ rest
-  pub none : fact_at rest ≡ None
+  pub none : spaced_number rest ≡ None
   pub ends : numbers ≢ [] → ends_word rest ≡ true
 
 -- the bytes begin with these indices and words, and these come after them
@@ -17,7 +17,7 @@ pub record BothInFront (bytes next words rest : List ℕ) : Type 0 where
   pub each_next : PathFits next
   pub each_word : PathFits words
   pub text : bytes ≡ spaced numeral next ++ (codes " :" ++ (spaced numeral words ++ rest))
-  pub none : fact_at rest ≡ None
+  pub none : spaced_number rest ≡ None
   pub ends : ends_word rest ≡ true
 
 abbrev pub NoneInFront : List ℕ → Type 0
@@ -27,7 +27,7 @@ NoneInFront bytes = (next words rest : List ℕ) → BothInFront bytes next word
 pub record StateInFront (state : State) (bytes rest : List ℕ) : Type 0 where
   pub fits : StateFits state
   pub text : bytes ≡ state_text state ++ rest
-  pub none : fact_at rest ≡ None
+  pub none : spaced_number rest ≡ None
   pub ends : ends_word rest ≡ true
 
 abbrev pub NoStateInFront : List ℕ → Type 0

@@ -4,7 +4,8 @@ use Rattle.std.specs.List.{AllByRecursion}
 use Rattle.mem_op.specs.declared.id.OpId.{OpId}
 use Rattle.refutation.specs.declared.line.Reason.{Reason}
 use Rattle.refutation.specs.declared.step.Step.{Step}
-use Rattle.refutation.specs.Grammar.{spaced, reason_text, name_text, fields_text, step_text, IdFits, PathFits, Fits}
+use Rattle.refutation.specs.Grammar.{reason_text, name_text, fields_text, step_text, IdFits, PathFits, Fits}
+use Rattle.text_lines.specs.Words.{spaced}
 
 -- the bytes are these words, or no words
 abbrev pub TellsWords : {A : Type 0} → (A → List ℕ) → (A → Type 0) → List ℕ → Option (List A) → Type 0

@@ -1,8 +1,8 @@
 -- The numbers so far are the words before the rest.
 use Rattle.std.proofs.Common.{length, ◌<◌, ◌^◌}
 use Rattle.decimal_text.specs.Numbers.{numeral}
-use Rattle.refutation.proofs.Words.{WordsSoFar}
 use Rattle.refutation.proofs.line.read_path.Given as goal
+use Rattle.text_lines.proofs.SpacedWords.{WordsSoFar}
 
 abbrev pub invariant-loop-number : goal.invariant-loop-number
 invariant-loop-number l = WordsSoFar numeral (λ number. number < 2 ^ 64) l.initial.rest l.facts.items l.rest
