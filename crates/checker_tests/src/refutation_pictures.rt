@@ -1,7 +1,7 @@
 //! Refutations as pictures.
 
 use super::told_traces::{found, refutation_of, store_buffering, trace_of};
-use refutation_picture::draw;
+use pictures::draw_refutation;
 use std::test::Fail;
 use trace::Access;
 
@@ -22,7 +22,7 @@ const PARTS: [&str; 8] = [
 fn store_buffering_is_drawn(rt: HostRuntime) -> Result<(), Fail> {
     let trace = trace_of(rt.alloc(), &store_buffering())?;
     let refutation = found(rt.alloc(), &trace)?;
-    let svg = draw(rt.alloc(), &trace, &refutation)?;
+    let svg = draw_refutation(rt.alloc(), &trace, &refutation)?;
     for part in &PARTS {
         assert!(rt; svg.as_str().contains(part), "{part}");
     }
@@ -51,7 +51,7 @@ fn a_set_of_states_is_drawn(rt: HostRuntime) -> Result<(), Fail> {
     let trace = trace_of(rt.alloc(), &rows)?;
     let steps =
         "tardis-refutation 1\nstates 0 | 0 0 : 0 | 1 1 : 1 | 1 2 : 2 ! 2 1 : 2 : 2 1\nend 1\n";
-    let svg = draw(rt.alloc(), &trace, &refutation_of(rt.alloc(), steps)?)?;
+    let svg = draw_refutation(rt.alloc(), &trace, &refutation_of(rt.alloc(), steps)?)?;
     for part in &STATES {
         assert!(rt; svg.as_str().contains(part), "{part}");
     }

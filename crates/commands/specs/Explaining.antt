@@ -6,7 +6,7 @@ use Rattle.std.specs.Io.KnownBytes.{Appends, Keeps}
 use Rattle.command_line.specs.declared.request.Check.{Check}
 use Rattle.command_line.specs.declared.request.Explain.{Explain}
 use Rattle.explain.specs.Pictures.{HasPicture}
-use Rattle.explanation_picture.specs.Pictures.{IsPicture}
+use Rattle.pictures.specs.Pictures.{IsPicture}
 use Rattle.verdict.specs.Texts.{verdict_text}
 use Rattle.verdict.specs.declared.answer.Verdict.{Verdict}
 use Rattle.commands.specs.Sinks.{line}

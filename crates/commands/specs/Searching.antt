@@ -11,7 +11,7 @@ use Rattle.refutation.specs.Refuting.{IsRefutation}
 use Rattle.refutation.specs.declared.answer.Answer.{Answer}
 use Rattle.refutation.specs.declared.answer.Answer.TheVariants as found
 use Rattle.refutation.specs.declared.step.Step.{Step}
-use Rattle.refutation_picture.specs.Pictures.{IsPicture}
+use Rattle.pictures.specs.Pictures.{IsPicture}
 use Rattle.refutation_text.specs.FirstLines.{operation_count}
 use Rattle.commands.specs.SearchAnswers.{no_of}
 use Rattle.commands.specs.Traces.{AreTraceless, TellsTrace}

@@ -2,8 +2,8 @@
 
 ghost use Rattle.std.specs.Prelude.{◌≡◌, ◌↔◌, ◌++◌, ℕ, List, IfErr, IfOk, IfSome, IsSome, IsTrue, OnOk, MatchResult, string_bytes, vec_len};
 ghost use Rattle.explain.specs.Pictures.{HasPicture, IsDrawn};
-ghost use Rattle.explanation_picture.specs.Pictures.{IsPicture};
 ghost use Rattle.log_record.specs.declared.record.Record.{Record};
+ghost use Rattle.pictures.specs.Pictures.{IsPicture};
 ghost use Rattle.verdict.specs.CoreFaultsOf.{given};
 ghost use Rattle.verdict.specs.Bases.{IsExaminationOf};
 ghost use Rattle.verdict.specs.Texts.{verdict_text};
@@ -23,10 +23,10 @@ use super::refusal::Refusal;
 use command_line::Explain;
 use core_program::ProgramSet;
 use explain::{Explanation, explain as explained};
-use explanation_picture::draw;
 use explanation_text::{first_sentence, print};
 use host_files::Folder;
 use log_file::{ByteSink, write_all};
+use pictures::draw_explanation;
 use search::SearchWatch;
 use std::alloc::{AllocError, Global};
 use std::thread::Threads;
@@ -41,7 +41,7 @@ const NO_PICTURE: &str =
 struct Told {
     verdict: Verdict,
     text: String,
-    picture: Option<Vec<u8>>,
+    picture: Option<String>,
 }
 
 /// Judges the logs in files of the folder as `check` does, puts a picture of why where one is asked for, and prints the
@@ -71,7 +71,7 @@ pub fn explain<R: Threads + Sync, W: SearchWatch, F: Folder, O: ByteSink>(
 
 /// Puts a picture under a name, where there is a name and a picture.
 fn put_picture<F: Folder>(folder: &mut F, name: Option<&str>, told: &Told) -> Result<(), Refusal>
-    requires picture { IfSome told.now.picture (λ svg. IsPicture svg.items) }
+    requires picture { IfSome told.now.picture (λ svg. IsPicture (string_bytes svg)) }
     requires drawn { IsSome name → IsSome told.now.picture ↔ HasPicture told.now.verdict }
     ensures ok { OnOk result (explaining.PutsPictureAt told.now.verdict
         (F.files folder.old) (F.files folder.new) name.entry) }
@@ -81,7 +81,7 @@ fn put_picture<F: Folder>(folder: &mut F, name: Option<&str>, told: &Told) -> Re
         (IsNameOf name.entry) }
 {
     match (name, &told.picture) {
-        (Some(name), Some(svg)) => match put_under(folder, Some(name), svg.as_slice()) {
+        (Some(name), Some(svg)) => match put_under(folder, Some(name), svg.as_bytes()) {
             Ok(()) => Ok(()),
             Err(_) => Err(Refusal::Unwritten(Output::Picture)),
         },
@@ -110,7 +110,7 @@ fn tell<R: Threads + Sync, W: SearchWatch, F: Folder>(
     ensures read { IsOnlyRead (F.files folder.old) (F.files folder.new) }
     ensures text { IfOk result (λ told. explaining.TellsVerdict (F.files folder.old).told asked.now
         told.verdict (string_bytes told.text)) }
-    ensures picture { IfOk result (λ told. IfSome told.picture (λ svg. IsPicture svg.items)) }
+    ensures picture { IfOk result (λ told. IfSome told.picture (λ svg. IsPicture (string_bytes svg))) }
     ensures drawn { IsSome asked.now.picture → IfOk result (λ told. IsSome told.picture ↔ HasPicture told.verdict) }
 {
     let found = examine_asked(rt, alloc, folder, &asked.check)?;
@@ -158,7 +158,7 @@ fn words(
     ensures verdict { IfOk result (λ told. told.verdict ≡ examined.now.verdict) }
     ensures text { IfOk result (λ told. (why : List ℕ)
         × (string_bytes told.text ≡ line (verdict_text told.verdict) ++ (why ++ last.now))) }
-    ensures picture { IfOk result (λ told. IfSome told.picture (λ svg. IsPicture svg.items)) }
+    ensures picture { IfOk result (λ told. IfSome told.picture (λ svg. IsPicture (string_bytes svg))) }
     ensures drawn { IsTrue is_drawn → IfOk result (λ told. IsSome told.picture ↔ HasPicture told.verdict) }
 {
     let verdict = examined.verdict;
@@ -195,15 +195,15 @@ fn picture_of(
     line: &str,
     why: &Explanation,
     is_drawn: bool,
-) -> Result<Option<Vec<u8>>, AllocError>
-    ensures picture { IfOk result (λ drawn. IfSome drawn (λ svg. IsPicture svg.items)) }
+) -> Result<Option<String>, AllocError>
+    ensures picture { IfOk result (λ drawn. IfSome drawn (λ svg. IsPicture (string_bytes svg))) }
     ensures drawn { IsTrue is_drawn → IfOk result (λ drawn. IsSome drawn ↔ IsDrawn why.now) }
 {
     if !is_drawn {
         return Ok(None);
     }
     let sentence = first_sentence(alloc, why)?;
-    draw(alloc, line.trim_end(), sentence.as_str(), why)
+    draw_explanation(alloc, line.trim_end(), sentence.as_str(), why)
 }
 
 /// What there is to tell after the line of a verdict, and whether a picture that was asked for is left out.

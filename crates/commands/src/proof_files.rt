@@ -5,7 +5,7 @@ ghost use Rattle.host_files.specs.Files.{KeepsFiles};
 ghost use Rattle.commands.specs.Outputs.{IsNameOf, PutsAt, PutsSuchAt};
 ghost use Rattle.merge_judge.specs.OrderText.{order_text};
 ghost use Rattle.refutation.specs.Grammar.{refutation_text};
-ghost use Rattle.refutation_picture.specs.Pictures.{IsPicture};
+ghost use Rattle.pictures.specs.Pictures.{IsPicture};
 ghost use Rattle.commands.specs.Searching.{IsOutputName, PutsBoth, PutsProof};
 ghost use Rattle.commands.specs.inner.Finding.{IsBothUnput, IsUnput, IsUnputAt};
 
@@ -16,8 +16,8 @@ use command_line::Search;
 use host_files::Folder;
 use mem_op::OpId;
 use merge_judge::print_order;
+use pictures::draw_refutation;
 use refutation::{Answer, Refutation};
-use refutation_picture::draw;
 use std::alloc::Global;
 use trace::Trace;
 
@@ -95,7 +95,7 @@ fn put_picture<F: Folder>(
     let Some(name) = name else {
         return Ok(());
     };
-    let picture = draw(alloc, trace, refutation)?;
+    let picture = draw_refutation(alloc, trace, refutation)?;
     match put_under(folder, Some(name), picture.as_bytes()) {
         Ok(()) => Ok(()),
         Err(_) => Err(Refusal::Unwritten(Output::Picture)),

@@ -1,13 +1,8 @@
 pub mod CoreFaulted
 pub mod CoreLogs
-pub mod Counting
 pub mod Drawing
 pub mod Examining
-pub mod Falls
 pub mod Finding
-pub mod Kept
 pub mod RightStores
-pub mod Rules
 pub mod Shifts
 pub mod Stores
-pub mod Uses

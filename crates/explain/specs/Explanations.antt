@@ -1,5 +1,5 @@
 -- Why a set got its verdict.
-use Rattle.std.specs.Prelude.{◌≡◌, ◌≤◌, ◌↔◌, ℕ, List, Option, Some, length, count_by, slice_get, ◌+◌, IfSome, IsSome, IsPermutation, IsSorted, ⊤}
+use Rattle.std.specs.Prelude.{◌≡◌, ◌≤◌, ◌↔◌, ℕ, List, Option, Some, length, slice_get, IfSome, IsSome, IsPermutation, IsSorted}
 use Rattle.log_record.specs.declared.record.Entry.{Entry}
 use Rattle.log_record.specs.declared.record.Record.{Record}
 use Rattle.log_record.specs.Entries.{entry_cmp}
@@ -9,37 +9,18 @@ use Rattle.verdict.specs.declared.answer.Verdict.{Verdict}
 use Rattle.verdict.specs.declared.answer.Verdict.TheVariants.{Yes, No}
 use Rattle.verdict.specs.declared.basis.Basis.{Basis}
 use Rattle.verdict.specs.declared.basis.Basis.TheVariants.{Logs, Index}
-use Rattle.explain.specs.Ends.{AreEnds}
-use Rattle.explain.specs.FaultCounts.{AreFalls}
-use Rattle.explain.specs.Kinds.{is_load, is_only_store, is_swap}
 use Rattle.explain.specs.LogFaults.{IsDepartureBy, IsFall}
 use Rattle.explain.specs.Pictures.{most_drawn}
-use Rattle.explain.specs.Uses.{AreMostUsed}
 use Rattle.explain.specs.WrongReads.{IsWrongRead}
 use Rattle.explain.specs.declared.explanation.Explanation.{Explanation}
 use Rattle.explain.specs.declared.explanation.Explanation.TheVariants.{Load, CoreOrder, Program, Summed}
 use Rattle.explain.specs.declared.explanation.Summary.{Summary}
 
--- what all records of a set have: how many are loads, stores and swaps, the least and the greatest stamp, at which addresses most are,
--- and, where they are few enough to be drawn, each of them once, in the order of keys
+-- the records of a set that gets Yes, where they are few enough to be drawn: each of them once, in the order of keys
 pub record IsSummary (es : List Entry) (summary : Summary) : Type 0 where
-  pub loads : summary.loads ≡ count_by (λ e. is_load e.logged.act) es
-  pub stores : summary.stores ≡ count_by (λ e. is_only_store e.logged.act) es
-  pub swaps : summary.swaps ≡ count_by (λ e. is_swap e.logged.act) es
-  pub all : summary.loads + summary.stores + summary.swaps ≡ length es
-  pub stamps : AreEnds es summary.stamps
-  pub sharing : summary.sharing ≤ length es
-  pub used : AreMostUsed es summary.addresses summary.most_used.items
   pub rows : IfSome summary.rows (λ rows. IsPermutation es rows.items)
   pub ordered : IfSome summary.rows (λ rows. IsSorted entry_cmp rows.items)
   pub told : IsSome summary.rows ↔ (length es ≤ most_drawn)
-
--- an explanation of all records tells of so many cores
-abbrev pub TellsCores : ℕ → Explanation → Type 0
-TellsCores cores (Summed summary) = summary.cores ≡ cores
-TellsCores cores (Load found) = ⊤
-TellsCores cores (CoreOrder fall) = ⊤
-TellsCores cores (Program departure) = ⊤
 
 -- something holds of the log of a core
 abbrev pub LogHas : List (List Record) → ℕ → (List Record → Type 0) → Type 0
@@ -49,7 +30,7 @@ LogHas logs core Holds = (log : List Record) × (slice_get logs core ≡ Some lo
 -- stands on the logs, and of all records with a Yes.
 abbrev pub Explains : Option (List (List Instruction)) → Verdict → Basis → Explanation → Type 0
 Explains programs (No fault) (Index es) (Load found) = IsWrongRead es fault.id fault.rule found
-Explains programs (No fault) (Logs logs) (CoreOrder fall) = (fault.rule ≡ OfCoreOrder) × LogHas logs fault.id.core (λ log. IsFall log fault.id fall) × AreFalls logs fall.by_core.items
+Explains programs (No fault) (Logs logs) (CoreOrder fall) = (fault.rule ≡ OfCoreOrder) × LogHas logs fault.id.core (λ log. IsFall log fault.id fall)
 Explains programs (No fault) (Logs logs) (Program departure) = (fault.rule ≡ OfProgram) × LogHas logs fault.id.core (λ log. IsDepartureBy programs log fault.id departure)
 Explains programs (Yes count) (Index es) (Summed summary) = IsSummary es summary
 Explains programs verdict basis explanation = ⊥

@@ -1,14 +1,9 @@
-pub mod Context
-pub mod Ends
+pub mod Culprits
 pub mod Explanations
-pub mod FaultCounts
-pub mod Kinds
 pub mod LogFaults
 pub mod Pictures
 pub mod ProgramOf
-pub mod Scenes
 pub mod Times
-pub mod Uses
 pub mod Windows
 pub mod WrongReads
 pub mod inner

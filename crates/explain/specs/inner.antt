@@ -1,5 +1,4 @@
 -- Definitions that serve private contracts alone.
 pub mod CoreFault
 pub mod CoreLog
-pub mod Following
 pub mod Shifts

@@ -1,11 +1,10 @@
 //! What operations of each kind are. Nothing else of this crate looks at an act.
 
-ghost use Rattle.std.specs.Prelude.{◌≡◌, count_by};
+ghost use Rattle.std.specs.Prelude.{◌≡◌};
 ghost use Rattle.std.specs.Option.{option_copied};
 ghost use Rattle.address_check.specs.AddressFaults.{broken_rule};
-ghost use Rattle.explain.specs.Kinds.{is_load, is_only_store, is_swap};
 ghost use Rattle.explain.specs.Times.{rule_with};
-ghost use Rattle.explain.specs.WrongReads.{named_id};
+ghost use Rattle.explain.specs.Culprits.{named_id};
 
 use address_check::{AddressRule, broken_by};
 use log_record::{Act, Entry};
@@ -51,11 +50,7 @@ pub(crate) struct Counts {
 }
 
 /// How many of the operations are of each kind.
-pub(crate) fn count(entries: &[Entry]) -> Counts
-    ensures loads { result.loads ≡ count_by (λ e. is_load e.logged.act) entries.now }
-    ensures stores { result.stores ≡ count_by (λ e. is_only_store e.logged.act) entries.now }
-    ensures swaps { result.swaps ≡ count_by (λ e. is_swap e.logged.act) entries.now }
-{
+pub(crate) fn count(entries: &[Entry]) -> Counts {
     let mut counts = Counts {
         loads: 0,
         stores: 0,
@@ -63,22 +58,12 @@ pub(crate) fn count(entries: &[Entry]) -> Counts
     };
     for entry in entries {
         match &entry.act() {
-            Act::Load(_) => counts.loads += 1,
-            Act::Store => counts.stores += 1,
-            Act::Swap(..) => counts.swaps += 1,
+            Act::Load(_) => counts.loads = counts.loads.saturating_add(1),
+            Act::Store => counts.stores = counts.stores.saturating_add(1),
+            Act::Swap(..) => counts.swaps = counts.swaps.saturating_add(1),
         }
     }
     counts
-}
-
-/// Whether an operation is a swap.
-pub fn is_swap(entry: &Entry) -> bool
-    ensures { result ≡ is_swap entry.now.logged.act }
-{
-    match &entry.act() {
-        Act::Load(_) | Act::Store => false,
-        Act::Swap(..) => true,
-    }
 }
 
 /// The name of an operation's kind.

@@ -1,50 +1,32 @@
 //! What a core did around one of its operations.
 
-ghost use Rattle.std.specs.Prelude.{◌≡◌, ◌≤◌, IfOk, filter, length};
-ghost use Rattle.explain.specs.Context.{AreAround, is_near, last_of_core};
-
 use super::around::{ROWS_EACH_SIDE, start_of};
 use log_record::Entry;
 use mem_op::{CoreId, OpId};
 use std::alloc::{AllocError, Global};
 
 /// Whether an operation is of the core of an id, and near it in program order.
-fn is_near(entry: &Entry, id: OpId) -> bool
-    ensures { result ≡ is_near id entry.now }
-{
+fn is_near(entry: &Entry, id: OpId) -> bool {
     let (index, middle) = (entry.id().index.get() as usize, id.index.get() as usize);
     entry.id().core == id.core && start_of(middle) <= index && index <= middle + ROWS_EACH_SIDE
 }
 
-/// Those of the operations that are.
-fn near(alloc: Global, entries: &[Entry], id: OpId) -> Result<Vec<Entry>, AllocError>
-    ensures { IfOk result (λ rows. rows.items ≡ filter (is_near id) entries.now) }
-{
+/// What the core of an id did around it, in program order.
+pub(crate) fn around(alloc: Global, entries: &[Entry], id: OpId) -> Result<Vec<Entry>, AllocError> {
     let mut rows = Vec::new(alloc);
     for entry in entries {
         if is_near(entry, id) {
             rows.push(*entry)?;
         }
     }
-    Ok(rows)
-}
-
-/// What the core of an id did around it, in program order.
-pub(crate) fn around(alloc: Global, entries: &[Entry], id: OpId) -> Result<Vec<Entry>, AllocError>
-    ensures { IfOk result (λ rows. AreAround entries.now id rows.items) }
-{
-    let mut rows = near(alloc, entries, id)?;
     rows.sort_unstable_by_key(|entry| entry.id().index);
     Ok(rows)
 }
 
 /// The last operation of a core among those of an address before a place.
-pub(crate) fn last_of_core(group: &[Entry], place: usize, core: CoreId) -> Option<Entry>
-    requires { place ≤ length group.now }
-    ensures { result ≡ last_of_core core group.now place }
-{
+pub(crate) fn last_of_core(group: &[Entry], place: usize, core: CoreId) -> Option<Entry> {
     let mut last = None;
-    for entry in &group[..place] {
+    for entry in group.iter().take(place) {
         if entry.id().core == core {
             last = Some(*entry);
         }

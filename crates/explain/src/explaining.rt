@@ -1,8 +1,8 @@
 //! The explanation of a verdict.
 
-ghost use Rattle.std.specs.Prelude.{ℕ, List, IfOk, IfSome, IsSome};
+ghost use Rattle.std.specs.Prelude.{List, IfOk, IfSome, IsSome};
 ghost use Rattle.log_record.specs.declared.record.Record.{Record};
-ghost use Rattle.explain.specs.Explanations.{Explains, TellsCores};
+ghost use Rattle.explain.specs.Explanations.{Explains};
 ghost use Rattle.explain.specs.inner.CoreFault.{IsCoreFault};
 ghost use Rattle.verdict.specs.CoreFaultsOf.{given};
 ghost use Rattle.verdict.specs.Bases.{IsExaminationOf};
@@ -28,7 +28,6 @@ fn log_fault(
 ) -> Result<Option<Explanation>, AllocError>
     ensures found { IfOk result (λ why. IfSome why
         (Explains (given programs.entry) (No fault.now) (Logs set.now))) }
-    ensures cores { IfOk result (λ why. IfSome why (λ explanation. (n : ℕ) → TellsCores n explanation)) }
     ensures explained { IfOk result (λ why.
         IsCoreFault (given programs.entry) set.now fault.now → IsSome why) }
 {
@@ -60,7 +59,6 @@ pub fn explain(
     ensures found { IfOk result (λ why.
         IfSome why
         (Explains (given programs.entry) examined.now.verdict examined.now.basis)) }
-    ensures cores { IfOk result (λ why. IfSome why (TellsCores cores)) }
     // There is one where the verdict and what it stands on are those of the examination of some set.
     ensures explained { IfOk result (λ why. (logs : List (List Record))
         → IsExaminationOf (given programs.entry) logs examined.now → IsSome why) }

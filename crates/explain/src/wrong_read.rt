@@ -2,12 +2,13 @@
 
 ghost use Rattle.std.specs.Prelude.{◌≡◌, ◌<◌, None, IfOk, IfSome, IsNone, length, option_and_then, slice_get};
 ghost use Rattle.mem_op.specs.Consistency.{is_same_id};
-ghost use Rattle.explain.specs.Context.{AreAround};
-ghost use Rattle.explain.specs.WrongReads.{IsWrongRead, named_id, of_id};
+ghost use Rattle.explain.specs.Culprits.{named_id};
+ghost use Rattle.explain.specs.WrongReads.{IsWrongRead, of_id};
 
 use super::acts::named_id;
 use super::around::{entries_around, start_of};
 use super::context::{around, last_of_core};
+use super::culprit::{culprit, same_word};
 use super::explanation::WrongRead;
 use super::faults::fault_counts;
 use super::times::{is_right_after, is_right_before, store_after, store_before};
@@ -70,9 +71,7 @@ fn rows_of(
     alloc: Global,
     entries: &[Entry],
     entry: &Option<Entry>,
-) -> Result<Vec<Entry>, AllocError>
-    ensures { IfOk result (λ rows. IfSome entry.now (λ e. AreAround entries.now e.id rows.items)) }
-{
+) -> Result<Vec<Entry>, AllocError> {
     match entry {
         Some(entry) => around(alloc, entries, entry.id()),
         None => Ok(Vec::new(alloc)),
@@ -100,11 +99,14 @@ pub(crate) fn wrong_read(
     let right_place = store_before(group, place);
     let right = entry_at(group, right_place);
     let next = store_after(group, place);
+    let named = named(all, &load);
     Ok(Some(WrongRead {
         rule,
         load,
         right,
-        named: named(all, &load),
+        named,
+        culprit: culprit(group, place, &load, &named),
+        same_word: same_word(group, place, &load),
         rows: entries_around(alloc, group, place)?,
         place: place - start_of(place),
         is_right_earlier: is_right_before(group, &load, right_place),

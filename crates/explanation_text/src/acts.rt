@@ -1,5 +1,6 @@
 //! What is told of each kind of operation. Nothing else of this crate looks at an act.
 
+use super::shown::Number;
 use log_record::{Act, Entry};
 use mem_op::{Op, Source};
 use std::alloc::{AllocError, Global};
@@ -40,9 +41,13 @@ pub(crate) struct Deed(pub(crate) Op);
 impl fmt::Display for Deed {
     fn fmt<W: fmt::Write>(&self, f: &mut fmt::Formatter<W>) -> fmt::Result {
         match &self.0 {
-            Op::Store(addr, value) => write!(f, "stores {value} at address {}", addr.get()),
+            Op::Store(addr, value) => {
+                write!(f, "stores {} at address {}", Number(*value), addr.get())
+            }
             Op::Load(addr) => write!(f, "loads address {}", addr.get()),
-            Op::Swap(addr, value) => write!(f, "swaps {value} into address {}", addr.get()),
+            Op::Swap(addr, value) => {
+                write!(f, "swaps {} into address {}", Number(*value), addr.get())
+            }
         }
     }
 }

@@ -1,9 +1,9 @@
 //! The text of an explanation.
 
 use super::sentence::first_sentence;
-use super::shown::{shown_line, shown_or};
+use super::shown::{Number, shown_line, shown_or};
 use super::table::Table;
-use super::times::push_times;
+use super::times::{push_culprit, push_times};
 use core_program::print_instruction;
 use explain::{
     Departure, Due, Explanation, Fall, FaultCounts, Summary, Use, WrongRead, kind_name, named_id,
@@ -42,6 +42,7 @@ fn print_wrong_read(
     text: &mut String,
     found: &WrongRead,
 ) -> Result<(), AllocError> {
+    push_culprit(text, found)?;
     push_times(text, found)?;
     push_records(alloc, names, text, found)?;
     push_counts(text, &found.faults)?;
@@ -205,7 +206,7 @@ impl<'a> fmt::Display for Registers<'a> {
         let mut rest = "all 0";
         for (number, word) in self.0.iter().enumerate() {
             if *word != 0 {
-                write!(f, "r{number} {word}, ")?;
+                write!(f, "r{number} {}, ", Number(*word))?;
                 rest = "the others 0";
             }
         }

@@ -1,6 +1,7 @@
 //! What is wrong, in a sentence.
 
 use super::acts::{Deed, op_of};
+use super::shown::Number;
 use address_check::is_store;
 use explain::{Departure, Explanation, Fall, WrongRead, kind_name, named_id};
 use std::alloc::{AllocError, Global};
@@ -42,8 +43,11 @@ fn push_wrong_read(text: &mut String, found: &WrongRead) -> Result<(), AllocErro
 /// Adds what a load or a swap read whose source is the initial word. That word is 0, but a log may have another.
 fn push_initial_read(text: &mut String, found: &WrongRead) -> Result<(), AllocError> {
     let load = found.load.id();
-    let (addr, value) = (found.load.addr().get(), found.load.logged().word_answered());
-    if value == 0 {
+    let (addr, value) = (
+        found.load.addr().get(),
+        Number(found.load.logged().word_answered()),
+    );
+    if value.0 == 0 {
         return write!(text, "{load} read the initial 0 of address {addr}");
     }
     write!(
@@ -58,8 +62,11 @@ fn push_wrong_value(text: &mut String, found: &WrongRead) -> Result<(), AllocErr
         push_initial_read(text, found)?;
         return text.push_str(", but that is 0.");
     };
-    let (load, store, stored) = (found.load.id(), right.id(), right.value());
-    let (addr, value) = (found.load.addr().get(), found.load.logged().word_answered());
+    let (load, store, stored) = (found.load.id(), right.id(), Number(right.value()));
+    let (addr, value) = (
+        found.load.addr().get(),
+        Number(found.load.logged().word_answered()),
+    );
     write!(
         text,
         "{load} read {value} from {store} at address {addr}, but {store} stored {stored} there."
@@ -103,7 +110,7 @@ fn push_last_store(text: &mut String, found: &WrongRead, when: &str) -> Result<(
     match &found.right {
         None => text.push_str(", and no store comes before it"),
         Some(right) => {
-            let (store, stored) = (right.id(), right.value());
+            let (store, stored) = (right.id(), Number(right.value()));
             write!(text, ", but {store} had stored {stored} there {when}")
         }
     }
@@ -115,7 +122,7 @@ fn push_right_store(text: &mut String, found: &WrongRead) -> Result<(), AllocErr
     match &found.right {
         None => write!(text, "no store to address {addr} comes before it"),
         Some(right) => {
-            let (store, stored) = (right.id(), right.value());
+            let (store, stored) = (right.id(), Number(right.value()));
             write!(
                 text,
                 "the last store to address {addr} before it is {store}, of {stored}"

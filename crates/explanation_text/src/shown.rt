@@ -7,6 +7,24 @@ use std::fmt;
 /// The most characters of a text that are shown.
 const MAX_SHOWN_CHARS: usize = 80;
 
+/// The greatest number that is shown in decimal alone.
+const MOST_DECIMAL: u64 = 9_999_999;
+
+/// A word, in hexadecimal too where it is long.
+#[derive(Clone, Copy)]
+pub(crate) struct Number(pub(crate) u64);
+
+impl fmt::Display for Number {
+    fn fmt<W: fmt::Write>(&self, f: &mut fmt::Formatter<W>) -> fmt::Result {
+        let number = self.0;
+        if number <= MOST_DECIMAL {
+            write!(f, "{number}")
+        } else {
+            write!(f, "{number} (0x{number:x})")
+        }
+    }
+}
+
 /// A text on one line: its control characters by their escapes, and two dots where it is longer than 80 characters.
 #[derive(Clone, Copy)]
 pub(crate) struct Plain<'a>(pub(crate) &'a str);

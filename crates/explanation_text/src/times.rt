@@ -1,13 +1,42 @@
-//! What the times of a load that breaks a rule allow, in sentences.
+//! Which store a load that breaks a rule points to, and what its times allow, in sentences.
 
+use super::shown::Number;
 use address_check::is_store;
-use explain::{WrongRead, ties};
+use explain::{WrongRead, named_id, ties};
 use log_record::Entry;
 use std::alloc::AllocError;
 use verdict::Rule;
 
 /// What is told of a load that is right at times a little other.
 const BLAME: &str = "it would be right: the times may be at fault, and not the machine.";
+
+/// Adds a line of the store that a load or a swap points to: with SOURCE the first one that wrote over what it read, where that isn't the
+/// one that it should read; with VALUE the last one of the word that it read.
+pub(crate) fn push_culprit(text: &mut String, found: &WrongRead) -> Result<(), AllocError> {
+    match (&found.culprit, &found.same_word) {
+        (Some(first), _) if found.rule == Rule::Source && found.right != found.culprit => {
+            push_first_over(text, &found.load, first)
+        }
+        (_, Some(last)) if found.rule == Rule::Value => {
+            let (word, store, stamp) = (Number(last.value()), last.id(), last.key().ts.get());
+            write!(
+                text,
+                "\nThe last store of {word} there before it is {store}, at stamp {stamp}."
+            )
+        }
+        _ => Ok(()),
+    }
+}
+
+/// Adds the first store over what a load read.
+fn push_first_over(text: &mut String, load: &Entry, first: &Entry) -> Result<(), AllocError> {
+    match named_id(load) {
+        Some(named) => write!(text, "\nThe word of {named}"),
+        None => text.push_str("\nThe initial 0"),
+    }?;
+    let (store, stamp) = (first.id(), first.key().ts.get());
+    write!(text, " was overwritten first by {store}, at stamp {stamp}.")
+}
 
 /// Adds a line of what the times of a load or a swap allow, where it doesn't name the store that it should read.
 pub(crate) fn push_times(text: &mut String, found: &WrongRead) -> Result<(), AllocError> {

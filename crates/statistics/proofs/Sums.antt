@@ -1,35 +1,42 @@
 -- The laws of the numbers.
-use Rattle.std.proofs.Common.{◌≡◌, ℕ, ◌+◌, cond, Bool, true, false, List, [], ◌∷◌, ◌++◌, length, count_by, refl, sym, ap, subst, ◌∙◌, append_assoc, append-nil, length-append, arith}
+use Rattle.std.proofs.Common.{◌≡◌, ℕ, ◌+◌, cond, Bool, true, false, List, [], ◌∷◌, ◌++◌, length, count_by, reverse, refl, sym, ap, subst, ◌∙◌, append_assoc, append-nil, length-append, arith}
 use Rattle.std.specs.Prelude.{◌&&◌, ◌==◌, Option, Some, None, if◌then◌else◌}
+use Rattle.std.proofs.lemmas.List.{reverse-append}
 use Rattle.std.proofs.lemmas.List.Sums.{sum_by-cons, sum_by_push}
 use Rattle.line_stamps.specs.Messages.{addr_of}
 use Rattle.line_stamps.specs.declared.message.Message.{Message}
 use Rattle.line_stamps.specs.declared.message.Reply.{Reply}
 use Rattle.lease_rule.specs.ConfigParts.{ConfigParts}
-use Rattle.log_record.specs.declared.act.Act.{Act}
-use Rattle.log_record.specs.declared.act.Act.TheVariants as act
 use Rattle.log_record.specs.declared.record.Record.{Record}
 use Rattle.manager_slice.specs.declared.managed.HistoryEntry.{HistoryEntry}
 use Rattle.manager_slice.specs.declared.managed.HistoryEntry.TheVariants.{Evicted, Served}
-use Rattle.core_unit.specs.Core.{Core, new_core, record_of}
+use Rattle.core_unit.specs.Core.{new_core, record_of}
+use Rattle.core_unit.specs.Core as unit
+use Rattle.core_unit.specs.Kept.{Replays}
+use Rattle.core_unit.specs.Parts.{UnitParts}
 use Rattle.core_unit.specs.Replay.{CoreLeads, CoreStep, performs, drops, gives, gets, is_taken, bumps}
 use Rattle.core_unit.specs.declared.entry.CoreEntry.{CoreEntry}
 use Rattle.core_unit.specs.declared.entry.CoreEntry.TheVariants.{Performed, Dropped, Gave, Got, Bumped}
 use Rattle.audit.specs.Lists.{history_of, picks, put, transcript_of}
 use Rattle.audit.specs.Pairs.{got_at, served_at, slice_of}
-use Rattle.statistics.specs.Entries.{is_load, is_load_act, is_operation, is_store, is_store_act, is_swap, is_swap_act}
-use Rattle.statistics.specs.Laws.{LogsAreCounted, SumsAgree, is_got_from, is_served_to}
+use Rattle.statistics.specs.Columns.{counts}
+use Rattle.statistics.specs.Laws.{LogsAreCounted, SumsAgree, count_of, is_got_from, is_served_to}
+use Rattle.statistics.specs.Sights.{core_sights, is_operation, seen, seen_back}
+use Rattle.statistics.specs.declared.column.Column.TheVariants.{Operations, Loads, Stores, Swaps}
+use Rattle.statistics.specs.declared.sight.Kind.TheVariants.{Load, Store, Swap}
+use Rattle.statistics.specs.declared.sight.Sight.{Sight}
+use Rattle.statistics.specs.declared.sight.Sight.TheVariants.{Operation, Core, Slice}
 
 -- ---- operations
 
 -- the operations of these entries are the records of the log
-abbrev pub AreLogged : List CoreEntry → Core → Type 0
+abbrev pub AreLogged : List CoreEntry → unit.Core → Type 0
 AreLogged ps u = count_by is_operation ps ≡ length u.log
 
 more : (ps : List CoreEntry) (e : CoreEntry) → count_by is_operation (ps ++ e ∷ []) ≡ count_by is_operation ps + cond (is_operation e) 1 0
 more ps e = sum_by_push (λ x. cond (is_operation x) 1 0) ps e
 
-step_logged : (g : ConfigParts) (c : ℕ) (ps : List CoreEntry) (u : Core) (e : CoreEntry) (v : Core) → CoreStep g c u e v → AreLogged ps u → AreLogged (ps ++ e ∷ []) v
+step_logged : (g : ConfigParts) (c : ℕ) (ps : List CoreEntry) (u : unit.Core) (e : CoreEntry) (v : unit.Core) → CoreStep g c u e v → AreLogged ps u → AreLogged (ps ++ e ∷ []) v
 step_logged g c ps u e v (performs x hit free next hits) h = omega (arith, h, more ps e, length-append u.log (record_of x hit ∷ []))
 step_logged g c ps u e v (drops a l free at) h = omega (arith, h, more ps e)
 step_logged g c ps u e v (gives kind a modified l asked free at) h = omega (arith, h, more ps e)
@@ -37,30 +44,61 @@ step_logged g c ps u e v (gets x reply held free next misses place kind fills) h
 step_logged g c ps u e v (is_taken kind a l same) h = omega (arith, h, more ps e)
 step_logged g c ps u e v (bumps free) h = omega (arith, h, more ps e)
 
-leads_logged : (g : ConfigParts) (c : ℕ) (ps : List CoreEntry) (u : Core) (es : List CoreEntry) (v : Core) → CoreLeads g c u es v → AreLogged ps u → AreLogged (ps ++ es) v
-leads_logged g c ps u [] v h is = subst (λ (x : Core). AreLogged (ps ++ []) x) (sym h) (rw (append-nil ps) is)
+leads_logged : (g : ConfigParts) (c : ℕ) (ps : List CoreEntry) (u : unit.Core) (es : List CoreEntry) (v : unit.Core) → CoreLeads g c u es v → AreLogged ps u → AreLogged (ps ++ es) v
+leads_logged g c ps u [] v h is = subst (λ (x : unit.Core). AreLogged (ps ++ []) x) (sym h) (rw (append-nil ps) is)
 leads_logged g c ps u (e ∷ es) v h is =
     subst (λ (qs : List CoreEntry). AreLogged qs v) (append_assoc ps (e ∷ []) es)
     (leads_logged g c (ps ++ e ∷ []) h.0 es v h.2 (step_logged g c ps u e h.0 h.1 is))
 
-one_act : (a : Act) → cond (is_load_act a) 1 0 + cond (is_store_act a) 1 0 + cond (is_swap_act a) 1 0 ≡ 1
-one_act (act.Load source) = refl
-one_act act.Store = refl
-one_act (act.Swap source word) = refl
+-- what is seen of them counts as many
+seen_operation : (period : ℕ) (log : List Record) (e : CoreEntry) (before : List CoreEntry) → counts Operations (seen period log e before) ≡ is_operation e
+seen_operation period log Performed before = refl
+seen_operation period log (Dropped a) before = refl
+seen_operation period log (Gave m) before = refl
+seen_operation period log (Got m r) before = refl
+seen_operation period log Bumped before = refl
 
-acts : (rs : List Record) → count_by is_load rs + count_by is_store rs + count_by is_swap rs ≡ length rs
-acts [] = refl
-acts (r ∷ rs) =
-    let loads = sum_by-cons (λ x. cond (is_load x) 1 0) r rs in
-    let stores = sum_by-cons (λ x. cond (is_store x) 1 0) r rs in
-    let swaps = sum_by-cons (λ x. cond (is_swap x) 1 0) r rs in
-    omega (arith, loads, stores, swaps, acts rs, one_act r.act)
+one : Bool → ℕ
+one b = cond b 1 0
+
+seen_operations : (period : ℕ) (log : List Record) (es : List CoreEntry) → count_by (counts Operations) (seen_back period log es) ≡ count_by is_operation es
+unfolding one
+seen_operations period log [] = refl
+seen_operations period log (e ∷ es) =
+    let pushed = sum_by_push (λ x. cond (counts Operations x) 1 0) (seen_back period log es) (seen period log e es) in
+    let front = sum_by-cons (λ x. cond (is_operation x) 1 0) e es in
+    let same = ap one (seen_operation period log e es) in
+    omega (arith, pushed, front, same, seen_operations period log es)
+
+reversed : (es : List CoreEntry) → count_by is_operation (reverse es) ≡ count_by is_operation es
+reversed [] = refl
+reversed (e ∷ es) =
+    let front = sum_by-cons (λ x. cond (is_operation x) 1 0) e es in
+    ap (count_by is_operation) (reverse-append (e ∷ []) es) ∙ (sum_by_push (λ x. cond (is_operation x) 1 0) (reverse es) e ∙ omega (arith, front, reversed es))
+
+-- each is of one kind
+one_kind : (s : Sight) → cond (counts Loads s) 1 0 + cond (counts Stores s) 1 0 + cond (counts Swaps s) 1 0 ≡ cond (counts Operations s) 1 0
+one_kind (Operation Load came due) = refl
+one_kind (Operation Store came due) = refl
+one_kind (Operation Swap came due) = refl
+one_kind (Core e) = refl
+one_kind (Slice e) = refl
+
+kinds : (ss : List Sight) → count_by (counts Loads) ss + count_by (counts Stores) ss + count_by (counts Swaps) ss ≡ count_by (counts Operations) ss
+kinds [] = refl
+kinds (s ∷ ss) =
+    let loads = sum_by-cons (λ x. cond (counts Loads x) 1 0) s ss in
+    let stores = sum_by-cons (λ x. cond (counts Stores x) 1 0) s ss in
+    let swaps = sum_by-cons (λ x. cond (counts Swaps x) 1 0) s ss in
+    let all = sum_by-cons (λ x. cond (counts Operations x) 1 0) s ss in
+    omega (arith, loads, stores, swaps, all, kinds ss, one_kind s)
+
+operations : (p : UnitParts) → Replays p → count_of Operations p ≡ length p.log
+operations p replays =
+    seen_operations p.config.period p.log (reverse p.transcript) ∙ (reversed p.transcript ∙ leads_logged p.config p.core [] (new_core p.program) p.transcript _ replays.replay refl)
 
 pub logs_are_counted : LogsAreCounted
-logs_are_counted p replays = record {
-  operations = leads_logged p.config p.core [] (new_core p.program) p.transcript _ replays.replay refl;
-  acts = acts p.log;
-}
+logs_are_counted p replays = record { operations = operations p replays; acts = kinds (core_sights p) ∙ operations p replays }
 
 -- ---- replies and messages
 

@@ -11,12 +11,19 @@ use Rattle.core_unit.specs.declared.entry.CoreEntry.{CoreEntry}
 use Rattle.core_unit.specs.declared.entry.CoreEntry.TheVariants.{Got}
 use Rattle.audit.specs.Lists.{history_of, transcript_of}
 use Rattle.audit.specs.Pairs.{Agrees, slice_of}
-use Rattle.statistics.specs.Columns.{core_counts}
+use Rattle.statistics.specs.Columns.{counts}
+use Rattle.statistics.specs.Sights.{core_sights}
+use Rattle.statistics.specs.declared.column.Column.{Column}
+use Rattle.statistics.specs.declared.column.Column.TheVariants.{Operations, Loads, Stores, Swaps}
+
+-- how much a column counts of a core
+abbrev pub count_of : Column → UnitParts → ℕ
+count_of column p = count_by (counts column) (core_sights p)
 
 -- the operations of a core are the records of its log, and each is a load, a store or a swap
 pub record IsCounted (p : UnitParts) : Type 0 where
-  pub operations : (core_counts p).operations ≡ length p.log
-  pub acts : (core_counts p).loads + (core_counts p).stores + (core_counts p).swaps ≡ length p.log
+  pub operations : count_of Operations p ≡ length p.log
+  pub acts : count_of Loads p + count_of Stores p + count_of Swaps p ≡ length p.log
 
 abbrev pub LogsAreCounted : Type 0
 LogsAreCounted = (p : UnitParts) → Replays p → IsCounted p

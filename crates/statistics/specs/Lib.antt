@@ -1,7 +1,7 @@
 pub mod Columns
-pub mod Entries
 pub mod Laws
 pub mod Runs
+pub mod Sights
 pub mod TableText
 pub mod Totals
 pub mod inner

@@ -3,13 +3,12 @@ use Rattle.std.specs.Prelude.{ℕ, List, map, take}
 use Rattle.core_unit.specs.Parts.{UnitParts}
 use Rattle.manager_slice.specs.Parts.{SliceParts}
 use Rattle.statistics.specs.Columns.{core_counts, slice_counts}
-use Rattle.statistics.specs.declared.core_counts.CoreCounts.{CoreCounts}
-use Rattle.statistics.specs.declared.slice_counts.SliceCounts.{SliceCounts}
+use Rattle.statistics.specs.declared.numbers.Numbers.{Numbers}
 
 -- those of its cores and those of its slices
 pub record RunNumbers : Type 0 where
-  pub cores : List CoreCounts
-  pub slices : List SliceCounts
+  pub cores : List Numbers
+  pub slices : List Numbers
 
 -- those of so many cores and slices, or of all where there are fewer
 abbrev pub run_numbers : ℕ → ℕ → List UnitParts → List SliceParts → RunNumbers

@@ -1,4 +1,3 @@
 -- Definitions that serve private contracts alone.
-pub mod Kinds
+pub mod Counting
 pub mod Stamps
-pub mod Writing

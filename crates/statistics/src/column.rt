@@ -1,125 +1,162 @@
-//! The columns of cores.
+//! The columns of the table: what each of them is called, and what it counts.
 
-ghost use Rattle.std.specs.Prelude.{◌≡◌, ◌≤◌, ◌^◌, length};
-ghost use Rattle.statistics.specs.Columns.{greatest_pts, total_in, value_in};
-ghost use Rattle.statistics.specs.TableText.{column_name};
+ghost use Rattle.std.specs.Prelude.{◌≡◌, ◌<◌};
+ghost use Rattle.statistics.specs.Columns.{column_at, column_name, counts, is_of_slices};
 
-use super::core_counts::CoreCounts;
+use super::sight::{Kind, Sight};
+use core_unit::CoreEntry;
+use line_stamps::{Message, Reply};
+use manager_slice::HistoryEntry;
 
-/// A column that has a number of each core.
+/// A column of the table.
 #[derive(Clone, Copy, Debug, PartialEq, Eq)]
-pub enum CoreColumn {
-    /// How many operations it performed.
+pub enum Column {
     Operations,
-    /// How many of them are loads.
     Loads,
-    /// How many of them are stores.
     Stores,
-    /// How many of them are swaps.
     Swaps,
-    /// How many of them needed no reply.
     Hits,
-    /// How many of its SH_REQ were answered.
     ShReq,
-    /// How many of its EX_REQ were answered.
     ExReq,
-    /// How many SH_REQ were answered by RENEW_REP.
     Renewals,
-    /// How many EX_REQ were answered by UPGRADE_REP.
     Upgrades,
-    /// How many of its WB_REP were taken.
     WbRep,
-    /// How many of its FLUSH_REP were taken.
     FlushRep,
-    /// How many Shared lines it dropped.
     Dropped,
-    /// How often it incremented its stamp.
     SelfIncrements,
+    Pts,
+    Requests,
+    GiveBacks,
+    Evictions,
+    Mts,
+    PrivateWrites,
+    Rank,
 }
 
-/// The columns of cores, in their order.
-pub(crate) const CORE_COLUMNS: [CoreColumn; 13] = [
-    CoreColumn::Operations,
-    CoreColumn::Loads,
-    CoreColumn::Stores,
-    CoreColumn::Swaps,
-    CoreColumn::Hits,
-    CoreColumn::ShReq,
-    CoreColumn::ExReq,
-    CoreColumn::Renewals,
-    CoreColumn::Upgrades,
-    CoreColumn::WbRep,
-    CoreColumn::FlushRep,
-    CoreColumn::Dropped,
-    CoreColumn::SelfIncrements,
+/// How many columns there are.
+pub(crate) const COLUMN_COUNT: usize = 20;
+
+/// The columns, in their order.
+pub(crate) const COLUMNS: [Column; COLUMN_COUNT] = [
+    Column::Operations,
+    Column::Loads,
+    Column::Stores,
+    Column::Swaps,
+    Column::Hits,
+    Column::ShReq,
+    Column::ExReq,
+    Column::Renewals,
+    Column::Upgrades,
+    Column::WbRep,
+    Column::FlushRep,
+    Column::Dropped,
+    Column::SelfIncrements,
+    Column::Pts,
+    Column::Requests,
+    Column::GiveBacks,
+    Column::Evictions,
+    Column::Mts,
+    Column::PrivateWrites,
+    Column::Rank,
 ];
 
-impl CoreColumn {
+/// The column at a place.
+#[tactic(auto, unfolding(crate::specs::Columns::column_at))]
+pub(crate) fn column_at(place: usize) -> Column
+    requires { place < 20 }
+    ensures { result ≡ column_at place }
+{
+    COLUMNS[place]
+}
+
+impl Column {
     /// Its name.
     pub(crate) fn name(self) -> &'static str
         ensures { result.now ≡ column_name self }
     {
         match self {
-            CoreColumn::Operations => "operations",
-            CoreColumn::Loads => "loads",
-            CoreColumn::Stores => "stores",
-            CoreColumn::Swaps => "swaps",
-            CoreColumn::Hits => "hits",
-            CoreColumn::ShReq => "sh_req",
-            CoreColumn::ExReq => "ex_req",
-            CoreColumn::Renewals => "renewals",
-            CoreColumn::Upgrades => "upgrades",
-            CoreColumn::WbRep => "wb_rep",
-            CoreColumn::FlushRep => "flush_rep",
-            CoreColumn::Dropped => "dropped",
-            CoreColumn::SelfIncrements => "self_increments",
+            Column::Operations => "operations",
+            Column::Loads => "loads",
+            Column::Stores => "stores",
+            Column::Swaps => "swaps",
+            Column::Hits => "hits",
+            Column::ShReq => "sh_req",
+            Column::ExReq => "ex_req",
+            Column::Renewals => "renewals",
+            Column::Upgrades => "upgrades",
+            Column::WbRep => "wb_rep",
+            Column::FlushRep => "flush_rep",
+            Column::Dropped => "dropped",
+            Column::SelfIncrements => "self_increments",
+            Column::Pts => "pts",
+            Column::Requests => "requests",
+            Column::GiveBacks => "give_backs",
+            Column::Evictions => "evictions",
+            Column::Mts => "mts",
+            Column::PrivateWrites => "private_writes",
+            Column::Rank => "rank",
         }
     }
 
-    /// The number of a core.
-    #[tactic(auto, unfolding(crate::specs::Columns::value_in))]
-    pub fn value(self, counts: &CoreCounts) -> u32
-        ensures { result ≡ value_in self counts.now }
+    /// Whether it has a number of each slice. Any other has one of each core.
+    pub(crate) fn is_of_slices(self) -> bool
+        ensures { result ≡ is_of_slices self }
     {
         match self {
-            CoreColumn::Operations => counts.operations,
-            CoreColumn::Loads => counts.loads,
-            CoreColumn::Stores => counts.stores,
-            CoreColumn::Swaps => counts.swaps,
-            CoreColumn::Hits => counts.hits,
-            CoreColumn::ShReq => counts.sh_req,
-            CoreColumn::ExReq => counts.ex_req,
-            CoreColumn::Renewals => counts.renewals,
-            CoreColumn::Upgrades => counts.upgrades,
-            CoreColumn::WbRep => counts.wb_rep,
-            CoreColumn::FlushRep => counts.flush_rep,
-            CoreColumn::Dropped => counts.dropped,
-            CoreColumn::SelfIncrements => counts.self_increments,
+            Column::Requests | Column::GiveBacks | Column::Evictions | Column::Mts => true,
+            _ => false,
         }
     }
 
-    /// The number of all cores, of which there are at most 64.
-    #[tactic(auto, unfolding(crate::specs::Columns::total_in))]
-    pub(crate) fn total(self, cores: &[CoreCounts]) -> u64
-        requires { length cores.now ≤ 64 }
-        ensures total { result ≡ total_in self cores.now }
-        ensures limit { result ≤ 2 ^ 38 }
+    /// Whether it counts what is seen. A stamp or a rank counts nothing.
+    pub(crate) fn counts(self, sight: &Sight) -> bool
+        ensures { result ≡ counts self sight.now }
     {
-        let mut total = 0;
-        for counts in cores {
-            total += u64::from(self.value(counts));
+        match self {
+            Column::Operations => matches!(sight, Sight::Operation { .. }),
+            Column::Loads => sight.is_of(Kind::Load),
+            Column::Stores => sight.is_of(Kind::Store),
+            Column::Swaps => sight.is_of(Kind::Swap),
+            Column::Hits => sight.is_hit(),
+            Column::ShReq => matches!(sight, Sight::Core(CoreEntry::Got(Message::ShReq { .. }, _))),
+            Column::ExReq => matches!(sight, Sight::Core(CoreEntry::Got(Message::ExReq { .. }, _))),
+            Column::Renewals => matches!(
+                sight,
+                Sight::Core(CoreEntry::Got(Message::ShReq { .. }, Reply::RenewRep(_)))
+            ),
+            Column::Upgrades => matches!(
+                sight,
+                Sight::Core(CoreEntry::Got(Message::ExReq { .. }, Reply::UpgradeRep(_)))
+            ),
+            Column::WbRep => matches!(sight, Sight::Core(CoreEntry::Got(Message::WbRep { .. }, _))),
+            Column::FlushRep => matches!(
+                sight,
+                Sight::Core(CoreEntry::Got(Message::FlushRep { .. }, _))
+            ),
+            Column::Dropped => matches!(sight, Sight::Core(CoreEntry::Dropped(_))),
+            Column::SelfIncrements => matches!(
+                sight,
+                Sight::Operation { due: true, .. } | Sight::Core(CoreEntry::Bumped)
+            ),
+            Column::Requests => matches!(
+                sight,
+                Sight::Slice(HistoryEntry::Served(
+                    _,
+                    Message::ShReq { .. } | Message::ExReq { .. },
+                    _
+                ))
+            ),
+            Column::GiveBacks => matches!(
+                sight,
+                Sight::Slice(HistoryEntry::Served(
+                    _,
+                    Message::WbRep { .. } | Message::FlushRep { .. },
+                    _
+                ))
+            ),
+            Column::Evictions => matches!(sight, Sight::Slice(HistoryEntry::Evicted(_))),
+            Column::PrivateWrites => sight.is_hit() && !sight.is_of(Kind::Load),
+            Column::Pts | Column::Mts | Column::Rank => false,
         }
-        total
     }
-}
-
-/// The greatest stamp of the cores.
-pub(crate) fn greatest_pts(cores: &[CoreCounts]) -> u64
-    ensures { result ≡ greatest_pts cores.now }
-{
-    let mut most = 0;
-    for counts in cores {
-        most = most.max(counts.pts);
-    }
-    most
 }

@@ -2,21 +2,17 @@
 #![tactic(auto)]
 
 mod column;
-mod core_counts;
-mod entry_kind;
 pub mod laws;
+mod numbers;
 mod run_counts;
 mod run_parts;
 mod run_totals;
-mod slice_column;
-mod slice_counts;
+mod sight;
 mod stamps;
 mod table_text;
 
-pub use column::CoreColumn;
-pub use core_counts::CoreCounts;
+pub use numbers::Numbers;
 pub use run_counts::RunCounts;
 pub use run_parts::{RunParts, counts_of_cores, counts_of_slices};
 pub use run_totals::RunTotals;
-pub use slice_counts::SliceCounts;
 pub use table_text::{print_statistics, print_totals};

@@ -3,17 +3,16 @@
 ghost use Rattle.std.specs.Prelude.{◌≡◌, ◌≤◌, IfOk, length};
 ghost use Rattle.statistics.specs.Runs.{run_numbers};
 
-use super::core_counts::CoreCounts;
+use super::numbers::Numbers;
 use super::run_parts::{RunParts, counts_of_cores, counts_of_slices};
-use super::slice_counts::SliceCounts;
 use std::alloc::{AllocError, Global};
 use std::marker::Model;
 
 /// The numbers of a run: those of its cores and those of its slices, at most 64 of each.
 #[derive(Drop)]
 pub struct RunCounts {
-    cores: Vec<CoreCounts>,
-    slices: Vec<SliceCounts>,
+    cores: Vec<Numbers>,
+    slices: Vec<Numbers>,
 }
 
 impl Model for RunCounts {
@@ -49,7 +48,7 @@ impl RunCounts {
     }
 
     /// Those of its cores, that of core 0 first.
-    pub fn cores(&self) -> &[CoreCounts]
+    pub fn cores(&self) -> &[Numbers]
         ensures value { result.now ≡ self.now.cores }
         ensures few { length self.now.cores ≤ 64 }
     {
@@ -57,7 +56,7 @@ impl RunCounts {
     }
 
     /// Those of its slices, that of slice 0 first.
-    pub fn slices(&self) -> &[SliceCounts]
+    pub fn slices(&self) -> &[Numbers]
         ensures value { result.now ≡ self.now.slices }
         ensures few { length self.now.slices ≤ 64 }
     {

@@ -6,8 +6,7 @@ ghost use Rattle.core_unit.specs.Parts.{UnitParts};
 ghost use Rattle.manager_slice.specs.Parts.{SliceParts};
 ghost use Rattle.statistics.specs.Columns.{core_counts, slice_counts};
 
-use super::core_counts::CoreCounts;
-use super::slice_counts::SliceCounts;
+use super::numbers::Numbers;
 use audit::RunEnd;
 use core_unit::CoreUnit;
 use manager_slice::ManagerSlice;
@@ -67,7 +66,7 @@ pub fn counts_of_cores<R: RunParts>(
     alloc: Global,
     of: &R,
     cores: usize,
-) -> Result<Vec<CoreCounts>, AllocError>
+) -> Result<Vec<Numbers>, AllocError>
     requires { cores ≤ 64 }
     ensures { IfOk result (λ counts. counts.items ≡ map core_counts (take cores (R.units of.now))) }
 {
@@ -76,7 +75,7 @@ pub fn counts_of_cores<R: RunParts>(
         let Some(unit) = of.unit(CoreId::at(number)) else {
             return Ok(counts);
         };
-        counts.push(CoreCounts::of(unit))?;
+        counts.push(Numbers::of_core(unit))?;
     }
     Ok(counts)
 }
@@ -86,7 +85,7 @@ pub fn counts_of_slices<R: RunParts>(
     alloc: Global,
     of: &R,
     slices: usize,
-) -> Result<Vec<SliceCounts>, AllocError>
+) -> Result<Vec<Numbers>, AllocError>
     ensures { IfOk result (λ counts. counts.items ≡ map slice_counts (take slices (R.slices of.now))) }
 {
     let mut counts = Vec::new(alloc);
@@ -94,7 +93,7 @@ pub fn counts_of_slices<R: RunParts>(
         let Some(slice) = of.slice(number) else {
             return Ok(counts);
         };
-        counts.push(SliceCounts::of(slice))?;
+        counts.push(Numbers::of_slice(slice))?;
     }
     Ok(counts)
 }

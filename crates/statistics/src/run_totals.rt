@@ -1,51 +1,23 @@
-//! The totals over runs.
+//! Totals over cores and slices, and over runs.
 
-ghost use Rattle.std.specs.Prelude.{◌≡◌, ◌+◌, ◌<◌, ◌≤◌, ◌^◌, ℕ, [], length};
+ghost use Rattle.std.specs.Prelude.{◌≡◌, ◌+◌, ◌*◌, ◌<◌, ◌≤◌, ◌^◌, ℕ, [], get_or, length};
 ghost use Rattle.statistics.specs.Totals as totals;
 
-use super::column::{CoreColumn, greatest_pts};
+use super::column::{COLUMN_COUNT, Column};
+use super::numbers::Numbers;
 use super::run_counts::RunCounts;
-use super::slice_column::{SliceColumn, greatest_mts};
 
-/// The totals over runs: the sum over all cores or all slices of all runs, and of the stamps the greatest.
+/// Totals: the sum of what is counted, and of stamps and ranks the greatest.
 #[derive(Clone, Copy, Debug, PartialEq, Eq)]
 pub struct RunTotals {
-    /// How many operations were performed.
-    pub operations: u64,
-    /// How many of them are loads.
-    pub loads: u64,
-    /// How many of them are stores.
-    pub stores: u64,
-    /// How many of them are swaps.
-    pub swaps: u64,
-    /// How many of them needed no reply.
-    pub hits: u64,
-    /// How many SH_REQ were answered.
-    pub sh_req: u64,
-    /// How many EX_REQ were answered.
-    pub ex_req: u64,
-    /// How many SH_REQ were answered by RENEW_REP.
-    pub renewals: u64,
-    /// How many EX_REQ were answered by UPGRADE_REP.
-    pub upgrades: u64,
-    /// How many WB_REP were taken.
-    pub wb_rep: u64,
-    /// How many FLUSH_REP were taken.
-    pub flush_rep: u64,
-    /// How many Shared lines cores dropped.
-    pub dropped: u64,
-    /// How often cores incremented their stamps.
-    pub self_increments: u64,
+    /// How much each column counts.
+    counts: [u64; COLUMN_COUNT],
     /// The greatest stamp of a core.
-    pub pts: u64,
-    /// How many requests slices answered.
-    pub requests: u64,
-    /// How many lines that were given back slices took.
-    pub give_backs: u64,
-    /// How many lines slices evicted to memory.
-    pub evictions: u64,
+    pts: u64,
+    /// The greatest rank of an operation.
+    rank: u64,
     /// The greatest stamp of a memory.
-    pub mts: u64,
+    mts: u64,
 }
 
 impl RunTotals {
@@ -55,23 +27,9 @@ impl RunTotals {
         ensures bounded { totals.IsBounded 0 result }
     {
         RunTotals {
-            operations: 0,
-            loads: 0,
-            stores: 0,
-            swaps: 0,
-            hits: 0,
-            sh_req: 0,
-            ex_req: 0,
-            renewals: 0,
-            upgrades: 0,
-            wb_rep: 0,
-            flush_rep: 0,
-            dropped: 0,
-            self_increments: 0,
+            counts: [0; COLUMN_COUNT],
             pts: 0,
-            requests: 0,
-            give_backs: 0,
-            evictions: 0,
+            rank: 0,
             mts: 0,
         }
     }
@@ -82,25 +40,74 @@ impl RunTotals {
         ensures totals { self.new ≡ totals.with_run self.old run.now }
         ensures bounded { (n : ℕ) → totals.IsBounded n self.old → totals.IsBounded (n + 1) self.new }
     {
-        let cores = run.cores();
-        let slices = run.slices();
-        self.operations += CoreColumn::Operations.total(cores);
-        self.loads += CoreColumn::Loads.total(cores);
-        self.stores += CoreColumn::Stores.total(cores);
-        self.swaps += CoreColumn::Swaps.total(cores);
-        self.hits += CoreColumn::Hits.total(cores);
-        self.sh_req += CoreColumn::ShReq.total(cores);
-        self.ex_req += CoreColumn::ExReq.total(cores);
-        self.renewals += CoreColumn::Renewals.total(cores);
-        self.upgrades += CoreColumn::Upgrades.total(cores);
-        self.wb_rep += CoreColumn::WbRep.total(cores);
-        self.flush_rep += CoreColumn::FlushRep.total(cores);
-        self.dropped += CoreColumn::Dropped.total(cores);
-        self.self_increments += CoreColumn::SelfIncrements.total(cores);
-        self.pts = self.pts.max(greatest_pts(cores));
-        self.requests += SliceColumn::Requests.total(slices);
-        self.give_backs += SliceColumn::GiveBacks.total(slices);
-        self.evictions += SliceColumn::Evictions.total(slices);
-        self.mts = self.mts.max(greatest_mts(slices));
+        self.add_parts(run.cores());
+        self.add_parts(run.slices());
+    }
+
+    /// The totals over these cores or slices.
+    pub(crate) fn of_parts(parts: &[Numbers]) -> RunTotals
+        requires { length parts.now ≤ 64 }
+        ensures { result ≡ totals.with_parts totals.none parts.now }
+    {
+        let mut totals = RunTotals::none();
+        totals.add_parts(parts);
+        totals
+    }
+
+    /// The totals over one core or slice.
+    pub(crate) fn of_part(part: &Numbers) -> RunTotals
+        ensures { result ≡ totals.with_part totals.none part.now }
+    {
+        let mut totals = RunTotals::none();
+        totals.add_part(part);
+        totals
+    }
+
+    /// The number in a column, which stands at this place.
+    pub(crate) fn number(&self, place: usize, column: Column) -> u64
+        requires { place < 20 }
+        ensures { result ≡ totals.number_in column place self.now }
+    {
+        match column {
+            Column::Pts => self.pts,
+            Column::Rank => self.rank,
+            Column::Mts => self.mts,
+            _ => self.counts[place],
+        }
+    }
+
+    /// Adds the numbers of more cores or slices.
+    fn add_parts(&mut self, parts: &[Numbers])
+        requires few { length parts.now ≤ 64 }
+        requires room { totals.IsBoundedBy (2 ^ 28) self.old }
+        ensures totals { self.new ≡ totals.with_parts self.old parts.now }
+        ensures bounded { (n : ℕ) → totals.IsBoundedBy n self.old → totals.IsBoundedBy (n + 64) self.new }
+    {
+        for part in parts {
+            self.add_part(part);
+        }
+    }
+
+    /// Adds the numbers of one more core or slice.
+    fn add_part(&mut self, part: &Numbers)
+        requires { totals.IsBoundedBy (2 ^ 29) self.old }
+        ensures totals { self.new ≡ totals.with_part self.old part.now }
+        ensures bounded { (n : ℕ) → totals.IsBoundedBy n self.old → totals.IsBoundedBy (n + 1) self.new }
+    {
+        add_counts(&mut self.counts, &part.counts);
+        self.pts = self.pts.max(part.pts);
+        self.rank = self.rank.max(part.rank);
+        self.mts = self.mts.max(part.mts);
+    }
+}
+
+/// Adds counts to their sums.
+fn add_counts(sums: &mut [u64; COLUMN_COUNT], counts: &[u32; COLUMN_COUNT])
+    requires { (place : ℕ) → get_or sums.old place 0 ≤ 2 ^ 61 }
+    ensures sums { sums.new ≡ totals.sums sums.old counts.now }
+    ensures bounded { (place : ℕ) → get_or sums.new place 0 ≤ get_or sums.old place 0 + 2 ^ 32 }
+{
+    for place in 0..COLUMN_COUNT {
+        sums[place] += u64::from(counts[place]);
     }
 }

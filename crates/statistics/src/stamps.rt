@@ -4,7 +4,7 @@ ghost use Rattle.std.specs.Prelude.{◌≡◌, ◌≤◌, ◌<◌, get_or, lengt
 ghost use Rattle.manager_slice.specs.Limits.{entry_limit};
 ghost use Rattle.statistics.specs.inner.Stamps.{increments_since, stamp_after};
 
-use super::entry_kind::entry_there;
+use super::sight::entry_there;
 use core_unit::{CoreEntry, CoreUnit, Transcript};
 use log_record::Record;
 

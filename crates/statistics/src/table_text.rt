@@ -1,44 +1,52 @@
-//! The numbers of cores and slices as comma-separated values.
+//! The text of the table.
 
-ghost use Rattle.std.specs.Prelude.{◌≡◌, ◌≤◌, ℕ, List, ◌∷◌, ◌++◌, [], codes, length, string_bytes, IfOk, OnOk};
+ghost use Rattle.std.specs.Prelude.{◌≡◌, ◌<◌, ◌≤◌, ◌∷◌, ◌++◌, [], Some, length, string_bytes, IfOk, OnOk};
 ghost use Rattle.std.specs.Io.KnownBytes.{Appends};
 ghost use Rattle.csv.specs.Records.{fields_of};
-ghost use Rattle.decimal_text.specs.Numbers.{numeral};
-ghost use Rattle.statistics.specs.Columns.{total_in, value_in};
+ghost use Rattle.csv_lines.specs.Lines.{IsFresh, cells_line, written};
 ghost use Rattle.statistics.specs.TableText as text;
-ghost use Rattle.statistics.specs.inner.Writing.{IsFresh, IsPlainRow, written};
 
-use super::column::{CORE_COLUMNS, greatest_pts};
-use super::core_counts::CoreCounts;
+use super::column::{COLUMN_COUNT, COLUMNS, Column, column_at};
+use super::numbers::Numbers;
 use super::run_totals::RunTotals;
-use super::slice_counts::SliceCounts;
-use csv::{StringRecord, Terminator, Writer, WriterBuilder};
-use decimal_text::print_number;
+use csv::{StringRecord, Writer};
+use csv_lines::{new_writer, push_blank, push_number, text_of, write_line};
 use std::alloc::{AllocError, Global};
 
-/// Adds a number's cell.
-fn push_number(alloc: Global, cells: &mut StringRecord, number: u64) -> Result<(), AllocError>
-    ensures { OnOk result (fields_of cells.new ≡ fields_of cells.old ++ numeral number ∷ []) }
-{
-    let text = print_number(alloc, number)?;
-    cells.push_field(text.as_str())?;
-    Ok(())
+/// Whose numbers a line has.
+#[derive(Clone, Copy, Debug, PartialEq, Eq)]
+pub(crate) enum Whose {
+    Core(usize),
+    /// All cores.
+    Cores,
+    Slice(usize),
+    /// All runs.
+    Runs,
 }
 
-/// The name of a core.
-#[tactic(auto, using(decimal_text::proofs::Printing::numeral_decimal))]
-fn name_of_core(alloc: Global, core: usize) -> Result<String, AllocError>
-    ensures { IfOk result (λ name. string_bytes name ≡ codes "core " ++ numeral core) }
-{
-    format!(in alloc; "core {core}")
-}
+impl Whose {
+    /// What the line begins with.
+    #[tactic(auto, using(decimal_text::proofs::Printing::numeral_decimal))]
+    fn name(self, alloc: Global) -> Result<String, AllocError>
+        ensures { IfOk result (λ name. string_bytes name ≡ text.whose_name self) }
+    {
+        match self {
+            Whose::Core(number) => format!(in alloc; "core {number}"),
+            Whose::Slice(number) => format!(in alloc; "slice {number}"),
+            Whose::Cores | Whose::Runs => format!(in alloc; "total"),
+        }
+    }
 
-/// The name of a slice.
-#[tactic(auto, using(decimal_text::proofs::Printing::numeral_decimal))]
-fn name_of_slice(alloc: Global, slice: usize) -> Result<String, AllocError>
-    ensures { IfOk result (λ name. string_bytes name ≡ codes "slice " ++ numeral slice) }
-{
-    format!(in alloc; "slice {slice}")
+    /// Whether the line has a number in a column.
+    fn has(self, column: Column) -> bool
+        ensures { result ≡ text.has_column self column }
+    {
+        match self {
+            Whose::Core(_) | Whose::Cores => !column.is_of_slices(),
+            Whose::Slice(_) => column.is_of_slices(),
+            Whose::Runs => true,
+        }
+    }
 }
 
 /// The cells of the first line.
@@ -47,113 +55,85 @@ fn header_cells(alloc: Global) -> Result<StringRecord, AllocError>
 {
     let mut cells = StringRecord::new(alloc);
     cells.push_field("part")?;
-    for column in CORE_COLUMNS {
+    for column in COLUMNS {
         cells.push_field(column.name())?;
     }
-    cells.push_field("pts")?;
-    cells.push_field("requests")?;
-    cells.push_field("give_backs")?;
-    cells.push_field("evictions")?;
-    cells.push_field("mts")?;
     Ok(cells)
 }
 
-/// Adds a cell that has nothing in it.
-fn push_blank(cells: &mut StringRecord) -> Result<(), AllocError>
-    ensures { OnOk result (fields_of cells.new ≡ fields_of cells.old ++ [] ∷ []) }
-{
-    cells.push_field("")?;
-    Ok(())
-}
-
-/// Adds the cells of a line that has nothing in the columns of slices.
-fn push_no_slice(cells: &mut StringRecord) -> Result<(), AllocError>
-    ensures { OnOk result (fields_of cells.new ≡ fields_of cells.old ++ text.no_slice) }
-{
-    push_blank(cells)?;
-    push_blank(cells)?;
-    push_blank(cells)?;
-    push_blank(cells)?;
-    Ok(())
-}
-
-/// The cells of a core's line.
-fn core_cells(alloc: Global, core: usize, counts: &CoreCounts) -> Result<StringRecord, AllocError>
-    ensures { IfOk result (λ cells. fields_of cells ≡ text.core_cells core counts.now) }
-{
-    let mut cells = StringRecord::new(alloc);
-    let name = name_of_core(alloc, core)?;
-    cells.push_field(name.as_str())?;
-    for column in CORE_COLUMNS {
-        push_number(alloc, &mut cells, u64::from(column.value(counts)))?;
-    }
-    push_number(alloc, &mut cells, counts.pts)?;
-    push_no_slice(&mut cells)?;
-    Ok(cells)
-}
-
-/// The cells of the line of all cores.
-fn total_cells(alloc: Global, cores: &[CoreCounts]) -> Result<StringRecord, AllocError>
-    requires { length cores.now ≤ 64 }
-    ensures { IfOk result (λ cells. fields_of cells ≡ text.total_cells cores.now) }
-{
-    let mut cells = StringRecord::new(alloc);
-    cells.push_field("total")?;
-    for column in CORE_COLUMNS {
-        push_number(alloc, &mut cells, column.total(cores))?;
-    }
-    push_number(alloc, &mut cells, greatest_pts(cores))?;
-    push_no_slice(&mut cells)?;
-    Ok(cells)
-}
-
-/// The cells of a slice's line.
-fn slice_cells(
+/// Adds the cell of the column at a place.
+fn push_cell(
     alloc: Global,
-    slice: usize,
-    counts: &SliceCounts,
-) -> Result<StringRecord, AllocError>
-    ensures { IfOk result (λ cells. fields_of cells ≡ text.slice_cells slice counts.now) }
+    cells: &mut StringRecord,
+    whose: Whose,
+    totals: &RunTotals,
+    place: usize,
+) -> Result<(), AllocError>
+    requires { place < 20 }
+    ensures { OnOk result (fields_of cells.new ≡ fields_of cells.old ++ text.cell_at whose totals.now place ∷ []) }
+{
+    let column = column_at(place);
+    if whose.has(column) {
+        push_number(alloc, cells, totals.number(place, column))
+    } else {
+        push_blank(cells)
+    }
+}
+
+/// The cells of a line.
+fn row_cells(alloc: Global, whose: Whose, totals: &RunTotals) -> Result<StringRecord, AllocError>
+    ensures { IfOk result (λ cells. fields_of cells ≡ text.row_cells whose totals.now) }
 {
     let mut cells = StringRecord::new(alloc);
-    let name = name_of_slice(alloc, slice)?;
+    let name = whose.name(alloc)?;
     cells.push_field(name.as_str())?;
-    for _blank in CORE_COLUMNS {
-        push_blank(&mut cells)?;
+    for place in 0..COLUMN_COUNT {
+        push_cell(alloc, &mut cells, whose, totals, place)?;
     }
-    push_blank(&mut cells)?;
-    push_number(alloc, &mut cells, u64::from(counts.requests))?;
-    push_number(alloc, &mut cells, u64::from(counts.give_backs))?;
-    push_number(alloc, &mut cells, u64::from(counts.evictions))?;
-    push_number(alloc, &mut cells, counts.mts)?;
     Ok(cells)
 }
 
-/// Writes a line of these cells.
-fn write_line(writer: &mut Writer<Vec<u8>>, cells: &StringRecord) -> Result<(), AllocError>
-    requires { IsPlainRow (fields_of cells.now) }
+/// Writes a line of the table.
+fn write_row(
+    alloc: Global,
+    writer: &mut Writer<Vec<u8>>,
+    whose: Whose,
+    totals: &RunTotals,
+) -> Result<(), AllocError>
     ensures text { OnOk result (IsFresh writer.old
-        → Appends (written writer.old) (written writer.new) (text.cells_line (fields_of cells.now))) }
+        → Appends (written writer.old) (written writer.new) (cells_line (text.row_cells whose totals.now))) }
     ensures fresh { OnOk result (IsFresh writer.old → IsFresh writer.new) }
 {
-    match writer.write_byte_record(cells.as_byte_record()) {
-        Ok(()) => Ok(()),
-        Err(_) => Err(AllocError),
-    }
+    write_line(writer, &row_cells(alloc, whose, totals)?)
+}
+
+/// A table that has its first line.
+fn begin_table(alloc: Global) -> Result<Writer<Vec<u8>>, AllocError>
+    ensures fresh { IfOk result (λ writer. IsFresh writer) }
+    ensures text { IfOk result (λ writer. written writer ≡ Some (cells_line text.header_cells)) }
+{
+    let mut writer = new_writer(alloc);
+    write_line(&mut writer, &header_cells(alloc)?)?;
+    Ok(writer)
 }
 
 /// Writes the lines of cores, that of core 0 first.
 fn write_cores(
     alloc: Global,
     writer: &mut Writer<Vec<u8>>,
-    cores: &[CoreCounts],
+    cores: &[Numbers],
 ) -> Result<(), AllocError>
     ensures text { OnOk result (IsFresh writer.old
         → Appends (written writer.old) (written writer.new) (text.lines_from text.core_cells 0 cores.now)) }
     ensures fresh { OnOk result (IsFresh writer.old → IsFresh writer.new) }
 {
-    for (core, counts) in cores.iter().enumerate() {
-        write_line(writer, &core_cells(alloc, core, counts)?)?;
+    for (number, counts) in cores.iter().enumerate() {
+        write_row(
+            alloc,
+            writer,
+            Whose::Core(number),
+            &RunTotals::of_part(counts),
+        )?;
     }
     Ok(())
 }
@@ -162,14 +142,19 @@ fn write_cores(
 fn write_slices(
     alloc: Global,
     writer: &mut Writer<Vec<u8>>,
-    slices: &[SliceCounts],
+    slices: &[Numbers],
 ) -> Result<(), AllocError>
     ensures text { OnOk result (IsFresh writer.old
         → Appends (written writer.old) (written writer.new) (text.lines_from text.slice_cells 0 slices.now)) }
     ensures fresh { OnOk result (IsFresh writer.old → IsFresh writer.new) }
 {
-    for (slice, counts) in slices.iter().enumerate() {
-        write_line(writer, &slice_cells(alloc, slice, counts)?)?;
+    for (number, counts) in slices.iter().enumerate() {
+        write_row(
+            alloc,
+            writer,
+            Whose::Slice(number),
+            &RunTotals::of_part(counts),
+        )?;
     }
     Ok(())
 }
@@ -178,63 +163,29 @@ fn write_slices(
 /// for each core, one for all cores, and one for each slice. Err where memory was refused.
 pub fn print_statistics(
     alloc: Global,
-    cores: &[CoreCounts],
-    slices: &[SliceCounts],
+    cores: &[Numbers],
+    slices: &[Numbers],
 ) -> Result<Vec<u8>, AllocError>
     requires { length cores.now ≤ 64 }
     ensures { IfOk result (λ made. made.items ≡ text.statistics_text cores.now slices.now) }
 {
-    let mut writer = WriterBuilder::new()
-        .terminator(Terminator::Any(b'\n'))
-        .from_writer(Vec::new(alloc));
-    write_line(&mut writer, &header_cells(alloc)?)?;
+    let mut writer = begin_table(alloc)?;
     write_cores(alloc, &mut writer, cores)?;
-    write_line(&mut writer, &total_cells(alloc, cores)?)?;
+    write_row(
+        alloc,
+        &mut writer,
+        Whose::Cores,
+        &RunTotals::of_parts(cores),
+    )?;
     write_slices(alloc, &mut writer, slices)?;
-    match writer.into_inner() {
-        Ok(text) => Ok(text),
-        Err(_) => Err(AllocError),
-    }
-}
-
-/// The cells of the line of all runs.
-fn totals_cells(alloc: Global, totals: RunTotals) -> Result<StringRecord, AllocError>
-    ensures { IfOk result (λ cells. fields_of cells ≡ text.totals_cells totals) }
-{
-    let mut cells = StringRecord::new(alloc);
-    cells.push_field("total")?;
-    push_number(alloc, &mut cells, totals.operations)?;
-    push_number(alloc, &mut cells, totals.loads)?;
-    push_number(alloc, &mut cells, totals.stores)?;
-    push_number(alloc, &mut cells, totals.swaps)?;
-    push_number(alloc, &mut cells, totals.hits)?;
-    push_number(alloc, &mut cells, totals.sh_req)?;
-    push_number(alloc, &mut cells, totals.ex_req)?;
-    push_number(alloc, &mut cells, totals.renewals)?;
-    push_number(alloc, &mut cells, totals.upgrades)?;
-    push_number(alloc, &mut cells, totals.wb_rep)?;
-    push_number(alloc, &mut cells, totals.flush_rep)?;
-    push_number(alloc, &mut cells, totals.dropped)?;
-    push_number(alloc, &mut cells, totals.self_increments)?;
-    push_number(alloc, &mut cells, totals.pts)?;
-    push_number(alloc, &mut cells, totals.requests)?;
-    push_number(alloc, &mut cells, totals.give_backs)?;
-    push_number(alloc, &mut cells, totals.evictions)?;
-    push_number(alloc, &mut cells, totals.mts)?;
-    Ok(cells)
+    text_of(writer)
 }
 
 /// The text of the totals over runs: comma-separated values, a line for the columns and one for all runs. Err where memory was refused.
 pub fn print_totals(alloc: Global, totals: &RunTotals) -> Result<Vec<u8>, AllocError>
     ensures { IfOk result (λ made. made.items ≡ text.totals_text totals.now) }
 {
-    let mut writer = WriterBuilder::new()
-        .terminator(Terminator::Any(b'\n'))
-        .from_writer(Vec::new(alloc));
-    write_line(&mut writer, &header_cells(alloc)?)?;
-    write_line(&mut writer, &totals_cells(alloc, *totals)?)?;
-    match writer.into_inner() {
-        Ok(text) => Ok(text),
-        Err(_) => Err(AllocError),
-    }
+    let mut writer = begin_table(alloc)?;
+    write_row(alloc, &mut writer, Whose::Runs, totals)?;
+    text_of(writer)
 }

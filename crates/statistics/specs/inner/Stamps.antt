@@ -3,7 +3,7 @@ use Rattle.std.specs.Prelude.{ℕ, ◌+◌, ◌-◌, ◌%◌, ◌==◌, if◌the
 use Rattle.std.specs.Option.{option_map_or}
 use Rattle.log_record.specs.declared.record.Record.{Record}
 use Rattle.core_unit.specs.declared.entry.CoreEntry.{CoreEntry}
-use Rattle.statistics.specs.Entries.{is_increment, is_operation}
+use Rattle.statistics.specs.Sights.{is_increment, is_operation}
 
 -- the stamp after so many operations, the last of which has this record
 abbrev pub stamp_at : ℕ → ℕ → Record → ℕ

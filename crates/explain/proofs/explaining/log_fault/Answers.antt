@@ -1,13 +1,11 @@
 -- The entries that the set lends are those of the core's log.
-use Rattle.std.proofs.Common.{rules, ◌≡◌, ◌∙◌, ap, sym, subst, arith, ℕ, None, Some}
+use Rattle.std.proofs.Common.{rules, ◌≡◌, ◌∙◌, ap, sym, arith, None, Some}
 use Rattle.std.specs.Prelude.{is_some, slice_get}
 use Rattle.std.proofs.lemmas.List.{length-map}
 use Rattle.log_record.specs.declared.record.Entry.{Entry}
 use Rattle.verdict.specs.CoreFaultsOf.{given}
 use Rattle.verdict.specs.declared.rule.Rule.TheVariants.{CoreOrder, Program}
 use Rattle.verdict.proofs.EntryLogs.{entries_of, log_found, no_log_found}
-use Rattle.std.specs.Global.{Vec}
-use Rattle.explain.specs.FaultCounts.{AreFalls}
 use Rattle.explain.specs.LogFaults.{IsDepartureBy, IsFall}
 use Rattle.explain.specs.inner.CoreLog.{records_of}
 use Rattle.explain.proofs.CoreFaulted.{has_program, no_log, of_order, of_program}
@@ -34,11 +32,7 @@ returns-in-Some-2-clause-found c =
     let there : Some c.in-Some.log.now ≡ entries_of c.args.set.now c.args.fault.now.id.core = search rules in
     let rule : c.args.fault.now.rule ≡ CoreOrder = search rules in
     let fall : IsFall (records_of c.in-Some.log.now) c.args.fault.now.id c.in-Some-2.found = search rules in
-    let counts : c.in-Some-2.found.by_core ≡ c.in_ok-falls-in-CoreOrder.field-0 = search rules in (
-      rule,
-      (records_of c.in-Some.log.now, sym (log_found c.args.set.now c.args.fault.now.id.core c.in-Some.log.now there), fall),
-      subst (λ (v : Vec ℕ). AreFalls c.args.set.now v.items) (sym counts) c.in_ok-falls-in-CoreOrder.ensures,
-    )
+    (rule, (records_of c.in-Some.log.now, sym (log_found c.args.set.now c.args.fault.now.id.core c.in-Some.log.now there), fall))
 
 pub returns-in-None-clause-explained : goal.returns-in-None-clause-explained
 returns-in-None-clause-explained c fault =

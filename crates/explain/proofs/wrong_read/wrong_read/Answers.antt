@@ -5,7 +5,7 @@ use Rattle.std.proofs.lemmas.Bool.{eq-eqb}
 use Rattle.mem_op.specs.Consistency.{is_same_id}
 use Rattle.address_check.specs.Groups.{IsGroup, at_address}
 use Rattle.address_check.specs.LastStores.{last_store}
-use Rattle.explain.specs.Context.{last_of_core}
+use Rattle.explain.specs.Culprits.{culprit, same_word}
 use Rattle.explain.specs.Times.{next_store}
 use Rattle.explain.specs.WrongReads.{of_id}
 use Rattle.explain.specs.Windows.{window}
@@ -38,7 +38,6 @@ returns-clause-found c =
     let stands : slice_get (at_address load.logged.addr es) place ≡ Some load = rw (← group) (c.in-Some-place_of.ensures.found.1 ∙ there) in
     let is : IsGroup (at_address load.logged.addr es) = subst IsGroup group c.group-group.ensures.is_group in
     let right = c.store_before-right_place.result in
-    let core : c.id.inside.core ≡ c.args.id.core = search rules in
     let there_is : IfSome right (λ p. (p < place) × (slice_get (at_address load.logged.addr es) p ≡ last_store (take place (at_address load.logged.addr es)))) =
     subst (λ xs. IfSome right (λ p. (p < place) × (slice_get xs p ≡ last_store (take place xs)))) group c.store_before-right_place.ensures.found in
     let none_is : IsNone right → last_store (take place (at_address load.logged.addr es)) ≡ None =
@@ -54,11 +53,9 @@ returns-clause-found c =
       ordered = is;
       rows = c.in_ok-entries_around.ensures ∙ ap (λ xs. window xs place) group;
       marked = search rules;
+      culprit_is = c.culprit.ensures ∙ ap (λ xs. culprit xs place load c.named-named.result) group;
+      word = c.same_word.ensures ∙ ap (λ xs. same_word xs place load) group;
       earlier = c.is_right_before.ensures ∙ ap (λ xs. option_map_or (is_right_at xs load) right false) group ∙ earlier_is es place load is stands right there_is none_is;
       next = c.store_after-next.ensures ∙ ap (λ xs. next_store xs place) group;
       later = search rules;
-      own_last = c.last_of_core.ensures ∙ ap (λ n. last_of_core n c.group-group.result.now place) core ∙ ap (λ xs. last_of_core c.args.id.core xs place) group;
-      own_rows = search rules;
-      right_rows = search rules;
-      faults = search rules;
     }

@@ -15,5 +15,5 @@ pub loop-number-preserved : goal.loop-number-preserved
 loop-number-preserved g c =
     let us = g.R.RunParts.units c.args.of.now in
     let at : slice_get us c.loop-number.number ≡ Some c.in-Some.unit.now = ap (slice_get us) (sym c.at.ensures) ∙ (sym c.unit.ensures ∙ ap option_copied c.in-Some.is) in
-    c.in_ok-push.ensures.items ∙ ap (λ t. t ++ c.of.result ∷ []) c.loop-number.invariant
-    ∙ ap (λ y. map core_counts (take c.loop-number.number us) ++ y ∷ []) c.of.ensures ∙ sym (one_more core_counts us c.loop-number.number c.in-Some.unit.now at)
+    c.in_ok-push.ensures.items ∙ ap (λ t. t ++ c.of_core.result ∷ []) c.loop-number.invariant
+    ∙ ap (λ y. map core_counts (take c.loop-number.number us) ++ y ∷ []) c.of_core.ensures ∙ sym (one_more core_counts us c.loop-number.number c.in-Some.unit.now at)

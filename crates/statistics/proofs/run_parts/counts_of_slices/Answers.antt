@@ -15,5 +15,5 @@ pub loop-number-preserved : goal.loop-number-preserved
 loop-number-preserved g c =
     let ss = g.R.RunParts.slices c.args.of.now in
     let at : slice_get ss c.loop-number.number ≡ Some c.in-Some.slice.now = sym c.slice.ensures ∙ ap option_copied c.in-Some.is in
-    c.in_ok-push.ensures.items ∙ ap (λ t. t ++ c.of.result ∷ []) c.loop-number.invariant
-    ∙ ap (λ y. map slice_counts (take c.loop-number.number ss) ++ y ∷ []) c.of.ensures ∙ sym (one_more slice_counts ss c.loop-number.number c.in-Some.slice.now at)
+    c.in_ok-push.ensures.items ∙ ap (λ t. t ++ c.of_slice.result ∷ []) c.loop-number.invariant
+    ∙ ap (λ y. map slice_counts (take c.loop-number.number ss) ++ y ∷ []) c.of_slice.ensures ∙ sym (one_more slice_counts ss c.loop-number.number c.in-Some.slice.now at)

@@ -2,8 +2,8 @@
 use Rattle.std.proofs.Common.{◌≡◌, ◌∷◌, map, take}
 use Rattle.std.specs.Prelude.{codes}
 use Rattle.csv.specs.Records.{fields_of}
-use Rattle.statistics.specs.TableText.{column_name, core_columns}
+use Rattle.statistics.specs.Columns.{column_name, columns}
 use Rattle.statistics.proofs.table_text.header_cells.Given as goal
 
 abbrev pub invariant-loop-column : goal.invariant-loop-column
-invariant-loop-column l = fields_of l.cells ≡ codes "part" ∷ map column_name (take l.column-index core_columns)
+invariant-loop-column l = fields_of l.cells ≡ codes "part" ∷ map column_name (take l.column-index columns)

@@ -1,13 +1,12 @@
+use Rattle.std.proofs.Common.{ap}
 use Rattle.statistics.proofs.Lines.{line_more}
-use Rattle.statistics.proofs.Plain.{core_plain}
-use Rattle.statistics.specs.TableText.{core_cells}
+use Rattle.statistics.specs.TableText.{core_cells, row_cells}
+use Rattle.statistics.specs.declared.table_text.Whose.TheVariants as whose
 use Rattle.statistics.proofs.table_text.write_cores.Goals as goal
 
-pub write_line-requires : goal.write_line-requires
-write_line-requires c = rw c.in_ok-core_cells.ensures (core_plain _ _)
-
-pub loop-core-preserved : goal.loop-core-preserved
-loop-core-preserved c = record {
-  fresh = λ f. c.in_ok-write_line.ensures.fresh (c.loop-core.invariant.fresh f);
-  text = λ f. line_more core_cells _ _ _ _ _ _ _ c.loop-core-test.true (c.loop-core.invariant.text f) (c.in_ok-write_line.ensures.text (c.loop-core.invariant.fresh f)) c.in_ok-core_cells.ensures;
+pub loop-number-preserved : goal.loop-number-preserved
+loop-number-preserved c = record {
+  fresh = λ f. c.in_ok-write_row.ensures.fresh (c.loop-number.invariant.fresh f);
+  text = λ f. line_more core_cells _ _ _ _ _ _ _ c.loop-number-test.true (c.loop-number.invariant.text f) (c.in_ok-write_row.ensures.text (c.loop-number.invariant.fresh f))
+      (ap (row_cells (whose.Core c.loop-number.number)) c.of_part.ensures);
 }

@@ -1,12 +1,12 @@
 -- The lines so far are those of the cores so far.
 use Rattle.std.proofs.Common.{take}
 use Rattle.std.specs.Io.KnownBytes.{Appends}
+use Rattle.csv_lines.specs.Lines.{IsFresh, written}
 use Rattle.statistics.specs.TableText.{core_cells, lines_from}
-use Rattle.statistics.specs.inner.Writing.{IsFresh, written}
 use Rattle.statistics.proofs.table_text.write_cores.Given as goal
 
-abbrev pub invariant-loop-core : goal.invariant-loop-core
-invariant-loop-core l = record {
+abbrev pub invariant-loop-number : goal.invariant-loop-number
+invariant-loop-number l = record {
   fresh : IsFresh l.initial.writer → IsFresh l.writer;
-  text : IsFresh l.initial.writer → Appends (written l.initial.writer) (written l.writer) (lines_from core_cells 0 (take l.core l.cores));
+  text : IsFresh l.initial.writer → Appends (written l.initial.writer) (written l.writer) (lines_from core_cells 0 (take l.number l.cores));
 }

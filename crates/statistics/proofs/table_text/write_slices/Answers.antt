@@ -1,13 +1,12 @@
+use Rattle.std.proofs.Common.{ap}
 use Rattle.statistics.proofs.Lines.{line_more}
-use Rattle.statistics.proofs.Plain.{slice_plain}
-use Rattle.statistics.specs.TableText.{slice_cells}
+use Rattle.statistics.specs.TableText.{slice_cells, row_cells}
+use Rattle.statistics.specs.declared.table_text.Whose.TheVariants as whose
 use Rattle.statistics.proofs.table_text.write_slices.Goals as goal
 
-pub write_line-requires : goal.write_line-requires
-write_line-requires c = rw c.in_ok-slice_cells.ensures (slice_plain _ _)
-
-pub loop-slice-preserved : goal.loop-slice-preserved
-loop-slice-preserved c = record {
-  fresh = λ f. c.in_ok-write_line.ensures.fresh (c.loop-slice.invariant.fresh f);
-  text = λ f. line_more slice_cells _ _ _ _ _ _ _ c.loop-slice-test.true (c.loop-slice.invariant.text f) (c.in_ok-write_line.ensures.text (c.loop-slice.invariant.fresh f)) c.in_ok-slice_cells.ensures;
+pub loop-number-preserved : goal.loop-number-preserved
+loop-number-preserved c = record {
+  fresh = λ f. c.in_ok-write_row.ensures.fresh (c.loop-number.invariant.fresh f);
+  text = λ f. line_more slice_cells _ _ _ _ _ _ _ c.loop-number-test.true (c.loop-number.invariant.text f) (c.in_ok-write_row.ensures.text (c.loop-number.invariant.fresh f))
+      (ap (row_cells (whose.Slice c.loop-number.number)) c.of_part.ensures);
 }

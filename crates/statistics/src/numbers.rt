@@ -1,0 +1,115 @@
+//! The numbers of a core and of a slice.
+
+ghost use Rattle.std.specs.Prelude.{◌≡◌, ◌∷◌, ◌++◌, ◌<◌, ◌≤◌, [], List, length, map, reverse};
+ghost use Rattle.manager_slice.specs.Limits.{entry_limit};
+ghost use Rattle.statistics.specs.Columns as columns;
+ghost use Rattle.statistics.specs.Sights.{seen_back};
+ghost use Rattle.statistics.specs.declared.sight.Sight.{Sight};
+ghost use Rattle.statistics.specs.inner.Counting.{IsCounted};
+
+use super::column::{COLUMN_COUNT, column_at};
+use super::sight::{Sight, entry_there, has_come, is_operation, kind_at};
+use super::stamps::last_pts;
+use core_unit::{CoreUnit, Transcript};
+use log_record::Record;
+use manager_slice::{HistoryEntry, ManagerSlice};
+
+/// The numbers of a core or of a slice: what it did so far.
+#[derive(Clone, Copy, Debug, PartialEq, Eq)]
+pub struct Numbers {
+    /// How much each column counts.
+    pub(crate) counts: [u32; COLUMN_COUNT],
+    /// The core's stamp.
+    pub(crate) pts: u64,
+    /// The greatest rank of its operations.
+    pub(crate) rank: u64,
+    /// The stamp of the slice's memory.
+    pub(crate) mts: u64,
+}
+
+impl Numbers {
+    /// The numbers of a core. Takes no memory.
+    pub fn of_core(unit: &CoreUnit) -> Numbers
+        ensures { result ≡ columns.core_counts unit.now }
+    {
+        let log = unit.log();
+        let period = unit.config().period();
+        Numbers {
+            counts: count_entries(unit.transcript(), log, period),
+            pts: last_pts(unit),
+            rank: greatest_rank(log),
+            mts: 0,
+        }
+    }
+
+    /// The numbers of a slice. Takes no memory.
+    pub fn of_slice(slice: &ManagerSlice) -> Numbers
+        ensures { result ≡ columns.slice_counts slice.now }
+    {
+        Numbers {
+            counts: count_services(slice.history()),
+            pts: 0,
+            rank: 0,
+            mts: slice.state().memory.mts.get(),
+        }
+    }
+}
+
+/// How much each column counts of a transcript and its log.
+fn count_entries(transcript: &Transcript, log: &[Record], period: u64) -> [u32; COLUMN_COUNT]
+    requires { 1 ≤ period }
+    ensures { result ≡ columns.counted (seen_back period log.now (reverse transcript.now.entries)) }
+{
+    let mut counts = [0; COLUMN_COUNT];
+    let mut done = 0;
+    let mut came = false;
+    for place in 0..transcript.len() {
+        let entry = entry_there(transcript, place);
+        if is_operation(&entry) {
+            let kind = kind_at(log, done);
+            let due = (done as u64 + 1) % period == 0;
+            count(&mut counts, &Sight::Operation { kind, came, due });
+            done += 1;
+            came = false;
+        } else {
+            count(&mut counts, &Sight::Core(entry));
+            came = has_come(&entry, came);
+        }
+    }
+    counts
+}
+
+/// How much each column counts of a history.
+fn count_services(history: &[HistoryEntry]) -> [u32; COLUMN_COUNT]
+    requires { length history.now ≤ entry_limit }
+    ensures { result ≡ columns.counted (map (λ e. Sight.Slice e) history.now) }
+{
+    let mut counts = [0; COLUMN_COUNT];
+    for entry in history {
+        count(&mut counts, &Sight::Slice(*entry));
+    }
+    counts
+}
+
+/// Counts what is seen in each column that counts it.
+fn count(counts: &mut [u32; COLUMN_COUNT], sight: &Sight)
+    requires { (seen : List Sight) × IsCounted counts.old seen × (length seen < 4294967295) }
+    ensures { (seen : List Sight) → IsCounted counts.old seen → IsCounted counts.new (seen ++ sight.now ∷ []) }
+{
+    for place in 0..COLUMN_COUNT {
+        if column_at(place).counts(sight) {
+            counts[place] += 1;
+        }
+    }
+}
+
+/// The greatest rank of a log.
+fn greatest_rank(log: &[Record]) -> u64
+    ensures { result ≡ columns.greatest_rank log.now }
+{
+    let mut most = 0;
+    for record in log {
+        most = most.max(record.rank.get());
+    }
+    most
+}

@@ -1,0 +1,106 @@
+//! What the columns look at: the entries of a core's transcript with what they need of its past, and those of a slice's history.
+
+ghost use Rattle.std.specs.Prelude.{◌≡◌, ◌<◌, ◌||◌, get_or, length};
+ghost use Rattle.statistics.specs.Sights.{brings_line, is_hit, is_of, is_operation, kind_at};
+
+use core_unit::{CoreEntry, Transcript};
+use line_stamps::Message;
+use log_record::{Act, Record};
+use manager_slice::HistoryEntry;
+
+/// A kind of operations.
+#[derive(Clone, Copy, Debug, PartialEq, Eq)]
+pub(crate) enum Kind {
+    Load,
+    Store,
+    Swap,
+}
+
+/// What a column looks at.
+#[derive(Clone, Copy, Debug, PartialEq, Eq)]
+pub(crate) enum Sight {
+    /// A core performed an operation. `came` says whether a line came since the one before, and `due` whether a period ended with it.
+    Operation { kind: Kind, came: bool, due: bool },
+    /// Another entry of a core.
+    Core(CoreEntry),
+    /// An entry of a slice.
+    Slice(HistoryEntry),
+}
+
+impl Sight {
+    /// Whether it is an operation of this kind.
+    pub(crate) fn is_of(&self, kind: Kind) -> bool
+        ensures { result ≡ is_of kind self.now }
+    {
+        match self {
+            Sight::Operation { kind: own, .. } => match kind {
+                Kind::Load => matches!(own, Kind::Load),
+                Kind::Store => matches!(own, Kind::Store),
+                Kind::Swap => matches!(own, Kind::Swap),
+            },
+            Sight::Core(_) | Sight::Slice(_) => false,
+        }
+    }
+
+    /// Whether it is an operation that needed no line since the one before.
+    pub(crate) fn is_hit(&self) -> bool
+        ensures { result ≡ is_hit self.now }
+    {
+        match self {
+            Sight::Operation { came, .. } => !*came,
+            Sight::Core(_) | Sight::Slice(_) => false,
+        }
+    }
+}
+
+/// The kind of the operation at a place of a log. A log has a record for each operation, as `logs_are_counted` tells.
+pub(crate) fn kind_at(log: &[Record], place: usize) -> Kind
+    ensures { result ≡ kind_at log.now place }
+{
+    let Some(record) = log.get(place) else {
+        return Kind::Load;
+    };
+    match record.act() {
+        Act::Load(_) => Kind::Load,
+        Act::Store => Kind::Store,
+        Act::Swap(..) => Kind::Swap,
+    }
+}
+
+/// Whether an entry is an operation.
+pub(crate) fn is_operation(entry: &CoreEntry) -> bool
+    ensures { result ≡ is_operation entry.now }
+{
+    matches!(entry, CoreEntry::Performed)
+}
+
+/// Whether an entry is the reply to a request. That to a line given back brings none.
+fn brings_line(entry: &CoreEntry) -> bool
+    ensures { result ≡ brings_line entry.now }
+{
+    match entry {
+        CoreEntry::Got(message, _) => matches!(
+            message,
+            Message::ShReq { .. } | Message::ExReq { .. }
+        ),
+        _ => false,
+    }
+}
+
+/// Whether a line has come after this entry, where one had come before it or not.
+pub(crate) fn has_come(entry: &CoreEntry, before: bool) -> bool
+    ensures { result ≡ (brings_line entry.now || before) }
+{
+    if brings_line(entry) { true } else { before }
+}
+
+/// The entry at a place where there is one.
+pub(crate) fn entry_there(transcript: &Transcript, place: usize) -> CoreEntry
+    requires { place < length transcript.now.entries }
+    ensures { result ≡ get_or transcript.now.entries place result }
+{
+    match transcript.get(place) {
+        Some(entry) => entry,
+        None => unreachable!(),
+    }
+}
