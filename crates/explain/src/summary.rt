@@ -99,8 +99,8 @@ fn sharing(
     Ok(beside_the_same(stamps(alloc, entries)?.as_slice()))
 }
 
-/// These entries in the order of their keys.
-pub(crate) fn by_key(alloc: Global, entries: &[Entry]) -> Result<Vec<Entry>, AllocError>
+/// These entries in the order of their keys. Err where there is no memory.
+pub fn by_key(alloc: Global, entries: &[Entry]) -> Result<Vec<Entry>, AllocError>
     ensures same { IfOk result (λ rows. IsPermutation entries.now rows.items) }
     ensures sorted { IfOk result (λ rows. IsSorted entry_cmp rows.items) }
 {

@@ -6,8 +6,9 @@ ghost use Rattle.pictures.specs.Pictures.{IsPicture};
 
 use super::painting::paint;
 use super::scene::{Arrow, ArrowKind, Card, CardKind, Mark, Scene};
+use super::shown::{Shown, Wanted, id_of, pointed_by, shown_of};
 use core_program::print_instruction;
-use explain::{Due, Explanation, WrongRead, named_id, place_of};
+use explain::{Departure, Due, Explanation, WrongRead, named_id, place_of};
 use log_record::{Act, Entry};
 use mem_op::OpId;
 use std::alloc::{AllocError, Global};
@@ -25,63 +26,18 @@ pub fn draw_explanation(
     ensures picture { IfOk result (λ drawn. IfSome drawn (λ svg. IsPicture (string_bytes svg))) }
     ensures drawn { IfOk result (λ drawn. IsSome drawn ↔ IsDrawn explanation.now) }
 {
-    let Some(rows) = rows_of(alloc, explanation)? else {
+    let Some(shown) = shown_of(alloc, explanation)? else {
         return Ok(None);
     };
-    let mut scene = scene_of(alloc, rows, explanation)?;
+    let mut scene = scene_of(alloc, &shown, explanation)?;
     scene.title.push_str(title)?;
     scene.words.push_str(sentence)?;
     scene.caption.push(String::from_str(alloc, sentence)?)?;
     Ok(Some(paint(alloc, &scene)?))
 }
 
-/// The operations that are shown; None where there are too many.
-fn rows_of(alloc: Global, explanation: &Explanation) -> Result<Option<Vec<Entry>>, AllocError>
-    ensures { IfOk result (λ rows. IsSome rows ↔ IsDrawn explanation.now) }
-{
-    match explanation {
-        Explanation::Load(found) => Ok(Some(rows_around(alloc, found)?)),
-        Explanation::CoreOrder(fall) => Ok(Some(Vec::from_slice(alloc, fall.rows.as_slice())?)),
-        Explanation::Program(departure) => {
-            Ok(Some(Vec::from_slice(alloc, departure.rows.as_slice())?))
-        }
-        Explanation::Summed(summary) => match &summary.rows {
-            Some(rows) => Ok(Some(Vec::from_slice(alloc, rows.as_slice())?)),
-            None => Ok(None),
-        },
-    }
-}
-
-/// The operations of the load's address around it, the one that it should read, the one that it names, and the one that it points to.
-fn rows_around(alloc: Global, found: &WrongRead) -> Result<Vec<Entry>, AllocError> {
-    let mut rows = Vec::from_slice(alloc, found.rows.as_slice())?;
-    let pointed = if found.rule == Rule::Value {
-        found.same_word
-    } else {
-        found.culprit
-    };
-    for entry in &[found.right, found.named, pointed] {
-        add(&mut rows, entry)?;
-    }
-    Ok(rows)
-}
-
-/// Adds an operation, where there is one and none has its id.
-fn add(rows: &mut Vec<Entry>, entry: &Option<Entry>) -> Result<(), AllocError> {
-    match entry {
-        Some(entry) if place_of(rows.as_slice(), entry.id()).is_none() => rows.push(*entry)?,
-        _ => (),
-    }
-    Ok(())
-}
-
-/// What is shown of these operations, without words.
-fn scene_of(
-    alloc: Global,
-    mut rows: Vec<Entry>,
-    explanation: &Explanation,
-) -> Result<Scene, AllocError> {
-    rows.sort_unstable_by_key(|entry| entry.key());
+/// The boxes and the arrows of what is shown, without words.
+fn scene_of(alloc: Global, shown: &Shown, explanation: &Explanation) -> Result<Scene, AllocError> {
     let mut scene = Scene {
         title: String::new(alloc),
         words: String::new(alloc),
@@ -89,35 +45,33 @@ fn scene_of(
         cards: Vec::new(alloc),
         arrows: Vec::new(alloc),
     };
-    let faulty = faulty_of(explanation);
-    for row in rows.iter() {
-        scene.cards.push(card_of(alloc, row, faulty)?)?;
+    let rows = shown.rows.as_slice();
+    for row in rows {
+        scene.cards.push(card_of(alloc, row, shown.faulty)?)?;
     }
-    push_sources(&mut scene.arrows, rows.as_slice())?;
-    push_reasons(&mut scene.arrows, rows.as_slice(), explanation)?;
+    push_sources(&mut scene.arrows, rows)?;
+    if let Explanation::Load(found) = explanation {
+        push_pointed(&mut scene.arrows, rows, found)?;
+    }
+    push_wanted(&mut scene.arrows, shown)?;
     scene.arrows.sort_unstable_by_key(|arrow| arrow.length());
     if let Explanation::Program(departure) = explanation {
-        scene.cards.push(Card {
-            core: departure.id.core,
-            kind: CardKind::Due,
-            mark: Mark::Plain,
-            text: due_text(alloc, &departure.due)?,
-            note: String::new(alloc),
-            left_out_before: 0,
-            left_out_after: 0,
-        })?;
+        scene.cards.push(card_due(alloc, departure)?)?;
     }
     Ok(scene)
 }
 
-/// The operation that breaks a rule, where one stands there.
-fn faulty_of(explanation: &Explanation) -> Option<OpId> {
-    match explanation {
-        Explanation::Load(found) => Some(found.load.id()),
-        Explanation::CoreOrder(fall) => Some(fall.fault.id()),
-        Explanation::Program(departure) => id_of(&departure.found),
-        Explanation::Summed(_) => None,
-    }
+/// The box of what was due.
+fn card_due(alloc: Global, departure: &Departure) -> Result<Card, AllocError> {
+    Ok(Card {
+        core: departure.id.core,
+        kind: CardKind::Due,
+        mark: Mark::Plain,
+        text: due_text(alloc, &departure.due)?,
+        note: String::new(alloc),
+        left_out_before: 0,
+        left_out_after: 0,
+    })
 }
 
 /// The box of an operation, with its stamp and rank beside it.
@@ -184,46 +138,30 @@ fn place(rows: &[Entry], id: Option<OpId>) -> Option<usize> {
     place_of(rows, id?)
 }
 
-/// Adds the arrow to the store that a load points to, or from it.
+/// Adds the arrow between a load and the store that it is tied to.
 fn push_pointed(
     arrows: &mut Vec<Arrow>,
     rows: &[Entry],
     found: &WrongRead,
 ) -> Result<(), AllocError> {
+    let pointed = id_of(&pointed_by(found));
     if found.rule == Rule::Value {
-        let (same, load) = (id_of(&found.same_word), Some(found.load.id()));
-        return push_arrow(arrows, rows, ArrowKind::SameWord, same, load);
+        let load = Some(found.load.id());
+        return push_arrow(arrows, rows, ArrowKind::SameWord, pointed, load);
     }
-    let (named, culprit) = (id_of(&found.named), id_of(&found.culprit));
-    push_arrow(arrows, rows, ArrowKind::Overwritten, named, culprit)
+    let named = id_of(&found.named);
+    push_arrow(arrows, rows, ArrowKind::Overwritten, named, pointed)
 }
 
-/// Adds the arrows of what is wrong.
-fn push_reasons(
-    arrows: &mut Vec<Arrow>,
-    rows: &[Entry],
-    explanation: &Explanation,
-) -> Result<(), AllocError> {
-    match explanation {
-        Explanation::Load(found) => {
-            push_pointed(arrows, rows, found)?;
-            let (load, right) = (Some(found.load.id()), id_of(&found.right));
-            push_arrow(arrows, rows, ArrowKind::Right, load, right)
-        }
-        Explanation::CoreOrder(fall) => {
-            let (fault, before) = (Some(fall.fault.id()), Some(fall.before.id()));
-            push_arrow(arrows, rows, ArrowKind::Before, fault, before)
-        }
-        Explanation::Program(_) | Explanation::Summed(_) => Ok(()),
-    }
-}
-
-/// The id of an operation, where there is one.
-fn id_of(entry: &Option<Entry>) -> Option<OpId> {
-    match entry {
-        Some(entry) => Some(entry.id()),
-        None => None,
-    }
+/// Adds the arrow from the operation that breaks a rule to the one that it is shown beside.
+fn push_wanted(arrows: &mut Vec<Arrow>, shown: &Shown) -> Result<(), AllocError> {
+    let (kind, wanted) = match shown.wanted {
+        Some(Wanted::Right(id)) => (ArrowKind::Right, id),
+        Some(Wanted::Before(id)) => (ArrowKind::Before, id),
+        None => return Ok(()),
+    };
+    let rows = shown.rows.as_slice();
+    push_arrow(arrows, rows, kind, shown.faulty, Some(wanted))
 }
 
 /// What was due.

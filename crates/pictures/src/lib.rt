@@ -8,7 +8,9 @@ mod ordering;
 mod painting;
 mod refutations;
 mod scene;
+mod shown;
 mod svg;
 
 pub use explanations::draw_explanation;
 pub use refutations::draw_refutation;
+pub use shown::{Shown, Wanted, shown_of};
