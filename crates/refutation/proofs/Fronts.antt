@@ -1,10 +1,10 @@
 -- What is read of a text, as answers.
-use Rattle.std.proofs.Common.{◌≡◌, ◌≢◌, ℕ, List, ◌++◌, length, Option, Some, None, refl, sym, ap, subst, ◌∙◌, inl, inr}
+use Rattle.std.proofs.Common.{◌≡◌, ◌≢◌, ℕ, List, ◌++◌, length, Option, Some, None, refl, sym, ap, ◌∙◌, inl, inr}
 use Rattle.std.specs.Prelude.{MatchOption}
 use Rattle.mem_op.specs.Consistency.{Operation}
 use Rattle.refutation.specs.declared.step.Step.{Step}
 use Rattle.refutation.specs.declared.text.Front.{Front}
-use Rattle.refutation.specs.Grammar.{header_line, steps_text, end_line}
+use Rattle.refutation.specs.Grammar.{header_line, steps_text}
 use Rattle.refutation.specs.Refuting.{IsRefutation}
 use Rattle.refutation.specs.Texts.{Begins, NoStepInFront, Spells, SpellsRefutation, IsFirstBad}
 use Rattle.refutation.specs.inner.Lines.{TellsEnd, TellsText}
@@ -13,18 +13,14 @@ use Rattle.refutation.proofs.Lines.{SoFar}
 -- the steps and the bytes after them, where no more steps come
 pub front-told : (text rest : List ℕ) (old new : List Step) (count : ℕ) (bad : Option ℕ) → SoFar text old rest → NoStepInFront rest → new ≡ old → count ≡ length new → TellsEnd rest count bad
     → (r : List ℕ) × Begins text new r × TellsEnd r (length new) bad
-front-told text rest old new count bad far none same counted told = (
-  rest,
-  subst (λ (steps : List Step). Begins text steps rest) (sym same) (record { each_fits = far.each_fits; text = far.text_is; none_in_front = none }),
-  subst (λ n. TellsEnd rest n bad) counted told,
-)
+front-told text rest old new count bad far none same counted told =
+    (rest, rw same (record { each_fits = far.each_fits; text = far.text_is; none_in_front = none }), rw (← counted) told)
 
 -- the text has the shape
 pub shaped : (text : List ℕ) (front : Front) → TellsText text front → front.bad_line ≡ None → Spells text front.steps.items
 shaped text front (inl lacks) none = absurd (let e : Some 1 ≡ None = sym lacks.0 ∙ none in cc)
 shaped text front (inr told) none =
-    let end : told.0 ≡ end_line (length front.steps.items) = subst (TellsEnd told.0 (length front.steps.items)) none told.2 in
-    (told.1.each_fits, told.1.text ∙ ap (λ (xs : List ℕ). header_line ++ (steps_text front.steps.items ++ xs)) end)
+    (told.1.each_fits, told.1.text ∙ ap (λ (xs : List ℕ). header_line ++ (steps_text front.steps.items ++ xs)) (rw none at told.2))
 
 -- ---- the steps judged
 
@@ -32,12 +28,9 @@ pub judged-right : (cores : List (List Operation)) (text : List ℕ) (front : Fr
     → MatchOption front.bad_line (SpellsRefutation cores text) (λ line. IsFirstBad cores text line)
 judged-right cores text front steps told other same is = go front.bad_line refl
   where
-    whole : IsRefutation cores front.steps.items
-    whole = subst (IsRefutation cores) same is
-
     go : (o : Option ℕ) → front.bad_line ≡ o → MatchOption o (SpellsRefutation cores text) (λ line. IsFirstBad cores text line)
-    go None e = (front.steps.items, shaped text front told e, whole)
+    go None e = (front.steps.items, shaped text front told e, rw same at is)
     go (Some line) e = elim told [
       | inl lacks ↦ absurd (other lacks.0)
-      | inr begun ↦ inr (front.steps.items, begun.0, begun.1, inr (whole, subst (TellsEnd begun.0 (length front.steps.items)) e begun.2))
+      | inr begun ↦ inr (front.steps.items, begun.0, begun.1, inr (rw same at is, rw e at begun.2))
     ]

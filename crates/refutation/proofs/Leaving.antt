@@ -1,16 +1,12 @@
 -- The cases that steps leave, step by step.
 use Rattle.std.specs.Prelude.{◌≡◌, ℕ, ◌+◌, ◌<◌, ◌≤◌, List, [], ◌∷◌, ◌++◌, refl, Bool, true, false, not, IsTrue, Option, None, Some, is_some, MatchOption, length, take, drop}
 use Rattle.std.proofs.Common.{sym, ◌∙◌, ap, subst, arith, get_or}
-use Rattle.std.proofs.lemmas.List.{take_more, drop_more, take_all, take-append-drop, length-drop}
-use Rattle.mem_op.specs.declared.id.OpId.{OpId}
+use Rattle.std.proofs.lemmas.List.{take_more, drop_more, take_all, take-append-drop}
 use Rattle.mem_op.specs.Consistency.{Operation}
 use Rattle.refutation.specs.declared.step.Step.{Step}
 use Rattle.refutation.specs.declared.step.Step.TheVariants.{Read, FromRead, WriteOrder, Cycle, States}
 use Rattle.refutation.specs.declared.fact.Fact.{Fact}
-use Rattle.refutation.specs.declared.fact.Fact.TheVariants.{Before, Source}
-use Rattle.refutation.specs.declared.step.Point.TheVariants.{At}
-use Rattle.refutation.specs.declared.step.Range.{Range}
-use Rattle.refutation.specs.Rules.{Gives, IsFromRead, IsWriteOrder}
+use Rattle.refutation.specs.Rules.{Gives}
 use Rattle.refutation.specs.Refuting.{split, Leave, IsRefutation, IsStuck, IsFirstWrong}
 
 -- ---- steps joined
@@ -29,22 +25,10 @@ leave-push cores (first ∷ waiting) (s ∷ steps) facts others step given leave
 
 -- ---- a step gives its cases only
 
-from_read-once : (cores : List (List Operation)) (facts : List Fact) (source : ℕ) (write : OpId) (path : List ℕ) (g h : List Fact) → IsFromRead cores facts source write path g → IsFromRead cores facts source write path h → g ≡ h
-from_read-once cores facts source write path g h a b =
-    let known : Source a.read a.range ≡ Source b.read b.range = (let p = a.known in let q = b.known in cc) in
-    let read : a.read ≡ b.read = cc in
-    a.gives ∙ ap (λ (r : OpId). Before (At r) (At write) ∷ []) read ∙ sym b.gives
-
-write_order-once : (cores : List (List Operation)) (facts : List Fact) (source : ℕ) (write : OpId) (path : List ℕ) (g h : List Fact) → IsWriteOrder cores facts source write path g → IsWriteOrder cores facts source write path h → g ≡ h
-write_order-once cores facts source write path g h a b =
-    let known : Source a.read a.range ≡ Source b.read b.range = (let p = a.known in let q = b.known in cc) in
-    let range : a.range ≡ b.range = cc in
-    a.gives ∙ ap (λ (r : Range). Before (At write) r.last ∷ []) range ∙ sym b.gives
-
 gives-once : (cores : List (List Operation)) (facts : List Fact) (step : Step) (g h : List Fact) → Gives cores facts step g → Gives cores facts step h → g ≡ h
 gives-once cores facts (Read read ranges) g h a b = a.1 ∙ sym b.1
-gives-once cores facts (FromRead source write path) g h a b = from_read-once cores facts source write path g h a b
-gives-once cores facts (WriteOrder source write path) g h a b = write_order-once cores facts source write path g h a b
+gives-once cores facts (FromRead source write path) g h a b = cc
+gives-once cores facts (WriteOrder source write path) g h a b = cc
 gives-once cores facts (Cycle path) g h a b = a.1 ∙ sym b.1
 gives-once cores facts (States addresses set) g h a b = a.1 ∙ sym b.1
 
@@ -77,33 +61,20 @@ module _ (cores : List (List Operation)) (steps : List Step) (place : ℕ) (fact
     within = omega arith;
     left = facts ∷ others;
     right = right;
-    stuck = subst (λ (rest : List Step). IsStuck cores (facts ∷ others) rest) (ap (λ (s : Step). s ∷ drop (place + 1) steps) is ∙ sym (drop_more steps place step within)) none;
+    stuck = rw (drop_more steps place step within, ← is) none;
   }
 
   -- one that is
   pub right-next : (given : List Fact) → Gives cores facts step given → Leave cores ([] ∷ []) (take (place + 1) steps) (split facts given ++ others)
   right-next given gives =
-      subst (λ (s : List Step). Leave cores ([] ∷ []) s (split facts given ++ others))
-      (ap (λ (s : Step). take place steps ++ s ∷ []) is ∙ sym (take_more steps place step within))
-      (leave-push cores ([] ∷ []) (take place steps) facts others step given right gives)
-
--- no case is left
-pub whole-now : (cores : List (List Operation)) (steps : List Step) (place : ℕ) → length steps ≤ place → Leave cores ([] ∷ []) (take place steps) [] → IsRefutation cores steps
-whole-now cores steps place l right = subst (λ (s : List Step). Leave cores ([] ∷ []) s []) (take_all place steps l) right
-
--- no case is left, and a step is
-pub too-many : (cores : List (List Operation)) (steps : List Step) (place : ℕ) → place < length steps → Leave cores ([] ∷ []) (take place steps) [] → IsFirstWrong cores steps place
-too-many cores steps place l right = record { within = omega arith; left = []; right = right; stuck = some (drop place steps) (λ e. (let n = length-drop place steps in let m = ap length e in omega arith)) }
-  where
-    some : (rest : List Step) → (rest ≡ [] → ⊥) → IsStuck cores [] rest
-    some [] not = not refl
-    some (s ∷ rest) not = tt
+      rw (take_more steps place step within, ← is) (leave-push cores ([] ∷ []) (take place steps) facts others step given right gives)
 
 -- no case is left: the answer is the next step, if there is one
 pub answer-after : (cores : List (List Operation)) (steps : List Step) (next : ℕ) (answer : Option ℕ) → Leave cores ([] ∷ []) (take next steps) [] → MatchOption answer (length steps ≤ next) (λ place. (place ≡ next) × (next < length steps))
     → MatchOption answer (IsRefutation cores steps) (λ place. IsFirstWrong cores steps place)
-answer-after cores steps next None right told = whole-now cores steps next told right
-answer-after cores steps next (Some place) right told = subst (IsFirstWrong cores steps) (sym told.0) (too-many cores steps next told.1 right)
+answer-after cores steps next None right told = rw (take_all next steps told) at right
+answer-after cores steps next (Some place) right told =
+    rw told.0 record { within = (let l = told.1 in omega arith); left = []; right = right; stuck = rw (drop_more steps next (Cycle []) told.1) tt }
 
 -- the answer, as a test
 pub exact-from : (cores : List (List Operation)) (steps : List Step) (answer : Option ℕ) (refuted : Bool) → not refuted ≡ is_some answer → MatchOption answer (IsRefutation cores steps) (λ place. IsFirstWrong cores steps place)

@@ -1,6 +1,7 @@
 pub mod ClosedSound
 pub mod Covered
 pub mod DeadStates
+pub mod Firsts
 pub mod Fronts
 pub mod LastStores
 pub mod Leading
@@ -12,6 +13,7 @@ pub mod Parts
 pub mod Paths
 pub mod Reached
 pub mod ReachedSets
+pub mod Runs
 pub mod SeenStates
 pub mod Settled
 pub mod Sound

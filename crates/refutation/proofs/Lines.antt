@@ -19,6 +19,7 @@ use Rattle.refutation.specs.inner.Telling.{TellsLine}
 use Rattle.refutation.proofs.StateTexts.{states_no_lf}
 use Rattle.text_lines.specs.Lines.{IsOneLine}
 use Rattle.text_lines.specs.Words.{spaced}
+use Rattle.text_lines.proofs.Fields.{number_no_lf}
 use Rattle.text_lines.proofs.SpacedWords.{spaced_no_lf}
 use Rattle.text_lines.proofs.TextLines.{first_line}
 
@@ -43,16 +44,13 @@ range_no_lf range = NoLf-append (point_text range.first) _ (point_no_lf range.fi
 reason_no_lf : (source : ℕ) (write : OpId) (path : List ℕ) → NoLf (reason_text source write path)
 unfolding reason_text
 reason_no_lf source write path =
-    let words = NoLf-append (codes " :") (spaced numeral path) (const_no_lf (codes " :") refl) (spaced_no_lf numeral numeral_no_lf path) in
-    NoLf-append (numeral source) (32 ∷ (id_text write ++ (codes " :" ++ spaced numeral path))) (numeral_no_lf source)
-    (refl, NoLf-append (id_text write) (codes " :" ++ spaced numeral path) (id_no_lf write) words)
+    number_no_lf source (id_text write ++ (codes " :" ++ spaced numeral path)) (NoLf-append (id_text write) (codes " :" ++ spaced numeral path) (id_no_lf write) (refl, (refl, spaced_no_lf numeral numeral_no_lf path)))
 
 pub step_no_lf : (step : Step) → NoLf (step_text step)
 unfolding fields_text
 step_no_lf (Read read ranges) =
     NoLf-append (codes "read ") (id_text read ++ (codes " :" ++ spaced range_text ranges)) (const_no_lf (codes "read ") refl)
-    (NoLf-append (id_text read) (codes " :" ++ spaced range_text ranges) (id_no_lf read)
-    (NoLf-append (codes " :") (spaced range_text ranges) (const_no_lf (codes " :") refl) (spaced_no_lf range_text range_no_lf ranges)))
+    (NoLf-append (id_text read) (codes " :" ++ spaced range_text ranges) (id_no_lf read) (refl, (refl, spaced_no_lf range_text range_no_lf ranges)))
 step_no_lf (FromRead source write path) = NoLf-append (codes "from-read ") (reason_text source write path) (const_no_lf (codes "from-read ") refl) (reason_no_lf source write path)
 step_no_lf (WriteOrder source write path) = NoLf-append (codes "write-order ") (reason_text source write path) (const_no_lf (codes "write-order ") refl) (reason_no_lf source write path)
 step_no_lf (Cycle path) = NoLf-append (codes "cycle :") (spaced numeral path) (const_no_lf (codes "cycle :") refl) (spaced_no_lf numeral numeral_no_lf path)
@@ -78,6 +76,6 @@ pub record SoFar (text : List ℕ) (steps : List Step) (rest : List ℕ) : Type 
 pub end_front : (rest behind more : List ℕ) (count : ℕ) (front : Option (Option ℕ × List ℕ)) → rest ≡ codes "end " ++ behind → front ≡ front_map as_u64 (field_at 10 behind) → count < 2 ^ 64
     → rest ≡ end_line count ++ more → front ≡ Some (Some count, more)
 end_front rest behind more count front is read low end =
-    let text : end_line count ++ more ≡ codes "end " ++ (numeral count ++ 10 ∷ more) = ap (λ (xs : List ℕ). codes "end " ++ xs) (append_assoc (numeral count) (10 ∷ []) more) in
-    let same : behind ≡ numeral count ++ 10 ∷ more = append_cancel_left (codes "end ") behind (numeral count ++ 10 ∷ more) (sym is ∙ end ∙ text) in
-    read ∙ ap (λ (xs : List ℕ). front_map as_u64 (field_at 10 xs)) same ∙ ap (front_map as_u64) (field_again 10 count more refl) ∙ ap (λ (n : Option ℕ). Some (n, more)) (sym (as_u64_some count low))
+    let text = end ∙ ap (λ xs. codes "end " ++ xs) (append_assoc (numeral count) (10 ∷ []) more) in
+    let same = append_cancel_left (codes "end ") behind (numeral count ++ 10 ∷ more) (sym is ∙ text) in
+    read ∙ rw (same, field_again 10 count more refl) (ap (λ n. Some (n, more)) (sym (as_u64_some count low)))

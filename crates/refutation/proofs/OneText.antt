@@ -1,15 +1,15 @@
 -- A text is that of one refutation, and has one first bad line.
-use Rattle.std.proofs.Common.{◌≡◌, ℕ, ◌<◌, ◌^◌, List, [], ◌∷◌, ◌++◌, length, refl, sym, ap, subst, ◌∙◌, arith, inl, inr, append-nil}
+use Rattle.std.proofs.Common.{◌≡◌, ℕ, ◌<◌, ◌^◌, List, [], ◌∷◌, ◌++◌, length, refl, sym, ap, ◌∙◌, arith, inl, inr, append-nil}
 use Rattle.std.specs.Prelude.{codes}
 use Rattle.std.proofs.lemmas.List.{append_cancel_left}
 use Rattle.decimal_text.specs.Numbers.{numeral}
-use Rattle.decimal_text.proofs.Reading.{some_is}
+use Rattle.std.proofs.lemmas.Option.{some_pair_parts}
 use Rattle.mem_op.specs.declared.id.OpId.{OpId}
 use Rattle.refutation.specs.declared.fault.CertificateFault.{CertificateFault}
 use Rattle.refutation.specs.declared.fault.CertificateFault.TheVariants.{BadCertificate, OutOfMemory}
 use Rattle.refutation.specs.declared.step.Step.{Step}
 use Rattle.refutation.specs.declared.step.Step.TheVariants.{Read, FromRead, WriteOrder, Cycle, States}
-use Rattle.refutation.specs.Grammar.{id_text, range_text, reason_text, name_text, fields_text, step_text, steps_text, header_line, end_line, IdFits, PathFits, Fits}
+use Rattle.refutation.specs.Grammar.{id_text, reason_text, name_text, fields_text, step_text, steps_text, header_line, end_line, IdFits, PathFits, Fits}
 use Rattle.refutation.specs.Texts.{Spells, NoStepInFront, Begins, EndsBadly, IsFirstMisshapen, IsFault}
 use Rattle.refutation.specs.TextLaws.{SpelledIsRead, AtMostOneFault}
 use Rattle.refutation.specs.inner.Reading.{named_at, source_at}
@@ -24,39 +24,31 @@ use Rattle.text_lines.proofs.SpacedWords.{numbers_are_words, spaced_once}
 
 -- ---- a step's line is that of one step
 
-named-once : (a b : OpId) (xs ys : List ℕ) → IdFits a → IdFits b → id_text a ++ (codes " :" ++ xs) ≡ id_text b ++ (codes " :" ++ ys) → (a ≡ b) × (xs ≡ ys)
-named-once a b xs ys p q e =
-    let same : (a, xs) ≡ (b, ys) = some_is (a, xs) (b, ys) (sym (named_again a xs p) ∙ ap named_at e ∙ named_again b ys q) in
-    (ap (λ (z : OpId × List ℕ). z.0) same, ap (λ (z : OpId × List ℕ). z.1) same)
+named-once : {a b : OpId} {xs ys : List ℕ} → IdFits a → IdFits b → id_text a ++ (codes " :" ++ xs) ≡ id_text b ++ (codes " :" ++ ys) → (a ≡ b) × (xs ≡ ys)
+named-once {a} {b} {xs} {ys} p q e = some_pair_parts _ _ _ _ (sym (named_again a xs p) ∙ ap named_at e ∙ named_again b ys q)
 
-record SameReason (s t : ℕ) (v w : OpId) (p q : List ℕ) : Type 0 where
-  source : s ≡ t
-  write : v ≡ w
-  path : p ≡ q
-
-reason-once : (s t : ℕ) (v w : OpId) (p q : List ℕ) → (s < 2 ^ 64) × IdFits v × PathFits p → (t < 2 ^ 64) × IdFits w × PathFits q → reason_text s v p ≡ reason_text t w q → SameReason s t v w p q
+reason-once : (s t : ℕ) (v w : OpId) (p q : List ℕ) → (s < 2 ^ 64) × IdFits v × PathFits p → (t < 2 ^ 64) × IdFits w × PathFits q → reason_text s v p ≡ reason_text t w q → (s ≡ t) × (v ≡ w) × (p ≡ q)
 unfolding reason_text
 reason-once s t v w p q f g e =
     let xs = id_text v ++ (codes " :" ++ spaced numeral p) in
     let ys = id_text w ++ (codes " :" ++ spaced numeral q) in
-    let same : (s, xs) ≡ (t, ys) = some_is (s, xs) (t, ys) (sym (field_below_again (2 ^ 64) s xs f.0) ∙ ap source_at e ∙ field_below_again (2 ^ 64) t ys g.0) in
-    let rest = named-once v w (spaced numeral p) (spaced numeral q) f.1 g.1 (ap (λ (z : ℕ × List ℕ). z.1) same) in
-    record { source = ap (λ (z : ℕ × List ℕ). z.0) same; write = rest.0; path = spaced_once numbers_are_words p q f.2 g.2 rest.1 }
+    let same = some_pair_parts _ _ _ _ (sym (field_below_again (2 ^ 64) s xs f.0) ∙ ap source_at e ∙ field_below_again (2 ^ 64) t ys g.0) in
+    let rest = named-once f.1 g.1 same.1 in
+    (same.0, rest.0, spaced_once numbers_are_words p q f.2 g.2 rest.1)
 
 fields-once : (a b : Step) → Fits a → Fits b → name_text a ≡ name_text b → fields_text a ≡ fields_text b → a ≡ b
 unfolding fields_text
 fields-once (Read read ranges) (Read read2 ranges2) p q name e =
-    let same = named-once read read2 (spaced range_text ranges) (spaced range_text ranges2) p.0 q.0 e in
-    let id : read ≡ read2 = same.0 in
-    let rest : ranges ≡ ranges2 = spaced_once ranges_are_words ranges ranges2 p.1 q.1 same.1 in
-    λ i. Read (id i) (rest i)
+    let same = named-once p.0 q.0 e in
+    let rest = spaced_once ranges_are_words ranges ranges2 p.1 q.1 same.1 in
+    λ i. Read (same.0 i) (rest i)
 fields-once (FromRead source write path) (FromRead source2 write2 path2) p q name e =
     let same = reason-once source source2 write write2 path path2 p q e in
-    λ i. FromRead (same.source i) (same.write i) (same.path i)
+    λ i. FromRead (same.0 i) (same.1 i) (same.2 i)
 fields-once (WriteOrder source write path) (WriteOrder source2 write2 path2) p q name e =
     let same = reason-once source source2 write write2 path path2 p q e in
-    λ i. WriteOrder (same.source i) (same.write i) (same.path i)
-fields-once (Cycle path) (Cycle path2) p q name e = ap (λ (xs : List ℕ). Cycle xs) (spaced_once numbers_are_words path path2 p q e)
+    λ i. WriteOrder (same.0 i) (same.1 i) (same.2 i)
+fields-once (Cycle path) (Cycle path2) p q name e = ap (λ xs. Cycle xs) (spaced_once numbers_are_words path path2 p q e)
 fields-once (States addresses set) (States addresses2 set2) p q name e =
     let same = set-once addresses addresses2 set set2 p q e in
     λ i. States (same.0 i) (same.1 i)
@@ -73,8 +65,8 @@ step_lines : AreLines step_text Fits
 step_lines = record { no_lf = step_no_lf; once = step-once }
 
 -- the `end` line is no step's
-end-no_step : (count : ℕ) (more : List ℕ) → NoStepInFront (end_line count ++ more)
-end-no_step count more step rest there = other step (ap (λ (xs : List ℕ). first_of xs) there.1)
+end-no_step : (count : ℕ) → NoStepInFront (end_line count)
+end-no_step count step rest there = other step (ap first_of there.1)
   where
     other : (s : Step) → 101 ≡ first_of (step_text s ++ 10 ∷ rest) → ⊥
     other (Read read ranges) e = omega arith
@@ -83,16 +75,13 @@ end-no_step count more step rest there = other step (ap (λ (xs : List ℕ). fir
     other (Cycle path) e = omega arith
     other (States addresses set) e = omega arith
 
-spelled-no_step : (steps : List Step) → NoStepInFront (end_line (length steps))
-spelled-no_step steps = subst NoStepInFront (append-nil (end_line (length steps))) (end-no_step (length steps) [])
-
 -- what begins with the header does so in one way
 begun-once : (bytes : List ℕ) (p q : List Step) (xs ys : List ℕ) → Begins bytes p xs → Begins bytes q ys → (p ≡ q) × (xs ≡ ys)
 begun-once bytes p q xs ys a b =
     cut_once step_lines p q xs ys a.each_fits b.each_fits a.none_in_front b.none_in_front (append_cancel_left header_line (steps_text p ++ xs) (steps_text q ++ ys) (sym a.text ∙ b.text))
 
 spelled-begun : (bytes : List ℕ) (steps : List Step) → Spells bytes steps → Begins bytes steps (end_line (length steps))
-spelled-begun bytes steps spells = record { each_fits = spells.0; text = spells.1; none_in_front = spelled-no_step steps }
+spelled-begun bytes steps spells = record { each_fits = spells.0; text = spells.1; none_in_front = end-no_step (length steps) }
 
 -- it doesn't end badly
 ends-well : (count line : ℕ) → EndsBadly (end_line count) count line → ⊥
@@ -111,7 +100,7 @@ no-fault bytes steps OutOfMemory spells bad = refl
 no-fault bytes steps (BadCertificate line) spells (inl lacks) = absurd (lacks.1 (steps_text steps ++ end_line (length steps)) spells.1)
 no-fault bytes steps (BadCertificate line) spells (inr begun) =
     let same = begun-once bytes begun.0 steps begun.1 (end_line (length steps)) begun.2 (spelled-begun bytes steps spells) in
-    absurd (ends-well (length steps) line (subst (λ (xs : List ℕ). EndsBadly xs (length steps) line) same.1 (subst (λ (p : List Step). EndsBadly begun.1 (length p) line) same.0 begun.3)))
+    absurd (ends-well (length steps) line (rw (same.0, same.1) at begun.3))
 
 pub spelled : SpelledIsRead
 spelled = record {
@@ -125,7 +114,7 @@ first-once bytes j k (inl a) (inr b) = absurd (a.1 (steps_text b.0 ++ b.1) b.2.t
 first-once bytes j k (inr a) (inl b) = absurd (b.1 (steps_text a.0 ++ a.1) a.2.text)
 first-once bytes j k (inr a) (inr b) =
     let same = begun-once bytes a.0 b.0 a.1 b.1 a.2 b.2 in
-    ends-once b.1 (length b.0) j k (subst (λ (xs : List ℕ). EndsBadly xs (length b.0) j) same.1 (subst (λ (p : List Step). EndsBadly a.1 (length p) j) same.0 a.3)) b.3
+    ends-once b.1 (length b.0) j k (rw (same.0, same.1) at a.3) b.3
 
 pub at_most_one : AtMostOneFault
 at_most_one bytes (BadCertificate j) (BadCertificate k) a b f g = ap (λ (n : ℕ). BadCertificate n) (first-once bytes j k a b)

@@ -1,11 +1,12 @@
 -- The parts of a step's line: what is read is the text that stands there, and that text is read again.
 use Rattle.std.proofs.Common.{◌≡◌, ℕ, Bool, true, false, if◌then◌else◌, List, [], ◌∷◌, ◌++◌, Option, Some, None, is_some, refl, sym, ap, subst, ◌∙◌, inl, inr, append_assoc, append-nil}
 use Rattle.std.specs.Prelude.{codes}
-use Rattle.std.proofs.lemmas.Bool.{cases_Bool, cases_eq, cond-true, cond-false, ne_eqb, and_parts, eqb-true, eq-eqb}
+use Rattle.std.proofs.lemmas.Bool.{cases_Bool, cases_eq, cond-true, cond-false, ne_eqb, eqb-true}
 use Rattle.decimal_text.specs.Numbers.{numeral}
 use Rattle.decimal_text.specs.Reading.{◌>>=◌, after, field_at, number_at, is_digit}
 use Rattle.decimal_text.proofs.Numbers.{AreDigits, NoDigit, after_takes, after_again, number_takes, number_again, numeral_digits, numeral_some}
 use Rattle.decimal_text.proofs.Reading.{bind_some, some_is, field_takes, field_again}
+use Rattle.log_record.proofs.EntryFacts.{same_id-true, same_id-refl}
 use Rattle.mem_op.specs.declared.id.OpId.{OpId}
 use Rattle.mem_op.specs.Limits.{operation_limit}
 use Rattle.refutation.specs.declared.step.Point.{Point}
@@ -20,11 +21,6 @@ use Rattle.text_lines.proofs.SpacedWords.{HasWords, at_end_is, ends_no_digit}
 
 -- ---- ids
 
-id_joined : (core index c i : ℕ) (bytes rest behind : List ℕ) → core ≡ c → index ≡ i → bytes ≡ numeral core ++ 46 ∷ behind → behind ≡ numeral index ++ rest → bytes ≡ (numeral c ++ 46 ∷ numeral i) ++ rest
-id_joined core index c i bytes rest behind e f first second =
-    first ∙ ap (λ (r : List ℕ). numeral core ++ 46 ∷ r) second ∙ sym (append_assoc (numeral core) (46 ∷ numeral index) rest)
-    ∙ ap (λ (n : ℕ). (numeral n ++ 46 ∷ numeral index) ++ rest) e ∙ ap (λ (n : ℕ). (numeral c ++ 46 ∷ numeral n) ++ rest) f
-
 pub id_takes : (bytes : List ℕ) (x : OpId × List ℕ) → id_at bytes ≡ Some x → IdFits x.0 × (bytes ≡ id_text x.0 ++ x.1)
 unfolding id_at id_text
 id_takes bytes x e =
@@ -35,8 +31,9 @@ id_takes bytes x e =
     let found : OpId × List ℕ = (record { core = c.0; index = i.0 }, index.0.1) in
     let g = below_is 64 core.0.0 c.0 c.1 in
     let h = below_is operation_limit index.0.0 i.0 i.1 in
-    let all = id_joined core.0.0 index.0.0 c.0 i.0 bytes index.0.1 core.0.1 g.0 h.0 (field_takes 46 bytes core.0 core.1) (number_takes core.0.1 index.0 index.1) in
-    subst (λ (y : OpId × List ℕ). IdFits y.0 × (bytes ≡ id_text y.0 ++ y.1)) {x = found} (some_is found x i.2) ((g.1, h.1), all)
+    let text = field_takes 46 bytes core.0 core.1 ∙ ap (λ r. numeral core.0.0 ++ 46 ∷ r) (number_takes core.0.1 index.0 index.1) ∙ sym (append_assoc (numeral core.0.0) (46 ∷ numeral index.0.0) index.0.1)
+    ∙ ap (λ (n : ℕ). (numeral n ++ 46 ∷ numeral index.0.0) ++ index.0.1) g.0 ∙ ap (λ (n : ℕ). (numeral c.0 ++ 46 ∷ numeral n) ++ index.0.1) h.0 in
+    subst (λ (y : OpId × List ℕ). IdFits y.0 × (bytes ≡ id_text y.0 ++ y.1)) {x = found} (some_is found x i.2) ((g.1, h.1), text)
 
 pub id_again : (id : OpId) (rest : List ℕ) → IdFits id → NoDigit rest → id_at (id_text id ++ rest) ≡ Some (id, rest)
 unfolding id_at id_text
@@ -87,23 +84,15 @@ point_again (At id) rest fits none = rw (id_not_init id rest, id_again id rest f
 
 -- ---- ranges
 
--- what comes after the first point of a range
-abbrev more_text : Range → List ℕ
-more_text range = if is_same_point range.first range.last then [] else codes ".." ++ point_text range.last
-
-same_point : (p q : Point) → is_same_point p q ≡ true → p ≡ q
+pub same_point : (p q : Point) → is_same_point p q ≡ true → p ≡ q
 same_point Init Init e = refl
 same_point Init (At b) e = absurd cc
 same_point (At a) Init e = absurd cc
-same_point (At a) (At b) e =
-    let parts = and_parts _ _ e in
-    let core = eqb-true a.core b.core parts.0 in
-    let index = eqb-true a.index b.index parts.1 in
-    λ i. At (record { core = core i; index = index i })
+same_point (At a) (At b) e = ap At (same_id-true a b e)
 
 same_self : (p : Point) → is_same_point p p ≡ true
 same_self Init = refl
-same_self (At a) = rw (eq-eqb a.core a.core refl, eq-eqb a.index a.index refl) refl
+same_self (At a) = same_id-refl a
 
 -- a test that has to fail
 unless_some : {A : Type 0} (b : Bool) (o : Option A) (x : A) → (if b then None else o) ≡ Some x → (b ≡ false) × (o ≡ Some x)
@@ -135,15 +124,11 @@ IsRangeRead bytes x = RangeFits x.0 × (bytes ≡ 32 ∷ (range_text x.0 ++ x.1)
 two_joined : (first : Point) (range : Range) (bytes r1 r2 rest : List ℕ) → bytes ≡ 32 ∷ (point_text first ++ r1) → r1 ≡ codes ".." ++ r2 → IsLast first r2 range rest → bytes ≡ 32 ∷ (range_text range ++ rest)
 unfolding range_text
 two_joined first range bytes r1 r2 rest e f last =
-    let apart : is_same_point range.first range.last ≡ false = ap (λ (p : Point). is_same_point p range.last) last.from ∙ last.apart in
-    let text : range_text range ≡ point_text first ++ (codes ".." ++ point_text range.last) =
-    ap (λ (b : Bool). point_text range.first ++ (if b then [] else codes ".." ++ point_text range.last)) apart ∙ ap (λ (p : Point). point_text p ++ (codes ".." ++ point_text range.last)) last.from in
-    e ∙ ap (λ (r : List ℕ). 32 ∷ (point_text first ++ r)) (f ∙ ap (λ (r : List ℕ). codes ".." ++ r) last.text)
-    ∙ ap (λ (r : List ℕ). 32 ∷ r) (sym (append_assoc (point_text first) (codes ".." ++ point_text range.last) rest)) ∙ ap (λ (r : List ℕ). 32 ∷ (r ++ rest)) (sym text)
+    rw (last.from, last.apart, append_assoc (point_text first) (codes ".." ++ point_text range.last) rest) (e ∙ ap (λ r. 32 ∷ (point_text first ++ r)) (f ∙ ap (λ r. codes ".." ++ r) last.text))
 
 one_text : (p : Point) → range_text (record { first = p; last = p }) ≡ point_text p
 unfolding range_text
-one_text p = ap (λ (b : Bool). point_text p ++ (if b then [] else codes ".." ++ point_text p)) (same_self p) ∙ append-nil (point_text p)
+one_text p = rw (same_self p) (append-nil (point_text p))
 
 range_takes : (bytes : List ℕ) (x : Range × List ℕ) → range_at bytes ≡ Some x → IsRangeRead bytes x
 unfolding range_at
@@ -195,14 +180,9 @@ range_again range rest fits ends = go (is_same_point range.first range.last) ref
   where
     go : (b : Bool) → is_same_point range.first range.last ≡ b → range_at (32 ∷ (range_text range ++ rest)) ≡ Some (range, rest)
     go true same =
-        let is : range.last ≡ range.first = sym (same_point range.first range.last same) in
-        let whole : record { first = range.first; last = range.first } ≡ range = ap (λ (p : Point). record { first = range.first; last = p }) (sym is) in
-        let text : range_text range ≡ point_text range.first = ap (λ (r : Range). range_text r) (sym whole) ∙ one_text range.first in
-        ap (λ (t : List ℕ). range_at (32 ∷ (t ++ rest))) text ∙ alone_again range.first rest fits.0 ends ∙ ap (λ (r : Range). Some (r, rest)) whole
-    go false apart =
-        let text : range_text range ≡ point_text range.first ++ (codes ".." ++ point_text range.last) =
-        ap (λ (b : Bool). point_text range.first ++ (if b then [] else codes ".." ++ point_text range.last)) apart in
-        ap (λ (t : List ℕ). range_at (32 ∷ (t ++ rest))) text ∙ ap (λ (t : List ℕ). range_at (32 ∷ t)) (append_assoc (point_text range.first) (codes ".." ++ point_text range.last) rest) ∙ two_again range rest fits apart ends
+        let whole : record { first = range.first; last = range.first } ≡ range = ap (λ (p : Point). record { first = range.first; last = p }) (same_point range.first range.last same) in
+        rw (same, append-nil (point_text range.first)) (alone_again range.first rest fits.0 ends ∙ ap (λ (r : Range). Some (r, rest)) whole)
+    go false apart = rw (apart, append_assoc (point_text range.first) (codes ".." ++ point_text range.last) rest) (two_again range rest fits apart ends)
 
 pub ranges_are_words : HasWords range_text RangeFits range_at
 ranges_are_words = record { takes = λ bytes x rest e. range_takes bytes (x, rest) e; again = range_again }

@@ -1,5 +1,5 @@
 -- Paths, step by step.
-use Rattle.std.specs.Prelude.{◌≡◌, ℕ, suc, ◌≤◌, ◌==◌, nat_le, true, List, [], ◌∷◌, refl, Option, Some, None, slice_get, take, drop, length, ◌-◌}
+use Rattle.std.specs.Prelude.{◌≡◌, ℕ, suc, ◌≤◌, ◌==◌, nat_le, true, List, [], ◌∷◌, refl, Option, Some, None, slice_get, IsSomeAnd, take, drop, length, ◌-◌}
 use Rattle.std.proofs.Common.{sym, ◌∙◌, subst, arith, get_or}
 use Rattle.std.proofs.lemmas.Bool.{and_parts, and_from, eqb-true, eq-eqb, leb-true, le-leb}
 use Rattle.std.proofs.lemmas.List.{take_all}
@@ -12,11 +12,15 @@ use Rattle.refutation.specs.Facts.{is_up_to, earlier_of, later_of, Leads, IsCycl
 pub leads-cons : (facts : List Fact) (from to : Point) (number : ℕ) (path : List ℕ) (fact : Fact) → slice_get facts number ≡ Some fact → is_up_to from (earlier_of fact) ≡ true → Leads facts (later_of fact) path to → Leads facts from (number ∷ path) to
 leads-cons facts from to number path fact at up more = rw at (up, more)
 
-pub leads-uncons : (facts : List Fact) (from to : Point) (number : ℕ) (path : List ℕ) (fact : Fact) → slice_get facts number ≡ Some fact → Leads facts from (number ∷ path) to → (is_up_to from (earlier_of fact) ≡ true) × Leads facts (later_of fact) path to
-leads-uncons facts from to number path fact at leads = rw at at leads
-
-pub leads-none : (facts : List Fact) (from to : Point) (number : ℕ) (path : List ℕ) → slice_get facts number ≡ None → Leads facts from (number ∷ path) to → ⊥
-leads-none facts from to number path at leads = rw at at leads
+-- the fact in front of a path
+pub leads-parts : (facts : List Fact) (from to : Point) (number : ℕ) (path : List ℕ) → Leads facts from (number ∷ path) to
+    → (fact : Fact) × (slice_get facts number ≡ Some fact) × (is_up_to from (earlier_of fact) ≡ true) × Leads facts (later_of fact) path to
+leads-parts facts from to number path leads = go (slice_get facts number) refl leads
+  where
+    go : (o : Option Fact) → slice_get facts number ≡ o → IsSomeAnd o (λ fact. (is_up_to from (earlier_of fact) ≡ true) × Leads facts (later_of fact) path to)
+        → (fact : Fact) × (slice_get facts number ≡ Some fact) × (is_up_to from (earlier_of fact) ≡ true) × Leads facts (later_of fact) path to
+    go None at leads = absurd leads
+    go (Some fact) at leads = (fact, at, leads.0, leads.1)
 
 -- ---- program order
 
@@ -39,13 +43,9 @@ up_to-refl (At p) = and_from (p.core == p.core) (nat_le p.index p.index) (eq-eqb
 -- what leads to a point leads to those after it in program order
 pub leads-up : (facts : List Fact) (from : Point) (path : List ℕ) (to later : Point) → Leads facts from path to → is_up_to to later ≡ true → Leads facts from path later
 leads-up facts from [] to later leads up = up_to-trans from to later leads up
-leads-up facts from (number ∷ path) to later leads up = go (slice_get facts number) refl (λ q more. leads-up facts q path to later more up)
-  where
-    go : (o : Option Fact) → slice_get facts number ≡ o → ((q : Point) → Leads facts q path to → Leads facts q path later) → Leads facts from (number ∷ path) later
-    go None at rest = absurd (leads-none facts from to number path at leads)
-    go (Some fact) at rest =
-        let parts = leads-uncons facts from to number path fact at leads in
-        leads-cons facts from later number path fact at parts.0 (rest (later_of fact) parts.1)
+leads-up facts from (number ∷ path) to later leads up =
+    let parts = leads-parts facts from to number path leads in
+    leads-cons facts from later number path parts.0 parts.1 parts.2 (leads-up facts (later_of parts.0) path to later parts.3 up)
 
 -- ---- cycles
 
@@ -58,7 +58,7 @@ cycle-from facts number path fact at back = record {
 
 pub cycle-to : (facts : List Fact) (number : ℕ) (path : List ℕ) (fact : Fact) → slice_get facts number ≡ Some fact → IsCycle facts (number ∷ path) → Leads facts (later_of fact) path (earlier_of fact)
 cycle-to facts number path fact at cycle =
-    let parts = leads-uncons facts cycle.start cycle.start number path fact at cycle.back in
+    let parts : (is_up_to cycle.start (earlier_of fact) ≡ true) × Leads facts (later_of fact) path cycle.start = rw at at cycle.back in
     leads-up facts (later_of fact) path cycle.start (earlier_of fact) parts.1 parts.0
 
 -- the path in parts, as the code takes it

@@ -4,13 +4,14 @@ use Rattle.std.specs.List.{list_any}
 use Rattle.std.specs.Global.{Vec}
 use Rattle.std.specs.BTreeSet.{BTreeSet, insert_key}
 use Rattle.std.specs.Cmp.Lexicographic.{nat_list_cmp_total, slice_cmp}
-use Rattle.std.specs.Ordering.{is_eq, match_ordering, nat_cmp, ordering_reverse, ordering_then}
+use Rattle.std.specs.Ordering.{is_eq, match_ordering, nat_cmp, ordering_then}
 use Rattle.std.specs.declared.cmp.Ordering.{Ordering}
 use Rattle.std.specs.declared.cmp.Ordering.TheVariants.{Less, Equal, Greater}
 use Rattle.std.proofs.Common.{sym, ◌∙◌, ap, inl, inr, get_or}
-use Rattle.std.proofs.lemmas.Bool.{or_cases}
+use Rattle.std.proofs.lemmas.Bool.{or_cases, or_right}
+use Rattle.std.proofs.lemmas.Cmp.{tied_itself}
 use Rattle.std.proofs.lemmas.List.Folds.{list_any_at, list_any_more}
-use Rattle.std.proofs.lemmas.Map.Lookups.{exact_bytes}
+use Rattle.std.proofs.lemmas.Map.Lookups.{exact_bytes, exact_pairs}
 use Rattle.std.proofs.lemmas.Option.{get_or_from_slice_get, slice_get_within}
 use Rattle.refutation.specs.declared.state.State.{State}
 use Rattle.refutation.specs.States.{next_of, words_of, Has}
@@ -24,26 +25,18 @@ by_lists = slice_cmp nat_cmp
 abbrev pub same_as : List ℕ → List ℕ → List ℕ → List ℕ → Bool
 same_as next words n v = is_eq (ordering_then (by_lists next n) (by_lists words v))
 
-reflexive : (v : List ℕ) → by_lists v v ≡ Equal
-reflexive v = go (by_lists v v) (nat_list_cmp_total.antisymm v v)
-  where
-    go : (o : Ordering) → o ≡ ordering_reverse o → o ≡ Equal
-    go Less e = absurd cc
-    go Equal e = refl
-    go Greater e = absurd cc
+is-equal : (o : Ordering) → is_eq o ≡ true → o ≡ Equal
+is-equal Less e = absurd cc
+is-equal Equal e = refl
+is-equal Greater e = absurd cc
 
 same-is : (next words n v : List ℕ) → same_as next words n v ≡ true → (next ≡ n) × (words ≡ v)
-same-is next words n v e = go (by_lists next n) refl (by_lists words v) refl e
-  where
-    go : (o : Ordering) → by_lists next n ≡ o → (p : Ordering) → by_lists words v ≡ p → is_eq (ordering_then o p) ≡ true → (next ≡ n) × (words ≡ v)
-    go Less a p b same = absurd cc
-    go Greater a p b same = absurd cc
-    go Equal a Less b same = absurd cc
-    go Equal a Greater b same = absurd cc
-    go Equal a Equal b same = (exact_bytes next n a, exact_bytes words v b)
+same-is next words n v e =
+    let same = exact_pairs by_lists by_lists exact_bytes exact_bytes (next, words) (n, v) (is-equal (ordering_then (by_lists next n) (by_lists words v)) e) in
+    (ap (λ (p : List ℕ × List ℕ). p.0) same, ap (λ (p : List ℕ × List ℕ). p.1) same)
 
 same-self : (next words : List ℕ) → same_as next words next words ≡ true
-same-self next words = ap (λ o. is_eq (ordering_then o (by_lists words words))) (reflexive next) ∙ ap is_eq (reflexive words)
+same-self next words = rw (tied_itself nat_list_cmp_total next, tied_itself nat_list_cmp_total words) refl
 
 -- ---- one key more
 
@@ -57,19 +50,15 @@ abbrev is_key : List ℕ → List ℕ → Key → Bool
 is_key next words k = same_as next words k.0.items k.1.items
 
 tied : (next words : List ℕ) (j k : Key) → by_keys j k ≡ Equal → is_key next words j ≡ is_key next words k
-tied next words j k e =
-    let same = same-is j.0.items j.1.items k.0.items k.1.items (ap is_eq e) in
-    ap (λ (n : List ℕ). same_as next words n j.1.items) same.0 ∙ ap (λ (v : List ℕ). same_as next words k.0.items v) same.1
+tied next words j k e = let same = same-is j.0.items j.1.items k.0.items k.1.items (ap is_eq e) in rw (same.0, same.1) refl
 
 any-insert : (test : Key → Bool) → ((j k : Key) → by_keys j k ≡ Equal → test j ≡ test k) → (key : Key) (keys : List Key) → list_any test (insert_key by_keys keys key) ≡ (test key || list_any test keys)
 any-insert test tie key [] = refl
 any-insert test tie key (k ∷ keys) = go (by_keys key k) refl (any-insert test tie key keys)
   where
     swapped : (a b c : Bool) → (a || (b || c)) ≡ (b || (a || c))
-    swapped true true c = refl
-    swapped true false c = refl
-    swapped false true c = refl
-    swapped false false c = refl
+    swapped true b c = sym (or_right b true refl)
+    swapped false b c = refl
 
     twice : (a b : Bool) → (a || b) ≡ (a || (a || b))
     twice true b = refl
@@ -89,15 +78,13 @@ pub among-more : (keys more : BTreeSet Key) (key : Key) (states : List State) (k
     → key.0.items ≡ next_of state → key.1.items ≡ words_of state
     → ((next words : List ℕ) → is_among keys next words ≡ list_any (is_state next words) (take k states)) → (next words : List ℕ) → is_among more next words ≡ list_any (is_state next words) (take (k + 1) states)
 among-more keys more key states k state inserted l is next_is words_is so_far next words =
-    ap (list_any (is_key next words)) inserted ∙ any-insert (is_key next words) (tied next words) key keys.keys
-    ∙ ap (λ b. is_key next words key || b) (so_far next words)
-    ∙ ap (λ b. b || list_any (is_state next words) (take k states)) (ap (λ (n : List ℕ). same_as next words n key.1.items) next_is ∙ ap (λ (v : List ℕ). same_as next words (next_of state) v) words_is ∙ ap (is_state next words) is)
-    ∙ either (is_state next words (get_or states k state)) (list_any (is_state next words) (take k states))
-    ∙ sym (list_any_more (is_state next words) states k state l)
+    let turned : (is_key next words key || is_among keys next words) ≡ (list_any (is_state next words) (take k states) || is_state next words state) =
+    rw (so_far next words, next_is, words_is) (either (is_state next words state) (list_any (is_state next words) (take k states))) in
+    ap (list_any (is_key next words)) inserted ∙ any-insert (is_key next words) (tied next words) key keys.keys ∙ turned
+    ∙ ap (λ s. list_any (is_state next words) (take k states) || is_state next words s) is ∙ sym (list_any_more (is_state next words) states k state l)
   where
     either : (a b : Bool) → (a || b) ≡ (b || a)
-    either true true = refl
-    either true false = refl
+    either true b = sym (or_right b true refl)
     either false true = refl
     either false false = refl
 
@@ -113,8 +100,7 @@ any-has next words (state ∷ states) e = elim (or_cases (is_state next words st
 has-any : (next words : List ℕ) (states : List State) → Has states next words → list_any (is_state next words) states ≡ true
 has-any next words states has =
     list_any_at (is_state next words) states has.number has.state (slice_get_within states has.number has.state has.there)
-    (ap (is_state next words) (get_or_from_slice_get states has.number has.state has.state has.there)
-    ∙ ap (λ (n : List ℕ). same_as next words n (words_of has.state)) has.next_is ∙ ap (λ (v : List ℕ). same_as next words next v) has.words_is ∙ same-self next words)
+    (rw (get_or_from_slice_get states has.number has.state has.state has.there, has.next_is, has.words_is) (same-self next words))
 
 pub all-among : (keys : BTreeSet Key) (states : List State) → ((next words : List ℕ) → is_among keys next words ≡ list_any (is_state next words) states)
     → (next words : List ℕ) → (IsTrue (is_among keys next words) → Has states next words) × (Has states next words → IsTrue (is_among keys next words))

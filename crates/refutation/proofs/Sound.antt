@@ -1,5 +1,5 @@
 -- What is a refutation refutes: in a consistent order all facts of some open case hold.
-use Rattle.std.specs.Prelude.{◌≡◌, ◌≢◌, ℕ, ◌<◌, ◌≤◌, ◌⊎◌, true, List, [], ◌∷◌, ◌++◌, refl, Option, None, Some, map, slice_get}
+use Rattle.std.specs.Prelude.{◌≡◌, ◌≢◌, ℕ, ◌<◌, ◌≤◌, ◌⊎◌, true, List, [], ◌∷◌, ◌++◌, refl, Some, map, slice_get}
 use Rattle.std.specs.List.{list_any}
 use Rattle.std.proofs.Common.{sym, ap, subst, inl, inr, arith}
 use Rattle.std.proofs.lemmas.Grind.{common_steps}
@@ -24,7 +24,7 @@ use Rattle.refutation.specs.Laws.{RefutationsHold}
 use Rattle.refutation.proofs.ClosedSound.{no-closed}
 use Rattle.refutation.proofs.Timings.{Gave, NoStoreBetween, IsTiming, SourceUntil, Holds, AllHold, order-of}
 use Rattle.refutation.proofs.Times.{time_in, timing-in}
-use Rattle.refutation.proofs.Paths.{leads-uncons, leads-none}
+use Rattle.refutation.proofs.Paths.{leads-parts}
 
 -- some of the facts holds; all facts of some case hold
 abbrev OneHolds : List (List Operation) → (Point → ℕ) → List Fact → Type 0
@@ -60,30 +60,22 @@ module _ (cores : List (List Operation)) (time : Point → ℕ) (timing : IsTimi
   -- where a path leads is not before where it starts
   leads-later : (facts : List Fact) → AllHold cores time facts → (from : Point) (path : List ℕ) (to : Point) → Leads facts from path to → time from ≤ time to
   leads-later facts all from [] to leads = timing.program from to leads
-  leads-later facts all from (number ∷ path) to leads = go (slice_get facts number) refl (λ q more. leads-later facts all q path to more)
-    where
-      go : (o : Option Fact) → slice_get facts number ≡ o → ((q : Point) → Leads facts q path to → time q ≤ time to) → time from ≤ time to
-      go None at rest = absurd (leads-none facts from to number path at leads)
-      go (Some fact) at rest =
-          let parts = leads-uncons facts from to number path fact at leads in
-          let first = timing.program from (earlier_of fact) parts.0 in
-          let step = order-of cores time fact (all number fact at) in
-          let more = rest (later_of fact) parts.1 in
-          omega arith
+  leads-later facts all from (number ∷ path) to leads =
+      let parts = leads-parts facts from to number path leads in
+      let first = timing.program from (earlier_of parts.0) parts.2 in
+      let step = order-of cores time parts.0 (all number parts.0 parts.1) in
+      let more = leads-later facts all (later_of parts.0) path to parts.3 in
+      omega arith
 
   -- a cycle leads back by a fact
   no-cycle : (facts : List Fact) → AllHold cores time facts → (path : List ℕ) → IsCycle facts path → ⊥
   no-cycle facts all [] cycle = cycle.some refl
-  no-cycle facts all (number ∷ path) cycle = go (slice_get facts number) refl
-    where
-      go : (o : Option Fact) → slice_get facts number ≡ o → ⊥
-      go None at = leads-none facts cycle.start cycle.start number path at cycle.back
-      go (Some fact) at =
-          let parts = leads-uncons facts cycle.start cycle.start number path fact at cycle.back in
-          let first = timing.program cycle.start (earlier_of fact) parts.0 in
-          let step = order-of cores time fact (all number fact at) in
-          let more = leads-later facts all (later_of fact) path cycle.start parts.1 in
-          omega arith
+  no-cycle facts all (number ∷ path) cycle =
+      let parts = leads-parts facts cycle.start cycle.start number path cycle.back in
+      let first = timing.program cycle.start (earlier_of parts.0) parts.2 in
+      let step = order-of cores time parts.0 (all number parts.0 parts.1) in
+      let more = leads-later facts all (later_of parts.0) path cycle.start parts.3 in
+      omega arith
 
   -- ---- the rules
 

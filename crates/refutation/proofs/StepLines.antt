@@ -2,14 +2,14 @@
 use Rattle.std.proofs.Common.{◌≡◌, ◌≢◌, ℕ, ◌<◌, ◌^◌, ◌==◌, List, [], ◌∷◌, ◌++◌, Option, Some, None, refl, sym, ap, ◌∙◌, arith, append-nil}
 use Rattle.std.specs.Prelude.{codes, flat_map, option_map, if◌then◌else◌}
 use Rattle.decimal_text.specs.Numbers.{numeral}
-use Rattle.decimal_text.proofs.Reading.{some_is}
+use Rattle.std.proofs.lemmas.Option.{none-some, some_pair_parts}
 use Rattle.mem_op.specs.declared.id.OpId.{OpId}
 use Rattle.refutation.specs.declared.line.Reason.{Reason}
 use Rattle.refutation.specs.declared.step.Range.{Range}
 use Rattle.refutation.specs.declared.state.State.{State}
 use Rattle.refutation.specs.declared.step.Step.{Step}
 use Rattle.refutation.specs.declared.step.Step.TheVariants.{Read, FromRead, WriteOrder, Cycle, States}
-use Rattle.refutation.specs.Grammar.{state_text, id_text, range_text, reason_text, name_text, fields_text, RangeFits, Fits}
+use Rattle.refutation.specs.Grammar.{state_text, id_text, range_text, reason_text, name_text, fields_text, IdFits, RangeFits, Fits}
 use Rattle.refutation.specs.inner.Reading.{named_at, source_at}
 use Rattle.refutation.specs.inner.StateLines.{NumbersInFront, NoStateInFront}
 use Rattle.refutation.specs.inner.Telling.{TellsWords, TellsReason, TellsStep, TellsLine}
@@ -17,16 +17,6 @@ use Rattle.refutation.proofs.Parts.{named_takes, named_again}
 use Rattle.refutation.proofs.StateTexts.{StatesSoFar, set-whole}
 use Rattle.text_lines.specs.Words.{spaced}
 use Rattle.text_lines.proofs.Fields.{field_below_again, field_below_takes}
-
--- ---- what is read once
-
-no_some : {A : Type 0} (o : Option A) (x : A) → o ≡ None → o ≡ Some x → ⊥
-no_some None x none some = cc
-no_some (Some y) x none some = cc
-
--- the bytes after it
-one_rest : {A : Type 0} (o : Option (A × List ℕ)) (a b : A) (r q : List ℕ) → o ≡ Some (a, r) → o ≡ Some (b, q) → r ≡ q
-one_rest {A} o a b r q e f = ap (λ (z : A × List ℕ). z.1) (some_is (a, r) (b, q) (sym e ∙ f))
 
 -- ---- names
 
@@ -55,11 +45,6 @@ line-none line a b c d e (Cycle path) fits is = d (fields_text (Cycle path)) is
 line-none line a b c d e (States addresses set) fits is = e (fields_text (States addresses set)) is
 
 -- ---- the steps of each name
-
--- none, where no fields of the kind are there
-read-none : (bytes : List ℕ) → ((read : OpId) (ranges : List Range) → Fits (Read read ranges) → bytes ≢ fields_text (Read read ranges)) → TellsStep (codes "read ") bytes None
-read-none bytes none (Read read ranges) fits name is = none read ranges fits is
-read-none bytes none step fits name is = absurd (let e = ap first_of name in omega (arith, e))
 
 pub from_read-told : (bytes : List ℕ) (found : Option Reason) → TellsReason bytes found → TellsStep (codes "from-read ") bytes (option_map (λ x. FromRead x.source x.write x.path) found)
 unfolding fields_text
@@ -90,60 +75,60 @@ cycle-told bytes None told = none
 
 -- ---- a number, a write and a path
 
+-- what a number of the text is, and what comes after it
+source_again : (bytes : List ℕ) (source : ℕ) (write : OpId) (path : List ℕ) → source < 2 ^ 64 → bytes ≡ reason_text source write path → source_at bytes ≡ Some (source, id_text write ++ (codes " :" ++ spaced numeral path))
+unfolding reason_text
+source_again bytes source write path low is = ap source_at is ∙ field_below_again (2 ^ 64) source (id_text write ++ (codes " :" ++ spaced numeral path)) low
+
 pub reason-no_source : (bytes : List ℕ) → source_at bytes ≡ None → TellsReason bytes None
-unfolding reason_text
-reason-no_source bytes none source write path low fits each is =
-    no_some (source_at bytes) (source, id_text write ++ (codes " :" ++ spaced numeral path)) none
-    (ap source_at is ∙ field_below_again (2 ^ 64) source (id_text write ++ (codes " :" ++ spaced numeral path)) low)
+reason-no_source bytes none source write path low fits each is = none-some _ (sym none ∙ source_again bytes source write path low is)
 
--- what comes after the number
-behind_source : (bytes rest : List ℕ) (found source : ℕ) (write : OpId) (path : List ℕ) → source_at bytes ≡ Some (found, rest) → source < 2 ^ 64 → bytes ≡ reason_text source write path
-    → rest ≡ id_text write ++ (codes " :" ++ spaced numeral path)
-unfolding reason_text
-behind_source bytes rest found source write path e low is =
-    one_rest (source_at bytes) found source rest (id_text write ++ (codes " :" ++ spaced numeral path)) e
-    (ap source_at is ∙ field_below_again (2 ^ 64) source (id_text write ++ (codes " :" ++ spaced numeral path)) low)
+module _ (bytes rest : List ℕ) (found : ℕ) (e : source_at bytes ≡ Some (found, rest)) where
+  -- what is named there
+  named_there : (source : ℕ) (write : OpId) (path : List ℕ) → source < 2 ^ 64 → IdFits write → bytes ≡ reason_text source write path → named_at rest ≡ Some (write, spaced numeral path)
+  named_there source write path low fits is =
+      ap named_at (some_pair_parts _ _ _ _ (sym e ∙ source_again bytes source write path low is)).1 ∙ named_again write (spaced numeral path) fits
 
-pub reason-no_write : (bytes rest : List ℕ) (found : ℕ) → source_at bytes ≡ Some (found, rest) → named_at rest ≡ None → TellsReason bytes None
-reason-no_write bytes rest found e none source write path low fits each is =
-    let behind = behind_source bytes rest found source write path e low is in
-    no_some (named_at rest) (write, spaced numeral path) none (ap named_at behind ∙ named_again write (spaced numeral path) fits)
+  pub reason-no_write : named_at rest ≡ None → TellsReason bytes None
+  reason-no_write none source write path low fits each is = none-some _ (sym none ∙ named_there source write path low fits is)
 
-pub reason-told : (bytes rest words : List ℕ) (source : ℕ) (write : OpId) (found : Option (List ℕ)) → TellsWords numeral (λ n. n < 2 ^ 64) words found → source_at bytes ≡ Some (source, rest) → named_at rest ≡ Some (write, words)
-    → TellsReason bytes (option_map (λ path. record { source = source; write = write; path = path }) found)
-unfolding reason_text
-reason-told bytes rest words source write (Some path) told e f =
-    let s = field_below_takes (2 ^ 64) bytes (source, rest) e in
-    let w = named_takes rest (write, words) f in
-    (s.1, w.0, told.0, s.0 ∙ ap (λ (x : List ℕ). numeral source ++ 32 ∷ x) (w.1 ∙ ap (λ (x : List ℕ). id_text write ++ (codes " :" ++ x)) told.1))
-reason-told bytes rest words source write None told e f = λ other id path low fits each is.
-    let behind = behind_source bytes rest source other id path e low is in
-    told path each (one_rest (named_at rest) write id words (spaced numeral path) f (ap named_at behind ∙ named_again id (spaced numeral path) fits))
+  pub reason-told : (words : List ℕ) (write : OpId) (path : Option (List ℕ)) → TellsWords numeral (λ n. n < 2 ^ 64) words path → named_at rest ≡ Some (write, words)
+      → TellsReason bytes (option_map (λ p. record { source = found; write = write; path = p }) path)
+  unfolding reason_text
+  reason-told words write (Some path) told f =
+      let s = field_below_takes (2 ^ 64) bytes (found, rest) e in
+      let w = named_takes rest (write, words) f in
+      (s.1, w.0, told.0, s.0 ∙ ap (λ xs. numeral found ++ 32 ∷ xs) (w.1 ∙ ap (λ xs. id_text write ++ (codes " :" ++ xs)) told.1))
+  reason-told words write None told f = λ source id path low fits each is.
+      told path each (some_pair_parts _ _ _ _ (sym f ∙ named_there source id path low fits is)).1
 
 -- ---- a read and its ranges
 
-pub read-no_read : (bytes : List ℕ) → named_at bytes ≡ None → TellsStep (codes "read ") bytes None
+-- none, where no fields of the kind are there
+read-none : (bytes : List ℕ) → ((read : OpId) (ranges : List Range) → Fits (Read read ranges) → named_at bytes ≡ Some (read, spaced range_text ranges) → ⊥) → TellsStep (codes "read ") bytes None
 unfolding fields_text
-read-no_read bytes none = read-none bytes (λ read ranges fits is.
-    no_some (named_at bytes) (read, spaced range_text ranges) none (ap named_at is ∙ named_again read (spaced range_text ranges) fits.0))
+read-none bytes none (Read read ranges) fits name is = none read ranges fits (ap named_at is ∙ named_again read (spaced range_text ranges) fits.0)
+read-none bytes none step fits name is = absurd (let e = ap first_of name in omega (arith, e))
+
+pub read-no_read : (bytes : List ℕ) → named_at bytes ≡ None → TellsStep (codes "read ") bytes None
+read-no_read bytes none = read-none bytes (λ read ranges fits there. none-some _ (sym none ∙ there))
 
 pub read-told : (bytes words : List ℕ) (read : OpId) (found : Option (List Range)) → TellsWords range_text RangeFits words found → named_at bytes ≡ Some (read, words)
     → TellsStep (codes "read ") bytes (option_map (λ ranges. Read read ranges) found)
 unfolding fields_text
 read-told bytes words read (Some ranges) told e =
     let r = named_takes bytes (read, words) e in
-    ((r.0, told.0), refl, r.1 ∙ ap (λ (x : List ℕ). id_text read ++ (codes " :" ++ x)) told.1)
-read-told bytes words read None told e = read-none bytes (λ id ranges fits is.
-    told ranges fits.1 (one_rest (named_at bytes) read id words (spaced range_text ranges) e (ap named_at is ∙ named_again id (spaced range_text ranges) fits.0)))
+    ((r.0, told.0), refl, r.1 ∙ ap (λ xs. id_text read ++ (codes " :" ++ xs)) told.1)
+read-told bytes words read None told e = read-none bytes (λ id ranges fits there. told ranges fits.1 (some_pair_parts _ _ _ _ (sym e ∙ there)).1)
 
 -- ---- a set of states
 
 pub states-told : (fields a text rest : List ℕ) (s : List State) → NumbersInFront fields a text → StatesSoFar text s rest → rest ≡ [] → TellsStep (codes "states") fields (Some (States a s))
 unfolding fields_text
 states-told fields a text rest s front far none =
-    ((front.each, far.each), refl, front.text ∙ ap (λ (xs : List ℕ). spaced numeral a ++ xs) (far.text_is ∙ ap (λ (xs : List ℕ). flat_map state_text s ++ xs) none ∙ append-nil (flat_map state_text s)))
+    ((front.each, far.each), refl, front.text ∙ ap (λ xs. spaced numeral a ++ xs) (far.text_is ∙ ap (λ xs. flat_map state_text s ++ xs) none ∙ append-nil (flat_map state_text s)))
 
 pub states-none : (fields a text rest : List ℕ) (s : List State) → NumbersInFront fields a text → StatesSoFar text s rest → NoStateInFront rest → rest ≢ [] → TellsStep (codes "states") fields None
 unfolding fields_text
-states-none fields a text rest s front far last some (States b t) fits name is = some (set-whole fields a text b rest s t front far last fits.0 fits.1 is)
+states-none fields a text rest s front far last some (States b t) fits name is = some (set-whole b s t front far last fits.0 fits.1 is)
 states-none fields a text rest s front far last some step fits name is = absurd (let e = ap first_of name in omega (arith, e))

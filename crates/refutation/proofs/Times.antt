@@ -1,98 +1,70 @@
 -- The times of operations in a sequential order: their places in it, counted from 1.
-use Rattle.std.specs.Prelude.{◌≡◌, ℕ, zero, suc, ◌+◌, ◌<◌, ◌≤◌, ◌⊎◌, Bool, true, false, ◌==◌, if◌then◌else◌, List, [], ◌∷◌, ◌++◌, refl, Option, Some, None, slice_get, is_some, option_and_then, count_by, find, take, length, nat_le, cond}
-use Rattle.std.specs.List.{filter_map, cons_option}
+use Rattle.std.specs.Prelude.{◌≡◌, ℕ, zero, suc, ◌+◌, ◌<◌, ◌≤◌, ◌⊎◌, Bool, true, false, not, ◌==◌, if◌then◌else◌, cond, List, [], ◌∷◌, ◌++◌, refl, Option, Some, None, slice_get, slice_index, slice_set, is_some, option_and_then, count_by, take, length, nat_le, find}
+use Rattle.std.specs.List.{filter_map, cons_option, position_or_len}
 use Rattle.std.proofs.Common.{sym, ◌∙◌, ap, subst, inl, inr, arith, get_or}
-use Rattle.std.proofs.lemmas.Bool.{and_parts, eqb-true, eq-eqb, and_from, cases_lt, leb-true}
-use Rattle.std.proofs.lemmas.List.{reverse-append, take_more}
-use Rattle.std.proofs.lemmas.List.Sums.{sum_by-cons}
-use Rattle.std.proofs.lemmas.Option.{slice_get_within, slice_get-get_or, get_or_from_slice_get}
+use Rattle.std.proofs.Math.Seq.{take-suc}
+use Rattle.std.proofs.lemmas.Bool.{and_parts, eqb-true, cases_lt, leb-true, cond-true, cond-false}
+use Rattle.std.proofs.lemmas.List.{length-set, length-map, reverse-append}
+use Rattle.std.proofs.lemmas.List.Sums.{sum_by-cons, get_or-le-sum_by, passes_at_first, fails_before_first, prefix_len-le-length}
+use Rattle.std.proofs.lemmas.Grind.{common_steps}
+use Rattle.std.proofs.lemmas.Option.{gets, same_Some, option_and_then_some, slice_get_within, slice_get-get_or, get_or_from_slice_get}
 use Rattle.mem_op.specs.declared.id.OpId.{OpId}
-use Rattle.mem_op.specs.Consistency.{Operation, Loaded, Stored, Swapped, operation_at, is_same_id, IsSerialOrder, KeepsProgramOrder, is_store_to, word_left, value_or_zero, last_value, IsSequentialOrder}
+use Rattle.mem_op.specs.Consistency.{Operation, operation_at, is_same_id, is_store_to, word_left, last_value, IsSequentialOrder, IsSerialOrder, Stored, value_or_zero, Loaded, Swapped}
+use Rattle.log_record.proofs.EntryFacts.{one_if, same_id-true, same_id-refl}
+use Rattle.flat_replay.specs.Accesses.{address_of, word_read}
+use Rattle.flat_replay.specs.Memory.{IsAnsweredBy, after}
+use Rattle.flat_replay.proofs.Replaying.{done, replayed-next}
+use Rattle.flat_replay.proofs.Turns.{index_below}
+use Rattle.line_stamps.proofs.Ordered.{In-slice_get}
 use Rattle.refutation.specs.declared.step.Point.{Point}
 use Rattle.refutation.specs.declared.step.Point.TheVariants.{Init, At}
-use Rattle.flat_replay.specs.Accesses.{address_of, word_read}
 use Rattle.refutation.specs.Facts.{is_up_to}
+use Rattle.refutation.proofs.Runs.{Ran, zeros, ran-none, ran-more}
 use Rattle.refutation.proofs.Timings.{Sourced, IsTiming}
 
 -- where an id stands first, or how many there are
 abbrev pub place : List OpId → OpId → ℕ
-place [] id = 0
-place (x ∷ xs) id = if is_same_id id x then 0 else suc (place xs id)
+place order id = position_or_len (is_same_id id) order
 
 abbrev pub time_in : List OpId → Point → ℕ
 time_in order Init = 0
 time_in order (At id) = suc (place order id)
 
--- ---- places
-
-pub same_id : (a b : OpId) → is_same_id a b ≡ true → a ≡ b
-same_id a b h =
-    let t = and_parts (a.core == b.core) (a.index == b.index) h in
-    let core = eqb-true a.core b.core t.0 in
-    let index = eqb-true a.index b.index t.1 in
-    λ i. record { core = core i; index = index i }
-
-pub same_id-refl : (a : OpId) → is_same_id a a ≡ true
-same_id-refl a = and_from (a.core == a.core) (a.index == a.index) (eq-eqb a.core a.core refl) (eq-eqb a.index a.index refl)
-
-place-le : (xs : List OpId) (id : OpId) → place xs id ≤ length xs
-place-le [] id = omega arith
-place-le (x ∷ xs) id = let rest = place-le xs id in grind arith
-
 -- an id stands at its place
-pub at_place : (xs : List OpId) (id : OpId) → place xs id < length xs → slice_get xs (place xs id) ≡ Some id
-at_place [] id l = absurd (omega arith)
-at_place (x ∷ xs) id l = go (is_same_id id x) refl l (at_place xs id)
-  where
-    go : (b : Bool) → is_same_id id x ≡ b → (if b then 0 else suc (place xs id)) < suc (length xs) → (place xs id < length xs → slice_get xs (place xs id) ≡ Some id) → slice_get (x ∷ xs) (if b then 0 else suc (place xs id)) ≡ Some id
-    go true e l later = ap Some (sym (same_id id x e))
-    go false e l later = later (omega arith)
+pub at_place : (order : List OpId) (id : OpId) → place order id < length order → slice_get order (place order id) ≡ Some id
+at_place order id l = slice_get-get_or order (place order id) id l ∙ ap Some (sym (same_id-true id _ (passes_at_first (is_same_id id) order id l)))
 
-place-first : (xs : List OpId) (id : OpId) (k : ℕ) → slice_get xs k ≡ Some id → place xs id ≤ k
-place-first [] id k h = absurd cc
-place-first (x ∷ xs) id zero h =
-    let same : x ≡ id = cc in
-    let t : is_same_id id x ≡ true = subst (λ y. is_same_id id y ≡ true) (sym same) (same_id-refl id) in
-    grind arith
-place-first (x ∷ xs) id (suc k) h = let rest = place-first xs id k h in grind arith
+place-first : (order : List OpId) (id : OpId) (k : ℕ) → slice_get order k ≡ Some id → place order id ≤ k
+place-first order id k here = elim (cases_lt k (place order id)) [
+  | inr l ↦ l
+  | inl l ↦ absurd (
+      let is = get_or_from_slice_get order k id id here in
+      let other : is_same_id id id ≡ false = ap (is_same_id id) (sym is) ∙ fails_before_first (is_same_id id) order k id l in
+      let same = same_id-refl id in
+      cc)
+]
 
-abbrev pub one_if : Bool → ℕ
-one_if b = cond b 1 0
-
-pub count-cons : (id x : OpId) (xs : List OpId) → count_by (is_same_id id) (x ∷ xs) ≡ one_if (is_same_id id x) + count_by (is_same_id id) xs
-count-cons id x xs = sum_by-cons (λ y. one_if (is_same_id id y)) x xs
-
-pub place-counted : (xs : List OpId) (id : OpId) → count_by (is_same_id id) xs ≡ 1 → place xs id < length xs
-place-counted [] id h = absurd (omega arith)
-place-counted (x ∷ xs) id h =
-    let c = count-cons id x xs in
-    let rest = place-counted xs id in
+place-counted : (order : List OpId) (id : OpId) → count_by (is_same_id id) order ≡ 1 → place order id < length order
+place-counted [] id one = absurd (omega arith)
+place-counted (x ∷ order) id one =
+    let all : count_by (is_same_id id) (x ∷ order) ≡ one_if (is_same_id id x) + count_by (is_same_id id) order = sum_by-cons (λ y. one_if (is_same_id id y)) x order in
+    let rest = place-counted order id in
     grind arith
 
-pub counted : (xs : List OpId) (id : OpId) (k : ℕ) → slice_get xs k ≡ Some id → 1 ≤ count_by (is_same_id id) xs
-counted [] id k h = absurd cc
-counted (x ∷ xs) id zero h =
-    let same : x ≡ id = cc in
-    let t : is_same_id id x ≡ true = subst (λ y. is_same_id id y ≡ true) (sym same) (same_id-refl id) in
-    let c = count-cons id x xs in
-    grind arith
-counted (x ∷ xs) id (suc k) h =
-    let c = count-cons id x xs in
-    let rest = counted xs id k h in
-    omega arith
-
--- ---- in a serial order
-
-pub placed : (cores : List (List Operation)) (order : List OpId) → IsSerialOrder cores order → (id : OpId) (y : Operation) → operation_at cores id ≡ Some y → place order id < length order
-placed cores order serial id y there = place-counted order id (serial id ∙ ap (λ o. if is_some o then 1 else 0) there)
+-- the operation before one of its core is there, too
+pub there_before : (cores : List (List Operation)) (a b : OpId) (y : Operation) → a.core ≡ b.core → a.index ≤ b.index → operation_at cores b ≡ Some y → (x : Operation) × (operation_at cores a ≡ Some x)
+there_before cores a b y core index there = option_and_then_some (λ ys. slice_get ys b.index) (slice_get cores b.core) y there (λ ys at own.
+    let within = slice_get_within ys b.index y own in
+    (get_or ys a.index y, ap (option_and_then (λ zs. slice_get zs a.index)) (ap (slice_get cores) core ∙ at) ∙ slice_get-get_or ys a.index y (omega arith)))
 
 pub is_there : (cores : List (List Operation)) (order : List OpId) → IsSerialOrder cores order → (id : OpId) (k : ℕ) → slice_get order k ≡ Some id → (y : Operation) × (operation_at cores id ≡ Some y)
 is_there cores order serial id k here = go (operation_at cores id) refl
   where
-    go : (o : Option Operation) → operation_at cores id ≡ o → (y : Operation) × (o ≡ Some y)
-    go (Some y) e = (y, refl)
+    go : (o : Option Operation) → operation_at cores id ≡ o → (y : Operation) × (operation_at cores id ≡ Some y)
+    go (Some y) e = (y, e)
     go None e = absurd (
-        let one = counted order id k here in
+        let most = get_or-le-sum_by (λ x. one_if (is_same_id id x)) order k id (slice_get_within order k id here) in
+        let one : one_if (is_same_id id (get_or order k id)) ≡ 1 = ap (λ x. one_if (is_same_id id x)) (get_or_from_slice_get order k id id here) ∙ ap one_if (same_id-refl id) in
         let none : count_by (is_same_id id) order ≡ 0 = serial id ∙ ap (λ o. if is_some o then 1 else 0) e in
         omega arith)
 
@@ -110,12 +82,9 @@ operations_in cores (x ∷ xs) there k = go (operation_at cores x) refl k (opera
     go (Some y) e zero later = sym e
     go (Some y) e (suc k) later = later k
 
--- ---- the last store
+-- ---- the last store among the first operations
 
-last_value-push : (addr : ℕ) (xs : List Operation) (y : Operation) → last_value addr (xs ++ y ∷ []) ≡ cond (is_store_to addr y) (word_left y) (last_value addr xs)
-last_value-push addr xs y = ap (λ l. value_or_zero (find (is_store_to addr) l)) (reverse-append xs (y ∷ [])) ∙ grind arith
-
--- what the last value at an address among the first operations is: 0 where none stores to it, or the word of the last that does
+-- the last one of them that stores to an address stores this value
 pub record LastStore (addr : ℕ) (ops : List Operation) (k value : ℕ) : Type 0 where
   pub place : ℕ
   pub store : Operation
@@ -128,147 +97,176 @@ pub record LastStore (addr : ℕ) (ops : List Operation) (k value : ℕ) : Type 
 abbrev pub NoneOrLast : ℕ → List Operation → ℕ → ℕ → Type 0
 NoneOrLast addr ops k value = ((value ≡ 0) × ((i : ℕ) (z : Operation) → i < k → slice_get ops i ≡ Some z → is_store_to addr z ≡ false)) ⊎ LastStore addr ops k value
 
--- the last value after one operation more
-pub last_value-next : (addr : ℕ) (ops : List Operation) (k : ℕ) (y : Operation) → slice_get ops k ≡ Some y → last_value addr (take (suc k) ops) ≡ cond (is_store_to addr y) (word_left y) (last_value addr (take k ops))
-last_value-next addr ops k y here =
-    let is : get_or ops k y ≡ y = get_or_from_slice_get ops k y y here in
-    let within = slice_get_within ops k y here in
-    ap (λ n. last_value addr (take n ops)) (let e : suc k ≡ k + 1 = omega arith in e) ∙ ap (last_value addr) (take_more ops k y within ∙ ap (λ x. take k ops ++ x ∷ []) is) ∙ last_value-push addr (take k ops) y
-
 pub last_store : (addr : ℕ) (ops : List Operation) (k : ℕ) → k ≤ length ops → NoneOrLast addr ops k (last_value addr (take k ops))
 last_store addr ops zero l = inl (refl, λ i z below. absurd (omega arith))
-last_store addr ops (suc k) l = go (get_or ops k (Stored 0 0)) refl (last_store addr ops k (omega arith))
+last_store addr ops (suc k) l = go (is_store_to addr y) refl (last_store addr ops k (omega arith))
   where
-    go : (y : Operation) → get_or ops k (Stored 0 0) ≡ y → NoneOrLast addr ops k (last_value addr (take k ops)) → NoneOrLast addr ops (suc k) (last_value addr (take (suc k) ops))
-    go y e before = by_test (is_store_to addr y) refl
-      where
-        here : slice_get ops k ≡ Some y
-        here = slice_get-get_or ops k (Stored 0 0) (omega arith) ∙ ap Some e
+    y : Operation
+    y = get_or ops k (Stored 0 0)
 
-        value : last_value addr (take (suc k) ops) ≡ cond (is_store_to addr y) (word_left y) (last_value addr (take k ops))
-        value = last_value-next addr ops k y here
+    here : slice_get ops k ≡ Some y
+    here = slice_get-get_or ops k (Stored 0 0) (omega arith)
 
-        by_test : (b : Bool) → is_store_to addr y ≡ b → NoneOrLast addr ops (suc k) (last_value addr (take (suc k) ops))
-        by_test true t = inr (record {
-          place = k;
-          store = y;
-          earlier = omega arith;
-          here = here;
-          stores = t;
-          word = sym (value ∙ ap (λ b. cond b (word_left y) (last_value addr (take k ops))) t);
-          none = λ i z above below at. absurd (omega arith);
-        })
-        by_test false t = subst (NoneOrLast addr ops (suc k)) (sym (value ∙ ap (λ b. cond b (word_left y) (last_value addr (take k ops))) t)) (elim before [
-          | inl none ↦ inl (none.0, λ i z below at. more none.1 i z below at)
-          | inr last ↦ inr (record {
-            place = last.place;
-            store = last.store;
-            earlier = (let l = last.earlier in omega arith);
-            here = last.here;
-            stores = last.stores;
-            word = last.word;
-            none = λ i z above below at. more_above last i z above below at;
-          })
-        ])
-          where
-            more : ((i : ℕ) (z : Operation) → i < k → slice_get ops i ≡ Some z → is_store_to addr z ≡ false) → (i : ℕ) (z : Operation) → i < suc k → slice_get ops i ≡ Some z → is_store_to addr z ≡ false
-            more none i z below at = elim (cases_lt i k) [ inl l ↦ none i z l at | inr l ↦ (let same : i ≡ k = omega arith in let f : z ≡ y = cc (here) in cc) ]
+    value : last_value addr (take (suc k) ops) ≡ cond (is_store_to addr y) (word_left y) (last_value addr (take k ops))
+    value =
+        ap (last_value addr) (take-suc ops k (Stored 0 0) (omega arith)) ∙ ap (λ xs. value_or_zero (find (is_store_to addr) xs)) (reverse-append (take k ops) (y ∷ [])) ∙ grind arith
 
-            more_above : (last : LastStore addr ops k (last_value addr (take k ops))) → (i : ℕ) (z : Operation) → last.place < i → i < suc k → slice_get ops i ≡ Some z → is_store_to addr z ≡ false
-            more_above last i z above below at = elim (cases_lt i k) [ inl l ↦ last.none i z above l at | inr l ↦ (let same : i ≡ k = omega arith in let f : z ≡ y = cc (here) in cc) ]
+    other : is_store_to addr y ≡ false → (i : ℕ) (z : Operation) → i ≡ k → slice_get ops i ≡ Some z → is_store_to addr z ≡ false
+    other t i z same at = ap (is_store_to addr) (same_Some z y (sym at ∙ ap (slice_get ops) same ∙ here)) ∙ t
 
--- ---- a sequential order
+    go : (b : Bool) → is_store_to addr y ≡ b → NoneOrLast addr ops k (last_value addr (take k ops)) → NoneOrLast addr ops (suc k) (last_value addr (take (suc k) ops))
+    go true t last = inr (record {
+      place = k;
+      store = y;
+      earlier = omega arith;
+      here = here;
+      stores = t;
+      word = sym (value ∙ cond-true _ _ _ t);
+      none = λ i z above below at. absurd (omega arith);
+    })
+    go false t (inl none) = inl (value ∙ cond-false _ _ _ t ∙ none.0, λ i z below at. elim (cases_lt i k) [ inl m ↦ none.1 i z m at | inr m ↦ other t i z (omega arith) at ])
+    go false t (inr last) = inr (record {
+      place = last.place;
+      store = last.store;
+      earlier = (let e = last.earlier in omega arith);
+      here = last.here;
+      stores = last.stores;
+      word = last.word ∙ sym (value ∙ cond-false _ _ _ t);
+      none = λ i z above below at. elim (cases_lt i k) [ inl m ↦ last.none i z above m at | inr m ↦ other t i z (omega arith) at ];
+    })
 
--- an id that stands at a place has it
-pub place-is : (order : List OpId) → KeepsProgramOrder order → (id : OpId) (k : ℕ) → slice_get order k ≡ Some id → place order id ≡ k
-place-is order program id k here = elim (cases_lt (place order id) k) [
-  | inr l ↦ (let first = place-first order id k here in omega arith)
-  | inl l ↦ absurd (
-      let within = slice_get_within order k id here in
-      let first = at_place order id (omega arith) in
-      let a = get_or_from_slice_get order (place order id) id id first in
-      let b = get_or_from_slice_get order k id id here in
-      let less = program (place order id) k id l within (ap (λ (x : OpId). x.core) (a ∙ sym b)) in
-      let i = ap (λ (x : OpId). x.index) a in
-      let j = ap (λ (x : OpId). x.index) b in
-      omega arith)
-]
+-- ---- the order performed up to a place
 
--- the operation before one of its core is there, too
-pub there_before : (cores : List (List Operation)) (a b : OpId) (y : Operation) → a.core ≡ b.core → a.index ≤ b.index → operation_at cores b ≡ Some y → (x : Operation) × (operation_at cores a ≡ Some x)
-there_before cores a b y core index there = in_core (slice_get cores b.core) refl there
-  where
-    in_core : (o : Option (List Operation)) → slice_get cores b.core ≡ o → option_and_then (λ operations. slice_get operations b.index) o ≡ Some y → (x : Operation) × (operation_at cores a ≡ Some x)
-    in_core None at h = absurd cc
-    in_core (Some operations) at h =
-        let within = slice_get_within operations b.index y h in (
-          get_or operations a.index y,
-          ap (option_and_then (λ operations. slice_get operations a.index)) (ap (slice_get cores) core ∙ at) ∙ slice_get-get_or operations a.index y (omega arith),
-        )
+module _ (cores : List (List Operation)) (order : List OpId) where
+  abbrev pub memory : ℕ → ℕ → ℕ
+  memory t addr = last_value addr (done cores (take t order))
+
+  -- of each core the index of its next operation there
+  pub record Run (t : ℕ) : Type 0 where
+    pub next : List ℕ
+    pub many : length next ≡ length cores
+    pub ran : Ran cores (take t order) next
+
+  -- the operation that is performed there
+  pub record Turn (t : ℕ) (run : Run t) : Type 0 where
+    pub id : OpId
+    pub y : Operation
+    pub there : operation_at cores id ≡ Some y
+    pub here : slice_get order t ≡ Some id
+    pub own : id.index ≡ slice_index run.next id.core
+    pub answers : IsAnsweredBy (memory t) y
+    pub ran : Ran cores (take (suc t) order) (slice_set run.next id.core (id.index + 1))
+    pub left : (a : ℕ) → memory (suc t) a ≡ after y (memory t) a
+
+  abbrev pub run-none : Run 0
+  run-none = record { next = zeros cores; many = length-map cores (λ _. 0); ran = ran-none cores }
+
+  abbrev pub run-more : (t : ℕ) (run : Run t) → Turn t run → Run (suc t)
+  run-more t run now = record {
+    next = slice_set run.next now.id.core (now.id.index + 1);
+    many = length-set run.next now.id.core (now.id.index + 1) ∙ run.many;
+    ran = now.ran;
+  }
+
+  -- an operation that stands earlier was performed
+  pub before : (t : ℕ) → t ≤ length order → (run : Run t) (id : OpId) → place order id < t → id.index < slice_index run.next id.core
+  before t l run id low =
+      let here = at_place order id (omega arith) in
+      let at : slice_get (take t order) (place order id) ≡ Some id = grind (arith, common_steps, gets) in
+      index_below (slice_index run.next) (take t order) id run.ran.turn (In-slice_get id (take t order) (place order id) at)
 
 module _ (cores : List (List Operation)) (order : List OpId) (sequential : IsSequentialOrder cores order) where
-  in_program_order : (p q : Point) → is_up_to p q ≡ true → time_in order p ≤ time_in order q
-  in_program_order Init q h = omega arith
-  in_program_order (At a) Init h = absurd cc
-  in_program_order (At a) (At b) h = elim (cases_lt (place order b) (place order a)) [
+  pub placed : (id : OpId) (y : Operation) → operation_at cores id ≡ Some y → place order id < length order
+  placed id y there = place-counted order id (sequential.serial id ∙ ap (λ o. if is_some o then 1 else 0) there)
+
+  -- ---- program order
+
+  -- of two ids of one core the one that stands first has the lower index
+  in_turn : (j k : ℕ) (a b : OpId) → slice_get order j ≡ Some a → slice_get order k ≡ Some b → j < k → a.core ≡ b.core → a.index < b.index
+  in_turn j k a b p q l = rw (get_or_from_slice_get order j a a p, get_or_from_slice_get order k b a q) at (sequential.program j k a l (slice_get_within order k b q))
+
+  -- an id that stands at a place has it
+  pub place-is : (id : OpId) (k : ℕ) → slice_get order k ≡ Some id → place order id ≡ k
+  place-is id k here = elim (cases_lt (place order id) k) [
+    | inr l ↦ (let first = place-first order id k here in omega arith)
+    | inl l ↦ absurd (
+        let within = slice_get_within order k id here in
+        let less = in_turn (place order id) k id id (at_place order id (omega arith)) here l refl in
+        omega arith)
+  ]
+
+  pub in_program_order : (p q : Point) → is_up_to p q ≡ true → time_in order p ≤ time_in order q
+  in_program_order Init q up = omega arith
+  in_program_order (At a) Init up = absurd cc
+  in_program_order (At a) (At b) up = elim (cases_lt (place order b) (place order a)) [
     | inr l ↦ omega arith
     | inl l ↦ absurd (
-        let parts = and_parts (a.core == b.core) (nat_le a.index b.index) h in
+        let parts = and_parts (a.core == b.core) (nat_le a.index b.index) up in
         let core = eqb-true a.core b.core parts.0 in
         let index = leb-true a.index b.index parts.1 in
-        let most = place-le order a in
+        let most = prefix_len-le-length (λ x. not (is_same_id a x)) order in
         let b_here = at_place order b (omega arith) in
         let b_there = is_there cores order sequential.serial b (place order b) b_here in
         let a_there = there_before cores a b b_there.0 core index b_there.1 in
-        let within = placed cores order sequential.serial a a_there.0 a_there.1 in
-        let a_here = at_place order a within in
-        let at_b = get_or_from_slice_get order (place order b) b b b_here in
-        let at_a = get_or_from_slice_get order (place order a) a b a_here in
-        let less = sequential.program (place order b) (place order a) b l within (ap (λ (x : OpId). x.core) at_b ∙ sym core ∙ sym (ap (λ (x : OpId). x.core) at_a)) in
-        let i = ap (λ (x : OpId). x.index) at_b in
-        let j = ap (λ (x : OpId). x.index) at_a in
+        let less = in_turn (place order b) (place order a) b a b_here (at_place order a (placed a a_there.0 a_there.1)) l (sym core) in
         omega arith)
   ]
 
   apart : (a : OpId) (y : Operation) (q : Point) → operation_at cores a ≡ Some y → time_in order (At a) ≡ time_in order q → At a ≡ q
   apart a y Init there same = absurd (omega arith)
   apart a y (At b) there same =
-      let within = placed cores order sequential.serial a y there in
-      let here = at_place order a within in
+      let within = placed a y there in
       let e : place order a ≡ place order b = omega arith in
-      let other = at_place order b (omega arith) in
-      let f = ap (slice_get order) e in
-      let g : a ≡ b = cc in
-      ap At g
+      ap At (same_Some a b (sym (at_place order a within) ∙ ap (slice_get order) e ∙ at_place order b (omega arith)))
+
+  -- ---- the order performed
+
+  pub turn : (t : ℕ) (run : Run cores order t) → t < length order → Turn cores order t run
+  turn t run l =
+      let id : OpId = get_or order t (record { core = 0; index = 0 }) in
+      let here : slice_get order t ≡ Some id = slice_get-get_or order t (record { core = 0; index = 0 }) l in
+      let found = is_there cores order sequential.serial id t here in
+      let is = replayed-next cores order t run.next (memory cores order t) id run.ran l (sym (get_or_from_slice_get order t id id here)) sequential in
+      let answers = is.answers found.0 (sym found.1) in
+      let more = ran-more cores (take t order) run.next id found.0 run.ran run.many found.1 is.in_turn answers in
+      let longer : take (suc t) order ≡ take t order ++ id ∷ [] = take-suc order t (record { core = 0; index = 0 }) l in
+      record {
+        id = id;
+        y = found.0;
+        there = found.1;
+        here = here;
+        own = is.in_turn;
+        answers = answers;
+        ran = subst (λ ids. Ran cores ids (slice_set run.next id.core (id.index + 1))) (sym longer) more.ran;
+        left = λ a. ap (λ ids. last_value a (done cores ids)) longer ∙ more.left a;
+      }
+
+  -- ---- where a word comes from
 
   -- the operation at an id's place
-  pub operation-placed : (a : OpId) (y : Operation) → operation_at cores a ≡ Some y → slice_get (filter_map (operation_at cores) order) (place order a) ≡ Some y
+  operation-placed : (a : OpId) (y : Operation) → operation_at cores a ≡ Some y → slice_get (done cores order) (place order a) ≡ Some y
   operation-placed a y there =
       operations_in cores order (λ k id h. is_there cores order sequential.serial id k h) (place order a)
-      ∙ ap (option_and_then (operation_at cores)) (at_place order a (placed cores order sequential.serial a y there)) ∙ there
+      ∙ ap (option_and_then (operation_at cores)) (at_place order a (placed a y there)) ∙ there
 
   -- the id of the operation at a place
-  id_at : (k : ℕ) (z : Operation) → slice_get (filter_map (operation_at cores) order) k ≡ Some z → (w : OpId) × (operation_at cores w ≡ Some z) × (place order w ≡ k)
-  id_at k z h = go (slice_get order k) refl (sym (operations_in cores order (λ k id h. is_there cores order sequential.serial id k h) k) ∙ h)
-    where
-      go : (o : Option OpId) → slice_get order k ≡ o → option_and_then (operation_at cores) o ≡ Some z → (w : OpId) × (operation_at cores w ≡ Some z) × (place order w ≡ k)
-      go None e h = absurd cc
-      go (Some w) e h = (w, h, place-is order sequential.program w k e)
-
-  pub flat_value : (k : ℕ) (y : Operation) (value : ℕ) → slice_get (filter_map (operation_at cores) order) k ≡ Some y → word_read y ≡ Some value → value ≡ last_value (address_of y) (take k (filter_map (operation_at cores) order))
-  flat_value k (Loaded a v) value here reads = let e : v ≡ value = cc in sym e ∙ sequential.flat.loads k a v here
-  flat_value k (Stored a v) value here reads = absurd cc
-  flat_value k (Swapped a r v) value here reads = let e : r ≡ value = cc in sym e ∙ sequential.flat.swaps k a r v here
+  id_at : (k : ℕ) (z : Operation) → slice_get (done cores order) k ≡ Some z → (w : OpId) × (operation_at cores w ≡ Some z) × (place order w ≡ k)
+  id_at k z here =
+      option_and_then_some (operation_at cores) (slice_get order k) z (sym (operations_in cores order (λ j id h. is_there cores order sequential.serial id j h) k) ∙ here)
+      (λ w at there. (w, there, place-is w k at))
 
   sources : (a : OpId) (y : Operation) (value : ℕ) → operation_at cores a ≡ Some y → word_read y ≡ Some value → Sourced cores (time_in order) a (address_of y) value
-  sources a y value there reads =
-      let ops : List Operation = filter_map (operation_at cores) order in
-      let k : ℕ = place order a in
+  sources a y value there read =
       let here = operation-placed a y there in
-      let within = slice_get_within ops k y here in
-      from (subst (NoneOrLast (address_of y) ops k) (sym (flat_value k y value here reads)) (last_store (address_of y) ops k (omega arith)))
+      let within = slice_get_within (done cores order) (place order a) y here in
+      from (subst (NoneOrLast (address_of y) (done cores order) (place order a)) (sym (flat y value here read)) (last_store (address_of y) (done cores order) (place order a) (omega arith)))
     where
-      from : NoneOrLast (address_of y) (filter_map (operation_at cores) order) (place order a) value → Sourced cores (time_in order) a (address_of y) value
+      flat : (z : Operation) (v : ℕ) → slice_get (done cores order) (place order a) ≡ Some z → word_read z ≡ Some v → v ≡ last_value (address_of z) (take (place order a) (done cores order))
+      flat (Loaded b w) v here read = sym (same_Some w v read) ∙ sequential.flat.loads (place order a) b w here
+      flat (Stored b w) v here read = absurd cc
+      flat (Swapped b r w) v here read = sym (same_Some r v read) ∙ sequential.flat.swaps (place order a) b r w here
+
+      from : NoneOrLast (address_of y) (done cores order) (place order a) value → Sourced cores (time_in order) a (address_of y) value
       from (inl none) = record {
         source = Init;
         gives = none.0;

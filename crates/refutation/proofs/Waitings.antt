@@ -41,9 +41,9 @@ on-same k facts more (w ∷ ws) l nested =
     let rest = on-same k facts more ws l (nested-weak w.kept k ws low nested.1) in
     cc
 
-module _ (facts given : List Fact) (waiting rest : List WaitingParts) (case : WaitingParts) (nested : AreNested (length facts) (reverse waiting)) (popped : map (waiting_on (length facts)) given ++ reverse waiting ≡ reverse (rest ++ case ∷ [])) where
+module _ (facts given : List Fact) (waiting rest : List WaitingParts) (case : WaitingParts) (nested : AreNested (length facts) (reverse waiting)) (popped : reverse (rest ++ case ∷ []) ≡ map (waiting_on (length facts)) given ++ reverse waiting) where
   now-kept : map (waiting_on (length facts)) given ++ reverse waiting ≡ case ∷ reverse rest
-  now-kept = popped ∙ reverse-append rest (case ∷ [])
+  now-kept = sym popped ∙ reverse-append rest (case ∷ [])
 
   now-nested : (case.kept ≤ length facts) × AreNested case.kept (reverse rest)
   now-nested = subst (AreNested (length facts)) now-kept (nested-added (length facts) given (reverse waiting) nested)

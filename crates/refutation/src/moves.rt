@@ -35,7 +35,7 @@ fn number_at(numbers: &[u64], place: usize) -> Option<u64>
 }
 
 /// Puts a number at a place, where there is one.
-#[tactic(auto, using(crate::proofs::Settled::set_past))]
+#[tactic(auto, using(std::proofs::lemmas::List::set_past))]
 fn set(numbers: &mut Vec<u64>, place: usize, number: u64)
     ensures { numbers.new.items ≡ slice_set numbers.old.items place number }
 {
@@ -45,6 +45,7 @@ fn set(numbers: &mut Vec<u64>, place: usize, number: u64)
 }
 
 /// The word at an address, where it is looked at.
+#[tactic(auto, using(crate::proofs::Settled::word_by_slot))]
 pub(crate) fn word_of(addresses: &[Address], words: &[Word], addr: Address) -> Option<Word>
     ensures { result ≡ word_of addresses.now words.now addr }
 {
@@ -55,6 +56,7 @@ pub(crate) fn word_of(addresses: &[Address], words: &[Word], addr: Address) -> O
 }
 
 /// The words, after one is put at an address.
+#[tactic(auto, using(crate::proofs::Settled::put_by_slot))]
 pub(crate) fn put_word(
     alloc: Global,
     addresses: &[Address],

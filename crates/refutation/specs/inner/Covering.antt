@@ -1,5 +1,5 @@
 -- The ranges have what may give a read its value.
-use Rattle.std.specs.Prelude.{◌≡◌, ℕ, ◌<◌, List, length, Some, slice_get}
+use Rattle.std.specs.Prelude.{◌≡◌, ℕ, ◌<◌, List, Some, slice_get}
 use Rattle.mem_op.specs.declared.id.OpId.{OpId}
 use Rattle.mem_op.specs.Consistency.{Operation, operation_at}
 use Rattle.refutation.specs.declared.step.Point.TheVariants.{Init, At}
@@ -14,11 +14,6 @@ CoversOne read addr value ranges id operation = MayGive addr value read id opera
 abbrev pub CoversFirst : OpId → ℕ → ℕ → List Range → ℕ → ℕ → List Operation → Type 0
 CoversFirst read addr value ranges core n operations =
     (index : ℕ) (y : Operation) → index < n → slice_get operations index ≡ Some y → CoversOne read addr value ranges (record { core = core; index = index }) y
-
--- so do all operations of the first cores
-abbrev pub CoversCores : OpId → ℕ → ℕ → List Range → List (List Operation) → ℕ → Type 0
-CoversCores read addr value ranges cores n =
-    (core : ℕ) (operations : List Operation) → core < n → slice_get cores core ≡ Some operations → CoversFirst read addr value ranges core (length operations) operations
 
 -- so do all operations, and the initial 0
 pub record Covers (cores : List (List Operation)) (read : OpId) (addr value : ℕ) (ranges : List Range) : Type 0 where

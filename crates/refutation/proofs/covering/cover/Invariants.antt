@@ -1,7 +1,7 @@
 use Rattle.std.proofs.Common.{◌≡◌}
 use Rattle.refutation.specs.declared.step.Point.TheVariants.{Init}
 use Rattle.refutation.specs.Rules.{LiesIn}
-use Rattle.refutation.specs.inner.Covering.{CoversCores}
+use Rattle.refutation.proofs.Covered.{CoversCores}
 use Rattle.refutation.proofs.covering.cover.Given as goal
 
 abbrev pub invariant-loop-core : goal.invariant-loop-core

@@ -1,29 +1,29 @@
-use Rattle.std.proofs.Common.{◌≡◌, arith, length, ◌∙◌, ap, sym, List}
-use Rattle.std.proofs.lemmas.List.{length-map}
-use Rattle.std.specs.Global.{Vec}
-use Rattle.mem_op.specs.Consistency.{Operation}
-use Rattle.refutation.proofs.Covered.{core_at}
-use Rattle.refutation.proofs.DeadStates.{first-more, first-all, first-of-all}
+use Rattle.std.proofs.Common.{◌≡◌, ◌≢◌, ◌≤◌, ◌<◌, true, arith, ◌∙◌}
+use Rattle.std.specs.Prelude.{slice_get, slice_index}
+use Rattle.mem_op.specs.Consistency.{is_store_to, word_left}
+use Rattle.refutation.specs.inner.Dead.{NoneStoresOf}
+use Rattle.refutation.proofs.Firsts.{core_at, cores-all, all-cores, first-more}
+use Rattle.refutation.proofs.Settled.{at-core}
 use Rattle.refutation.proofs.dead.none_stores.Goals as goal
 
 pub returns-then-not-none_stores_up_to : goal.returns-then-not-none_stores_up_to
 returns-then-not-none_stores_up_to c = λ none.
-    let found = core_at c.cores-operations-items.result.now c.args.trace.now c.loop-core.core c.operations-item.result (c.cores-operations-items.ensures.value ∙ c.trace.ensures) (omega arith) c.operations-item.is in
+    let found = core_at c.cores-operations-items.result.now c.loop-core.core (c.cores-operations-items.ensures.value ∙ c.trace.ensures) c.operations-item.is (omega arith) in
     c.if-not-none_stores_up_to.ensures (rw (c.deref.ensures.value, c.number_of-from.ensures, c.number_of-to.ensures)
-    (first-of-all c.args.trace.now c.args.next.now c.args.limits.now c.args.addr c.args.word c.loop-core.core c.operations-item.result.items found none))
+    (λ index z at. none (record { core = c.loop-core.core; index = index }) z (at-core c.args.trace.now c.loop-core.core index c.operations-item.result.items found ∙ at)))
 
 pub loop-core-preserved : goal.loop-core-preserved
 loop-core-preserved c =
-    let found = core_at c.cores-operations-items.result.now c.args.trace.now c.loop-core.core c.operations-item.result (c.cores-operations-items.ensures.value ∙ c.trace.ensures) (omega arith) c.operations-item.is in
-    first-more c.args.trace.now c.args.next.now c.args.limits.now c.args.addr c.args.word c.loop-core.core c.operations-item.result.items found c.loop-core.invariant
-    (rw (c.deref.ensures.value, c.number_of-from.ensures, c.number_of-to.ensures) at c.if-not-none_stores_up_to.ensures)
+    let found = core_at c.cores-operations-items.result.now c.loop-core.core (c.cores-operations-items.ensures.value ∙ c.trace.ensures) c.operations-item.is (omega arith) in
+    first-more (λ core ys. NoneStoresOf ys (slice_index c.args.next.now core) (slice_index c.args.limits.now core) c.args.addr c.args.word) (slice_get c.args.trace.now)
+    c.operations-item.result.items found c.loop-core.invariant (rw (c.deref.ensures.value, c.number_of-from.ensures, c.number_of-to.ensures) at c.if-not-none_stores_up_to.ensures)
 
 pub returns : goal.returns
 returns c =
-    let many : length c.args.trace.now ≡ length c.cores-operations-items.result.now = ap (λ (t : List (List Operation)). length t) (sym (c.cores-operations-items.ensures.value ∙ c.trace.ensures)) ∙ length-map c.cores-operations-items.result.now (λ (v : Vec Operation). v.items) in
-    first-all c.args.trace.now c.args.next.now c.args.limits.now c.args.addr c.args.word c.loop-core.core (omega arith) c.loop-core.invariant
+    all-cores (λ id z. slice_index c.args.next.now id.core ≤ id.index → id.index < slice_index c.args.limits.now id.core → is_store_to c.args.addr z ≡ true → word_left z ≢ c.args.word)
+    c.args.trace.now c.loop-core.core (cores-all c.cores-operations-items.result.now c.loop-core.core (c.cores-operations-items.ensures.value ∙ c.trace.ensures) (omega arith)) c.loop-core.invariant
 
 pub none_stores_up_to-requires : goal.none_stores_up_to-requires
 none_stores_up_to-requires c =
-    let found = core_at c.cores-operations-items.result.now c.args.trace.now c.loop-core.core c.operations-item.result (c.cores-operations-items.ensures.value ∙ c.trace.ensures) (omega arith) c.operations-item.is in
+    let found = core_at c.cores-operations-items.result.now c.loop-core.core (c.cores-operations-items.ensures.value ∙ c.trace.ensures) c.operations-item.is (omega arith) in
     rw c.deref.ensures.value (c.last-last.ensures c.operations-item.result.items found)
