@@ -1,212 +1,110 @@
-//! Growths that are refused: a call answers 10, or what it answers with memory, and never another; made again with memory it
-//! answers that. None is refused here. `refuse-growths` refuses each in turn.
+//! Calls of which the program makes none, or not in this way, each once. Where a growth is refused, a call answers 10 and nothing else:
+//! `refuse-growths` refuses each in turn, and none is refused here.
 
 ghost use Rattle.std.specs.Prelude.{◌<◌};
 
-use super::rows::*;
 use address_check::{AddressIndex, group_fault};
-use core_program::{ProgramFault, ProgramSet};
-use log_file::{LogFault, LogReader, MemSource, read_log};
-use log_record::Record;
+use core_program::Program;
+use flat_replay::replays;
+use log_file::{LogReader, LogSet, MemSource, read_pieces};
+use log_record::print_line;
 use mem_op::{Addr, CoreId, OpId, OpIndex};
-use std::alloc::Global;
-use std::process::Abort;
+use refutation::{Answer, Refutation, confirm, first_bad_line, refutes};
+use search::search;
 use std::test::Fail;
-use std::thread::Threads;
-use verdict::{JudgeFault, replay_order};
+use trace::{Trace, TraceReader};
+use verdict::replay_order;
 
-const SETS: [&[&[u8]; 2]; 4] = [&READ_ACROSS, &BOTH_READ_OLD, &OF_BOTH_FORMATS, &SWAPPED];
+/// Core 0 stores and loads; core 1 stores, and loads what core 0 stored.
+const LOGS: [&str; 2] = [
+    "tardis-log 1 core 0 of 2\nS 0 1 1 0\nL 1 0 1 0 init\nend 2\n",
+    "tardis-log 1 core 1 of 2\nS 1 1 12 0\nL 0 1 12 0 0.0\nend 2\n",
+];
+
+/// Operation `index` of core `core`.
+fn id(core: usize, index: usize) -> OpId
+    requires core { core < 64 }
+    requires index { index < 1048576 }
+{
+    OpId {
+        core: CoreId::at(core),
+        index: OpIndex::at(index),
+    }
+}
 
 #[test]
-fn judges(rt: HostRuntime) -> Result<(), Fail> {
-    for by in JUDGES {
-        for logs in SETS {
-            let mut answer = judged(&rt, rt.alloc(), by, logs, 0, &[])?;
-            if answer == Err(JudgeFault::OutOfMemory) {
-                answer = judged(&rt, rt.alloc(), by, logs, 0, &[])?;
-            }
-            let is_due = matches!(&answer, Ok(verdict) if is_row(by, verdict, logs));
-            assert!(rt; is_due, "{by:?}");
-        }
-    }
+fn a_set_of_logs(rt: HostRuntime) -> Result<(), Fail> {
+    let alloc = rt.alloc();
+    let mut readers = [
+        MemSource::new(LOGS[0].as_bytes(), &[]),
+        MemSource::new(LOGS[1].as_bytes(), &[]),
+    ];
+    let logs = LogSet::read(&rt, alloc, &mut readers, 2)?.logs(alloc)?;
+    let index = AddressIndex::build(&rt, alloc, &logs)?;
+    let group = index.group(Addr::new(1)?);
+    assert_eq!(rt;
+        (index.all().len(), group.len(), group_fault(group)),
+        (4, 2, None)
+    );
+    let order = [id(0, 0), id(0, 1), id(1, 0), id(1, 1)];
+    assert!(rt; replay_order(alloc, &order, &logs)?);
+    let trace = Trace::from_logs(alloc, &logs)?;
+    assert!(rt; replays(alloc, &trace, &order)?);
+    let answer = search(alloc, &trace, 0)?;
+    assert!(rt; matches!(&answer, Answer::Order(_)));
     Ok(())
 }
 
-/// How many records a log has that is fed byte by byte. Where a byte is refused, all later ones and the end are too.
-fn fed(rt: &impl Abort, alloc: Global, core: usize, text: &[u8]) -> Result<usize, LogFault>
-    requires { core < 2 }
-{
-    let mut reader = LogReader::new(alloc, CoreId::at(core), 2);
-    let mut first = Ok(());
+// A log in pieces, and byte by byte.
+#[test]
+fn a_log_in_pieces(rt: HostRuntime) -> Result<(), Fail> {
+    let alloc = rt.alloc();
+    let (core, text) = (CoreId::at(0), LOGS[0].as_bytes());
+    let mut pieces = Vec::new(alloc);
+    let mut reader = LogReader::new(alloc, core, 2);
     for byte in text {
-        let next = reader.feed(&[*byte]);
-        if first.is_err() {
-            assert_eq!(rt; next, first);
-        }
-        first = next;
+        reader.feed(&[*byte])?;
+        pieces.push(vec![in alloc; *byte]?)?;
     }
-    let answer = reader.finish();
-    if let Err(fault) = first {
-        assert_eq!(rt; answer.err(), Some(fault));
-        return Err(fault);
-    }
-    Ok(answer?.len())
+    let records = reader.finish()?;
+    assert_eq!(rt; read_pieces(alloc, &pieces, core, 2)?, records);
+    let line = print_line(alloc, records.last().ok_or("a load")?)?;
+    assert_eq!(rt; line.as_str(), "L 1 0 1 0 init");
+    Ok(())
 }
 
 #[test]
-fn readers_that_are_fed(rt: HostRuntime) {
-    for logs in SETS {
-        for core in 0..2usize {
-            let mut answer = fed(&rt, rt.alloc(), core, logs[core]);
-            if answer == Err(LogFault::OutOfMemory) {
-                answer = fed(&rt, rt.alloc(), core, logs[core]);
-            }
-            assert_eq!(rt; answer, Ok(2));
-        }
-    }
+fn a_program(rt: HostRuntime) -> Result<(), Fail> {
+    let text =
+        b"ld r0 0\nai r15 r0 18446744073709551615\njz r0 2\nst 65535 7\nsr 1 r15\nsw r0 0 2\n";
+    let parsed = Program::parse(rt.alloc(), text)?;
+    let program = parsed.clone()?;
+    assert_eq!(rt; program.print(rt.alloc())?.as_slice(), text.as_slice());
+    Ok(())
 }
 
-/// The log of a core of two.
-fn read<R: Threads + Sync>(
-    rt: &R,
-    alloc: Global,
-    core: usize,
-    text: &[u8],
-    workers: usize,
-) -> Result<Vec<Record>, LogFault>
-    requires { core < 2 }
-{
-    let mut source = MemSource::new(text, &[]);
-    read_log(rt, alloc, &mut source, CoreId::at(core), 2, workers)
-}
+/// Each core stores to a word of its own, and loads 0 from the other's.
+const STORE_BUFFERING: &[u8] = b"0: M[0] := 1\n0: M[1] == 0\n1: M[1] := 1\n1: M[0] == 0\n";
 
-/// How many records it has.
-fn length<R: Threads + Sync>(
-    rt: &R,
-    alloc: Global,
-    core: usize,
-    text: &[u8],
-    workers: usize,
-) -> Result<usize, LogFault>
-    requires { core < 2 }
-{
-    Ok(read(rt, alloc, core, text, workers)?.len())
-}
+/// Why no order has that.
+const STEPS: &str =
+    "tardis-refutation 1\nread 0.1 : init\nfrom-read 0 1.0 :\nread 1.1 : init\nfrom-read 2 0.0 :\ncycle : 3 1\nend 5\n";
 
 #[test]
-fn logs_that_are_read(rt: HostRuntime) {
-    for logs in SETS {
-        for core in 0..2usize {
-            for workers in [1, 2] {
-                let mut answer = length(&rt, rt.alloc(), core, logs[core], workers);
-                if answer == Err(LogFault::OutOfMemory) {
-                    answer = length(&rt, rt.alloc(), core, logs[core], workers);
-                }
-                assert_eq!(rt; answer, Ok(2));
-            }
-        }
+fn a_refutation(rt: HostRuntime) -> Result<(), Fail> {
+    let alloc = rt.alloc();
+    let mut reader = TraceReader::new(alloc);
+    for byte in STORE_BUFFERING {
+        reader.feed(&[*byte])?;
     }
-}
-
-/// The logs of a set.
-fn read_both<R: Threads + Sync>(
-    rt: &R,
-    alloc: Global,
-    logs: &[&[u8]; 2],
-) -> Result<Vec<Vec<Record>>, LogFault> {
-    let mut all = Vec::new(alloc);
-    for (core, text) in logs.iter().enumerate() {
-        all.push(read(rt, alloc, core, text, 1)?)?;
-    }
-    Ok(all)
-}
-
-/// How many records the index of a set has, and whether one at address 0 breaks a rule.
-fn indexed(
-    rt: &(impl Threads + Abort + Sync),
-    alloc: Global,
-    logs: &[&[u8]; 2],
-) -> Result<(usize, bool), LogFault> {
-    let all = read_both(rt, alloc, logs)?;
-    assert!(rt; all.iter().all(|log| log.len() <= 1_048_576) && all.len() <= 64);
-    let index = AddressIndex::build(rt, alloc, &all)?;
-    let fault = group_fault(index.group(Addr::new(0).unwrap()));
-    Ok((index.all().len(), fault.is_some()))
-}
-
-#[test]
-fn indices(rt: HostRuntime) {
-    for (logs, is_faulty) in [
-        (&READ_ACROSS, false),
-        (&BOTH_READ_OLD, true),
-        (&SWAPPED, false),
-    ] {
-        let mut answer = indexed(&rt, rt.alloc(), logs);
-        if answer == Err(LogFault::OutOfMemory) {
-            answer = indexed(&rt, rt.alloc(), logs);
-        }
-        assert_eq!(rt; answer, Ok((4, is_faulty)));
-    }
-}
-
-/// The id of an operation of two cores with two operations each.
-fn id(number: usize) -> OpId
-    requires { number < 4 }
-{
-    OpId {
-        core: CoreId::at(number / 2),
-        index: OpIndex::at(number % 2),
-    }
-}
-
-/// Whether the operations in this order answer as one memory.
-fn replayed<R: Threads + Sync>(
-    rt: &R,
-    alloc: Global,
-    logs: &[&[u8]; 2],
-    order: &[OpId],
-) -> Result<bool, LogFault> {
-    let all = read_both(rt, alloc, logs)?;
-    Ok(replay_order(alloc, order, &all)?)
-}
-
-// Core 0's operations and then core 1's; the same with the first two exchanged, and with the first twice in place of both.
-#[test]
-fn orders(rt: HostRuntime) {
-    let in_order = [id(0), id(1), id(2), id(3)];
-    let exchanged = [id(1), id(0), id(2), id(3)];
-    let doubled = [id(0), id(0), id(2), id(3)];
-    for (logs, order, holds) in [
-        (&READ_ACROSS, &in_order, true),
-        (&READ_ACROSS, &exchanged, false),
-        (&READ_ACROSS, &doubled, false),
-        (&BOTH_READ_OLD, &in_order, false),
-    ] {
-        let mut answer = replayed(&rt, rt.alloc(), logs, order);
-        if answer == Err(LogFault::OutOfMemory) {
-            answer = replayed(&rt, rt.alloc(), logs, order);
-        }
-        assert_eq!(rt; answer, Ok(holds));
-    }
-}
-
-/// How many instructions the programs of both cores have.
-fn instructions(alloc: Global) -> Result<usize, ProgramFault> {
-    let set = ProgramSet::parse(alloc, PROGRAMS)?;
-    let mut count = 0;
-    for core in 0..2usize {
-        if let Some(program) = set.get(CoreId::at(core)) {
-            count = program.instructions().len().saturating_add(count);
-        }
-    }
-    Ok(count)
-}
-
-#[test]
-fn programs(rt: HostRuntime) {
-    let mut answer = instructions(rt.alloc());
-    if answer == Err(ProgramFault::OutOfMemory) {
-        answer = instructions(rt.alloc());
-    }
-    assert_eq!(rt; answer, Ok(4));
+    let trace = reader.finish()?;
+    let found = search(alloc, &trace, 100_000)?;
+    assert!(rt; matches!(&found, Answer::Refutation(_)));
+    assert_eq!(rt; first_bad_line(alloc, &trace, STEPS.as_bytes())?, None);
+    let steps = Refutation::parse(alloc, STEPS.as_bytes())?;
+    assert_eq!(rt; steps.print(alloc)?.as_str(), STEPS);
+    assert!(rt; refutes(alloc, &trace, &steps)?);
+    let answer = confirm(alloc, &trace, Answer::Refutation(steps))?;
+    assert!(rt; matches!(&answer, Answer::Refutation(_)));
+    Ok(())
 }

@@ -10,18 +10,18 @@ use Rattle.clap.specs.Matches.{ReadsOne}
 use Rattle.clap.specs.Words.{Row, Text, kind_of, subcommand_of}
 use Rattle.clap.specs.declared.error.Error.{Error}
 use Rattle.clap.specs.declared.error.kind.ErrorKind.TheVariants as error_kind
-use Rattle.command_line.specs.Asking.{AreMarked, AskVersion, Asks, IsAskedBy, IsCommandLine, IsMixedIn, IsNotOneOf, IsNumber, IsNumberOf, IsRefusalOf, IsRefusedBy, IsStrayIn, StandNotAlone, files_given, is_litmus, is_programs, texts}
+use Rattle.command_line.specs.Asking.{AreMarked, AskVersion, Asks, IsAskedBy, IsCommandLine, IsMixedIn, IsNotOneOf, IsNumber, IsNumberOf, IsRefusalOf, IsRefusedBy, IsStrayIn, StandNotAlone, files_given, is_litmus, is_programs, is_trace, texts}
 use Rattle.command_line.specs.Files.{IsApart}
 use Rattle.command_line.specs.Grammar.{tardis}
-use Rattle.command_line.specs.declared.refusal.Refusal.{Refusal}
-use Rattle.command_line.specs.declared.refusal.Refusal.TheVariants.{Usage, OutOfMemory}
+use Rattle.command_line.specs.declared.misuse.Misuse.{Misuse}
+use Rattle.command_line.specs.declared.misuse.Misuse.TheVariants.{Usage, OutOfMemory}
 use Rattle.command_line.specs.declared.request.FileKind.{FileKind}
 use Rattle.command_line.specs.declared.request.FileKind.TheVariants as of_file
 use Rattle.command_line.specs.declared.request.Request.{Request}
 use Rattle.command_line.specs.declared.request.Request.TheVariants as request
 
 -- an error that isn't lack of memory has one of the kinds of fault that the words have
-pub refused : (words : List Text) (kinds : Kinds) (error : Error) (r : Refusal) → kinds ≡ fault_of tardis words → HasKind kinds error
+pub refused : (words : List Text) (kinds : Kinds) (error : Error) (r : Misuse) → kinds ≡ fault_of tardis words → HasKind kinds error
     → (kind_of error ≡ error_kind.OutOfMemory → r ≡ OutOfMemory) → IsRefusalOf words r
 refused words kinds error OutOfMemory is has memory = tt
 refused words kinds error (Usage text) is (inl out) memory =
@@ -30,7 +30,7 @@ refused words kinds error (Usage text) is (inl out) memory =
 refused words kinds error (Usage text) is (inr among) memory = inl (λ none. subst (IsAmong (kind_of error)) (is ∙ none) among)
 
 -- the subcommand that the words name is refused for what its arguments ask for
-pub refused_by : (words : List Text) (named : Text × List Row) (r : Refusal) → subcommand_of tardis words ≡ Some named → IsRefusedBy named r → IsRefusalOf words r
+pub refused_by : (words : List Text) (named : Text × List Row) (r : Misuse) → subcommand_of tardis words ≡ Some named → IsRefusedBy named r → IsRefusalOf words r
 refused_by words named (Usage text) is misused = inr (inl (named, is, misused))
 refused_by words named OutOfMemory is misused = tt
 
@@ -51,31 +51,28 @@ asked_by words named (request.Replay replay) line is asks = (line, (named, is, a
 asked_by words named request.Version line is asks = absurd asks
 
 -- lack of memory is no usage
-pub unread : (named : Text × List Row) (r : Refusal) → r ≡ OutOfMemory → IsRefusedBy named r
+pub unread : (named : Text × List Row) (r : Misuse) → r ≡ OutOfMemory → IsRefusedBy named r
 unread named r is = rw is tt
 
 -- files that aren't those of one trace were given
-pub stray : (named : Text × List Row) (r : Refusal) → (named.0 ≡ codes "search") ⊎ (named.0 ≡ codes "confirm") → IsStrayIn named.1 r → IsRefusedBy named r
+pub stray : (named : Text × List Row) (r : Misuse) → (named.0 ≡ codes "search") ⊎ (named.0 ≡ codes "confirm") → IsStrayIn named.1 r → IsRefusedBy named r
 stray named (Usage text) which files = inl (which, files)
 stray named OutOfMemory which files = tt
 
 -- a file that isn't a log isn't alone
-pub unexplained : (named : Text × List Row) (r : Refusal) → named.0 ≡ codes "explain" → IsMixedIn named.1 r → IsRefusedBy named r
-unexplained named (Usage text) explains mixed = inr (explains, mixed)
-unexplained named OutOfMemory explains mixed = tt
-
-pub mixed_one : (rows : List Row) (of : FileKind) (r : Refusal) → AreMarked (is_litmus of) (is_programs of) rows → StandNotAlone rows → IsMixedIn rows r
-mixed_one rows of_file.Litmus (Usage text) marks others = (true, false, marks, others)
-mixed_one rows of_file.Programs (Usage text) marks others = (false, true, marks, others)
+pub mixed_one : (rows : List Row) (of : FileKind) (r : Misuse) → AreMarked (is_litmus of) (is_programs of) (is_trace of) rows → StandNotAlone rows → IsMixedIn rows r
+mixed_one rows of_file.Litmus (Usage text) marks others = (true, false, false, marks, others)
+mixed_one rows of_file.Programs (Usage text) marks others = (false, true, false, marks, others)
+mixed_one rows of_file.Trace (Usage text) marks others = (false, false, true, marks, others)
 mixed_one rows of OutOfMemory marks others = tt
 
-pub mixed_files : (rows : List Row) (of : FileKind) (r : Refusal) → AreMarked (is_litmus of) (is_programs of) rows → IsNotOneOf (files_given rows) r
+pub mixed_files : (rows : List Row) (of : FileKind) (r : Misuse) → AreMarked (is_litmus of) (is_programs of) (is_trace of) rows → IsNotOneOf (files_given rows) r
     → IsMixedIn rows r
 mixed_files rows of (Usage text) marks files = mixed_one rows of (Usage text) marks (inl files)
 mixed_files rows of OutOfMemory marks files = tt
 
 -- what the words ask for isn't apart
-pub not_apart : (words : List Text) (asked : Request) (are : Bool) (r : Refusal) → Asks words asked → IsTrue are ↔ IsApart asked → are ≡ false → IsRefusalOf words r
+pub not_apart : (words : List Text) (asked : Request) (are : Bool) (r : Misuse) → Asks words asked → IsTrue are ↔ IsApart asked → are ≡ false → IsRefusalOf words r
 not_apart words asked are (Usage text) asks tests off = inr (inr (asked, asks, (λ apart. let yes : false ≡ true = sym off ∙ tests.1 apart in cc)))
 not_apart words asked are OutOfMemory asks tests off = tt
 

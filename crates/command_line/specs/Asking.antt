@@ -7,8 +7,8 @@ use Rattle.clap.specs.Words.{Row, Text, all_of, first_of, one_of, subcommand_of}
 use Rattle.command_line.specs.Grammar.{tardis}
 use Rattle.command_line.specs.Files.{IsApart}
 pub use Rattle.command_line.specs.Files.{text_of, texts}
-use Rattle.command_line.specs.declared.refusal.Refusal.{Refusal}
-use Rattle.command_line.specs.declared.refusal.Refusal.TheVariants.{Usage, OutOfMemory}
+use Rattle.command_line.specs.declared.misuse.Misuse.{Misuse}
+use Rattle.command_line.specs.declared.misuse.Misuse.TheVariants.{Usage, OutOfMemory}
 use Rattle.command_line.specs.declared.request.Check.{Check}
 use Rattle.command_line.specs.declared.request.Confirm.{Confirm}
 use Rattle.command_line.specs.declared.request.Explain.{Explain}
@@ -16,7 +16,7 @@ use Rattle.command_line.specs.declared.request.FileKind.{FileKind}
 use Rattle.command_line.specs.declared.request.FileKind.TheVariants as kind
 use Rattle.command_line.specs.declared.request.Inspect.{Inspect}
 use Rattle.command_line.specs.declared.request.Limits.{Limits}
-use Rattle.command_line.specs.declared.request.Litmus.{Litmus}
+use Rattle.command_line.specs.declared.request.LitmusRuns.{LitmusRuns}
 use Rattle.command_line.specs.declared.request.Order.{Order}
 use Rattle.command_line.specs.declared.request.Replay.{Replay}
 use Rattle.command_line.specs.declared.request.Request.{Request}
@@ -61,24 +61,29 @@ pub record IsOrder (rows : List Row) (order : Order) : Type 0 where
 abbrev pub files_given : List Row → List Text
 files_given rows = unwrap_or (all_of (codes "FILE") rows) []
 
--- whether a file of this kind is marked by `--litmus`, and by `--programs`
+-- whether a file of this kind is marked by `--litmus`, by `--programs`, and by `--trace`
 abbrev pub is_litmus : FileKind → Bool
 is_litmus kind.Litmus = true
-is_litmus kind.Programs = false
+is_litmus other = false
 
 abbrev pub is_programs : FileKind → Bool
-is_programs kind.Litmus = false
 is_programs kind.Programs = true
+is_programs other = false
 
--- whether `--litmus` is there, and whether `--programs` is
-pub record AreMarked (litmus programs : Bool) (rows : List Row) : Type 0 where
+abbrev pub is_trace : FileKind → Bool
+is_trace kind.Trace = true
+is_trace other = false
+
+-- whether `--litmus` is there, whether `--programs` is, and whether `--trace` is
+pub record AreMarked (litmus programs trace : Bool) (rows : List Row) : Type 0 where
   pub litmus_flag : IsFlag (one_of (codes "litmus") rows) litmus
   pub programs_flag : IsFlag (one_of (codes "programs") rows) programs
+  pub trace_flag : IsFlag (one_of (codes "trace") rows) trace
 
 -- A check of the files that were given by one worker, against the programs that were given, the file for a picture that was, and whether
--- another order is searched; neither flag says that a file isn't a log
+-- another order is searched; no flag says that a file isn't a log
 pub record IsExplain (rows : List Row) (explain : Explain) : Type 0 where
-  pub marks : AreMarked false false rows
+  pub marks : AreMarked false false false rows
   pub workers : explain.check.workers ≡ 1
   pub program : text_of explain.check.program ≡ first_of (codes "program") rows
   pub picture : text_of explain.picture ≡ first_of (codes "svg") rows
@@ -93,7 +98,7 @@ pub record LackLogOptions (rows : List Row) : Type 0 where
 
 -- the one file that was given is looked at, of the kind that a flag says, without an option that is of logs
 pub record IsInspect (rows : List Row) (inspect : Inspect) : Type 0 where
-  pub marks : AreMarked (is_litmus inspect.kind) (is_programs inspect.kind) rows
+  pub marks : AreMarked (is_litmus inspect.kind) (is_programs inspect.kind) (is_trace inspect.kind) rows
   pub file : files_given rows ≡ inspect.file.now ∷ []
   pub alone : LackLogOptions rows
 
@@ -142,7 +147,7 @@ test_given rows = unwrap_or (first_of (codes "TEST") rows) []
 
 -- runs of the test of the file that was given, by the numbers, as many and from the seed that were given, and the file for the numbers
 -- of all runs that was
-pub record IsLitmus (rows : List Row) (litmus : Litmus) : Type 0 where
+pub record IsLitmus (rows : List Row) (litmus : LitmusRuns) : Type 0 where
   pub limits : AreLimits rows litmus.limits
   pub runs : IsCountOr 100 (one_of (codes "runs") rows) litmus.runs
   pub seed : IsCountOr 1 (one_of (codes "seed") rows) litmus.seed
@@ -222,7 +227,7 @@ abbrev pub AreNotOne : List Text → Type 0
 AreNotOne files = (name : Text) → files ≢ name ∷ []
 
 -- only files that aren't one are refused for their usage
-abbrev pub IsNotOneOf : List Text → Refusal → Type 0
+abbrev pub IsNotOneOf : List Text → Misuse → Type 0
 IsNotOneOf files (Usage text) = AreNotOne files
 IsNotOneOf files OutOfMemory = ⊤
 
@@ -231,7 +236,7 @@ abbrev pub AreStray : Bool → Bool → List Text → Type 0
 AreStray are_logs are_sourced files = (are_logs ≡ false) × ((are_sourced ≡ true) ⊎ AreNotOne files)
 
 -- only such files are refused for their usage
-abbrev pub IsStrayOf : Bool → Bool → List Text → Refusal → Type 0
+abbrev pub IsStrayOf : Bool → Bool → List Text → Misuse → Type 0
 IsStrayOf are_logs are_sourced files (Usage text) = AreStray are_logs are_sourced files
 IsStrayOf are_logs are_sourced files OutOfMemory = ⊤
 
@@ -243,7 +248,7 @@ pub record HasStrayFiles (rows : List Row) : Type 0 where
   pub sources : IsFlag (one_of (codes "sources") rows) are_sourced
   pub stray : AreStray are_logs are_sourced (files_given rows)
 
-abbrev pub IsStrayIn : List Row → Refusal → Type 0
+abbrev pub IsStrayIn : List Row → Misuse → Type 0
 IsStrayIn rows (Usage text) = HasStrayFiles rows
 IsStrayIn rows OutOfMemory = ⊤
 
@@ -257,17 +262,19 @@ abbrev pub StandNotAlone : List Row → Type 0
 StandNotAlone rows = AreNotOne (files_given rows) ⊎ HaveLogOption rows
 
 -- a flag says that the file isn't a log, and another file, another flag or an option stands beside it
-abbrev pub AreMixedBy : Bool → Bool → List Row → Type 0
-AreMixedBy true true rows = ⊤
-AreMixedBy true false rows = StandNotAlone rows
-AreMixedBy false true rows = StandNotAlone rows
-AreMixedBy false false rows = ⊥
+abbrev pub AreMixedBy : Bool → Bool → Bool → List Row → Type 0
+AreMixedBy false false false rows = ⊥
+AreMixedBy true false false rows = StandNotAlone rows
+AreMixedBy false true false rows = StandNotAlone rows
+AreMixedBy false false true rows = StandNotAlone rows
+AreMixedBy litmus programs trace rows = ⊤
 
 abbrev pub AreMixed : List Row → Type 0
-AreMixed rows = (litmus : Bool) × (programs : Bool) × AreMarked litmus programs rows × AreMixedBy litmus programs rows
+AreMixed rows =
+    (litmus : Bool) × (programs : Bool) × (trace : Bool) × AreMarked litmus programs trace rows × AreMixedBy litmus programs trace rows
 
 -- only a look at a file that isn't a log, and isn't alone, is refused for its usage
-abbrev pub IsMixedIn : List Row → Refusal → Type 0
+abbrev pub IsMixedIn : List Row → Misuse → Type 0
 IsMixedIn rows (Usage text) = AreMixed rows
 IsMixedIn rows OutOfMemory = ⊤
 
@@ -278,7 +285,7 @@ IsMisused named =
     (((named.0 ≡ codes "search") ⊎ (named.0 ≡ codes "confirm")) × HasStrayFiles named.1) ⊎ ((named.0 ≡ codes "explain") × AreMixed named.1)
 
 -- only such arguments are refused for their usage
-abbrev pub IsRefusedBy : Text × List Row → Refusal → Type 0
+abbrev pub IsRefusedBy : Text × List Row → Misuse → Type 0
 IsRefusedBy named (Usage text) = IsMisused named
 IsRefusedBy named OutOfMemory = ⊤
 
@@ -296,6 +303,6 @@ abbrev pub AreRefused : List Text → Type 0
 AreRefused words = ¬ (IsCommandLine words) ⊎ (AreMisused words ⊎ AskNotApart words)
 
 -- only such words are refused for their usage
-abbrev pub IsRefusalOf : List Text → Refusal → Type 0
+abbrev pub IsRefusalOf : List Text → Misuse → Type 0
 IsRefusalOf words (Usage text) = AreRefused words
 IsRefusalOf words OutOfMemory = ⊤

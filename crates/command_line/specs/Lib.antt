@@ -1,6 +1,6 @@
 pub mod Asking
 pub mod Files
 pub mod Grammar
-pub mod Refusals
+pub mod Misuses
 pub mod RunFiles
 pub mod inner

@@ -4,7 +4,7 @@ ghost use Rattle.std.specs.Prelude.{◌≡◌, IfErr, IfOk, IsTrue, codes, false
 ghost use Rattle.clap.specs.Words.{found_of, rows_of};
 ghost use Rattle.command_line.specs.Asking as asking;
 
-use super::refusal::Refusal;
+use super::misuse::Misuse;
 use super::request::{Check, Explain, FileKind, Inspect, Request};
 use super::words::{files_of, flag_of, misuse, name_of, only};
 use clap::ArgMatches;
@@ -14,15 +14,17 @@ use std::alloc::Global;
 pub(crate) fn explaining_of<'a>(
     alloc: Global,
     matches: &ArgMatches<'a>,
-) -> Result<Request<'a>, Refusal>
+) -> Result<Request<'a>, Misuse>
     ensures asked { IfOk result (asking.IsAskedBy (codes "explain", rows_of (found_of matches.now))) }
     ensures usage { IfErr result (asking.IsMixedIn (rows_of (found_of matches.now))) }
 {
-    match (flag_of(matches, "litmus"), flag_of(matches, "programs")) {
-        (false, false) => explain_of(alloc, matches),
-        (true, false) => inspect_of(alloc, matches, FileKind::Litmus),
-        (false, true) => inspect_of(alloc, matches, FileKind::Programs),
-        (true, true) => Err(misuse(alloc, NOT_ALONE)),
+    let (litmus, programs) = (flag_of(matches, "litmus"), flag_of(matches, "programs"));
+    match (litmus, programs, flag_of(matches, "trace")) {
+        (false, false, false) => explain_of(alloc, matches),
+        (true, false, false) => inspect_of(alloc, matches, FileKind::Litmus),
+        (false, true, false) => inspect_of(alloc, matches, FileKind::Programs),
+        (false, false, true) => inspect_of(alloc, matches, FileKind::Trace),
+        _ => Err(misuse(alloc, NOT_ALONE)),
     }
 }
 
@@ -31,8 +33,9 @@ fn inspect_of<'a>(
     alloc: Global,
     matches: &ArgMatches<'a>,
     kind: FileKind,
-) -> Result<Request<'a>, Refusal>
-    requires { asking.AreMarked (asking.is_litmus kind) (asking.is_programs kind) (rows_of (found_of matches.now)) }
+) -> Result<Request<'a>, Misuse>
+    requires { asking.AreMarked (asking.is_litmus kind) (asking.is_programs kind) (asking.is_trace kind)
+        (rows_of (found_of matches.now)) }
     ensures asked { IfOk result (asking.IsAskedBy (codes "explain", rows_of (found_of matches.now))) }
     ensures usage { IfErr result (asking.IsMixedIn (rows_of (found_of matches.now))) }
 {
@@ -57,13 +60,13 @@ fn has_log_option(matches: &ArgMatches<'_>) -> bool
 
 /// What the user is told where a file that isn't a log isn't the only one, or options stand beside it that are of logs.
 const NOT_ALONE: &str =
-    "error: with '--litmus' or with '--programs' one file is read, and no other option goes with it\n\nFor more information, try '--help'.\n";
+    "error: with '--litmus', '--programs' or '--trace' one file is read, and no other option goes with it\n\nFor more information, try '--help'.\n";
 
 /// What the words after `explain` ask for of logs.
-fn explain_of<'a>(alloc: Global, matches: &ArgMatches<'a>) -> Result<Request<'a>, Refusal>
-    requires { asking.AreMarked false false (rows_of (found_of matches.now)) }
+fn explain_of<'a>(alloc: Global, matches: &ArgMatches<'a>) -> Result<Request<'a>, Misuse>
+    requires { asking.AreMarked false false false (rows_of (found_of matches.now)) }
     ensures asked { IfOk result (asking.IsAskedBy (codes "explain", rows_of (found_of matches.now))) }
-    ensures memory { IfErr result (λ refusal. refusal ≡ Refusal.OutOfMemory) }
+    ensures memory { IfErr result (λ misuse. misuse ≡ Misuse.OutOfMemory) }
 {
     let check = Check {
         workers: 1,

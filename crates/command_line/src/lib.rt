@@ -6,14 +6,14 @@ mod argument;
 mod explaining;
 mod grammar;
 mod log_names;
-mod refusal;
+mod misuse;
 mod request;
 mod subcommand;
 mod words;
 
-pub use refusal::Refusal;
+pub use misuse::Misuse;
 pub use request::{
-    Check, Confirm, Explain, FileKind, Inspect, Limits, Litmus, Order, Replay, Request, Run,
+    Check, Confirm, Explain, FileKind, Inspect, Limits, LitmusRuns, Order, Replay, Request, Run,
     Search, Sim, TraceFiles, Upgrade,
 };
 pub use words::read;

@@ -18,7 +18,7 @@ pub enum Request<'a> {
     /// A run of the machine, each core in a thread of its own.
     Run(Run<'a>),
     /// The outcomes of a litmus test.
-    Litmus(Litmus<'a>),
+    Litmus(LitmusRuns<'a>),
     /// Whether a trace is consistent, by a search.
     Search(Search<'a>),
     /// Whether a trace is consistent, by a certificate alone.
@@ -65,6 +65,8 @@ pub enum FileKind {
     Litmus,
     /// The programs of a machine's cores.
     Programs,
+    /// A trace.
+    Trace,
 }
 
 /// Asks whether a file can be read as what it has to be.
@@ -117,7 +119,7 @@ pub struct Run<'a> {
 
 /// Asks for runs of a litmus test, and the table of their outcomes.
 #[derive(Debug, Drop)]
-pub struct Litmus<'a> {
+pub struct LitmusRuns<'a> {
     /// The numbers of the machine.
     pub limits: Limits,
     /// How many runs there are.

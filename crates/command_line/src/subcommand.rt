@@ -61,7 +61,10 @@ const EXPLAIN: Subcommand<'static> = Subcommand {
         Argument::Flag("no-search", "After a no, don't search for another order"),
         Argument::Flag("litmus", "FILE is a litmus test, and is only read"),
         Argument::Flag("programs", "FILE is a set of programs, and is only read"),
-        Argument::Files("The logs, that of core 0 first; with --litmus or --programs one file"),
+        Argument::Flag("trace", "FILE is a trace, and is only read"),
+        Argument::Files(
+            "The logs, that of core 0 first; with --litmus, --programs or --trace one file",
+        ),
     ],
 };
 

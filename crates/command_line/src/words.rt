@@ -11,9 +11,10 @@ ghost use Rattle.command_line.specs.inner.Numbers.{HasNumbers, takes_number};
 use super::apart::are_apart;
 use super::explaining::explaining_of;
 use super::grammar::tardis;
-use super::refusal::Refusal;
+use super::misuse::Misuse;
 use super::request::{
-    Check, Confirm, Limits, Litmus, Order, Replay, Request, Run, Search, Sim, TraceFiles, Upgrade,
+    Check, Confirm, Limits, LitmusRuns, Order, Replay, Request, Run, Search, Sim, TraceFiles,
+    Upgrade,
 };
 use clap::error::ErrorKind;
 use clap::{ArgMatches, Error};
@@ -22,7 +23,7 @@ use std::alloc::{AllocError, Global};
 /// What the words ask for; the first is the program's own name. Numbers are those of a
 /// u64, and another word in the place of one is refused; whether they are in range isn't looked at. Nothing that is asked for takes the
 /// place of a file that is read, or of something else that is put.
-pub fn read<'a>(alloc: Global, words: &'a [&'a str]) -> Result<Request<'a>, Refusal>
+pub fn read<'a>(alloc: Global, words: &'a [&'a str]) -> Result<Request<'a>, Misuse>
     ensures request { IfOk result (asking.Asks (asking.texts words.entry.now)) }
     ensures apart { IfOk result IsApart }
     ensures usage { IfErr result (asking.IsRefusalOf (asking.texts words.entry.now)) }
@@ -39,7 +40,7 @@ const NOT_APART: &str =
     "error: an output would take the place of a file that is read, of a log or of another output\n\nFor more information, try '--help'.\n";
 
 /// What the words ask for, whatever files it would take the place of.
-fn request_of<'a>(alloc: Global, words: &'a [&'a str]) -> Result<Request<'a>, Refusal>
+fn request_of<'a>(alloc: Global, words: &'a [&'a str]) -> Result<Request<'a>, Misuse>
     ensures request { IfOk result (asking.Asks (asking.texts words.entry.now)) }
     ensures usage { IfErr result (asking.IsRefusalOf (asking.texts words.entry.now)) }
 {
@@ -57,7 +58,7 @@ fn request_of<'a>(alloc: Global, words: &'a [&'a str]) -> Result<Request<'a>, Re
 }
 
 /// What the words after the subcommand of this name ask for, or why they ask for nothing.
-fn asked_of<'a>(alloc: Global, name: &str, matches: &ArgMatches<'a>) -> Result<Request<'a>, Refusal>
+fn asked_of<'a>(alloc: Global, name: &str, matches: &ArgMatches<'a>) -> Result<Request<'a>, Misuse>
     requires named { IsTrue (is_subcommand name.now) }
     requires numbers { HasNumbers (rows_of (found_of matches.now)) }
     ensures request { IfOk result (asking.IsAskedBy (name.now, rows_of (found_of matches.now))) }
@@ -89,10 +90,10 @@ fn asks_version(words: &[&str]) -> bool
 }
 
 /// What the words after `check` ask for.
-fn check_of<'a>(alloc: Global, matches: &ArgMatches<'a>) -> Result<Request<'a>, Refusal>
+fn check_of<'a>(alloc: Global, matches: &ArgMatches<'a>) -> Result<Request<'a>, Misuse>
     requires { HasNumbers (rows_of (found_of matches.now)) }
     ensures check { IfOk result (asking.IsAskedBy (codes "check", rows_of (found_of matches.now))) }
-    ensures memory { IfErr result (λ refusal. refusal ≡ Refusal.OutOfMemory) }
+    ensures memory { IfErr result (λ misuse. misuse ≡ Misuse.OutOfMemory) }
 {
     let files = files_of(alloc, matches)?;
     Ok(Request::Check(Check {
@@ -103,26 +104,26 @@ fn check_of<'a>(alloc: Global, matches: &ArgMatches<'a>) -> Result<Request<'a>, 
 }
 
 /// What the words after `order` ask for.
-fn order_of<'a>(alloc: Global, matches: &ArgMatches<'a>) -> Result<Request<'a>, Refusal>
+fn order_of<'a>(alloc: Global, matches: &ArgMatches<'a>) -> Result<Request<'a>, Misuse>
     ensures order { IfOk result (asking.IsAskedBy (codes "order", rows_of (found_of matches.now))) }
-    ensures memory { IfErr result (λ refusal. refusal ≡ Refusal.OutOfMemory) }
+    ensures memory { IfErr result (λ misuse. misuse ≡ Misuse.OutOfMemory) }
 {
     let files = files_of(alloc, matches)?;
     Ok(Request::Order(Order { files }))
 }
 
 /// The refusal of what isn't done, with what the user is told of it.
-pub(crate) fn misuse(alloc: Global, text: &str) -> Refusal {
+pub(crate) fn misuse(alloc: Global, text: &str) -> Misuse {
     match String::from_str(alloc, text) {
-        Ok(text) => Refusal::Usage(text),
-        Err(_) => Refusal::OutOfMemory,
+        Ok(text) => Misuse::Usage(text),
+        Err(_) => Misuse::OutOfMemory,
     }
 }
 
 /// What the words after `upgrade` ask for.
-fn upgrade_of<'a>(alloc: Global, matches: &ArgMatches<'a>) -> Result<Request<'a>, Refusal>
+fn upgrade_of<'a>(alloc: Global, matches: &ArgMatches<'a>) -> Result<Request<'a>, Misuse>
     ensures upgrade { IfOk result (asking.IsAskedBy (codes "upgrade", rows_of (found_of matches.now))) }
-    ensures memory { IfErr result (λ refusal. refusal ≡ Refusal.OutOfMemory) }
+    ensures memory { IfErr result (λ misuse. misuse ≡ Misuse.OutOfMemory) }
 {
     let files = files_of(alloc, matches)?;
     Ok(Request::Upgrade(Upgrade {
@@ -132,7 +133,7 @@ fn upgrade_of<'a>(alloc: Global, matches: &ArgMatches<'a>) -> Result<Request<'a>
 }
 
 /// What the words after `search` ask for, or why they ask for nothing.
-fn search_of<'a>(alloc: Global, matches: &ArgMatches<'a>) -> Result<Request<'a>, Refusal>
+fn search_of<'a>(alloc: Global, matches: &ArgMatches<'a>) -> Result<Request<'a>, Misuse>
     requires { HasNumbers (rows_of (found_of matches.now)) }
     ensures search { IfOk result (asking.IsAskedBy (codes "search", rows_of (found_of matches.now))) }
     ensures usage { IfErr result (asking.IsStrayIn (rows_of (found_of matches.now))) }
@@ -150,7 +151,7 @@ fn search_of<'a>(alloc: Global, matches: &ArgMatches<'a>) -> Result<Request<'a>,
 }
 
 /// What the words after `confirm` ask for, or why they ask for nothing.
-fn confirm_of<'a>(alloc: Global, matches: &ArgMatches<'a>) -> Result<Request<'a>, Refusal>
+fn confirm_of<'a>(alloc: Global, matches: &ArgMatches<'a>) -> Result<Request<'a>, Misuse>
     ensures confirm { IfOk result (asking.IsAskedBy (codes "confirm", rows_of (found_of matches.now))) }
     ensures usage { IfErr result (asking.IsStrayIn (rows_of (found_of matches.now))) }
 {
@@ -189,7 +190,7 @@ fn trace_of<'a>(
     are_logs: bool,
     are_sourced: bool,
     files: Vec<&'a str>,
-) -> Result<TraceFiles<'a>, Refusal>
+) -> Result<TraceFiles<'a>, Misuse>
     ensures trace { IfOk result (asking.IsTraceOf are_logs are_sourced (asking.texts files.entry.items)) }
     ensures usage { IfErr result (asking.IsStrayOf are_logs are_sourced (asking.texts files.entry.items)) }
 {
@@ -202,7 +203,7 @@ fn trace_of<'a>(
 }
 
 /// The name of the only file, or the refusal of others, with what the user is told of them.
-pub(crate) fn only<'a>(alloc: Global, files: &[&'a str], text: &str) -> Result<&'a str, Refusal>
+pub(crate) fn only<'a>(alloc: Global, files: &[&'a str], text: &str) -> Result<&'a str, Misuse>
     ensures one { IfOk result (λ name. asking.texts files.now ≡ name.now ∷ []) }
     ensures usage { IfErr result (asking.IsNotOneOf (asking.texts files.now)) }
 {
@@ -253,7 +254,7 @@ fn litmus_of<'a>(matches: &ArgMatches<'a>) -> Request<'a>
     requires { HasNumbers (rows_of (found_of matches.now)) }
     ensures { asking.IsAskedBy (codes "litmus", rows_of (found_of matches.now)) result }
 {
-    Request::Litmus(Litmus {
+    Request::Litmus(LitmusRuns {
         limits: limits_of(matches),
         runs: count_of(matches, "runs", 100),
         seed: count_of(matches, "seed", 1),
@@ -329,14 +330,14 @@ pub(crate) fn files_of<'a>(
 }
 
 /// The refusal that an error of the reading is.
-fn refusal(alloc: Global, error: &Error) -> Refusal
-    ensures { kind_of error.now ≡ kind.OutOfMemory → result ≡ Refusal.OutOfMemory }
+fn refusal(alloc: Global, error: &Error) -> Misuse
+    ensures { kind_of error.now ≡ kind.OutOfMemory → result ≡ Misuse.OutOfMemory }
 {
     if error.kind() == ErrorKind::OutOfMemory {
-        return Refusal::OutOfMemory;
+        return Misuse::OutOfMemory;
     }
     match format!(in alloc; "{error}") {
-        Ok(text) => Refusal::Usage(text),
-        Err(_) => Refusal::OutOfMemory,
+        Ok(text) => Misuse::Usage(text),
+        Err(_) => Misuse::OutOfMemory,
     }
 }

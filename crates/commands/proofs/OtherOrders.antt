@@ -11,7 +11,7 @@ use Rattle.mem_op.specs.declared.id.OpId.{OpId}
 use Rattle.refutation.specs.Answers.{IsRight}
 use Rattle.refutation.specs.declared.answer.Answer.{Answer}
 use Rattle.refutation.specs.declared.answer.Answer.TheVariants as found
-use Rattle.refutation_text.specs.FirstLines.{IsGrown}
+use Rattle.telling.specs.FirstLines.{IsGrown}
 use Rattle.verdict.specs.declared.basis.Basis.{Basis}
 use Rattle.commands.specs.OtherOrders.{TellsOrder, TellsSourced, another_text, by_others_text, by_sources_text, none_text}
 use Rattle.commands.specs.inner.ReadLogs.{AreLogsOf}

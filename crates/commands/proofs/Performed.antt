@@ -33,8 +33,8 @@ use Rattle.trace_replay.specs.declared.verdict.ReplayVerdict.TheVariants as repl
 use Rattle.commands.specs.Sinks.{Sink, Takes, Took, line}
 use Rattle.commands.specs.Traces.{TellsTrace}
 use Rattle.commands.specs.Upgrading.{IsUpgraded, LeavesAnew}
-use Rattle.commands.specs.declared.answer.Answer.{Answer}
-use Rattle.commands.specs.declared.answer.Answer.TheVariants.{Judged, Ordered, Explained, Readable, Searched, Replayed, Counted, Done, Version}
+use Rattle.commands.specs.declared.answer.CommandAnswer.{CommandAnswer}
+use Rattle.commands.specs.declared.answer.CommandAnswer.TheVariants.{Judged, Ordered, Explained, Readable, Searched, Replayed, Counted, Done, Version}
 use Rattle.commands.specs.declared.refusal.Refusal.{Refusal}
 use Rattle.commands.specs.declared.refusal.Refusal.TheVariants.{Judge, Collect, Unread, Unwritten, OutOfMemory}
 use Rattle.commands.specs.declared.search_answer.SearchAnswer.{SearchAnswer}
@@ -77,7 +77,7 @@ verdict_low : (verdict : Verdict) → ¬ (2 ≤ verdict_status verdict)
 verdict_low (Yes count) two = absurd (omega (arith, two))
 verdict_low (No fault) two = absurd (omega (arith, two))
 
-low : (answer : Answer) → ¬ (2 ≤ answer_status answer)
+low : (answer : CommandAnswer) → ¬ (2 ≤ answer_status answer)
 low (Judged verdict) two = verdict_low verdict two
 low (Ordered verdict) two = verdict_low verdict two
 low (Explained verdict) two = verdict_low verdict two
@@ -92,7 +92,7 @@ low (Counted false) two = absurd (omega (arith, two))
 low (Done operations) two = absurd (omega (arith, two))
 low Version two = absurd (omega (arith, two))
 
-pub not_refused : (X : Type 0) (answer : Answer) (status : ℕ) → status ≡ answer_status answer → 2 ≤ status → X
+pub not_refused : (X : Type 0) (answer : CommandAnswer) (status : ℕ) → status ≡ answer_status answer → 2 ≤ status → X
 not_refused X answer status same two = absurd (low answer (subst (λ (n : ℕ). 2 ≤ n) same two))
 
 -- ---- what the status of a refusal says
@@ -148,19 +148,19 @@ unprinted_not_one OutOfMemory is one = cc
 unprinted_not_one other is one = absurd is
 
 module _ (old new : Files) (Unreadable : List ℕ → Type 0) (out out' : Sink) (asked : Request) where
-  pub refused : (refusal : Refusal) (came : Result Answer Refusal) → came ≡ Err refusal → KeepsFiles old.told new.told (IsPutName asked)
+  pub refused : (refusal : Refusal) (came : Result CommandAnswer Refusal) → came ≡ Err refusal → KeepsFiles old.told new.told (IsPutName asked)
       → IsRefused old new Unreadable out out' asked refusal → (refusal_status refusal ≡ 1 → AreWrong old.told out out' asked) → Came old new Unreadable out out' asked came
   refused refusal (Ok answer) is files why one = cc
   refused refusal (Err own) is files why one =
       let same : own ≡ refusal = cc in
       record { files = files; right = tt; wrong = tt; refused = subst (IsRefused old new Unreadable out out' asked) (sym same) why; refuted = λ status. one (sym (ap refusal_status same) ∙ status) }
 
-  pub answered : (answer : Answer) → KeepsFiles old.told new.told (IsPutName asked) → (answer_status answer ≡ 0 → IsRight old new out out' asked)
+  pub answered : (answer : CommandAnswer) → KeepsFiles old.told new.told (IsPutName asked) → (answer_status answer ≡ 0 → IsRight old new out out' asked)
       → (answer_status answer ≡ 1 → AreWrong old.told out out' asked) → Came old new Unreadable out out' asked (Ok answer)
   answered answer files right wrong = record { files = files; right = right; wrong = wrong; refused = tt; refuted = tt }
 
   -- the answer was printed, or it wasn't
-  pub printed : (answer : Answer) (came : Result Answer Refusal) → IfOk came (λ same. same ≡ answer) → IfErr came IsUnprinted
+  pub printed : (answer : CommandAnswer) (came : Result CommandAnswer Refusal) → IfOk came (λ same. same ≡ answer) → IfErr came IsUnprinted
       → KeepsFiles old.told new.told (IsPutName asked) → (answer_status answer ≡ 0 → IsRight old new out out' asked)
       → (answer_status answer ≡ 1 → AreWrong old.told out out' asked) → IsUnended out out' asked → Came old new Unreadable out out' asked came
   printed answer (Ok own) is why files right wrong unended =

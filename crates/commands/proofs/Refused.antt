@@ -7,7 +7,7 @@ use Rattle.command_line.specs.declared.request.Explain.{Explain}
 use Rattle.command_line.specs.declared.request.FileKind.{FileKind}
 use Rattle.command_line.specs.declared.request.FileKind.TheVariants as of_file
 use Rattle.command_line.specs.declared.request.Inspect.{Inspect}
-use Rattle.command_line.specs.declared.request.Litmus.{Litmus}
+use Rattle.command_line.specs.declared.request.LitmusRuns.{LitmusRuns}
 use Rattle.command_line.specs.declared.request.Order.{Order}
 use Rattle.command_line.specs.declared.request.Replay.{Replay}
 use Rattle.command_line.specs.declared.request.Request.TheVariants as request
@@ -112,6 +112,9 @@ module _ (old new : Files) (Unreadable : List ℕ → Type 0) (out out' : Sink) 
   inspect_unread asked of_file.Programs (Unread input.Programs) is = is
   inspect_unread asked of_file.Programs (Unread place) is = absurd is
   inspect_unread asked of_file.Programs (Judge fault) is = absurd is
+  inspect_unread asked of_file.Trace (Unread input.Trace) is = is
+  inspect_unread asked of_file.Trace (Unread place) is = absurd is
+  inspect_unread asked of_file.Trace (Judge fault) is = absurd is
   inspect_unread asked kind other is = tt
 
   pub inspect_refused : (asked : Inspect) (refusal : Refusal) → IsUnreadable old.told Unreadable asked.kind asked.file.now refusal → IsOnlyRead old new
@@ -187,18 +190,18 @@ module _ (old new : Files) (Unreadable : List ℕ → Type 0) (out out' : Sink) 
 
   -- ---- litmus
 
-  litmus_kept : (asked : Litmus) (refusal : Refusal) → IsCounted old new Unreadable asked out out' (Err refusal) → ComesFirst refusal → new.told ≡ old.told
+  litmus_kept : (asked : LitmusRuns) (refusal : Refusal) → IsCounted old new Unreadable asked out out' (Err refusal) → ComesFirst refusal → new.told ≡ old.told
   litmus_kept asked (Unwritten place) is first = absurd first
   litmus_kept asked OutOfMemory is first = absurd first
   litmus_kept asked other is first = keeps_told old new is.2
 
-  litmus_unread : (asked : Litmus) (refusal : Refusal) → IsCounted old new Unreadable asked out out' (Err refusal) → IsUnreadThere Unreadable (request.Litmus asked) refusal
+  litmus_unread : (asked : LitmusRuns) (refusal : Refusal) → IsCounted old new Unreadable asked out out' (Err refusal) → IsUnreadThere Unreadable (request.Litmus asked) refusal
   litmus_unread asked (Unread input.Test) is = is.0.1
   litmus_unread asked (Unread place) is = absurd is.0
   litmus_unread asked (Judge fault) is = absurd is.0
   litmus_unread asked other is = tt
 
-  pub litmus_refused : (asked : Litmus) (refusal : Refusal) → IsCounted old new Unreadable asked out out' (Err refusal)
+  pub litmus_refused : (asked : LitmusRuns) (refusal : Refusal) → IsCounted old new Unreadable asked out out' (Err refusal)
       → IsRefused old new Unreadable out out' (request.Litmus asked) refusal
   litmus_refused asked refusal is = record { kept = litmus_kept asked refusal is; left = tt; unread = litmus_unread asked refusal is; unended = tt }
 

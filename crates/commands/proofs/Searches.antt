@@ -10,7 +10,7 @@ use Rattle.mem_op.specs.Consistency.{Operation, IsConsistent}
 use Rattle.refutation.specs.declared.answer.Answer.{Answer}
 use Rattle.refutation.specs.declared.answer.Answer.TheVariants as found
 use Rattle.refutation.proofs.Sound.{refutations-hold}
-use Rattle.refutation_text.specs.FirstLines.{operation_count}
+use Rattle.telling.specs.FirstLines.{operation_count}
 use Rattle.commands.specs.SearchAnswers.{IsRightOf, no_of}
 use Rattle.commands.specs.Searching.{AnswersBy, Finds, IsProof, IsSearched, PutsProof}
 use Rattle.commands.specs.Traces.{AreTraceless, IsTraceIn, TellsTrace}

@@ -7,7 +7,7 @@ use Rattle.std.proofs.lemmas.List.Sums.{sum-map, sum_by-cons}
 use Rattle.log_record.specs.Entries.{core_entries, entries, entries_from, operation_of, operations_of}
 use Rattle.log_record.specs.declared.record.Entry.{Entry}
 use Rattle.log_record.specs.declared.record.Record.{Record}
-use Rattle.refutation_text.specs.FirstLines.{operation_count}
+use Rattle.telling.specs.FirstLines.{operation_count}
 
 same_lengths : (logs : List (List Record)) → map length (operations_of logs) ≡ map length logs
 same_lengths [] = refl

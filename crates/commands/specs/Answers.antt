@@ -3,10 +3,10 @@ use Rattle.std.specs.Prelude.{ℕ, if◌then◌else◌}
 use Rattle.trace_replay.specs.Texts.{verdict_status as replay_status}
 use Rattle.verdict.specs.Statuses.{verdict_status}
 use Rattle.commands.specs.SearchAnswers.{search_status}
-use Rattle.commands.specs.declared.answer.Answer.{Answer}
-use Rattle.commands.specs.declared.answer.Answer.TheVariants.{Judged, Ordered, Explained, Readable, Searched, Replayed, Counted, Done, Version}
+use Rattle.commands.specs.declared.answer.CommandAnswer.{CommandAnswer}
+use Rattle.commands.specs.declared.answer.CommandAnswer.TheVariants.{Judged, Ordered, Explained, Readable, Searched, Replayed, Counted, Done, Version}
 
-abbrev pub answer_status : Answer → ℕ
+abbrev pub answer_status : CommandAnswer → ℕ
 answer_status (Judged verdict) = verdict_status verdict
 answer_status (Ordered verdict) = verdict_status verdict
 answer_status (Explained verdict) = verdict_status verdict

@@ -9,7 +9,7 @@ use Rattle.refutation.specs.Grammar.{header_line}
 use Rattle.refutation.specs.Texts.{IsFirstBad, SpellsRefutation}
 use Rattle.refutation.specs.declared.fault.CertificateFault.{CertificateFault}
 use Rattle.refutation.specs.declared.fault.CertificateFault.TheVariants.{BadCertificate, OutOfMemory as NoCertificateMemory}
-use Rattle.refutation_text.specs.FirstLines.{operation_count}
+use Rattle.telling.specs.FirstLines.{operation_count}
 use Rattle.commands.specs.OrderTexts.{IsFirstBadOfOrder, SpellsOrder}
 use Rattle.commands.specs.SearchAnswers.{no_of}
 use Rattle.commands.specs.Traces.{AreTraceless, TellsTrace}

@@ -3,7 +3,7 @@ use Rattle.std.specs.Prelude.{◌≡◌, ◌≢◌, ◌<◌, ◌≤◌, ◌⊎�
 use Rattle.log_record.specs.Entries.{operations_of}
 use Rattle.log_record.specs.declared.record.Record.{Record}
 use Rattle.mem_op.specs.Consistency.{Operation, IsConsistent}
-use Rattle.refutation_text.specs.FirstLines.{IsGrown, operation_count}
+use Rattle.telling.specs.FirstLines.{IsGrown, operation_count}
 use Rattle.verdict.specs.declared.answer.Verdict.{Verdict}
 use Rattle.verdict.specs.declared.answer.Verdict.TheVariants.{Yes, No}
 use Rattle.verdict.specs.declared.rule.Rule.TheVariants.{Program}
@@ -23,10 +23,10 @@ abbrev pub none_text : List ℕ
 none_text = codes "\nno order explains all values:\n"
 
 abbrev pub undecided_text : List ℕ
-undecided_text = codes "\nwhether another order explains all values isn't decided; search --logs looks longer\n"
+undecided_text = codes "\nwhether another order explains all values isn't decided within 10,000,000 steps; search --logs looks longer\n"
 
 abbrev pub unsearched_text : List ℕ
-unsearched_text = codes "\nwhether another order explains all values wasn't searched, for more than 100,000 operations; search --logs searches\n"
+unsearched_text = codes "\nwhether another order explains all values wasn't searched, for more than 1,000,000 operations; search --logs searches\n"
 
 -- a text that tells of operations that some order explains their values, in the words that are given, that none does and why, or that this isn't
 -- decided
@@ -51,11 +51,11 @@ pub record IsAskedFor (is_declined : Bool) (verdict : Verdict) : Type 0 where
   pub asked : is_declined ≡ false
   pub wrong : IsWrongByOrder verdict
 
--- what is told of another order of a set where one is asked for: whether there is one, where its operations are at most 100,000
+-- what is told of another order of a set where one is asked for: whether there is one, where its operations are at most 1,000,000
 abbrev pub TellsAsked : List (List Record) → List ℕ → Type 0
 TellsAsked logs text =
-    ((operation_count (operations_of logs) ≤ 100000) × TellsSourced (sourced_operations logs) (operations_of logs) text)
-    ⊎ ((100000 < operation_count (operations_of logs)) × (text ≡ unsearched_text))
+    ((operation_count (operations_of logs) ≤ 1000000) × TellsSourced (sourced_operations logs) (operations_of logs) text)
+    ⊎ ((1000000 < operation_count (operations_of logs)) × (text ≡ unsearched_text))
 
 -- what is told of another order of a set that got this verdict: nothing where none is asked for
 abbrev pub TellsOther : Bool → Verdict → List (List Record) → List ℕ → Type 0

@@ -139,6 +139,7 @@ file_at (Check asked) input.Programs = asked.program
 file_at (Explain asked) input.Programs = asked.check.program
 file_at (Inspect asked) input.Programs = Some asked.file
 file_at (Inspect asked) input.Test = Some asked.file
+file_at (Inspect asked) input.Trace = Some asked.file
 file_at (Sim asked) input.Programs = Some asked.programs
 file_at (Sim asked) input.Schedule = asked.schedule
 file_at (Run asked) input.Programs = Some asked.programs

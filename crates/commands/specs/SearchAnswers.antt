@@ -3,7 +3,7 @@ use Rattle.std.specs.Prelude.{◌≡◌, ℕ, List}
 use Rattle.command_line.specs.declared.request.TraceFiles.{TraceFiles}
 use Rattle.command_line.specs.declared.request.TraceFiles.TheVariants.{Sourced}
 use Rattle.mem_op.specs.Consistency.{Operation, IsConsistent}
-use Rattle.refutation_text.specs.FirstLines.{operation_count}
+use Rattle.telling.specs.FirstLines.{operation_count}
 use Rattle.commands.specs.declared.search_answer.SearchAnswer.{SearchAnswer}
 use Rattle.commands.specs.declared.search_answer.SearchAnswer.TheVariants.{Yes, No, NoBySources}
 

@@ -12,7 +12,7 @@ use Rattle.refutation.specs.declared.answer.Answer.{Answer}
 use Rattle.refutation.specs.declared.answer.Answer.TheVariants as found
 use Rattle.refutation.specs.declared.step.Step.{Step}
 use Rattle.pictures.specs.Pictures.{IsPicture}
-use Rattle.refutation_text.specs.FirstLines.{operation_count}
+use Rattle.telling.specs.FirstLines.{operation_count}
 use Rattle.commands.specs.SearchAnswers.{no_of}
 use Rattle.commands.specs.Traces.{AreTraceless, TellsTrace}
 use Rattle.commands.specs.declared.search_answer.SearchAnswer.{SearchAnswer}

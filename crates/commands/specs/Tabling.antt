@@ -3,7 +3,7 @@
 use Rattle.std.specs.Prelude.{◌≡◌, ◌≢◌, ⊤, ℕ, Bool, true, false, List, Option, None, Some, Result, Ok, Err}
 use Rattle.std.specs.Io.KnownBytes.{Appends, Keeps}
 use Rattle.std.specs.List.{AllByRecursion, list_any}
-use Rattle.command_line.specs.declared.request.Litmus.{Litmus}
+use Rattle.command_line.specs.declared.request.LitmusRuns.{LitmusRuns}
 use Rattle.core_program.specs.Shape.{IsProgram}
 use Rattle.lease_rule.specs.Ranges.{first_bad}
 use Rattle.litmus_test.specs.Answers.{IsFault, Spells}
@@ -41,12 +41,12 @@ IsUntested told unread name OutOfMemory = ⊤
 IsUntested told unread name other = ⊥
 
 -- the numbers of the machine and the number of runs are in range
-pub record IsInOrder (asked : Litmus) : Type 0 where
+pub record IsInOrder (asked : LitmusRuns) : Type 0 where
   pub config : first_bad (config_of asked.limits) ≡ None
   pub runs : IsRunCount asked.runs
 
 -- and something holds of the test
-abbrev pub Tested : (List ℕ → Option (List ℕ)) → Litmus → (LitmusParts → Type 0) → Type 0
+abbrev pub Tested : (List ℕ → Option (List ℕ)) → LitmusRuns → (LitmusParts → Type 0) → Type 0
 Tested told asked Holds = IsInOrder asked × (t : LitmusParts) × IsTestIn told asked.test.now t × Holds t
 
 -- ---- its table
@@ -62,7 +62,7 @@ IsFaultBy true t g runs seed fault = IsThreadFault t g runs fault
 IsFaultBy false t g runs seed fault = IsCollectFault t g runs seed fault
 
 -- something holds of the table and the totals of its runs
-abbrev pub Tabled : (List ℕ → Option (List ℕ)) → Litmus → (Collected → Type 0) → Type 0
+abbrev pub Tabled : (List ℕ → Option (List ℕ)) → LitmusRuns → (Collected → Type 0) → Type 0
 Tabled told asked Holds =
     Tested told asked (λ t. (collected : Collected)
     × IsTableBy asked.threads t (config_of asked.limits) asked.runs asked.seed collected × Holds collected)
@@ -73,7 +73,7 @@ has_forbidden table = list_any (λ row. row.forbidden) table.rows
 
 -- Why there is no table: the configuration is looked at first, then the number of runs, then the test. `unread` holds of the name of a file
 -- that can't be opened or read.
-abbrev pub IsUntabled : (List ℕ → Option (List ℕ)) → (List ℕ → Type 0) → Litmus → Refusal → Type 0
+abbrev pub IsUntabled : (List ℕ → Option (List ℕ)) → (List ℕ → Type 0) → LitmusRuns → Refusal → Type 0
 IsUntabled told unread asked (Config fault) = first_bad (config_of asked.limits) ≡ Some fault
 IsUntabled told unread asked (Collect BadRuns) = (first_bad (config_of asked.limits) ≡ None) × IsBadRunCount asked.runs
 IsUntabled told unread asked (Collect (RunFailed k cause)) =
@@ -88,7 +88,7 @@ IsUntabled told unread asked other = ⊥
 -- Whether an outcome of the table is forbidden, whose text the sink took, and then the totals' text was put where a file was given for it;
 -- or why there is none. Where the sink failed, it took a beginning of the text; where the totals couldn't be put, all of it; and else it
 -- holds what it held.
-abbrev pub IsCounted : Files → Files → (List ℕ → Type 0) → Litmus → Sink → Sink → Result Bool Refusal → Type 0
+abbrev pub IsCounted : Files → Files → (List ℕ → Type 0) → LitmusRuns → Sink → Sink → Result Bool Refusal → Type 0
 IsCounted before after unread asked old new (Ok forbidden) =
     Tabled before.told asked (λ collected. (forbidden ≡ has_forbidden collected.table) × Appends old.contents new.contents (table_text collected.table)
     × PutsAt before after asked.statistics (totals_text collected.totals))

@@ -55,6 +55,14 @@ IsTextFault told name (BadTraceLine line) = (text : List ℕ) × Tells (told nam
 IsTextFault told name (TooMany line) = (text : List ℕ) × Tells (told name) text × HasFirstFault text (TooMany line)
 IsTextFault told name NoTraceMemory = ⊥
 
+-- why the file of this name tells no trace: the first fault of its text, or it can't be opened or read (`unread` holds of the names of such
+-- files), or memory ran out
+abbrev pub IsNoTrace : (List ℕ → Option (List ℕ)) → (List ℕ → Type 0) → List ℕ → Refusal → Type 0
+IsNoTrace told unread name (Trace fault) = IsTextFault told name fault
+IsNoTrace told unread name (Unread input.Trace) = unread name
+IsNoTrace told unread name OutOfMemory = ⊤
+IsNoTrace told unread name fault = ⊥
+
 -- Why the files tell no logs: their number is out of range, which is told before one is opened, or the first fault of the set, or one that
 -- can't be opened or read.
 abbrev pub AreNoLogs : (List ℕ → Option (List ℕ)) → (List ℕ → Type 0) → List (Bor (List ℕ)) → JudgeFault → Type 0

@@ -12,7 +12,7 @@ use verdict::Verdict;
 
 /// What a command answers.
 #[derive(Clone, Copy, Debug, PartialEq, Eq)]
-pub enum Answer {
+pub enum CommandAnswer {
     /// The verdict on a set of logs.
     Judged(Verdict),
     /// The verdict on a set of logs whose order was written, where it is Yes.
@@ -36,41 +36,46 @@ pub enum Answer {
 /// The version of the program, and the logic of the toolchain with which it was proved.
 const VERSION: &str = "tardis 1.0, proved with logic dac8208d650f15bf";
 
-impl Answer {
+impl CommandAnswer {
     /// The exit status: 1 for No and for a forbidden outcome, else 0.
     pub fn status(&self) -> u8
         ensures { result ≡ answer_status self.now }
     {
         match self {
-            Answer::Judged(verdict) | Answer::Ordered(verdict) | Answer::Explained(verdict) => {
-                verdict.status()
-            }
-            Answer::Searched(answer) => answer.status(),
-            Answer::Replayed(verdict) => verdict.status(),
-            Answer::Counted(true) => 1,
-            Answer::Counted(false) | Answer::Readable(_, _) | Answer::Done(_) | Answer::Version =>
-                0,
+            CommandAnswer::Judged(verdict)
+            | CommandAnswer::Ordered(verdict)
+            | CommandAnswer::Explained(verdict) => { verdict.status() }
+            CommandAnswer::Searched(answer) => answer.status(),
+            CommandAnswer::Replayed(verdict) => verdict.status(),
+            CommandAnswer::Counted(true) => 1,
+            CommandAnswer::Counted(false)
+            | CommandAnswer::Readable(_, _)
+            | CommandAnswer::Done(_)
+            | CommandAnswer::Version => 0,
         }
     }
 }
 
-impl Display for Answer {
+impl Display for CommandAnswer {
     fn fmt<W: fmt::Write>(&self, f: &mut fmt::Formatter<W>) -> fmt::Result {
         match self {
-            Answer::Judged(verdict) | Answer::Ordered(verdict) | Answer::Explained(verdict) => {
-                write!(f, "{verdict}")
-            }
-            Answer::Readable(FileKind::Litmus, cores) => {
+            CommandAnswer::Judged(verdict)
+            | CommandAnswer::Ordered(verdict)
+            | CommandAnswer::Explained(verdict) => { write!(f, "{verdict}") }
+            CommandAnswer::Readable(FileKind::Litmus, cores) => {
                 write!(f, "right: a litmus test of {cores} cores")
             }
-            Answer::Readable(FileKind::Programs, cores) => {
+            CommandAnswer::Readable(FileKind::Programs, cores) => {
                 write!(f, "right: programs of {cores} cores")
             }
-            Answer::Searched(answer) => write!(f, "{answer}"),
-            Answer::Replayed(verdict) => write!(f, "{verdict}"),
-            Answer::Counted(_) => f.write_str(""),
-            Answer::Done(operations) => write!(f, "done: {operations} operations"),
-            Answer::Version => f.write_str(VERSION),
+            CommandAnswer::Readable(FileKind::Trace, cores) => {
+                write!(f, "right: a trace of {cores} cores")
+            }
+            CommandAnswer::Searched(answer) => write!(f, "{answer}"),
+            CommandAnswer::Replayed(verdict) => write!(f, "{verdict}"),
+            CommandAnswer::Counted(_) => f.write_str(""),
+            CommandAnswer::Done(operations) => write!(f, "done: {operations} operations"),
+            CommandAnswer::Version => f.write_str(VERSION),
         }
     }
 }

@@ -4,7 +4,7 @@ ghost use Rattle.std.specs.Prelude.{◌≡◌, IfOk, IsPermutation, List, length
 ghost use Rattle.std.specs.List.{range_with_len};
 ghost use Rattle.log_record.specs.Entries.{entries, operations_of, record_lists};
 ghost use Rattle.log_record.specs.declared.record.Record.{Record};
-ghost use Rattle.refutation_text.specs.FirstLines.{operation_count};
+ghost use Rattle.telling.specs.FirstLines.{operation_count};
 ghost use Rattle.commands.specs.inner.ReadLogs.{AreLogsOf, HoldsRecords, own_log};
 
 use address_check::AddressIndex;

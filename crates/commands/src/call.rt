@@ -6,7 +6,7 @@ ghost use Rattle.command_line.specs.Asking.{texts};
 ghost use Rattle.commands.specs.Promises as promises;
 ghost use Rattle.commands.specs.inner.Performing.{Came};
 
-use super::answer::Answer;
+use super::answer::CommandAnswer;
 use super::check_files::check;
 use super::confirm_files::confirm;
 use super::explain_files::explain;
@@ -22,7 +22,7 @@ use super::search_files::search;
 use super::sim_files::sim;
 use super::upgrade_files::upgrade;
 use super::watch::Watch;
-use command_line::{Refusal as Misread, Request, read};
+use command_line::{Misuse, Request, read};
 use host_files::Folder;
 use log_file::ByteSink;
 use search::SearchWatch;
@@ -75,11 +75,11 @@ pub fn command<
 {
     let request = match read(alloc, words) {
         Ok(request) => request,
-        Err(Misread::Usage(text)) => {
+        Err(Misuse::Usage(text)) => {
             tell(err, text.as_str());
             return USAGE;
         }
-        Err(Misread::OutOfMemory) => {
+        Err(Misuse::OutOfMemory) => {
             return refuse(alloc, err, Refusal::OutOfMemory);
         }
     };
@@ -106,7 +106,7 @@ fn perform<
     watch: &W,
     folder: &mut F,
     out: &mut O,
-) -> Result<Answer, Refusal>
+) -> Result<CommandAnswer, Refusal>
     ensures { Came (F.files folder.old) (F.files folder.new)
         (IsUnread F.Source.remaining F.Source.failed
         (F.files folder.old) (F.files folder.new))
@@ -116,35 +116,39 @@ fn perform<
     match request {
         Request::Check(asked) => {
             let verdict = check(rt, alloc, folder, asked)?;
-            print_answer(alloc, out, Answer::Judged(verdict))
+            print_answer(alloc, out, CommandAnswer::Judged(verdict))
         }
-        Request::Order(asked) => Ok(Answer::Ordered(order(alloc, folder, asked, out)?)),
-        Request::Explain(asked) => Ok(Answer::Explained(explain(
+        Request::Order(asked) => Ok(CommandAnswer::Ordered(order(alloc, folder, asked, out)?)),
+        Request::Explain(asked) => Ok(CommandAnswer::Explained(explain(
             rt, alloc, watch, folder, asked, out,
         )?)),
         Request::Inspect(asked) => {
             let cores = inspect(alloc, folder, asked)?;
-            print_answer(alloc, out, Answer::Readable(asked.kind, cores))
+            print_answer(alloc, out, CommandAnswer::Readable(asked.kind, cores))
         }
         Request::Sim(asked) => {
             let operations = sim(alloc, folder, asked)?;
-            print_answer(alloc, out, Answer::Done(operations))
+            print_answer(alloc, out, CommandAnswer::Done(operations))
         }
         Request::Run(asked) => {
             let operations = run(rt, alloc, watch, folder, asked)?;
-            print_answer(alloc, out, Answer::Done(operations))
+            print_answer(alloc, out, CommandAnswer::Done(operations))
         }
         Request::Upgrade(asked) => {
             let operations = upgrade(rt, alloc, folder, asked)?;
-            print_answer(alloc, out, Answer::Done(operations))
+            print_answer(alloc, out, CommandAnswer::Done(operations))
         }
-        Request::Search(asked) => Ok(Answer::Searched(search(
+        Request::Search(asked) => Ok(CommandAnswer::Searched(search(
             rt, alloc, watch, folder, asked, out,
         )?)),
-        Request::Confirm(asked) => Ok(Answer::Searched(confirm(rt, alloc, folder, asked, out)?)),
-        Request::Replay(asked) => Ok(Answer::Replayed(replay(alloc, watch, folder, asked, out)?)),
-        Request::Version => print_answer(alloc, out, Answer::Version),
-        Request::Litmus(asked) => Ok(Answer::Counted(count_outcomes(
+        Request::Confirm(asked) => Ok(CommandAnswer::Searched(confirm(
+            rt, alloc, folder, asked, out,
+        )?)),
+        Request::Replay(asked) => Ok(CommandAnswer::Replayed(replay(
+            alloc, watch, folder, asked, out,
+        )?)),
+        Request::Version => print_answer(alloc, out, CommandAnswer::Version),
+        Request::Litmus(asked) => Ok(CommandAnswer::Counted(count_outcomes(
             rt, alloc, folder, asked, out,
         )?)),
     }

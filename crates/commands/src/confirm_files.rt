@@ -24,9 +24,9 @@ use decimal_text::after_text;
 use host_files::Folder;
 use log_file::{ByteSink, ReadFault, write_all};
 use refutation::{CertificateFault, first_bad_line};
-use refutation_text::count_of;
 use std::alloc::Global;
 use std::thread::Threads;
+use telling::count_of;
 use trace::Trace;
 
 /// The first line of a refutation's text.

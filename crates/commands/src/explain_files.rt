@@ -23,13 +23,13 @@ use super::refusal::Refusal;
 use command_line::Explain;
 use core_program::ProgramSet;
 use explain::{Explanation, explain as explained};
-use explanation_text::{first_sentence, print};
 use host_files::Folder;
 use log_file::{ByteSink, write_all};
 use pictures::draw_explanation;
 use search::SearchWatch;
 use std::alloc::{AllocError, Global};
 use std::thread::Threads;
+use telling::{first_sentence, print};
 use verdict::{Examined, Verdict};
 
 /// What is told where a picture is asked for and the set is too large for one.

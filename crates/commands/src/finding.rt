@@ -8,9 +8,9 @@ use super::refusal::Refusal;
 use super::search_answer::SearchAnswer;
 use command_line::TraceFiles;
 use refutation::Answer;
-use refutation_text::count_of;
 use search::{SearchWatch, search_watched};
 use std::alloc::Global;
+use telling::count_of;
 use trace::Trace;
 
 /// How many steps a search may make where nothing is said, which take a minute at most.

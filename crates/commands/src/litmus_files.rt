@@ -12,7 +12,7 @@ use super::place::{Input, Output};
 use super::putting::put_under;
 use super::refusal::Refusal;
 use super::text::read_text;
-use command_line::Litmus as Asked;
+use command_line::LitmusRuns;
 use host_files::Folder;
 use lease_rule::Config;
 use litmus::{
@@ -67,7 +67,7 @@ fn collect<R: Threads + Wait + Sync>(
     alloc: Global,
     test: &Litmus,
     config: &Config,
-    asked: &Asked<'_>,
+    asked: &LitmusRuns<'_>,
 ) -> Result<Collected, CollectFault>
     ensures { MatchResult result
         (tabling.IsTableBy asked.now.threads test.now config.now asked.now.runs asked.now.seed)
@@ -85,7 +85,7 @@ fn collected_of<R: Threads + Wait + Sync, F: Folder>(
     rt: &R,
     alloc: Global,
     folder: &mut F,
-    asked: &Asked<'_>,
+    asked: &LitmusRuns<'_>,
 ) -> Result<Collected, Refusal>
     ensures ok { IfOk result (λ collected.
         tabling.Tabled (F.files folder.old).told asked.now (λ made. made ≡ collected)) }
@@ -139,7 +139,7 @@ pub fn count_outcomes<R: Threads + Wait + Sync, F: Folder, O: ByteSink>(
     rt: &R,
     alloc: Global,
     folder: &mut F,
-    asked: &Asked<'_>,
+    asked: &LitmusRuns<'_>,
     out: &mut O,
 ) -> Result<bool, Refusal>
     ensures exact { tabling.IsCounted (F.files folder.old) (F.files folder.new)

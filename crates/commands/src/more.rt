@@ -70,7 +70,10 @@ fn refused_of_look<'a>(name: &'a str, refusal: &Refusal) -> Option<RefusedFile<'
     match refusal {
         Refusal::Test(fault) => Some(RefusedFile::Test(name, *fault)),
         Refusal::Programs(fault) => Some(RefusedFile::Programs(name, *fault)),
-        Refusal::Unread(Input::Test | Input::Programs) => Some(RefusedFile::Unread(name)),
+        Refusal::Trace(fault) => Some(RefusedFile::Trace(name, *fault)),
+        Refusal::Unread(Input::Test | Input::Programs | Input::Trace) => {
+            Some(RefusedFile::Unread(name))
+        }
         _ => None,
     }
 }

@@ -12,19 +12,17 @@ use super::basis_logs::{logs_of, records_in};
 use super::log_files::trace_of;
 use super::sources::sourced_trace;
 use refutation::Answer;
-use refutation_text::{count_of, push_argument};
 use search::{SearchWatch, search_watched};
 use std::alloc::{AllocError, Global};
+use telling::push_argument;
 use trace::Trace;
 use verdict::{Basis, Examined, Rule, Verdict};
 
 /// The most operations of a set for which another order is searched.
-const MOST_SEARCHED: usize = 100_000;
+const MOST_SEARCHED: usize = 1_000_000;
 
-/// How many steps each of the two searches may make, which takes about a second at most: so many, and so many more for each operation.
-const STEPS: u64 = 1_000_000;
-
-const STEPS_EACH: u64 = 100;
+/// How many steps each of the two searches may make, which takes some seconds at most.
+const STEPS: u64 = 10_000_000;
 
 /// What is told where there is one that explains the sources, too.
 const BY_SOURCES: &str =
@@ -43,13 +41,13 @@ const NONE: &str = "\nno order explains all values:\n";
 
 /// What is told where the search gave up.
 const UNDECIDED: &str =
-    "\nwhether another order explains all values isn't decided; search --logs looks longer\n";
+    "\nwhether another order explains all values isn't decided within 10,000,000 steps; search --logs looks longer\n";
 
 /// What is told of a set that is too large for the search.
 const UNSEARCHED: &str =
-    "\nwhether another order explains all values wasn't searched, for more than 100,000 operations; search --logs searches\n";
+    "\nwhether another order explains all values wasn't searched, for more than 1,000,000 operations; search --logs searches\n";
 
-/// The last lines of what is told of a set: whether another order explains all values, or that this wasn't searched, for more than 100,000
+/// The last lines of what is told of a set: whether another order explains all values, or that this wasn't searched, for more than 1,000,000
 /// operations. Nothing of a Yes, and of a log that isn't its program's. A watch is told how far the search is.
 pub(crate) fn other_order<W: SearchWatch>(
     alloc: Global,
@@ -117,8 +115,7 @@ fn whether_by_sources<W: SearchWatch>(
 fn searched<W: SearchWatch>(alloc: Global, watch: &W, trace: &Trace) -> Result<Answer, AllocError>
     ensures { IfOk result (IsRight trace.now) }
 {
-    let more = STEPS_EACH.saturating_mul(count_of(trace) as u64);
-    search_watched(alloc, trace, STEPS.saturating_add(more), watch)
+    search_watched(alloc, trace, STEPS, watch)
 }
 
 /// Whether some order of a trace explains all values, which is told in these words.

@@ -7,7 +7,7 @@ ghost use Rattle.commands.specs.Sinks.{Takes, line, sink_of};
 ghost use Rattle.commands.specs.inner.Performing.{IsUnprinted};
 ghost use Rattle.commands.specs.declared.refusal.Refusal.TheVariants.{OutOfMemory};
 
-use super::answer::Answer;
+use super::answer::CommandAnswer;
 use super::refusal::Refusal;
 use super::verdict_line::verdict_line;
 use log_file::{ByteSink, write_all};
@@ -17,8 +17,8 @@ use std::alloc::Global;
 pub(crate) fn print_answer<O: ByteSink>(
     alloc: Global,
     out: &mut O,
-    answer: Answer,
-) -> Result<Answer, Refusal>
+    answer: CommandAnswer,
+) -> Result<CommandAnswer, Refusal>
     ensures ok { IfOk result (λ same. same ≡ answer) }
     ensures err { IfErr result IsUnprinted }
 {
@@ -28,10 +28,10 @@ pub(crate) fn print_answer<O: ByteSink>(
 }
 
 /// Tells on standard error what belongs there of an answer, and answers its exit status.
-pub(crate) fn tell_answer<E: ByteSink>(err: &mut E, answer: &Answer) -> u8
+pub(crate) fn tell_answer<E: ByteSink>(err: &mut E, answer: &CommandAnswer) -> u8
     ensures { result ≡ answer_status answer.now }
 {
-    if let Answer::Ordered(verdict) = answer {
+    if let CommandAnswer::Ordered(verdict) = answer {
         tell(err, verdict_line(verdict).as_str());
     }
     answer.status()

@@ -2,8 +2,8 @@
 
 use super::search_answer::SearchAnswer;
 use refutation::Answer;
-use refutation_text::push_argument;
 use std::alloc::{AllocError, Global};
+use telling::push_argument;
 use trace::Trace;
 
 /// What is told of a trace with the proof of its answer: the line of the answer, and after a no why it is so.

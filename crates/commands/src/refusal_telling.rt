@@ -3,13 +3,14 @@
 ghost use Rattle.host_files.specs.Files.{IsOnlyRead};
 
 use super::first_operations::first_text;
-use super::refused_again::{log_again, programs_again, test_again};
+use super::refused_again::{log_again, programs_again, test_again, trace_again};
 use super::refused_file::{RefusedFile, RefusedLog};
-use fault_telling::{Kind, Place, Refused, Telling};
 use host_files::Folder;
 use litmus_test::LitmusFault;
 use log_file::{ByteSink, FormatFault, write_all};
 use std::alloc::{AllocError, Global};
+use telling::{Kind, Place, Refused, Telling};
+use trace::TraceFault;
 use verdict::Count;
 
 /// Tells on standard output more of the refusal of a file: where its fault is, how the line there is written, and what is wrong with it.
@@ -44,6 +45,10 @@ fn refusal_text<F: Folder>(
         RefusedFile::Programs(name, fault) => {
             let bytes = programs_again(alloc, folder, name, fault);
             test_text(alloc, name, Kind::Programs, LitmusFault::from(fault), bytes)
+        }
+        RefusedFile::Trace(name, fault) => {
+            let bytes = trace_again(alloc, folder, name, fault);
+            trace_text(alloc, name, fault, bytes)
         }
         RefusedFile::Unread(name) => format!(in alloc; "{name}: it can't be opened or read.\n"),
         RefusedFile::Count(count) => count_text(alloc, count),
@@ -92,6 +97,21 @@ fn test_text(
         LitmusFault::TooLong(line) => (line, Refused::TooLong),
         LitmusFault::SkipPastEnd(line) => (line, Refused::SkipPastEnd),
         LitmusFault::OutOfMemory => return Ok(String::new(alloc)),
+    };
+    fault_text(alloc, Place { file: name, line }, refused, bytes)
+}
+
+/// What is told of a trace that was refused.
+fn trace_text(
+    alloc: Global,
+    name: &str,
+    fault: TraceFault,
+    bytes: Option<Vec<u8>>,
+) -> Result<String, AllocError> {
+    let (line, refused) = match fault {
+        TraceFault::BadTraceLine { line } => (line, Refused::BadTraceLine),
+        TraceFault::TooMany { line } => (line, Refused::TooMany),
+        TraceFault::OutOfMemory => return Ok(String::new(alloc)),
     };
     fault_text(alloc, Place { file: name, line }, refused, bytes)
 }

@@ -11,6 +11,7 @@ use litmus_test::{Litmus, LitmusFault};
 use log_file::{LogFault, LogReader};
 use mem_op::CoreId;
 use std::alloc::Global;
+use trace::{Trace, TraceFault};
 
 /// The bytes of a log that is read again, where they have this fault; none of a file that can be read once.
 pub(crate) fn log_again<F: Folder>(
@@ -66,6 +67,22 @@ pub(crate) fn programs_again<F: Folder>(
 {
     let bytes = read_text(alloc, folder, name).ok()?;
     if ProgramSet::parse(alloc, bytes.as_slice()).err() == Some(fault) {
+        return Some(bytes);
+    }
+    None
+}
+
+/// The bytes of a trace that is read again, where they have this fault.
+pub(crate) fn trace_again<F: Folder>(
+    alloc: Global,
+    folder: &mut F,
+    name: &str,
+    fault: TraceFault,
+) -> Option<Vec<u8>>
+    ensures { IsOnlyRead (F.files folder.old) (F.files folder.new) }
+{
+    let bytes = read_text(alloc, folder, name).ok()?;
+    if Trace::parse(alloc, bytes.as_slice()).err() == Some(fault) {
         return Some(bytes);
     }
     None

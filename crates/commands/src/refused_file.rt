@@ -3,6 +3,7 @@
 use core_program::ProgramFault;
 use litmus_test::LitmusFault;
 use log_file::FormatFault;
+use trace::TraceFault;
 use verdict::Count;
 
 /// A file that was refused, and why.
@@ -14,6 +15,8 @@ pub enum RefusedFile<'a> {
     Test(&'a str, LitmusFault),
     /// The file of this name, which isn't a set of programs.
     Programs(&'a str, ProgramFault),
+    /// The file of this name, which isn't a trace.
+    Trace(&'a str, TraceFault),
     /// The file of this name, which can't be opened or read.
     Unread(&'a str),
     /// A set of logs, or the programs beside it: their number is wrong.

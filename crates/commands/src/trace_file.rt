@@ -3,8 +3,8 @@
 ghost use Rattle.std.specs.Prelude.{◌≡◌, ◌<◌, ℕ, List, IfErr, IfOk, IsErrOf, OnOk};
 ghost use Rattle.host_files.specs.Files.{IsOnlyRead, IsUnread};
 ghost use Rattle.log_file.specs.Devices.{Failed, Tells};
-ghost use Rattle.commands.specs.Traces.{SpellsTraceAt};
-ghost use Rattle.commands.specs.inner.ReadTraces.{IsNoTrace, IsReadOf};
+ghost use Rattle.commands.specs.Traces.{IsNoTrace, SpellsTraceAt};
+ghost use Rattle.commands.specs.inner.ReadTraces.{IsReadOf};
 
 use super::place::Input;
 use super::refusal::Refusal;

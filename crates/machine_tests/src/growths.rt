@@ -1,142 +1,232 @@
-//! The row of a slice of one line where growths are refused: a call answers 10 and changes nothing, or what it answers with memory;
-//! made again with memory it answers that, and the row goes on to its log. None is refused here. `refuse-growths` refuses each in
-//! turn.
+//! The worked rows of `docs/protocol`, call by call. A call whose growth is refused answers 10 and changes nothing; made again with
+//! memory it answers as in the row. None is refused here: `refuse-growths` refuses each in turn.
+
+ghost use Rattle.std.specs.Prelude.{◌<◌};
 
 use super::values::*;
-use super::{slices, stepping, units};
 use core_program::ProgramSet;
 use core_unit::Outcome;
 use lease_rule::Config;
-use line_stamps::{Message, Rank, Recall, RecallKind, Reply};
-use mem_op::{Addr, Source};
-use private_cache::{Evicted, FillFault, Load, PrivateCache, Store};
-use std::alloc::Global;
+use line_stamps::{Line, LineStamps, Message, Rank, Recall, RecallKind, Reply, Stamp, StampFault};
+use manager_slice::{HistoryEntry, ManagerSlice, SliceFault};
+use mem_op::Source;
+use private_cache::{FillFault, Load, PrivateCache, Store};
 use std::process::Abort;
 use std::test::Fail;
-use tardis_core::{Core, Event};
+use tardis_core::{Core, CoreFault, Event, UnitFault, run};
 
-/// Both operations of the row.
-const LOG: [&str; 2] = ["S 0 1 1 0", "L 1 0 1 1 init"];
+/// Fills the line of address 0.
+fn fill(cache: &mut PrivateCache, reply: &Reply) -> Result<(), FillFault> {
+    let filled = cache.fill(addr(0), reply);
+    if filled == Err(FillFault::OutOfMemory) {
+        return cache.fill(addr(0), reply);
+    }
+    filled
+}
 
-/// The slice has a line of the core's own, which it has to give back.
+/// Stores a value at address 0, by the operation of this index, of a core at this stamp and rank 0.
+fn store(cache: &mut PrivateCache, value: u64, index: usize, pts: u32) -> Result<Store, StampFault>
+    requires { index < 1048576 }
+{
+    cache.store(addr(0), value, id(index), stamp(pts), Rank::ZERO)
+}
+
+/// What a store answers that hits at this stamp.
+fn hit(at: u32, rank: Rank) -> Result<Store, StampFault> {
+    let stamp = stamp(at);
+    Ok(Store::Hit { stamp, rank })
+}
+
+#[test]
+fn a_line_in_a_cache_of_one(rt: HostRuntime) -> Result<(), Fail> {
+    let mut cache = PrivateCache::new(rt.alloc(), &Config::new(1, 10, 100, 1, 64, 8, 1_000)?)?;
+    let missed = Ok(Store::Miss(write(0, None)));
+    assert_eq!(rt; store(&mut cache, 1, 0, 0), missed);
+    assert_eq!(rt; fill(&mut cache, &Reply::ExRep(initial(0, 0))), Ok(()));
+    assert_eq!(rt; store(&mut cache, 1, 0, 0), hit(1, Rank::ZERO));
+    let one = Rank::new(1)?;
+    assert_eq!(rt; store(&mut cache, 2, 1, 1), hit(1, one));
+    assert_eq!(rt; cache.victim(addr(1)), Some(addr(0)));
+    assert_eq!(rt; cache.victim(addr(0)), None);
+    let recall = recall(0, 0, RecallKind::WriteBack, 22);
+    let stamps = LineStamps::at(stamp(1), one).leased_to(stamp(22));
+    let line = Line::new(2, Source::Store(id(1)), stamps);
+    let addr = addr(0);
+    let given = Message::WbRep { addr, line };
+    assert_eq!(rt; cache.recall(&recall, 10), Ok(Some(given)));
+    assert_eq!(rt; cache.recall(&recall, 10), Ok(None));
+    is_read_and_upgraded(&rt, &mut cache);
+    Ok(())
+}
+
+/// What the load of the row answers.
+fn load(cache: &mut PrivateCache) -> Result<Load, StampFault> {
+    cache.load(addr(0), stamp(23), Rank::ZERO)
+}
+
+/// The rest of the row, from the load on.
+fn is_read_and_upgraded(rt: &impl Abort, cache: &mut PrivateCache) {
+    let missed = Load::Miss(read(0, Some(stamp(1)), stamp(23)));
+    assert_eq!(rt; load(cache), Ok(missed));
+    let early = fill(cache, &Reply::RenewRep(stamp(0)));
+    assert_eq!(rt; early, Err(FillFault::BadReply));
+    assert_eq!(rt; fill(cache, &Reply::RenewRep(stamp(33))), Ok(()));
+    let loaded = Load::Hit {
+        value: 2,
+        source: Source::Store(id(1)),
+        stamp: stamp(23),
+        rank: Rank::ZERO,
+    };
+    assert_eq!(rt; load(cache), Ok(loaded));
+    let missed = Store::Miss(write(0, Some(stamp(1))));
+    assert_eq!(rt; store(cache, 3, 2, 23), Ok(missed));
+    assert_eq!(rt; fill(cache, &Reply::UpgradeRep(stamp(33))), Ok(()));
+    assert_eq!(rt; store(cache, 3, 2, 23), hit(34, Rank::ZERO));
+}
+
+#[test]
+fn a_slice_of_one_line(rt: HostRuntime) -> Result<(), Fail> {
+    let config = Config::new(1, 10, 1_000, 64, 1, 64, 1_000)?;
+    let mut slice = ManagerSlice::new(rt.alloc(), 0, &config)?;
+    let greatest = Stamp::new(281_474_976_710_656)?;
+    let (first, second) = (&read(0, None, stamp(0)), &write(1, None));
+    let shared = &Reply::ShRep(initial(0, 10));
+    let owned = &Reply::ExRep(initial(10, 10));
+    let busy = Reply::Busy(recall(1, 1, RecallKind::Flush, 0));
+    let rows = [
+        (core(0), *first, Ok(*shared)),
+        (core(1), *second, Ok(*owned)),
+        (core(0), read(0, None, stamp(5)), Ok(busy)),
+        (
+            core(0),
+            flushed(1, initial(10, 10)),
+            Err(SliceFault::NotOwner),
+        ),
+        (
+            core(0),
+            read(1, None, greatest),
+            Err(SliceFault::StampLimit),
+        ),
+    ];
+    for (from, message, due) in &rows {
+        let mut answer = slice.handle(*from, message);
+        if answer == Err(SliceFault::OutOfMemory) {
+            answer = slice.handle(*from, message);
+        }
+        assert_eq!(rt; answer, *due);
+    }
+    let entries = [
+        HistoryEntry::Served(core(0), *first, *shared),
+        HistoryEntry::Evicted(addr(0)),
+        HistoryEntry::Served(core(1), *second, *owned),
+    ];
+    assert_eq!(rt; slice.history(), entries.as_slice());
+    Ok(())
+}
+
+/// Whether memory was refused.
+fn is_memory(fault: &CoreFault) -> bool {
+    *fault == CoreFault::Unit(UnitFault::OutOfMemory)
+        || *fault == CoreFault::Slice(SliceFault::OutOfMemory)
+}
+
+/// What an event comes to.
+fn came(machine: &mut Core, event: &Event) -> Result<Outcome, CoreFault> {
+    let first = machine.step(*event);
+    if let Err(fault) = &first {
+        if is_memory(fault) {
+            return machine.step(*event);
+        }
+    }
+    first
+}
+
+/// The slice wants the core's own line back.
 fn own() -> Recall {
     recall(0, 0, RecallKind::Flush, 0)
 }
 
-fn given_back() -> Message {
-    flushed(0, stored(1, id(0, 0), 1, 1))
+fn turn() -> Event {
+    Event::Turn(core(0))
 }
 
-fn owned() -> Reply {
-    Reply::ExRep(initial(0, 0))
+fn serve() -> Event {
+    Event::Serve(core(0))
 }
 
-fn shared() -> Reply {
-    Reply::ShRep(initial(1, 11))
+fn take() -> Event {
+    Event::Take(core(0))
 }
 
-#[test]
-fn turns_and_takes(rt: HostRuntime) -> Result<(), Fail> {
-    let mut unit = units::unit_of(rt.alloc(), b"st 0 1\nld r0 1\n", 100, 64)?;
-    let busy = units::Call::Take(Reply::Busy(own()));
-    units::meets(
-        &rt,
-        &mut unit,
-        &[
-            units::turn(Outcome::Sent(write(0, None))),
-            units::takes(owned()),
-            units::turn(Outcome::Performed(id(0, 0))),
-            units::turn(Outcome::Sent(read(1, None, 1))),
-            units::expects(busy, Outcome::Busy(own())),
-            units::expects(units::Call::Recall(own()), Outcome::Gave(given_back())),
-            units::takes(Reply::Taken),
-            units::turn(Outcome::Sent(read(1, None, 1))),
-            units::takes(shared()),
-            units::turn(Outcome::Performed(id(0, 1))),
-        ],
-    );
-    units::logs(&rt, &unit, &LOG);
-    Ok(())
+fn recalled() -> Event {
+    Event::Recall(core(0), own())
 }
 
-#[test]
-fn messages_that_are_handled(rt: HostRuntime) -> Result<(), Fail> {
-    let mut slice = slices::slice_of(rt.alloc(), 1)?;
-    slices::meets(
-        &rt,
-        &mut slice,
-        &[
-            slices::answered(0, write(0, None), owned()),
-            slices::answered(0, read(1, None, 1), Reply::Busy(own())),
-            slices::answered(0, given_back(), Reply::Taken),
-            slices::answered(0, read(1, None, 1), shared()),
-        ],
-    );
-    assert_eq!(rt; slice.history().len(), 4);
-    assert_eq!(rt; slice.state().memory.mts, stamp(1));
-    Ok(())
+/// The events of the row of the core machine.
+fn events() -> [Event; 17] {
+    [
+        turn(),
+        serve(),
+        take(),
+        turn(),
+        turn(),
+        serve(),
+        take(),
+        recalled(),
+        recalled(),
+        serve(),
+        take(),
+        recalled(),
+        turn(),
+        serve(),
+        take(),
+        turn(),
+        turn(),
+    ]
 }
 
-/// Fills the line of an address. Where memory is refused the line isn't there, and is filled again.
-fn fills(rt: &impl Abort, cache: &mut PrivateCache, at: Addr, reply: &Reply) {
-    let mut filled = cache.fill(at, reply);
-    if filled == Err(FillFault::OutOfMemory) {
-        assert_eq!(rt; cache.evict(at), Evicted::Nothing);
-        filled = cache.fill(at, reply);
-    }
-    assert_eq!(rt; filled, Ok(()));
-}
-
-#[test]
-fn lines_that_are_filled(rt: HostRuntime) -> Result<(), Fail> {
-    let config = Config::new(1, 10, 100, 64, 64, 8, 10_000)?;
-    let mut cache = PrivateCache::new(rt.alloc(), &config)?;
-    fills(&rt, &mut cache, addr(0), &owned());
-    let hit = Store::Hit {
-        stamp: stamp(1),
-        rank: Rank::ZERO,
-    };
-    let answer = cache.store(addr(0), 1, id(0, 0), stamp(0), Rank::ZERO);
-    assert_eq!(rt; answer, Ok(hit));
-    assert_eq!(rt; cache.recall(&own(), 10), Ok(Some(given_back())));
-    fills(&rt, &mut cache, addr(1), &shared());
-    let hit = Load::Hit {
-        value: 0,
-        source: Source::Init,
-        stamp: stamp(1),
-        rank: rank(1),
-    };
-    assert_eq!(rt; cache.load(addr(1), stamp(1), Rank::ZERO), Ok(hit));
-    Ok(())
-}
-
-// The machine after the row.
-fn after_the_row(alloc: Global) -> Result<Core, Fail> {
-    let text = b"tardis-programs 1 cores 1\ncore 0\nst 0 1\nld r0 1\nend\n";
-    let programs = ProgramSet::parse(alloc, text)?;
-    let events = [
-        stepping::turn(),
-        stepping::serve(),
-        stepping::take(),
-        stepping::turn(),
-        // the load finds no room
-        stepping::turn(),
-        stepping::serve(),
-        stepping::take(),
-        Event::Recall(core(0), own()),
-        stepping::serve(),
-        stepping::take(),
-        stepping::turn(),
-        stepping::serve(),
-        stepping::take(),
-        stepping::turn(),
+/// These events come to what the row says.
+fn come(rt: &impl Abort, machine: &mut Core, events: &[Event]) {
+    let stamps = LineStamps::at(stamp(1), Rank::ZERO);
+    let given = flushed(0, Line::new(1, Source::Store(id(0)), stamps));
+    let outcomes = [
+        Outcome::Sent(write(0, None)),
+        Outcome::Served(Reply::ExRep(initial(0, 0))),
+        Outcome::Took,
+        Outcome::Performed(id(0)),
+        Outcome::Sent(read(1, None, stamp(1))),
+        Outcome::Served(Reply::Busy(own())),
+        Outcome::Busy(own()),
+        Outcome::Gave(given),
+        Outcome::NoEffect,
+        Outcome::Served(Reply::Taken),
+        Outcome::Took,
+        Outcome::NoEffect,
+        Outcome::Sent(read(1, None, stamp(1))),
+        Outcome::Served(Reply::ShRep(initial(1, 11))),
+        Outcome::Took,
+        Outcome::Performed(id(1)),
+        Outcome::Ended,
     ];
-    let config = stepping::config_of(10, 100, 64, 1)?;
-    Ok(stepping::ran(alloc, &programs, &config, &events)?)
+    for (event, due) in events.iter().zip(&outcomes) {
+        assert_eq!(rt; came(machine, event), Ok(*due));
+    }
 }
 
 #[test]
-fn runs(rt: HostRuntime) -> Result<(), Fail> {
-    let reached = after_the_row(rt.alloc())?;
-    stepping::logs(&rt, &reached, core(0), &LOG)
+fn a_machine_of_one_line(rt: HostRuntime) -> Result<(), Fail> {
+    let text = b"tardis-programs 1 cores 1\ncore 0\nst 0 1\nld r0 1\nend\n";
+    let programs = ProgramSet::parse(rt.alloc(), text)?;
+    let config = Config::new(1, 10, 100, 64, 1, 8, 1_000)?;
+    let mut machine = Core::new(rt.alloc(), &programs, &config)?;
+    let events = events();
+    come(&rt, &mut machine, &events);
+    let again = run(rt.alloc(), &programs, &config, &events)?;
+    for machine in [&machine, &again] {
+        let unit = machine.unit(core(0)).ok_or("core 0 is there")?;
+        assert_eq!(rt; (unit.log().len(), unit.transcript().len()), (2, 6));
+        let slice = machine.slice(0).ok_or("slice 0 is there")?;
+        assert_eq!(rt; slice.state().memory.mts, stamp(1));
+    }
+    Ok(())
 }

@@ -3,100 +3,73 @@
 use super::values::*;
 use inbox::Inbox;
 use lease_rule::Config;
-use line_stamps::{Message, RecallKind, Reply};
-use manager_slice::{ManagerSlice, SliceFault};
+use line_stamps::{RecallKind, Reply};
+use manager_slice::ManagerSlice;
 use slice_bank::{BankPort, LocalPort, Port, SliceBank};
 use std::process::Abort;
 use std::test::Fail;
 
-#[test]
-fn an_inbox_for_two_recalls(rt: HostRuntime) -> Result<(), Fail> {
-    let inbox = Inbox::new(rt.alloc(), 2)?;
-    let first = recall(1, 0, RecallKind::Flush, 0);
-    let second = recall(1, 5, RecallKind::WriteBack, 17);
-    let third = recall(1, 3, RecallKind::WriteBack, 4);
-    assert_eq!(rt; inbox.poll(&rt), None);
-    assert_eq!(rt; inbox.offer(&rt, first), Ok(()));
-    assert_eq!(rt; inbox.offer(&rt, second), Ok(()));
-    assert_eq!(rt; inbox.offer(&rt, third), Err(third));
-    assert_eq!(rt; inbox.poll(&rt), Some(first));
-    assert_eq!(rt; inbox.poll(&rt), Some(second));
-    assert_eq!(rt; inbox.poll(&rt), None);
-    Ok(())
-}
-
 // A capacity of 0 counts as 1.
 #[test]
-fn an_inbox_for_one_recall(rt: HostRuntime) -> Result<(), Fail> {
-    for capacity in [0, 1] {
+fn recalls_wait_in_an_inbox(rt: HostRuntime) -> Result<(), Fail> {
+    let recalls = [
+        recall(1, 0, RecallKind::Flush, 0),
+        recall(1, 5, RecallKind::WriteBack, 17),
+        recall(1, 3, RecallKind::WriteBack, 4),
+    ];
+    for (capacity, held, refused) in [
+        (0, &recalls[..1], recalls[1]),
+        (1, &recalls[..1], recalls[1]),
+        (2, &recalls[..2], recalls[2]),
+    ] {
         let inbox = Inbox::new(rt.alloc(), capacity)?;
-        let first = recall(1, 0, RecallKind::Flush, 0);
-        let second = recall(1, 5, RecallKind::WriteBack, 17);
-        assert_eq!(rt; inbox.offer(&rt, first), Ok(()));
-        assert_eq!(rt; inbox.offer(&rt, second), Err(second));
-        assert_eq!(rt; inbox.poll(&rt), Some(first));
+        assert_eq!(rt; inbox.poll(&rt), None);
+        for recall in held {
+            assert_eq!(rt; inbox.offer(&rt, *recall), Ok(()));
+        }
+        assert_eq!(rt; inbox.offer(&rt, refused), Err(refused));
+        for recall in held {
+            assert_eq!(rt; inbox.poll(&rt), Some(*recall));
+        }
         assert_eq!(rt; inbox.poll(&rt), None);
     }
     Ok(())
 }
 
-// Two slices, with a lease of 10.
-fn two_slices() -> Result<Config, Fail> {
-    Ok(Config::new(2, 10, 1_000, 64, 64, 64, 1_000)?)
-}
-
-// The read of address 0 that core 0 makes, and its reply.
-fn shared() -> (Message, Reply) {
-    (read(0, None, 0), Reply::ShRep(initial(0, 10)))
-}
-
-// The write of address 1 that core 1 makes, and its reply.
-fn owned() -> (Message, Reply) {
-    (write(1, None), Reply::ExRep(initial(0, 0)))
-}
-
-// Messages of two cores to two slices, and what the port answers.
+/// Messages of two cores to two slices, with a lease of 10: the second line is then another's.
 fn answers(rt: &impl Abort, port: &mut impl Port) {
-    let (message, reply) = &shared();
-    assert_eq!(rt; port.serve(core(0), message), Ok(*reply));
-    let (message, reply) = &owned();
-    assert_eq!(rt; port.serve(core(1), message), Ok(*reply));
-    // The line is another's.
-    assert_eq!(rt;
-        port.serve(core(0), &read(1, None, 2)),
-        Ok(Reply::Busy(recall(1, 1, RecallKind::WriteBack, 12)))
-    );
-    assert_eq!(rt;
-        port.serve(core(0), &flushed(1, initial(0, 0))),
-        Err(SliceFault::NotOwner)
-    );
+    let busy = Reply::Busy(recall(1, 1, RecallKind::WriteBack, 12));
+    let (zero, one) = (core(0), core(1));
+    let rows = [
+        (zero, read(0, None, stamp(0)), Reply::ShRep(initial(0, 10))),
+        (one, write(1, None), Reply::ExRep(initial(0, 0))),
+        (zero, read(1, None, stamp(2)), busy),
+    ];
+    for (from, message, reply) in &rows {
+        assert_eq!(rt; port.serve(*from, message), Ok(*reply));
+    }
 }
 
-// Each slice has its own number, and served one message.
+/// Each slice has its own number, and served one message.
 fn served(rt: &impl Abort, slices: &[ManagerSlice]) {
     assert_eq!(rt; slices.len(), 2);
     for (number, slice) in slices.iter().enumerate() {
-        assert_eq!(rt; slice.number(), number);
-        assert_eq!(rt; slice.history().len(), 1);
+        assert_eq!(rt; (slice.number(), slice.history().len()), (number, 1));
     }
 }
 
 #[test]
-fn a_bank_served_through_its_port(rt: HostRuntime) -> Result<(), Fail> {
-    let bank = SliceBank::new(rt.alloc(), &two_slices()?)?;
-    let mut port = BankPort {
+fn slices_are_served_with_locks_and_without(rt: HostRuntime) -> Result<(), Fail> {
+    let config = Config::new(2, 10, 1_000, 64, 64, 64, 1_000)?;
+    let bank = SliceBank::new(rt.alloc(), &config)?;
+    let mut locked = BankPort {
         rt: &rt,
         bank: &bank,
     };
-    answers(&rt, &mut port);
+    answers(&rt, &mut locked);
     served(&rt, bank.into_slices().as_slice());
-    Ok(())
-}
-
-#[test]
-fn slices_served_without_locks(rt: HostRuntime) -> Result<(), Fail> {
-    let mut port = LocalPort::new(rt.alloc(), &two_slices()?)?;
-    answers(&rt, &mut port);
-    served(&rt, port.into_slices().as_slice());
+    let mut local = LocalPort::new(rt.alloc(), &config)?;
+    answers(&rt, &mut local);
+    served(&rt, local.into_slices().as_slice());
     Ok(())
 }

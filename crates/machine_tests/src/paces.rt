@@ -30,38 +30,6 @@ impl Pace for Always {
     }
 }
 
-/// A pace that keeps each of two cores after its first operation until the other has performed its own.
-#[derive(Drop)]
-pub(super) struct Meeting {
-    zero: AtomicU64,
-    one: AtomicU64,
-}
-
-impl Meeting {
-    /// No core has come.
-    pub(super) fn new() -> Meeting {
-        Meeting {
-            zero: AtomicU64::new(0),
-            one: AtomicU64::new(0),
-        }
-    }
-}
-
-impl Pace for Meeting {
-    fn before(&self, core: CoreId, done: usize, _turn: u64) -> Go {
-        if done != 1 {
-            return Go::Go;
-        }
-        let (own, other) = if core.get() == 0 {
-            (&self.zero, &self.one)
-        } else {
-            (&self.one, &self.zero)
-        };
-        own.store(1, Ordering::SeqCst);
-        wait_for(other, 1)
-    }
-}
-
 /// A pace that stops core 0 after its first operation.
 #[derive(Clone, Copy)]
 pub(super) struct StopsCore0;
@@ -75,22 +43,22 @@ impl Pace for StopsCore0 {
     }
 }
 
-/// A pace by which core 0 keeps the line of its first store from core 1, until core 1 is at its last of 1,000 turns for its
-/// second operation.
+/// A pace that keeps core 0 after its first operation until core 1 has begun so many turns for its second one, and core 1 after its
+/// first until core 0 has performed its own.
 #[derive(Drop)]
 pub(super) struct Kept {
-    // 1 once core 0 has stored.
-    stored: AtomicU64,
-    // The turns that core 1 has begun for its second operation.
-    turns: AtomicU64,
+    turns: u64,
+    zero: AtomicU64,
+    one: AtomicU64,
 }
 
 impl Kept {
-    /// Nothing is stored.
-    pub(super) fn new() -> Kept {
+    /// No core has come.
+    pub(super) fn until(turns: u64) -> Kept {
         Kept {
-            stored: AtomicU64::new(0),
-            turns: AtomicU64::new(0),
+            turns,
+            zero: AtomicU64::new(0),
+            one: AtomicU64::new(0),
         }
     }
 }
@@ -101,10 +69,10 @@ impl Pace for Kept {
             return Go::Go;
         }
         if core.get() == 0 {
-            self.stored.store(1, Ordering::SeqCst);
-            return wait_for(&self.turns, 1_000);
+            self.zero.store(1, Ordering::SeqCst);
+            return wait_for(&self.one, self.turns);
         }
-        self.turns.store(turn.saturating_add(1), Ordering::SeqCst);
-        wait_for(&self.stored, 1)
+        self.one.store(turn.saturating_add(1), Ordering::SeqCst);
+        wait_for(&self.zero, 1)
     }
 }

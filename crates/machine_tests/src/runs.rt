@@ -1,74 +1,100 @@
 //! Runs in threads that come to their ends, and runs that don't.
 
-use super::paces::{Always, Kept, Meeting, StopsCore0};
-use super::running::{CROSSING, core, judged, ran, verdict_of};
-use audit::{Cause, MachineFault};
+ghost use Rattle.std.specs.Prelude.{◌<◌};
+
+use super::paces::{Always, Kept, StopsCore0};
+use super::values::*;
+use audit::{Cause, MachineFault, RunEnd};
+use core_program::ProgramSet;
+use core_unit::CoreUnit;
 use lease_rule::Config;
-use machine::Pace;
+use line_stamps::{Line, LineStamps, Rank, Reply};
+use log_file::{MemSink, MemSource, write_log};
+use log_record::Format;
+use machine::{Pace, run_threads};
+use manager_slice::HistoryEntry;
+use mem_op::{CoreId, Source};
 use std::alloc::Global;
 use std::sync::Wait;
 use std::test::Fail;
 use std::thread::Threads;
-use verdict::Verdict;
+use verdict::{OpenGate, Verdict, judge};
+
+/// What a run in threads comes to, on so many slices and with so many turns for an operation.
+fn ran<P: Pace + Sync, R: Threads + Wait + Sync>(
+    rt: &R,
+    alloc: Global,
+    text: &[u8],
+    (slices, turns): (u64, u64),
+    pace: &P,
+) -> Result<Result<RunEnd, MachineFault>, Fail> {
+    let programs = ProgramSet::parse(alloc, text)?;
+    let config = Config::new(slices, 10, 100, 64, 64, 8, turns)?;
+    Ok(run_threads(rt, alloc, &programs, &config, pace))
+}
+
+/// Two cores, each of which stores and then loads what the other stores.
+const CROSSING: &[u8] =
+    b"tardis-programs 1 cores 2\ncore 0\nst 0 1\nld r0 1\ncore 1\nst 1 1\nld r0 0\nend\n";
 
 // Each core goes on only when the other has performed its first operation too.
 #[test]
 fn two_cores_at_once(rt: HostRuntime) -> Result<(), Fail> {
-    let config = Config::new(1, 10, 100, 64, 64, 8, 10_000_000)?;
-    let verdict = verdict_of(&rt, rt.alloc(), CROSSING, &config, &Meeting::new())?;
-    assert_eq!(rt; verdict, Verdict::Yes(4));
+    let end = ran(&rt, rt.alloc(), CROSSING, (1, 10_000_000), &Kept::until(1))?;
+    assert!(rt; end.is_ok());
     Ok(())
-}
-
-/// Two cores that want each other's lines.
-const WANTED: &[u8] =
-    b"tardis-programs 1 cores 2\ncore 0\nst 0 1\nst 1 1\ncore 1\nld r0 1\nld r1 0\nend\n";
-
-// Room for one line in each cache and in the slice, and for one recall in each inbox.
-#[test]
-fn one_place_for_each_thing(rt: HostRuntime) -> Result<(), Fail> {
-    let small = Config::new(1, 10, 100, 1, 1, 8, 10_000_000)?;
-    let verdict = verdict_of(&rt, rt.alloc(), WANTED, &small, &Always)?;
-    assert_eq!(rt; verdict, Verdict::Yes(4));
-    let inbox = Config::new(1, 10, 100, 64, 64, 1, 10_000_000)?;
-    let verdict = verdict_of(&rt, rt.alloc(), CROSSING, &inbox, &Always)?;
-    assert_eq!(rt; verdict, Verdict::Yes(4));
-    Ok(())
-}
-
-/// A core without an instruction.
-const IDLE: &[u8] = b"tardis-programs 1 cores 2\ncore 0\ncore 1\nst 0 1\nend\n";
-
-#[test]
-fn a_core_with_nothing_to_do(rt: HostRuntime) -> Result<(), Fail> {
-    let config = Config::new(1, 10, 100, 64, 64, 8, 1_000)?;
-    let verdict = verdict_of(&rt, rt.alloc(), IDLE, &config, &Always)?;
-    assert_eq!(rt; verdict, Verdict::Yes(1));
-    Ok(())
-}
-
-// Programs of 64 cores that store and load at addresses of 16 slices.
-fn many_cores(alloc: Global) -> Result<String, Fail> {
-    let mut text = String::new(alloc);
-    text.push_str("tardis-programs 1 cores 64\n")?;
-    for number in 0..64 {
-        let section = format!(in alloc; "core {number}\nst {number} 7\nld r0 5\nst 3 {number}\n")?;
-        text.push_str(section.as_str())?;
-    }
-    text.push_str("end\n")?;
-    Ok(text)
 }
 
 #[test]
 fn as_many_cores_and_slices_as_there_may_be(rt: HostRuntime) -> Result<(), Fail> {
-    let config = Config::new(16, 10, 100, 64, 64, 8, 10_000_000)?;
-    let text = many_cores(rt.alloc())?;
-    let verdict = verdict_of(&rt, rt.alloc(), text.as_bytes(), &config, &Always)?;
-    assert_eq!(rt; verdict, Verdict::Yes(192));
+    let mut text = String::new(rt.alloc());
+    writeln!(text, "tardis-programs 1 cores 64")?;
+    for number in 0..64 {
+        writeln!(text, "core {number}\nst {number} 7\nld r0 5\nst 3 {number}")?;
+    }
+    writeln!(text, "end")?;
+    let end = ran(&rt, rt.alloc(), text.as_bytes(), (16, 10_000_000), &Always)?;
+    assert!(rt; end.is_ok());
     Ok(())
 }
 
-// The fault of a run of two cores with so many turns for an operation.
+/// Stores whose addresses don't ascend, nor descend.
+const SCATTERED: &[u8] = b"tardis-programs 1 cores 1\ncore 0\nst 5 1\nst 9 1\nst 2 1\nend\n";
+
+/// The core gets the line of an address as its owner.
+fn owns(number: u16) -> HistoryEntry {
+    HistoryEntry::Served(core(0), write(number, None), Reply::ExRep(initial(0, 0)))
+}
+
+/// The line of an address goes back as the core's operation of this index left it.
+fn goes_back(number: u16, index: usize) -> HistoryEntry
+    requires { index < 1048576 }
+{
+    let stamps = LineStamps::at(stamp(1), Rank::ZERO);
+    let line = Line::new(1, Source::Store(id(index)), stamps);
+    HistoryEntry::Served(core(0), flushed(number, line), Reply::Taken)
+}
+
+#[test]
+fn lines_go_back_in_the_order_of_their_addresses(rt: HostRuntime) -> Result<(), Fail> {
+    let end = ran(&rt, rt.alloc(), SCATTERED, (1, 1_000), &Always)?;
+    let Ok(RunEnd { slices, .. }) = &end else {
+        return Err(Fail::from("the run comes to its end"));
+    };
+    let entries = [
+        owns(5),
+        owns(9),
+        owns(2),
+        goes_back(2, 2),
+        goes_back(5, 0),
+        goes_back(9, 1),
+    ];
+    let slice = slices.first().ok_or("slice 0 is there")?;
+    assert_eq!(rt; slice.history(), entries.as_slice());
+    Ok(())
+}
+
+/// The fault of a run of two cores.
 fn fault_of<P: Pace + Sync, R: Threads + Wait + Sync>(
     rt: &R,
     alloc: Global,
@@ -76,27 +102,36 @@ fn fault_of<P: Pace + Sync, R: Threads + Wait + Sync>(
     turns: u64,
     pace: &P,
 ) -> Result<MachineFault, Fail> {
-    let config = Config::new(1, 10, 100, 64, 64, 8, turns)?;
-    match ran(rt, alloc, text, &config, pace)? {
+    match ran(rt, alloc, text, (1, turns), pace)? {
         Ok(_) => Err(Fail::from("the run doesn't come to its end")),
         Err(fault) => Ok(fault),
     }
 }
 
-// Core 0 stops after its first operation. Core 1 goes on to its end, and what both did is consistent.
+/// The text of the log of a core of two.
+fn log_text(alloc: Global, number: usize, units: &[CoreUnit]) -> Result<Vec<u8>, Fail> {
+    let records = units.get(number).ok_or("the core is there")?.log();
+    if number >= 2 || records.len() > 2 {
+        return Err(Fail::from("two operations at most"));
+    }
+    let mut text = MemSink::new(alloc, &[]);
+    let core = CoreId::at(number);
+    write_log(alloc, &mut text, Format::One, core, 2, records)?;
+    Ok(Vec::from_slice(alloc, text.bytes())?)
+}
+
+// Core 0 stops after its first operation. Core 1 goes on to its end, and what both did is consistent. The slice that both asked is left.
 #[test]
 fn a_core_that_is_stopped(rt: HostRuntime) -> Result<(), Fail> {
     let fault = fault_of(&rt, rt.alloc(), CROSSING, 10_000_000, &StopsCore0)?;
     assert_eq!(rt; (fault.core, fault.cause), (0, Cause::Stopped));
-    assert_eq!(rt;
-        (fault.log(core(0)).len(), fault.log(core(1)).len()),
-        (1, 2)
-    );
-    let verdict = judged(&rt, rt.alloc(), fault.units.as_slice())?;
+    let zero = log_text(rt.alloc(), 0, fault.units.as_slice())?;
+    let one = log_text(rt.alloc(), 1, fault.units.as_slice())?;
+    let mut logs = [MemSource::new(&zero, &[]), MemSource::new(&one, &[])];
+    let verdict = judge(&rt, rt.alloc(), &mut logs, 1, &OpenGate)?;
     assert_eq!(rt; verdict, Verdict::Yes(3));
-    // The slice that both asked is left with what it did.
-    assert_eq!(rt; fault.slices.len(), 1);
-    assert!(rt; fault.slices.iter().all(|slice| !slice.history().is_empty()));
+    let slice = fault.slices.first().ok_or("slice 0 is there")?;
+    assert!(rt; !slice.history().is_empty());
     Ok(())
 }
 
@@ -104,13 +139,12 @@ fn a_core_that_is_stopped(rt: HostRuntime) -> Result<(), Fail> {
 const WAITING: &[u8] =
     b"tardis-programs 1 cores 2\ncore 0\nst 0 1\nst 0 2\ncore 1\nst 1 1\nld r0 0\nend\n";
 
+// Core 0 keeps the line until core 1 is at its last turn.
 #[test]
 fn a_core_that_gives_up(rt: HostRuntime) -> Result<(), Fail> {
-    let fault = fault_of(&rt, rt.alloc(), WAITING, 1_000, &Kept::new())?;
+    let fault = fault_of(&rt, rt.alloc(), WAITING, 1_000, &Kept::until(1_000))?;
     assert_eq!(rt; (fault.core, fault.cause), (1, Cause::GaveUp));
-    assert_eq!(rt;
-        (fault.log(core(0)).len(), fault.log(core(1)).len()),
-        (2, 1)
-    );
+    let logs = (fault.log(core(0)).len(), fault.log(core(1)).len());
+    assert_eq!(rt; logs, (2, 1));
     Ok(())
 }

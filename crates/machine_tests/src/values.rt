@@ -3,7 +3,7 @@
 ghost use Rattle.std.specs.Prelude.{◌<◌};
 
 use line_stamps::{Line, LineStamps, Message, Rank, Recall, RecallKind, Stamp};
-use mem_op::{Addr, CoreId, OpId, OpIndex, Source, Word};
+use mem_op::{Addr, CoreId, OpId, OpIndex, Source};
 
 /// The address of this number.
 pub(super) fn addr(number: u16) -> Addr {
@@ -11,10 +11,10 @@ pub(super) fn addr(number: u16) -> Addr {
 }
 
 /// The core of this number.
-pub(super) fn core(number: u8) -> CoreId
+pub(super) fn core(number: usize) -> CoreId
     requires { number < 64 }
 {
-    CoreId::new(u64::from(number)).unwrap()
+    CoreId::at(number)
 }
 
 /// The stamp of this number.
@@ -22,74 +22,42 @@ pub(super) fn stamp(number: u32) -> Stamp {
     Stamp::new(u64::from(number)).unwrap()
 }
 
-/// The rank of this number.
-pub(super) fn rank(number: u32) -> Rank {
-    Rank::new(u64::from(number)).unwrap()
-}
-
-/// The id of a core's operation.
-pub(super) fn id(number: u8, index: u8) -> OpId
-    requires { number < 64 }
+/// The id of an operation of core 0.
+pub(super) fn id(index: usize) -> OpId
+    requires { index < 1048576 }
 {
     OpId {
-        core: core(number),
-        index: OpIndex::new(u64::from(index)).unwrap(),
+        core: CoreId::at(0),
+        index: OpIndex::at(index),
     }
 }
 
 /// A line of value 0 and no store.
 pub(super) fn initial(wts: u32, rts: u32) -> Line {
-    Line::new(
-        0,
-        Source::Init,
-        LineStamps::at(stamp(wts), Rank::ZERO).leased_to(stamp(rts)),
-    )
+    let stamps = LineStamps::at(stamp(wts), Rank::ZERO);
+    Line::new(0, Source::Init, stamps.leased_to(stamp(rts)))
 }
 
 /// A request to read, with the copy that the core has and its stamp.
-pub(super) fn read(number: u16, copy: Option<Stamp>, pts: u32) -> Message {
-    Message::ShReq {
-        addr: addr(number),
-        copy,
-        pts: stamp(pts),
-    }
+pub(super) fn read(number: u16, copy: Option<Stamp>, pts: Stamp) -> Message {
+    let addr = addr(number);
+    Message::ShReq { addr, copy, pts }
 }
 
 /// A request to write, with the copy that the core has.
 pub(super) fn write(number: u16, copy: Option<Stamp>) -> Message {
-    Message::ExReq {
-        addr: addr(number),
-        copy,
-    }
+    let addr = addr(number);
+    Message::ExReq { addr, copy }
 }
 
 /// A line that its owner gave up.
 pub(super) fn flushed(number: u16, line: Line) -> Message {
-    Message::FlushRep {
-        addr: addr(number),
-        line,
-    }
-}
-
-/// A line that its owner keeps as a reader.
-pub(super) fn written_back(number: u16, line: Line) -> Message {
-    Message::WbRep {
-        addr: addr(number),
-        line,
-    }
-}
-
-/// A line of rank 0 that this operation wrote.
-pub(super) fn stored(value: Word, by: OpId, wts: u32, rts: u32) -> Line {
-    Line::new(
-        value,
-        Source::Store(by),
-        LineStamps::at(stamp(wts), Rank::ZERO).leased_to(stamp(rts)),
-    )
+    let addr = addr(number);
+    Message::FlushRep { addr, line }
 }
 
 /// A recall of the owner's line.
-pub(super) fn recall(owner: u8, number: u16, kind: RecallKind, rts: u32) -> Recall
+pub(super) fn recall(owner: usize, number: u16, kind: RecallKind, rts: u32) -> Recall
     requires { owner < 64 }
 {
     Recall {

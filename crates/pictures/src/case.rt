@@ -3,8 +3,8 @@
 use super::scene::{Arrow, ArrowKind};
 use mem_op::OpId;
 use refutation::{Point, Step};
-use refutation_text::{Hop, Known, Rule, known_at, round};
 use std::alloc::{AllocError, Global};
+use telling::{Hop, Known, StepRule, known_at, round};
 
 /// The facts of a case, and the step that closes it.
 #[derive(Clone, Copy)]
@@ -24,11 +24,11 @@ fn place_of(operations: &[OpId], point: &Point) -> Option<usize> {
 }
 
 /// The kind of a fact's arrow.
-fn kind_of(rule: Rule) -> ArrowKind {
+fn kind_of(rule: StepRule) -> ArrowKind {
     match rule {
-        Rule::Source => ArrowKind::Source,
-        Rule::FromRead => ArrowKind::FromRead,
-        Rule::WriteOrder => ArrowKind::WriteOrder,
+        StepRule::Source => ArrowKind::Source,
+        StepRule::FromRead => ArrowKind::FromRead,
+        StepRule::WriteOrder => ArrowKind::WriteOrder,
     }
 }
 

@@ -9,9 +9,9 @@ use super::painting::paint;
 use super::scene::{Arrow, Card, CardKind, Mark, Scene};
 use mem_op::{OpId, Word};
 use refutation::{Point, Refutation, State, Step};
-use refutation_text::{Cases, Course, Known, Lack, Stand, Standing, closes, furthest, tell};
 use std::alloc::{AllocError, Global};
 use std::fmt;
+use telling::{Cases, Course, Known, Stand, Standing, closes, furthest, tell};
 use trace::{Access, Address, Trace};
 
 /// The picture of a refutation of a trace, in SVG: a column for each core, downward its operations that the first case
@@ -181,13 +181,8 @@ impl Shown {
             self.show(id, Note::Nothing)?;
         }
         match &stand.course {
-            Course::Waits(wait) => self.show(
-                wait.id,
-                match &wait.lack {
-                    Lack::Word(there) => Note::Finds(*there),
-                    Lack::Earlier(_) => Note::Waits,
-                },
-            ),
+            Course::Seeks(id, there) => self.show(*id, Note::Finds(*there)),
+            Course::Awaits(id, _) => self.show(*id, Note::Waits),
             _ => Ok(()),
         }
     }

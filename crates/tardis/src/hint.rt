@@ -19,6 +19,8 @@ pub(crate) enum Told {
     Test,
     /// That programs are refused.
     Programs,
+    /// That a trace is refused.
+    Trace,
     /// Something else.
     Other,
 }
@@ -51,6 +53,8 @@ fn told_by(piece: &[u8]) -> Told {
         Told::Test
     } else if piece.starts_with(b"refused: programs") {
         Told::Programs
+    } else if piece.starts_with(b"refused: trace") {
+        Told::Trace
     } else {
         Told::Other
     }
@@ -104,6 +108,10 @@ fn hint_of(command: &str, status: u8, told: Told) -> Option<&'static str> {
     }
     if (command == "sim" || command == "run") && told == Told::Programs {
         return Some("tardis explain --programs PROGRAMS tells more");
+    }
+    let reads_trace = command == "search" || command == "confirm" || command == "replay";
+    if reads_trace && told == Told::Trace {
+        return Some("tardis explain --trace TRACE tells more");
     }
     None
 }

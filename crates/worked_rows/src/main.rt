@@ -1,6 +1,7 @@
 //! Replays rows: calls of the program over files in memory, with what each prints, its status and the files that it puts. They are those
-//! of each file in the folder where this runs, and `docs/ROWS.md` tells how they are written. Besides, each call is made again in other
-//! ways, of which `again.rt` knows what has to come. The rows of a file whose name ends with `.host.rows` are calls over files of the host.
+//! of each file in the folder where this runs whose name ends with `.rows`, and `docs/ROWS.md` tells how they are written. Besides, each
+//! call is made again in other ways, of which `again.rt` knows what has to come. The rows of a file whose name ends with `.host.rows` are
+//! calls over files of the host.
 #![tactic(auto)]
 
 mod again;
@@ -26,12 +27,14 @@ fn read_text(rt: &HostRuntime, name: &str) -> Result<String, RowsFault> {
     }
 }
 
-/// The names of the files in the folder where this runs, in ascending order.
+/// The names of the files of rows in the folder where this runs, in ascending order.
 fn file_names(rt: &HostRuntime) -> Result<Vec<String>, RowsFault> {
     let mut names = Vec::new(rt.alloc());
     for entry in fs::read_dir(rt, ".")? {
         let entry = entry?;
-        names.push(String::from_str(rt.alloc(), entry.file_name())?)?;
+        if entry.file_name().ends_with(".rows") {
+            names.push(String::from_str(rt.alloc(), entry.file_name())?)?;
+        }
     }
     names.sort()?;
     Ok(names)

@@ -8,7 +8,7 @@ use Rattle.commands.specs.Answers.{answer_status}
 use Rattle.commands.specs.Promises.{AreConsistent, AreOrdered, AreUpgraded, AreWrong, IsPutName, IsRefused, LeaveYes, RunFlat}
 use Rattle.commands.specs.Refusals.{refusal_status}
 use Rattle.commands.specs.Sinks.{Sink}
-use Rattle.commands.specs.declared.answer.Answer.{Answer}
+use Rattle.commands.specs.declared.answer.CommandAnswer.{CommandAnswer}
 use Rattle.commands.specs.declared.place.Output.TheVariants as output
 use Rattle.commands.specs.declared.refusal.Refusal.{Refusal}
 use Rattle.commands.specs.declared.refusal.Refusal.TheVariants.{OutOfMemory, Unwritten}
@@ -22,7 +22,7 @@ pub record IsRight (old new : Files) (out out' : Sink) (asked : Request) : Type 
   pub yes : IsApart asked → LeaveYes old.told new.told asked
 
 -- The request came to this answer or refusal, and left the folder and standard output so.
-pub record Came (old new : Files) (Unread : List ℕ → Type 0) (out out' : Sink) (asked : Request) (came : Result Answer Refusal) : Type 0 where
+pub record Came (old new : Files) (Unread : List ℕ → Type 0) (out out' : Sink) (asked : Request) (came : Result CommandAnswer Refusal) : Type 0 where
   pub files : KeepsFiles old.told new.told (IsPutName asked)
   pub right : IfOk came (λ answer. answer_status answer ≡ 0 → IsRight old new out out' asked)
   pub wrong : IfOk came (λ answer. answer_status answer ≡ 1 → AreWrong old.told out out' asked)

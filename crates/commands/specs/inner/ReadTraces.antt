@@ -5,7 +5,7 @@ use Rattle.mem_op.specs.Consistency.{Operation}
 use Rattle.trace.specs.Texts.{HasFirstFault, SpellsTrace}
 use Rattle.trace.specs.declared.fault.TraceFault.{TraceFault}
 use Rattle.trace.specs.declared.fault.TraceFault.TheVariants.{BadTraceLine, TooMany, OutOfMemory as NoTraceMemory}
-use Rattle.commands.specs.Traces.{AreNoLogs, IsTextFault}
+use Rattle.commands.specs.Traces.{AreNoLogs}
 use Rattle.commands.specs.declared.place.Input.TheVariants as input
 use Rattle.commands.specs.declared.refusal.Refusal.{Refusal}
 use Rattle.commands.specs.declared.refusal.Refusal.TheVariants.{Judge, Trace, OutOfMemory, Unread}
@@ -23,13 +23,6 @@ IsReadOf bytes (Err (Trace fault)) = IsFirstFaultOf bytes fault
 IsReadOf bytes (Err (Unread input.Trace)) = ⊤
 IsReadOf bytes (Err OutOfMemory) = ⊤
 IsReadOf bytes (Err fault) = ⊥
-
--- why the file of this name tells no trace
-abbrev pub IsNoTrace : (List ℕ → Option (List ℕ)) → (List ℕ → Type 0) → List ℕ → Refusal → Type 0
-IsNoTrace told unread name (Trace fault) = IsTextFault told name fault
-IsNoTrace told unread name (Unread input.Trace) = unread name
-IsNoTrace told unread name OutOfMemory = ⊤
-IsNoTrace told unread name fault = ⊥
 
 -- why there are no logs in the files of these names
 abbrev pub AreLogless : (List ℕ → Option (List ℕ)) → (List ℕ → Type 0) → List (Bor (List ℕ)) → Refusal → Type 0

@@ -2,7 +2,7 @@ use Rattle.std.proofs.Common.{◌≡◌, ◌∙◌, ap, List, length, subst}
 use Rattle.log_record.specs.Entries.{operations_of}
 use Rattle.log_record.specs.declared.record.Entry.{Entry}
 use Rattle.log_record.specs.declared.record.Record.{Record}
-use Rattle.refutation_text.specs.FirstLines.{operation_count}
+use Rattle.telling.specs.FirstLines.{operation_count}
 use Rattle.commands.specs.inner.ReadLogs.{HoldsRecords}
 use Rattle.commands.proofs.SetCounts.{index_counted}
 use Rattle.commands.proofs.basis_logs.records_in.Goals as goal

@@ -7,7 +7,7 @@ use Rattle.commands.proofs.Leaving.{run_leaves, sim_leaves}
 use Rattle.commands.proofs.Performed.{answered, anew, check_no, of_table, order_no, printed, refused, replayed_no, right_no, yes_of}
 use Rattle.commands.proofs.Refused.{check_no_table, check_refused, confirm_no_table, confirm_refused, explain_no_table, explain_refused, inspect_refused, litmus_refused, order_no_table, order_refused, replay_no_table, replay_refused, run_refused, search_no_table, search_refused, sim_refused, upgrade_refused}
 use Rattle.commands.specs.Sinks.{sink_of}
-use Rattle.commands.specs.declared.answer.Answer.TheVariants.{Judged, Ordered, Explained, Readable, Searched, Replayed, Counted, Done, Version}
+use Rattle.commands.specs.declared.answer.CommandAnswer.TheVariants.{Judged, Ordered, Explained, Readable, Searched, Replayed, Counted, Done, Version}
 use Rattle.commands.proofs.call.perform.Goals as goal
 
 pub returns-in_err-verdict-in-Check : goal.returns-in_err-verdict-in-Check

@@ -1,6 +1,6 @@
 -- Why there is no table of a test's runs, as a refusal of the command.
 use Rattle.std.proofs.Common.{◌≡◌, ℕ, List, Option, None, Err, Bool, true, false, subst, rules}
-use Rattle.command_line.specs.declared.request.Litmus.{Litmus}
+use Rattle.command_line.specs.declared.request.LitmusRuns.{LitmusRuns}
 use Rattle.lease_rule.specs.ConfigParts.{ConfigParts}
 use Rattle.lease_rule.specs.Ranges.{first_bad}
 use Rattle.litmus.specs.Collecting.{IsBadRunCount, IsRunCount}
@@ -17,7 +17,7 @@ bad_runs : (threads : Bool) (t : LitmusParts) (g : ConfigParts) (runs seed : ℕ
 bad_runs true t g runs seed is = is
 bad_runs false t g runs seed is = is
 
-untabled : (told : List ℕ → Option (List ℕ)) (unread : List ℕ → Type 0) (asked : Litmus) (t : LitmusParts) (fault : CollectFault) → IsInOrder asked → IsTestIn told asked.test.now t
+untabled : (told : List ℕ → Option (List ℕ)) (unread : List ℕ → Type 0) (asked : LitmusRuns) (t : LitmusParts) (fault : CollectFault) → IsInOrder asked → IsTestIn told asked.test.now t
     → IsFaultBy asked.threads t (config_of asked.limits) asked.runs asked.seed fault → IsUntabled told unread asked (from_collect fault)
 untabled told unread asked t BadRuns order test is = (order.config, bad_runs asked.threads t (config_of asked.limits) asked.runs asked.seed is)
 untabled told unread asked t (Run k cause) order test is = (order, t, test, is)

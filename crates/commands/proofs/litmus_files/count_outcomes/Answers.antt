@@ -2,7 +2,7 @@
 use Rattle.std.proofs.Common.{◌≡◌, ℕ, List, Option, None, Some, Err, Bor, rules, subst}
 use Rattle.std.specs.Prelude.{IfSome}
 use Rattle.std.proofs.KnownBytes.{Keeps-refl}
-use Rattle.command_line.specs.declared.request.Litmus.{Litmus}
+use Rattle.command_line.specs.declared.request.LitmusRuns.{LitmusRuns}
 use Rattle.host_files.specs.Files.{Files, IsOnlyRead, IsUnread}
 use Rattle.commands.specs.Outputs.{PutsAt}
 use Rattle.commands.specs.Sinks.{Sink, sink_of}
@@ -15,7 +15,7 @@ use Rattle.commands.specs.declared.refusal.Refusal.{Refusal}
 use Rattle.commands.specs.declared.refusal.Refusal.TheVariants.{OutOfMemory, Unwritten}
 use Rattle.commands.proofs.litmus_files.count_outcomes.Goals as goal
 
-untabled : (before after : Files) (unread : List ℕ → Type 0) (asked : Litmus) (sink : Sink) (fault : Refusal) → IsUntabled before.told unread asked fault
+untabled : (before after : Files) (unread : List ℕ → Type 0) (asked : LitmusRuns) (sink : Sink) (fault : Refusal) → IsUntabled before.told unread asked fault
     → IsOnlyRead before after → IsCounted before after unread asked sink sink (Err fault)
 untabled before after unread asked sink (Unwritten output.Standard) why read = absurd why
 untabled before after unread asked sink OutOfMemory why read = (Keeps-refl sink.contents, read)

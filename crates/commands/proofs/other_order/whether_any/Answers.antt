@@ -1,6 +1,6 @@
 use Rattle.std.proofs.Common.{rules, ◌≡◌}
 use Rattle.std.specs.Prelude.{IfOk, string_bytes}
-use Rattle.refutation_text.specs.FirstLines.{IsGrown}
+use Rattle.telling.specs.FirstLines.{IsGrown}
 use Rattle.commands.specs.OtherOrders.{none_text}
 use Rattle.commands.proofs.OtherOrders.{tells_another, tells_none}
 use Rattle.commands.proofs.other_order.whether_any.Goals as goal

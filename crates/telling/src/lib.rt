@@ -1,0 +1,21 @@
+//! The words of an explanation, of a refutation, and of a file that was refused; and what is known at each step of a refutation.
+#![tactic(auto)]
+
+mod arguments;
+mod explanations;
+mod findings;
+mod logs;
+mod programs;
+mod refusals;
+mod shown;
+mod slips;
+mod steps;
+mod traces;
+
+pub use arguments::{count_of, push_argument, tell};
+pub use explanations::print;
+pub use findings::first_sentence;
+pub use refusals::{Kind, Place, Refused, Telling};
+pub use steps::{
+    Cases, Course, Hop, Known, Stand, Standing, StepRule, closes, furthest, known_at, round,
+};

@@ -1,0 +1,129 @@
+//! What is told of a line of a log.
+
+use super::shown::Written;
+use super::slips::{RECORDS, RefusedLine, begun_by, number_in, push_departure, shape_of};
+use log_file::FormatFault;
+use log_record::Format;
+
+/// A log that was refused: which of how many files it is, counted from 0, and its fault.
+#[derive(Clone, Copy)]
+pub(crate) struct RefusedLog(pub(crate) usize, pub(crate) usize, pub(crate) FormatFault);
+
+/// Adds what is told of the fault of a log at this line.
+pub(crate) fn push_log(text: &mut String, log: &RefusedLog, at: &RefusedLine<'_>) -> Written {
+    if let Some(told) = sentence(log.2, at) {
+        return write!(text, "{told}\n");
+    }
+    let before = at.place.line.saturating_sub(2);
+    match log.2 {
+        FormatFault::BadHeader => push_header(text, at),
+        FormatFault::CountDiffers => write!(
+            text,
+            "It has to say how many operations stand before it, which is {before}.\n"
+        ),
+        FormatFault::Truncated if at.line.is_empty() => write!(
+            text,
+            "The file ends before its end line: it is cut off, or end N was left out, with the number N of operations.\nWhole operations before it: {before}.\n"
+        ),
+        FormatFault::Truncated => write!(
+            text,
+            "The file ends in the middle of a line: it is cut off.\nWhole operations before it: {before}.\n"
+        ),
+        FormatFault::WrongCore => push_wrong_core(text, log, at),
+        _ => push_record(text, at.words),
+    }
+}
+
+/// What is told of a fault at this line, where that is one sentence.
+fn sentence(fault: FormatFault, at: &RefusedLine<'_>) -> Option<&'static str> {
+    Some(match (fault, at.line) {
+        (FormatFault::OutOfRange, _) if at.place.line == 1 => {
+            "It says core C of N: N is 1 to 64, and C is less than N, since cores are counted from 0."
+        }
+        (FormatFault::TooMany, _) => "A log has at most 1048576 operations.",
+        (FormatFault::TrailingBytes, []) if at.is_whole() => {
+            "It is an empty line after the end line, which is the last."
+        }
+        (FormatFault::TrailingBytes, _) => "It comes after the end line, which is the last.",
+        (FormatFault::Truncated, _) if at.text.is_empty() => "The file is empty.",
+        (FormatFault::Truncated, [b'e', b'n', b'd', b' ', ..]) => {
+            "The file ends before the line feed of its last line: write one there too."
+        }
+        (FormatFault::BadLine, line) => return line_slip(line, at),
+        _ => return None,
+    })
+}
+
+/// What is told of a slip of a later line.
+fn line_slip(line: &[u8], at: &RefusedLine<'_>) -> Option<&'static str> {
+    let slip = at.slip();
+    Some(match line {
+        [] => "It is empty; there are no empty lines.",
+        _ if slip.is_some() => return slip,
+        _ if line.len() > Format::Two.line_limit() => "It is longer than any record is.",
+        [b'X', b' ', ..] if at.first_line().starts_with(b"tardis-log 1 ") => {
+            "A swap is in format 2 alone, and the first line says format 1: write tardis-log 2 there."
+        }
+        _ => return None,
+    })
+}
+
+/// Adds how a first line is written, and what is told of one that isn't so.
+fn push_header(text: &mut String, at: &RefusedLine<'_>) -> Written {
+    text.push_str(
+        "The first line is written tardis-log 1 core C of N, with 2 in place of 1 where there are swaps.\n",
+    )?;
+    if let Some(slip) = at.slip() {
+        return write!(text, "{slip}\n");
+    }
+    text.push_str(match at.words {
+        ["tardis-log", "1" | "2", ..] | [] => "",
+        ["tardis-log", ..] => "There are formats 1 and 2.\n",
+        [first, ..] => begun_by(first),
+    })
+}
+
+/// Adds how a line of a record is written, and where this one, of these words, departs from that.
+fn push_record(text: &mut String, words: &[&str]) -> Written {
+    let [first, fields @ ..] = words else {
+        return Ok(());
+    };
+    match shape_of(&RECORDS, first) {
+        Some(shape) => push_departure(text, shape, fields),
+        None if *first == "end" => {
+            text.push_str("The last line is written end N, with the number of operations.\n")
+        }
+        None => text.push_str(
+            "A line begins with S for a store, L for a load, X for a swap, or end, as they are written here.\n",
+        ),
+    }
+}
+
+/// Adds what is told of a header of another core or of another number of cores.
+fn push_wrong_core(text: &mut String, log: &RefusedLog, at: &RefusedLine<'_>) -> Written {
+    let RefusedLog(core, cores, _) = *log;
+    write!(
+        text,
+        "It was given as file {core} of {cores}, counted from 0, so it has to say core {core} of {cores}.\n"
+    )?;
+    match at.words.get(5) {
+        Some(said) if number_in(said) == Some(cores as u64) => push_order(text, at.place.file),
+        Some(said) => write!(
+            text,
+            "It is a log of a set of {said}: give the logs of all cores, and those of one run.\n"
+        ),
+        None => Ok(()),
+    }
+}
+
+/// Adds in which order the files are given; and how to get that from the shell, where the number in this name has two digits.
+fn push_order(text: &mut String, name: &str) -> Written {
+    text.push_str("The files are given in the order of their cores, that of core 0 first.\n")?;
+    match name.rsplit_once('.') {
+        Some((stem, number)) if number.len() > 1 && number_in(number).is_some() => write!(
+            text,
+            "The shell has {stem}.10 before {stem}.2; write $(ls -v {stem}.*).\n"
+        ),
+        _ => Ok(()),
+    }
+}

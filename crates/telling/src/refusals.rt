@@ -1,0 +1,139 @@
+//! What is told of a file that a reader refused: the line of the fault, what it should be, and what has usually gone wrong.
+
+ghost use Rattle.std.specs.Prelude.{◌≡◌, ◌++◌, ℕ, List, IfOk, string_bytes};
+ghost use Rattle.telling.specs.Places.{place_text};
+
+use super::logs::{RefusedLog, push_log};
+use super::programs::push_bad_line;
+use super::shown::{Bytes, Written};
+use super::slips::RefusedLine;
+use super::traces::push_trace_line;
+use log_file::{FormatFault, line_of};
+use std::alloc::{AllocError, Global};
+use std::fmt::Display;
+use std::{fmt, str};
+
+/// Where a fault is: a line of a file.
+#[derive(Clone, Copy, Debug)]
+pub struct Place<'a> {
+    /// The name of the file.
+    pub file: &'a str,
+    /// The number of the line, counted from 1.
+    pub line: u64,
+}
+
+impl<'a> Display for Place<'a> {
+    ghost use Rattle.std.specs.Prelude.{Some};
+    ghost use Rattle.telling.specs.Places.{place_text};
+
+    ghost output = { λ place. Some (place_text place.file.now place.line) };
+
+    fn fmt<W: fmt::Write>(&self, f: &mut fmt::Formatter<W>) -> fmt::Result {
+        write!(f, "{} line {}: ", self.file, self.line)
+    }
+}
+
+/// What a text of programs has to be.
+#[derive(Clone, Copy, PartialEq, Eq)]
+pub enum Kind {
+    /// A set of programs.
+    Programs,
+    /// A litmus test.
+    Litmus,
+}
+
+/// What was refused, and why.
+#[derive(Clone, Copy)]
+pub enum Refused {
+    /// A log, the one of this number of so many, counted from 0.
+    Log {
+        file: usize,
+        files: usize,
+        fault: FormatFault,
+    },
+    /// A set of programs or a litmus test, at a line that isn't as it should be.
+    BadLine(Kind),
+    /// A set of programs or a litmus test, at the 4,097th instruction of a section.
+    TooLong,
+    /// A set of programs or a litmus test, at a jump past the end of its program.
+    SkipPastEnd,
+    /// A trace, at a line that isn't as it should be.
+    BadTraceLine,
+    /// A trace, at the 1,048,577th operation of a core.
+    TooMany,
+}
+
+/// What is told of a trace with too many operations.
+const TOO_MANY: &str =
+    "A core of a trace has at most 1048576 operations; replay takes any number.\n";
+
+impl Refused {
+    /// Adds what is told of a line that was refused.
+    fn push(self, text: &mut String, at: &RefusedLine<'_>) -> Written {
+        match self {
+            Refused::Log { file, files, fault } => {
+                push_log(text, &RefusedLog(file, files, fault), at)
+            }
+            Refused::BadLine(kind) => push_bad_line(text, kind, at),
+            Refused::TooLong => text.push_str("A program has at most 4096 instructions.\n"),
+            Refused::BadTraceLine => push_trace_line(text, at.line),
+            Refused::TooMany => text.push_str(TOO_MANY),
+            Refused::SkipPastEnd => {
+                text.push_str("It skips further than to just past the last instruction.\n")
+            }
+        }
+    }
+}
+
+/// What is told of the fault of a file.
+#[derive(Clone, Copy)]
+pub struct Telling<'a> {
+    /// Where the fault is.
+    pub place: Place<'a>,
+    /// What was refused there.
+    pub refused: Refused,
+    /// The bytes of the file; none of one that can be read once alone.
+    pub bytes: Option<&'a [u8]>,
+}
+
+impl<'a> Telling<'a> {
+    /// The text of it, each line with its line feed: the place of the fault and the line there, how such a line is written, and what
+    /// is wrong with this one, where it is one of the usual slips.
+    pub fn print(&self, alloc: Global) -> Result<String, AllocError>
+        ensures { IfOk result (λ text. (words : List ℕ) × (string_bytes text
+            ≡ place_text self.now.place.file.now self.now.place.line ++ words)) }
+    {
+        let place = format!(in alloc; "{}", self.place)?;
+        let words = match self.bytes {
+            Some(bytes) => self.told_of(alloc, bytes),
+            None => String::from_str(alloc, "the file can't be read a second time.\n"),
+        }?;
+        joined(place, words.as_str())
+    }
+
+    /// What is told of the line of the fault in these bytes: its text, and what is wrong with it.
+    fn told_of(&self, alloc: Global, text: &[u8]) -> Result<String, AllocError> {
+        let line = line_of(text, self.place.line);
+        let words: Vec<&str> = match str::from_utf8(line) {
+            Ok(text) => text.split(' ').collect(alloc),
+            Err(_) => Ok(Vec::new(alloc)),
+        }?;
+        let at = RefusedLine {
+            place: self.place,
+            text,
+            line,
+            words: words.as_slice(),
+        };
+        let mut told = format!(in alloc; "{}\n", Bytes(line))?;
+        self.refused.push(&mut told, &at)?;
+        Ok(told)
+    }
+}
+
+/// A text with more after it.
+fn joined(mut text: String, more: &str) -> Result<String, AllocError>
+    ensures { IfOk result (λ whole. string_bytes whole ≡ string_bytes text ++ more.now) }
+{
+    text.push_str(more)?;
+    Ok(text)
+}

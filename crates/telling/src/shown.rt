@@ -1,0 +1,161 @@
+//! How numbers, bytes, texts, points and operations are shown.
+
+use super::steps::Hop;
+use mem_op::OpId;
+use refutation::{Point, Range};
+use std::alloc::AllocError;
+use std::fmt;
+use std::fmt::Display;
+use trace::{Access, Trace};
+
+/// What adding to a text answers.
+pub(crate) type Written = Result<(), AllocError>;
+
+/// As many characters of a text are shown at most.
+const MOST_SHOWN: usize = 80;
+
+/// A word or an address, in hexadecimal too where it is long.
+#[derive(Clone, Copy)]
+pub(crate) struct Number(pub(crate) u64);
+
+impl Display for Number {
+    fn fmt<W: fmt::Write>(&self, f: &mut fmt::Formatter<W>) -> fmt::Result {
+        match self.0 {
+            number @ 0..=9_999_999 => write!(f, "{number}"),
+            number => write!(f, "{number} (0x{number:x})"),
+        }
+    }
+}
+
+/// A number of things, with the word for one of them.
+#[derive(Clone, Copy)]
+pub(crate) struct Counted<'a>(pub(crate) u64, pub(crate) &'a str);
+
+impl<'a> Display for Counted<'a> {
+    fn fmt<W: fmt::Write>(&self, f: &mut fmt::Formatter<W>) -> fmt::Result {
+        let ending = if self.0 == 1 { "" } else { "s" };
+        write!(f, "{} {}{ending}", self.0, self.1)
+    }
+}
+
+/// What stands before a part of a list of so many, whose last part comes after a word.
+pub(crate) fn between(place: usize, count: usize, word: &'static str) -> &'static str {
+    match place {
+        0 => "",
+        _ if place.saturating_add(1) == count => word,
+        _ => ", ",
+    }
+}
+
+/// Bytes of a file, with escapes for what isn't printable ASCII, and two dots in place of what is too long.
+#[derive(Clone, Copy)]
+pub(crate) struct Bytes<'a>(pub(crate) &'a [u8]);
+
+impl<'a> Display for Bytes<'a> {
+    fn fmt<W: fmt::Write>(&self, f: &mut fmt::Formatter<W>) -> fmt::Result {
+        match self.0.get(..MOST_SHOWN) {
+            Some(shown) if self.0.len() > MOST_SHOWN => write!(f, "{}..", shown.escape_ascii()),
+            _ => write!(f, "{}", self.0.escape_ascii()),
+        }
+    }
+}
+
+/// A text on one line: its control characters by their escapes, and two dots in place of what is too long.
+#[derive(Clone, Copy)]
+pub(crate) struct Plain<'a>(pub(crate) &'a str);
+
+impl<'a> Display for Plain<'a> {
+    fn fmt<W: fmt::Write>(&self, f: &mut fmt::Formatter<W>) -> fmt::Result {
+        let end = self.0.char_indices().nth(MOST_SHOWN);
+        match end.and_then(|(end, _)| self.0.get(..end)) {
+            Some(shown) => write!(f, "{}..", shown.escape_debug()),
+            None => write!(f, "{}", self.0.escape_debug()),
+        }
+    }
+}
+
+/// A point: an operation by its id.
+#[derive(Clone, Copy)]
+pub(crate) struct Shown(pub(crate) Point);
+
+impl Display for Shown {
+    fn fmt<W: fmt::Write>(&self, f: &mut fmt::Formatter<W>) -> fmt::Result {
+        match &self.0 {
+            Point::Init => f.write_str("the initial 0"),
+            Point::At(_) => self.0.fmt(f),
+        }
+    }
+}
+
+/// What lies in a range.
+#[derive(Clone, Copy)]
+pub(crate) struct Within(pub(crate) Range);
+
+impl Display for Within {
+    fn fmt<W: fmt::Write>(&self, f: &mut fmt::Formatter<W>) -> fmt::Result {
+        let (first, last) = (self.0.first, self.0.last);
+        match first {
+            _ if first == last => Shown(first).fmt(f),
+            Point::Init => write!(f, "the initial 0 or one up to {last}"),
+            Point::At(_) => write!(f, "one of {first} to {last}"),
+        }
+    }
+}
+
+/// What a write stored at an address that was named before.
+#[derive(Clone, Copy)]
+pub(crate) struct Stored(pub(crate) Option<Access>);
+
+impl Display for Stored {
+    fn fmt<W: fmt::Write>(&self, f: &mut fmt::Formatter<W>) -> fmt::Result {
+        let Some(access) = &self.0 else {
+            return f.write_str("did nothing");
+        };
+        let swap = if access.read().is_some() {
+            " in a swap"
+        } else {
+            ""
+        };
+        write!(f, "stored {} there{swap}", Number(access.word_left()))
+    }
+}
+
+/// An operation and what it did.
+#[derive(Clone, Copy)]
+pub(crate) struct Deed<'a>(pub(crate) &'a Trace, pub(crate) OpId);
+
+impl<'a> Display for Deed<'a> {
+    fn fmt<W: fmt::Write>(&self, f: &mut fmt::Formatter<W>) -> fmt::Result {
+        let point = Point::At(self.1);
+        let Some(access) = self.0.operation(&self.1) else {
+            return write!(f, "{point} did nothing");
+        };
+        let (addr, left) = (Number(access.addr()), Number(access.word_left()));
+        match access.read().map(|read| Number(read)) {
+            None => write!(f, "{point} stored {left} to address {addr}"),
+            Some(read) if access.is_store_to(access.addr()) => {
+                write!(
+                    f,
+                    "{point} swapped {left} into address {addr} and loaded {read}"
+                )
+            }
+            Some(read) => write!(f, "{point} loaded {read} from address {addr}"),
+        }
+    }
+}
+
+/// The points of a path with a word between.
+#[derive(Clone, Copy)]
+pub(crate) struct Joined<'a>(pub(crate) &'a [Hop], pub(crate) &'a str);
+
+impl<'a> Display for Joined<'a> {
+    fn fmt<W: fmt::Write>(&self, f: &mut fmt::Formatter<W>) -> fmt::Result {
+        if let [first, ..] = self.0 {
+            Shown(first.from).fmt(f)?;
+        }
+        for hop in self.0 {
+            write!(f, "{}{}", self.1, Shown(hop.to))?;
+        }
+        Ok(())
+    }
+}
