@@ -9,8 +9,8 @@ use Rattle.log_record.specs.Entries.{operation_of, operations_of, record_lists}
 use Rattle.log_record.specs.declared.record.Record.{Record}
 use Rattle.mem_op.specs.Limits.{operation_limit}
 use Rattle.trace.specs.Growing.{IsOfSize, IsRefusalOfAll}
-use Rattle.trace.specs.declared.refusal.Refusal.{Refusal}
-use Rattle.trace.specs.declared.refusal.Refusal.TheVariants.{TooMany}
+use Rattle.trace.specs.declared.refusal.TraceFull.{TraceFull}
+use Rattle.trace.specs.declared.refusal.TraceFull.TheVariants.{TooMany}
 
 short_at : (logs : List (Vec Record)) (core : ℕ) → All (λ log. vec_len log ≤ operation_limit) logs → length (own_operations (operations_of (record_lists logs)) core) ≤ operation_limit
 short_at logs core short =
@@ -39,7 +39,7 @@ size_of_logs logs few short = record {
 }
 
 -- such logs aren't too many
-pub not_many : (logs : List (Vec Record)) (refusal : Refusal) → length logs ≤ 64 → All (λ log. vec_len log ≤ operation_limit) logs → refusal ≡ TooMany
+pub not_many : (logs : List (Vec Record)) (refusal : TraceFull) → length logs ≤ 64 → All (λ log. vec_len log ≤ operation_limit) logs → refusal ≡ TooMany
     → IsRefusalOfAll (operations_of (record_lists logs)) refusal → ⊥
 not_many logs refusal few short is why =
     let many = subst (IsRefusalOfAll (operations_of (record_lists logs))) is why in

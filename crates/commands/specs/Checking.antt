@@ -4,7 +4,7 @@ use Rattle.std.specs.Borrow.{Bor}
 use Rattle.std.specs.Option.{IsSomeAnd}
 use Rattle.command_line.specs.declared.request.Check.{Check}
 use Rattle.core_program.specs.Answers.{SpellsSet}
-use Rattle.core_program.specs.declared.format.Format.{Format}
+use Rattle.core_program.specs.declared.format.ProgramFormat.{ProgramFormat}
 use Rattle.core_program.specs.declared.instruction.Instruction.{Instruction}
 use Rattle.log_file.specs.Devices.{Tells}
 use Rattle.verdict.specs.Counts.{IsInRange, IsOutOfRange}
@@ -34,7 +34,7 @@ AreProgramsOf told None None = ⊤
 AreProgramsOf told None (Some programs) = ⊥
 AreProgramsOf told (Some name) None = ⊥
 AreProgramsOf told (Some name) (Some programs) =
-    (text : List ℕ) × Tells (told name.now) text × (format : Format) × SpellsSet text (record { format = format; programs = programs })
+    (text : List ℕ) × Tells (told name.now) text × (format : ProgramFormat) × SpellsSet text (record { format = format; programs = programs })
 
 -- something holds of the programs that were asked for
 abbrev pub Against : (List ℕ → Option (List ℕ)) → Option (Bor (List ℕ)) → (Option (List (List Instruction)) → Type 0) → Type 0

@@ -4,8 +4,8 @@ use Rattle.command_line.specs.declared.request.Limits.{Limits}
 use Rattle.lease_rule.specs.ConfigParts.{ConfigParts}
 use Rattle.lease_rule.specs.Ranges.{first_bad}
 use Rattle.core_program.specs.SetParts.{SetParts}
-use Rattle.core_program.specs.declared.format.Format.{Format as ProgramFormat}
-use Rattle.core_program.specs.declared.format.Format.TheVariants as of_programs
+use Rattle.core_program.specs.declared.format.ProgramFormat.{ProgramFormat}
+use Rattle.core_program.specs.declared.format.ProgramFormat.TheVariants as of_programs
 use Rattle.log_record.specs.declared.format.Format.{Format as LogFormat}
 use Rattle.log_record.specs.declared.format.Format.TheVariants as of_logs
 use Rattle.commands.specs.Programs.{AreProgramsIn}

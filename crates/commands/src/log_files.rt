@@ -11,7 +11,7 @@ use log_file::{LogSet, ReadFault};
 use log_record::Record;
 use std::alloc::{AllocError, Global};
 use std::thread::Threads;
-use trace::{Refusal, Trace};
+use trace::{Trace, TraceFull};
 use verdict::JudgeFault;
 
 /// Opens the files of these names in their order: 28 for the first that can't be opened.
@@ -72,7 +72,7 @@ pub fn trace_of(alloc: Global, logs: &[Vec<Record>]) -> Result<Trace, AllocError
 {
     match Trace::from_logs(alloc, logs) {
         Ok(trace) => Ok(trace),
-        Err(Refusal::OutOfMemory) => Err(AllocError),
-        Err(Refusal::TooMany) => unreachable!(),
+        Err(TraceFull::OutOfMemory) => Err(AllocError),
+        Err(TraceFull::TooMany) => unreachable!(),
     }
 }

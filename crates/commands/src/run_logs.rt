@@ -4,7 +4,7 @@ ghost use Rattle.std.specs.Prelude.{◌≡◌};
 ghost use Rattle.commands.specs.Programmed.{log_format};
 
 use super::writing::LogsOfCores;
-use core_program::Format as ProgramFormat;
+use core_program::ProgramFormat;
 use core_unit::CoreUnit;
 use log_record::{Format, Record};
 use manager_slice::ManagerSlice;

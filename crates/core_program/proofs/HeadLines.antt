@@ -8,7 +8,7 @@ use Rattle.decimal_text.specs.Reading.{◌>>=◌, after, last_number}
 use Rattle.decimal_text.proofs.Lines.{NoLf}
 use Rattle.decimal_text.proofs.Numbers.{after_takes, after_again}
 use Rattle.decimal_text.proofs.Reading.{bind_some, some_is, last_takes, last_again}
-use Rattle.core_program.specs.declared.format.Format.{Format}
+use Rattle.core_program.specs.declared.format.ProgramFormat.{ProgramFormat}
 use Rattle.core_program.specs.Grammar.{format_number, header_text, core_text}
 use Rattle.core_program.specs.Lines.{IsOneLine}
 use Rattle.core_program.specs.inner.Reading.{below, first_words, cores_of, header_of, core_of}
@@ -39,10 +39,10 @@ cores_again n some few =
     (cond-false (eqb n 0) None (below 65 n) (ne_eqb n 0 (λ e. omega (arith, e))) ∙ below_again 65 n (omega arith))
 
 -- the line is the header of this format and number of cores
-abbrev IsHeader : List ℕ → Format × ℕ → Type 0
+abbrev IsHeader : List ℕ → ProgramFormat × ℕ → Type 0
 IsHeader line x = (1 ≤ x.1) × (x.1 ≤ 64) × (line ≡ header_text (format_number x.0) x.1)
 
-header_takes : (line : List ℕ) (x : Format × ℕ) → header_of line ≡ Some x → IsHeader line x
+header_takes : (line : List ℕ) (x : ProgramFormat × ℕ) → header_of line ≡ Some x → IsHeader line x
 unfolding header_of
 header_takes line x e =
     let a = bind_some (first_words line) (λ front. cores_of front.1 >>= λ cores. Some (front.0, cores)) x e in
@@ -52,7 +52,7 @@ header_takes line x e =
     words_take line a.0 a.1 ∙ ap (λ (r : List ℕ). words_of a.0.0 ++ r) n.2 ∙ sym (header_text_is a.0.0 b.0) in
     subst (IsHeader line) (some_is (a.0.0, b.0) x b.2) (n.0, n.1, all)
 
-header_again : (format : Format) (n : ℕ) → 1 ≤ n → n ≤ 64 → header_of (header_text (format_number format) n) ≡ Some (format, n)
+header_again : (format : ProgramFormat) (n : ℕ) → 1 ≤ n → n ≤ 64 → header_of (header_text (format_number format) n) ≡ Some (format, n)
 unfolding header_of
 header_again format n some few = rw (header_text_is format n, words_again format (numeral n), cores_again n some few) refl
 
@@ -80,16 +80,16 @@ first_line : (text line behind wanted rest : List ℕ) → IsOneLine line → No
 first_line text line behind wanted rest one none is there =
     (line_once line wanted behind rest (no_lf_from line one) none (sym is ∙ there)).0
 
-pub no_header_without_feed : (text : List ℕ) → IsOneLine text → (format : Format) (cores : ℕ) (rest : List ℕ) → HeaderInFront format cores text rest → ⊥
+pub no_header_without_feed : (text : List ℕ) → IsOneLine text → (format : ProgramFormat) (cores : ℕ) (rest : List ℕ) → HeaderInFront format cores text rest → ⊥
 no_header_without_feed text one format cores rest there = no_feed text (header_text (format_number format) cores) rest (no_lf_from text one) there.2
 
 pub no_header_of_other : (text line behind : List ℕ) → IsOneLine line → text ≡ line ++ 10 ∷ behind → None ≡ header_of line
-    → (format : Format) (cores : ℕ) (rest : List ℕ) → HeaderInFront format cores text rest → ⊥
+    → (format : ProgramFormat) (cores : ℕ) (rest : List ℕ) → HeaderInFront format cores text rest → ⊥
 no_header_of_other text line behind one is none format cores rest there =
     let same = first_line text line behind (header_text (format_number format) cores) rest one (header_no_lf (format_number format) cores) is there.2 in
     none_some (format, cores) (none ∙ ap header_of same ∙ header_again format cores there.0 there.1)
 
-pub header_in_front : (text line behind : List ℕ) (format : Format) (cores : ℕ) → text ≡ line ++ 10 ∷ behind → Some (format, cores) ≡ header_of line
+pub header_in_front : (text line behind : List ℕ) (format : ProgramFormat) (cores : ℕ) → text ≡ line ++ 10 ∷ behind → Some (format, cores) ≡ header_of line
     → HeaderInFront format cores text behind
 header_in_front text line behind format cores is some =
     let t = header_takes line (format, cores) (sym some) in

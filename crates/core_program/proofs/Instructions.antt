@@ -10,8 +10,8 @@ use Rattle.decimal_text.proofs.Numbers.{guard_some, after_takes, after_again}
 use Rattle.decimal_text.proofs.Reading.{bind_some, some_is, field_takes, field_again, last_takes, last_again}
 use Rattle.core_program.specs.declared.instruction.Instruction.{Instruction}
 use Rattle.core_program.specs.declared.instruction.Instruction.TheVariants.{Load, Store, StoreRegister, Add, SkipIfZero, Swap}
-use Rattle.core_program.specs.declared.format.Format.{Format}
-use Rattle.core_program.specs.declared.format.Format.TheVariants.{One, Two}
+use Rattle.core_program.specs.declared.format.ProgramFormat.{ProgramFormat}
+use Rattle.core_program.specs.declared.format.ProgramFormat.TheVariants.{One, Two}
 use Rattle.core_program.specs.Grammar.{instruction_text, Fits, FitsIn}
 use Rattle.core_program.specs.Shape.{has_instruction}
 use Rattle.core_program.specs.inner.Reading.{front_below, below, register_at, addr_at, last_register, last_addr, last_word, last_skip, load_of, store_of, store_register_of, add_of, skip_of, swap_of, swap_in, named, instruction_of}
@@ -115,10 +115,10 @@ last_word_takes bytes n e = last_below_takes (2 ^ 64) bytes n e
 -- ---- instructions
 
 -- the line of an instruction of this format, in range, is a name and these fields
-abbrev IsNamed : Format → List ℕ → List ℕ → Instruction → Type 0
+abbrev IsNamed : ProgramFormat → List ℕ → List ℕ → Instruction → Type 0
 IsNamed format name fields i = (name ++ fields ≡ instruction_text i) × FitsIn format i
 
-load_takes : (format : Format) (bytes : List ℕ) (i : Instruction) → load_of bytes ≡ Some i → IsNamed format (codes "ld ") bytes i
+load_takes : (format : ProgramFormat) (bytes : List ℕ) (i : Instruction) → load_of bytes ≡ Some i → IsNamed format (codes "ld ") bytes i
 unfolding load_of instruction_text
 load_takes format bytes i e =
     let a = bind_some (register_at bytes) (λ to. last_addr to.1 >>= λ addr. Some (Load to.0 addr)) i e in
@@ -128,7 +128,7 @@ load_takes format bytes i e =
     subst (λ (j : Instruction). IsNamed format (codes "ld ") bytes j) (some_is (Load a.0.0 b.0) i b.2)
     (ap (λ (x : List ℕ). codes "ld " ++ x) (r.0 ∙ ap (λ (x : List ℕ). register_front (a.0.0, x)) d.0), record { has = refl {a = true}; numbers = (r.1, d.1) })
 
-store_takes : (format : Format) (bytes : List ℕ) (i : Instruction) → store_of bytes ≡ Some i → IsNamed format (codes "st ") bytes i
+store_takes : (format : ProgramFormat) (bytes : List ℕ) (i : Instruction) → store_of bytes ≡ Some i → IsNamed format (codes "st ") bytes i
 unfolding store_of instruction_text
 store_takes format bytes i e =
     let a = bind_some (addr_at bytes) (λ addr. last_word addr.1 >>= λ value. Some (Store addr.0 value)) i e in
@@ -138,7 +138,7 @@ store_takes format bytes i e =
     subst (λ (j : Instruction). IsNamed format (codes "st ") bytes j) (some_is (Store a.0.0 b.0) i b.2)
     (ap (λ (x : List ℕ). codes "st " ++ x) (r.0 ∙ ap (λ (x : List ℕ). numeral a.0.0 ++ 32 ∷ x) d.0), record { has = refl {a = true}; numbers = (r.1, d.1) })
 
-store_register_takes : (format : Format) (bytes : List ℕ) (i : Instruction) → store_register_of bytes ≡ Some i → IsNamed format (codes "sr ") bytes i
+store_register_takes : (format : ProgramFormat) (bytes : List ℕ) (i : Instruction) → store_register_of bytes ≡ Some i → IsNamed format (codes "sr ") bytes i
 unfolding store_register_of instruction_text
 store_register_takes format bytes i e =
     let a = bind_some (addr_at bytes) (λ addr. last_register addr.1 >>= λ from. Some (StoreRegister addr.0 from)) i e in
@@ -148,7 +148,7 @@ store_register_takes format bytes i e =
     subst (λ (j : Instruction). IsNamed format (codes "sr ") bytes j) (some_is (StoreRegister a.0.0 b.0) i b.2)
     (ap (λ (x : List ℕ). codes "sr " ++ x) (r.0 ∙ ap (λ (x : List ℕ). numeral a.0.0 ++ 32 ∷ x) d.0), record { has = refl {a = true}; numbers = (r.1, d.1) })
 
-add_takes : (format : Format) (bytes : List ℕ) (i : Instruction) → add_of bytes ≡ Some i → IsNamed format (codes "ai ") bytes i
+add_takes : (format : ProgramFormat) (bytes : List ℕ) (i : Instruction) → add_of bytes ≡ Some i → IsNamed format (codes "ai ") bytes i
 unfolding add_of instruction_text
 add_takes format bytes i e =
     let a = bind_some (register_at bytes) (λ to. register_at to.1 >>= λ from. last_word from.1 >>= λ value. Some (Add to.0 from.0 value)) i e in
@@ -163,7 +163,7 @@ add_takes format bytes i e =
       record { has = refl {a = true}; numbers = (r.1, s.1, d.1) },
     )
 
-skip_takes : (format : Format) (bytes : List ℕ) (i : Instruction) → skip_of bytes ≡ Some i → IsNamed format (codes "jz ") bytes i
+skip_takes : (format : ProgramFormat) (bytes : List ℕ) (i : Instruction) → skip_of bytes ≡ Some i → IsNamed format (codes "jz ") bytes i
 unfolding skip_of instruction_text
 skip_takes format bytes i e =
     let a = bind_some (register_at bytes) (λ tested. last_skip tested.1 >>= λ skip. Some (SkipIfZero tested.0 skip)) i e in
@@ -203,13 +203,13 @@ named_takes name fields line other i e =
     ]
 
 -- the line is that of an instruction of this format, in range
-abbrev IsLineOf : Format → List ℕ → Instruction → Type 0
+abbrev IsLineOf : ProgramFormat → List ℕ → Instruction → Type 0
 IsLineOf format line i = (line ≡ instruction_text i) × FitsIn format i
 
-named_is : (format : Format) (name line rest : List ℕ) (i : Instruction) → line ≡ name ++ rest → IsNamed format name rest i → IsLineOf format line i
+named_is : (format : ProgramFormat) (name line rest : List ℕ) (i : Instruction) → line ≡ name ++ rest → IsNamed format name rest i → IsLineOf format line i
 named_is format name line rest i e is = (e ∙ is.0, is.1)
 
-swap_in_takes : (format : Format) (line : List ℕ) (i : Instruction) → swap_in format line ≡ Some i → IsLineOf format line i
+swap_in_takes : (format : ProgramFormat) (line : List ℕ) (i : Instruction) → swap_in format line ≡ Some i → IsLineOf format line i
 swap_in_takes One line i e = absurd cc
 swap_in_takes Two line i e = swap_or (named_takes (codes "sw ") swap_of line None i e)
   where
@@ -217,7 +217,7 @@ swap_in_takes Two line i e = swap_or (named_takes (codes "sw ") swap_of line Non
     swap_or (inl p) = named_is Two (codes "sw ") line p.0 i p.1.0 (swap_takes p.0 i p.1.1)
     swap_or (inr e) = absurd cc
 
-pub instruction_takes : (format : Format) (line : List ℕ) (i : Instruction) → instruction_of format line ≡ Some i → IsLineOf format line i
+pub instruction_takes : (format : ProgramFormat) (line : List ℕ) (i : Instruction) → instruction_of format line ≡ Some i → IsLineOf format line i
 unfolding instruction_of
 instruction_takes format line i e = load_or (named_takes (codes "ld ") load_of line others-load i e)
   where
@@ -257,7 +257,7 @@ instruction_takes format line i e = load_or (named_takes (codes "ld ") load_of l
     load_or (inr e) = st_or (named_takes (codes "st ") store_of line others-st i e)
 
 -- its name comes first
-again_in : (format : Format) (i : Instruction) → has_instruction format i ≡ true → Fits i → instruction_of format (instruction_text i) ≡ Some i
+again_in : (format : ProgramFormat) (i : Instruction) → has_instruction format i ≡ true → Fits i → instruction_of format (instruction_text i) ≡ Some i
 unfolding instruction_of instruction_text after load_of store_of store_register_of add_of skip_of swap_of last_addr last_word
 again_in format (Load to addr) has fits =
     rw (register_again to (numeral addr) fits.0, last_below_again 65536 addr fits.1) refl
@@ -273,7 +273,7 @@ again_in One (Swap to addr value) has fits = absurd cc
 again_in Two (Swap to addr value) has fits =
     rw (register_again to (numeral addr ++ 32 ∷ numeral value) fits.0, addr_again addr (numeral value) fits.1, last_below_again (2 ^ 64) value fits.2) refl
 
-pub instruction_again : (format : Format) (i : Instruction) → FitsIn format i → instruction_of format (instruction_text i) ≡ Some i
+pub instruction_again : (format : ProgramFormat) (i : Instruction) → FitsIn format i → instruction_of format (instruction_text i) ≡ Some i
 instruction_again format i fits = again_in format i fits.has fits.numbers
 
 -- format 2 has all instructions

@@ -6,7 +6,7 @@ use Rattle.std.specs.List.{AllByRecursion}
 use Rattle.std.proofs.lemmas.Bool.{cases_lt}
 use Rattle.std.proofs.lemmas.List.{length-map}
 use Rattle.decimal_text.proofs.Reading.{some_is}
-use Rattle.core_program.specs.declared.format.Format.{Format}
+use Rattle.core_program.specs.declared.format.ProgramFormat.{ProgramFormat}
 use Rattle.core_program.specs.declared.instruction.Instruction.{Instruction}
 use Rattle.core_program.specs.Answers.{SkipsInSetAt, IsLeast}
 use Rattle.core_program.specs.Grammar.{instruction_text, program_lines, sections, IsSection}
@@ -95,7 +95,7 @@ section_at (v ∷ sections) zero section lt is = ap (λ (w : Vec Instruction). S
 section_at (v ∷ sections) (suc n) section lt is = section_at sections n section (omega arith) is
 
 -- the section that comes next
-pub next_section : (format : Format) (sections : List (Vec Instruction)) (n : ℕ) (section : Vec Instruction) → AllByRecursion (IsSection format) (section_lists sections)
+pub next_section : (format : ProgramFormat) (sections : List (Vec Instruction)) (n : ℕ) (section : Vec Instruction) → AllByRecursion (IsSection format) (section_lists sections)
     → (n < length sections) × (section ≡ get_or sections n section)
     → (slice_get (section_lists sections) n ≡ Some section.items) × IsSection format section.items
 next_section format sections n section each (lt, is) =

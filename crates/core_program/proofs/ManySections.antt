@@ -1,7 +1,7 @@
 -- Sections, read one by one.
 use Rattle.std.proofs.Common.{◌≡◌, ℕ, ◌+◌, ◌-◌, ◌*◌, ◌<◌, ◌≤◌, List, [], ◌∷◌, ◌++◌, length, drop, refl, sym, ap, subst, ◌∙◌, arith, append_assoc, length-append}
 use Rattle.std.proofs.lemmas.List.{take-append-drop}
-use Rattle.core_program.specs.declared.format.Format.{Format}
+use Rattle.core_program.specs.declared.format.ProgramFormat.{ProgramFormat}
 use Rattle.core_program.specs.declared.instruction.Instruction.{Instruction}
 use Rattle.core_program.specs.declared.fault.ProgramFault.{ProgramFault}
 use Rattle.core_program.specs.declared.fault.ProgramFault.TheVariants.{BadLine, TooLong, SkipPastEnd, OutOfMemory}
@@ -16,13 +16,13 @@ use Rattle.core_program.proofs.SetLines.{sections_push}
 use Rattle.core_program.proofs.TextLines.{text_of-append, text_of-cons}
 
 -- the sections before core `core`, and the line after them
-pub record SectionsSoFar (format : Format) (cores : ℕ) (text : List ℕ) (programs : List (List Instruction)) (rest : List ℕ) (line core : ℕ) : Type 0 where
+pub record SectionsSoFar (format : ProgramFormat) (cores : ℕ) (text : List ℕ) (programs : List (List Instruction)) (rest : List ℕ) (line core : ℕ) : Type 0 where
   pub in_front : SectionsInFront format cores text programs rest
   pub line_is : line ≡ 2 + length (sections 0 programs)
   pub line_small : line ≤ 2 + length programs * 4097
   pub count : length programs ≡ core
 
-pub none_so_far : (format : Format) (cores : ℕ) (text : List ℕ) → SectionsSoFar format cores text [] text 2 0
+pub none_so_far : (format : ProgramFormat) (cores : ℕ) (text : List ℕ) → SectionsSoFar format cores text [] text 2 0
 none_so_far format cores text = record {
   in_front = record { within = omega arith; each = tt; text = refl; whole = λ wrong. absurd (omega arith) };
   line_is = refl;
@@ -38,7 +38,7 @@ more_text text rest behind programs program is more =
     ∙ ap (λ (xs : List ℕ). xs ++ behind) (sym (text_of-append (sections 0 programs) (core_text (length programs) ∷ program_lines program)))
     ∙ ap (λ (ls : List (List ℕ)). text_of ls ++ behind) (sym (sections_push programs program))
 
-pub one_more_section : (format : Format) (cores : ℕ) (text rest behind : List ℕ) (line next core : ℕ) (programs : List (List Instruction)) (section : Section)
+pub one_more_section : (format : ProgramFormat) (cores : ℕ) (text rest behind : List ℕ) (line next core : ℕ) (programs : List (List Instruction)) (section : Section)
     → SectionsSoFar format cores text programs rest line core → rest ≡ core_text core ++ 10 ∷ behind → core < cores → IsSectionOf format behind section
     → next ≡ line + (1 + length section.instructions.items)
     → SectionsSoFar format cores text (programs ++ section.instructions.items ∷ []) (drop section.taken behind) next (core + 1)
@@ -70,7 +70,7 @@ behind_front text front rest is =
     drop-append [] ys = refl
     drop-append (x ∷ xs) ys = drop-append xs ys
 
-pub all_sections : (format : Format) (cores : ℕ) (text rest : List ℕ) (line core : ℕ) (found : Sections) → cores ≤ 64
+pub all_sections : (format : ProgramFormat) (cores : ℕ) (text rest : List ℕ) (line core : ℕ) (found : Sections) → cores ≤ 64
     → SectionsSoFar format cores text (section_lists found.programs.items) rest line core → found.taken ≡ length text - length rest → found.line ≡ line
     → (core < cores → NoCoreInFront core rest) → AreSectionsOf format cores text found
 all_sections format cores text rest line core found few far taken-is line-is none =
@@ -85,7 +85,7 @@ all_sections format cores text rest line core found few far taken-is line-is non
           (subst (λ (n : ℕ). NoCoreInFront n rest) (sym far.count) (none (omega (arith, less, far.count))));
     }
 
-pub section_refused : (format : Format) (cores : ℕ) (text rest behind : List ℕ) (line core : ℕ) (programs : List (List Instruction)) (fault : ProgramFault)
+pub section_refused : (format : ProgramFormat) (cores : ℕ) (text rest behind : List ℕ) (line core : ℕ) (programs : List (List Instruction)) (fault : ProgramFault)
     → SectionsSoFar format cores text programs rest line core → rest ≡ core_text core ++ 10 ∷ behind → core < cores
     → IsSectionFault format (line + 1) behind fault → IsSectionsFault format cores text fault
 section_refused format cores text rest behind line core programs (BadLine k) far is less h = absurd h

@@ -2,7 +2,7 @@
 use Rattle.std.proofs.Common.{◌≡◌, ℕ, ◌+◌, ◌<◌, List, [], ◌∷◌, ◌++◌, length, take, drop, refl, sym, ap, subst, ◌∙◌, arith, append_assoc, append-nil, length-append}
 use Rattle.std.proofs.lemmas.List.{length-map, map-append, take-append-drop, length-take-le, length-drop}
 use Rattle.std.proofs.Math.Seq.{take-length}
-use Rattle.core_program.specs.declared.format.Format.{Format}
+use Rattle.core_program.specs.declared.format.ProgramFormat.{ProgramFormat}
 use Rattle.core_program.specs.declared.instruction.Instruction.{Instruction}
 use Rattle.core_program.specs.declared.fault.ProgramFault.{ProgramFault}
 use Rattle.core_program.specs.declared.fault.ProgramFault.TheVariants.{BadLine, TooLong, SkipPastEnd, OutOfMemory}
@@ -19,11 +19,11 @@ pub program_lines_no_lf : (program : List Instruction) → EachNoLf (program_lin
 program_lines_no_lf [] = tt
 program_lines_no_lf (i ∷ program) = (instruction_no_lf i, program_lines_no_lf program)
 
-has_lines : (format : Format) (Section : Format → List Instruction → Type 0) → HasLines (ProgramLines format Section)
+has_lines : (format : ProgramFormat) (Section : ProgramFormat → List Instruction → Type 0) → HasLines (ProgramLines format Section)
 has_lines format Section lines g = subst EachNoLf (sym g.1.1) (program_lines_no_lf g.0)
 
 -- each line of instructions is an instruction's
-pub line_of_program : (format : Format) (program : List Instruction) (front : List (List ℕ)) (next : List ℕ) (more : List (List ℕ)) → EachFits format program
+pub line_of_program : (format : ProgramFormat) (program : List Instruction) (front : List (List ℕ)) (next : List ℕ) (more : List (List ℕ)) → EachFits format program
     → front ++ next ∷ more ≡ program_lines program → (i : Instruction) × (FitsIn format i × (next ≡ instruction_text i))
 line_of_program format [] [] next more fits e = absurd cc
 line_of_program format [] (l ∷ front) next more fits e = absurd cc
@@ -31,13 +31,13 @@ line_of_program format (i ∷ program) [] next more fits e = (i, (fits.0, cc))
 line_of_program format (i ∷ program) (l ∷ front) next more fits e = line_of_program format program front next more fits.1 cc
 
 -- where no instruction comes first, no line of a program does
-none_follows : (format : Format) (Section : Format → List Instruction → Type 0) → ((p : List Instruction) → Section format p → EachFits format p) → (front : List (List ℕ)) (rest : List ℕ)
+none_follows : (format : ProgramFormat) (Section : ProgramFormat → List Instruction → Type 0) → ((p : List Instruction) → Section format p → EachFits format p) → (front : List (List ℕ)) (rest : List ℕ)
     → NoInstructionInFront format rest → NoneFollows (ProgramLines format Section) front rest
 none_follows format Section fits front rest none = λ next more behind g is.
     let there = line_of_program format g.0 front next more (fits g.0 g.1.0) g.1.1 in
     none there.0 behind (there.1.0, is ∙ ap (λ (l : List ℕ). l ++ 10 ∷ behind) there.1.1)
 
-pub bad_line : (format : Format) (text rest : List ℕ) (program : List Instruction) (k : ℕ) → IsSection format program → text ≡ text_of (program_lines program) ++ rest
+pub bad_line : (format : ProgramFormat) (text rest : List ℕ) (program : List Instruction) (k : ℕ) → IsSection format program → text ≡ text_of (program_lines program) ++ rest
     → NoInstructionInFront format rest → 0 < length rest → k ≡ length program + 1 → IsBadLine (ProgramLines format) text k
 bad_line format text rest program k section is none more k-is =
     let counted : k ≡ length (program_lines program) + 1 = k-is ∙ ap (λ (n : ℕ). n + 1) (sym (length-map program instruction_text)) in
@@ -50,7 +50,7 @@ bad_line format text rest program k section is none more k-is =
       wrong.wrong,
     )
 
-each_fits_take : (format : Format) (n : ℕ) (program : List Instruction) → EachFits format program → EachFits format (take n program)
+each_fits_take : (format : ProgramFormat) (n : ℕ) (program : List Instruction) → EachFits format program → EachFits format (take n program)
 each_fits_take format n program fits = each_fits_front (take n program) (drop n program) (subst (EachFits format) (sym (take-append-drop n program)) fits)
   where
     each_fits_front : (front back : List Instruction) → EachFits format (front ++ back) → EachFits format front
@@ -58,7 +58,7 @@ each_fits_take format n program fits = each_fits_front (take n program) (drop n 
     each_fits_front (i ∷ front) back fits = (fits.0, each_fits_front front back fits.1)
 
 -- the first 4,096 of more instructions
-pub first_section : (format : Format) (program : List Instruction) → EachFits format program → length program ≡ 4097 → IsSection format (take 4096 program)
+pub first_section : (format : ProgramFormat) (program : List Instruction) → EachFits format program → length program ≡ 4097 → IsSection format (take 4096 program)
 first_section format program fits long = record {
   few = omega (arith, length-take-le 4096 program (omega (arith, long)));
   each_fits = each_fits_take format 4096 program fits;
@@ -81,7 +81,7 @@ some_bytes (i ∷ program) rest some e =
     let is : instruction_text i ++ 10 ∷ (text_of (program_lines program) ++ rest) ≡ [] = sym (text_of-cons (instruction_text i) (program_lines program) rest) ∙ e in
     omega (arith, ap length is, length-append (instruction_text i) (10 ∷ (text_of (program_lines program) ++ rest)))
 
-pub too_long : (format : Format) (text rest : List ℕ) (program : List Instruction) → EachFits format program → length program ≡ 4097
+pub too_long : (format : ProgramFormat) (text rest : List ℕ) (program : List Instruction) → EachFits format program → length program ≡ 4097
     → text ≡ text_of (program_lines program) ++ rest → IsTooLong (ProgramLines format) text 4097
 too_long format text rest program fits long is =
     let front = program_lines (take 4096 program) in
@@ -102,7 +102,7 @@ too_long format text rest program fits long is =
       },
     )
 
-pub section_refused : (format : Format) (text : List ℕ) (fault : ProgramFault) → IsSectionFault format 1 text fault → IsProgramFault format text fault
+pub section_refused : (format : ProgramFormat) (text : List ℕ) (fault : ProgramFault) → IsSectionFault format 1 text fault → IsProgramFault format text fault
 section_refused format text (BadLine k) h = absurd h
 section_refused format text (TooLong k) (at, many) =
     subst (IsTooLong (ProgramLines format) text) (sym at) (too_long format text many.rest many.program many.each_fits many.long many.text)

@@ -1,7 +1,7 @@
 -- The instructions of a section, read one by one.
 use Rattle.std.proofs.Common.{◌≡◌, ℕ, List, [], ◌∷◌, ◌++◌, length, sym, ap, ◌∙◌, arith, append_assoc, length-append}
 use Rattle.std.proofs.lemmas.List.{map_push}
-use Rattle.core_program.specs.declared.format.Format.{Format}
+use Rattle.core_program.specs.declared.format.ProgramFormat.{ProgramFormat}
 use Rattle.core_program.specs.declared.instruction.Instruction.{Instruction}
 use Rattle.core_program.specs.Grammar.{instruction_text, program_lines, FitsIn, EachFits, IsSection}
 use Rattle.core_program.specs.Lines.{text_of}
@@ -9,11 +9,11 @@ use Rattle.core_program.specs.Sections.{InstructionInFront, IsTooMany}
 use Rattle.core_program.proofs.TextLines.{text_of-append, text_of-cons}
 
 -- the instructions so far, and the bytes after their lines
-pub record SoFar (format : Format) (text : List ℕ) (program : List Instruction) (rest : List ℕ) : Type 0 where
+pub record SoFar (format : ProgramFormat) (text : List ℕ) (program : List Instruction) (rest : List ℕ) : Type 0 where
   pub is_section : IsSection format program
   pub text_is : text ≡ text_of (program_lines program) ++ rest
 
-pub each_fits_push : (format : Format) (program : List Instruction) (i : Instruction) → EachFits format program → FitsIn format i → EachFits format (program ++ i ∷ [])
+pub each_fits_push : (format : ProgramFormat) (program : List Instruction) (i : Instruction) → EachFits format program → FitsIn format i → EachFits format (program ++ i ∷ [])
 each_fits_push format [] i all fits = (fits, tt)
 each_fits_push format (j ∷ program) i all fits = (all.0, each_fits_push format program i all.1 fits)
 
@@ -28,14 +28,14 @@ one_more_line program i behind =
     ∙ append_assoc (text_of lines) (text_of (line ∷ [])) behind
     ∙ ap (λ (xs : List ℕ). text_of lines ++ xs) (text_of-cons line [] behind)
 
-pub more_text : (format : Format) (text rest behind : List ℕ) (program : List Instruction) (i : Instruction)
+pub more_text : (format : ProgramFormat) (text rest behind : List ℕ) (program : List Instruction) (i : Instruction)
     → text ≡ text_of (program_lines program) ++ rest → InstructionInFront format i rest behind
     → text ≡ text_of (program_lines (program ++ i ∷ [])) ++ behind
 more_text format text rest behind program i is there =
     is ∙ ap (λ (xs : List ℕ). text_of (program_lines program) ++ xs) there.1 ∙ sym (one_more_line program i behind)
 
 -- one more than a section may have
-pub too_many : (format : Format) (text rest behind : List ℕ) (program : List Instruction) (i : Instruction) → SoFar format text program rest
+pub too_many : (format : ProgramFormat) (text rest behind : List ℕ) (program : List Instruction) (i : Instruction) → SoFar format text program rest
     → InstructionInFront format i rest behind → length program ≡ 4096 → IsTooMany format text
 too_many format text rest behind program i far there full = record {
   program = program ++ i ∷ [];

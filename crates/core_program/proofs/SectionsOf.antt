@@ -3,7 +3,7 @@ use Rattle.std.proofs.Common.{◌≡◌, ℕ, ◌+◌, ◌<◌, ◌≤◌, List,
 use Rattle.std.specs.List.{AllByRecursion}
 use Rattle.std.proofs.lemmas.List.{length-map, length-drop, length-take-le}
 use Rattle.decimal_text.proofs.Lines.{NoLf}
-use Rattle.core_program.specs.declared.format.Format.{Format}
+use Rattle.core_program.specs.declared.format.ProgramFormat.{ProgramFormat}
 use Rattle.core_program.specs.declared.instruction.Instruction.{Instruction}
 use Rattle.core_program.specs.Grammar.{instruction_text, core_text, program_lines, sections, EachFits, IsSection}
 use Rattle.core_program.specs.Lines.{text_of, BeginsText, IsFirstWrong}
@@ -15,7 +15,7 @@ use Rattle.core_program.proofs.TextLines.{text_of-append, text_of-cons, line_onc
 use Rattle.core_program.proofs.Wrong.{HasLines, CanGoOn, NoneFollows, begins, wrong_behind}
 
 -- texts of a grammar that have this first line, then sections of so many cores, and then a last part
-pub record HasSections (format : Format) (Grammar : List (List ℕ) → Type 0) (Section : List Instruction → Type 0) (Last : List ℕ → List (List ℕ) → Type 0) (header : List ℕ) (cores : ℕ) : Type 0 where
+pub record HasSections (format : ProgramFormat) (Grammar : List (List ℕ) → Type 0) (Section : List Instruction → Type 0) (Last : List ℕ → List (List ℕ) → Type 0) (header : List ℕ) (cores : ℕ) : Type 0 where
   pub lines : HasLines Grammar
   pub fits : (p : List Instruction) → Section p → EachFits format p
   pub can : (programs : List (List Instruction)) → length programs ≤ cores → AllByRecursion Section programs → CanGoOn Grammar (begun header programs)
@@ -26,7 +26,7 @@ pub record HasSections (format : Format) (Grammar : List (List ℕ) → Type 0) 
   pub last_other : (next : List ℕ) (more : List (List ℕ)) → Last next more → (i : Instruction) → instruction_text i ≡ next → ⊥
 
 -- the sections of these programs were read, and this line is the next
-pub record AfterSections (format : Format) (header : List ℕ) (cores : ℕ) (text : List ℕ) (programs : List (List Instruction)) (rest : List ℕ) (line : ℕ) : Type 0 where
+pub record AfterSections (format : ProgramFormat) (header : List ℕ) (cores : ℕ) (text : List ℕ) (programs : List (List Instruction)) (rest : List ℕ) (line : ℕ) : Type 0 where
   pub within : length programs ≤ cores
   pub each : AllByRecursion (IsSection format) programs
   pub text_is : text ≡ text_of (begun header programs) ++ rest
@@ -38,13 +38,13 @@ pub record NotNext (Last : List ℕ → List (List ℕ) → Type 0) (cores : ℕ
   pub no_core : length programs < cores → (behind : List ℕ) → rest ≡ core_text (length programs) ++ 10 ∷ behind → ⊥
   pub no_last : length programs ≡ cores → (next : List ℕ) (more : List (List ℕ)) (behind : List ℕ) → Last next more → rest ≡ next ++ 10 ∷ behind → ⊥
 
-pub each_fits_of : (format : Format) (programs : List (List Instruction)) → AllByRecursion (IsSection format) programs → AllByRecursion (EachFits format) programs
+pub each_fits_of : (format : ProgramFormat) (programs : List (List Instruction)) → AllByRecursion (IsSection format) programs → AllByRecursion (EachFits format) programs
 each_fits_of format [] each = tt
 each_fits_of format (program ∷ programs) each = (each.0.each_fits, each_fits_of format programs each.1)
 
 -- ---- a line that is wrong
 
-pub line_wrong : (format : Format) (Grammar : List (List ℕ) → Type 0) (Section : List Instruction → Type 0) (Last : List ℕ → List (List ℕ) → Type 0) (header : List ℕ) (cores : ℕ)
+pub line_wrong : (format : ProgramFormat) (Grammar : List (List ℕ) → Type 0) (Section : List Instruction → Type 0) (Last : List ℕ → List (List ℕ) → Type 0) (header : List ℕ) (cores : ℕ)
     → HasSections format Grammar Section Last header cores → (text rest : List ℕ) (line : ℕ) (programs : List (List Instruction)) → AllByRecursion Section programs
     → AfterSections format header cores text programs rest line → NotNext Last cores programs rest → IsFirstWrong Grammar text line
 line_wrong format Grammar Section Last header cores has text rest line programs each stands others =
@@ -92,7 +92,7 @@ length-begun programs program =
     let pushed : length (begun [] (programs ++ program ∷ [])) ≡ length (begun [] programs ++ core_text (length programs) ∷ program_lines program) = ap length (begun_push [] programs program) in
     omega (arith, pushed, length-append (begun [] programs) (core_text (length programs) ∷ program_lines program), length-map program instruction_text)
 
-pub each_push : (format : Format) (programs : List (List Instruction)) (program : List Instruction) → AllByRecursion (IsSection format) programs → IsSection format program
+pub each_push : (format : ProgramFormat) (programs : List (List Instruction)) (program : List Instruction) → AllByRecursion (IsSection format) programs → IsSection format program
     → AllByRecursion (IsSection format) (programs ++ program ∷ [])
 each_push format [] program each section = (section, tt)
 each_push format (p ∷ programs) program each section = (each.0, each_push format programs program each.1 section)
@@ -114,11 +114,11 @@ first_instruction (i ∷ program) rest line behind some other none e =
     (line_once (instruction_text i) line (text_of (program_lines program) ++ rest) behind (instruction_no_lf i) none
     (sym (text_of-cons (instruction_text i) (program_lines program) rest) ∙ e)).0
 
-fits_push : (format : Format) (programs : List (List Instruction)) (program : List Instruction) → AllByRecursion (EachFits format) programs → EachFits format program → AllByRecursion (EachFits format) (programs ++ program ∷ [])
+fits_push : (format : ProgramFormat) (programs : List (List Instruction)) (program : List Instruction) → AllByRecursion (EachFits format) programs → EachFits format program → AllByRecursion (EachFits format) (programs ++ program ∷ [])
 fits_push format [] program each fits = (fits, tt)
 fits_push format (p ∷ programs) program each fits = (each.0, fits_push format programs program each.1 fits)
 
-module _ (format : Format) (Last : List ℕ → List (List ℕ) → Type 0) (header : List ℕ) (cores : ℕ) (text rest behind : List ℕ) (line k : ℕ) (programs : List (List Instruction)) (program : List Instruction)
+module _ (format : ProgramFormat) (Last : List ℕ → List (List ℕ) → Type 0) (header : List ℕ) (cores : ℕ) (text rest behind : List ℕ) (line k : ℕ) (programs : List (List Instruction)) (program : List Instruction)
     (stands : AfterSections format header cores text programs rest line) (is : FromSection rest program (length programs) behind) (more : length programs < cores)
     (fits : EachFits format program) (long : length program ≡ 4097) (k-is : k ≡ line + 1 + 4096) where
   abbrev front : List Instruction

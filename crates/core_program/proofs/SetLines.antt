@@ -7,7 +7,7 @@ use Rattle.decimal_text.specs.Numbers.{numeral}
 use Rattle.decimal_text.proofs.Lines.{NoLf, NoLf-append, numeral_no_lf, const_no_lf}
 use Rattle.core_program.specs.declared.instruction.Instruction.{Instruction}
 use Rattle.core_program.specs.declared.instruction.Instruction.TheVariants.{Load, Store, StoreRegister, Add, SkipIfZero, Swap}
-use Rattle.core_program.specs.declared.format.Format.{Format}
+use Rattle.core_program.specs.declared.format.ProgramFormat.{ProgramFormat}
 use Rattle.core_program.specs.Answers.{SetLines}
 use Rattle.core_program.specs.Grammar.{instruction_text, header_text, core_text, end_text, format_number, program_lines, sections, set_lines, FitsIn, EachFits}
 use Rattle.core_program.specs.SetParts.{SetParts}
@@ -45,7 +45,7 @@ set_no_lf set = (
   EachNoLf-append (sections 0 set.programs) (end_text ∷ []) (sections_no_lf 0 set.programs) (const_no_lf end_text refl, tt),
 )
 
-pub has_lines : (Section : Format → List Instruction → Type 0) → HasLines (SetLines Section)
+pub has_lines : (Section : ProgramFormat → List Instruction → Type 0) → HasLines (SetLines Section)
 has_lines Section lines g = subst EachNoLf (sym g.1.1) (set_no_lf g.0)
 
 -- ---- lines of different kinds
@@ -89,12 +89,12 @@ sections-append core (program ∷ front) back =
     (sym (append_assoc (program_lines program) (sections (suc core) front) (sections (core + suc (length front)) back)))
 
 -- what two programs have in common at their fronts: they are one, or one goes on where the other ends
-pub data Compared (format : Format) (p q : List Instruction) (xs ys : List (List ℕ)) : Type 0 where
+pub data Compared (format : ProgramFormat) (p q : List Instruction) (xs ys : List (List ℕ)) : Type 0 where
   equal : p ≡ q → xs ≡ ys → Compared format p q xs ys
   first_longer : (i : Instruction) (more : List (List ℕ)) → FitsIn format i → length q < length p → ys ≡ instruction_text i ∷ more → Compared format p q xs ys
   second_longer : (i : Instruction) (more : List (List ℕ)) → length p < length q → xs ≡ instruction_text i ∷ more → Compared format p q xs ys
 
-pub compared : (format : Format) (p q : List Instruction) (xs ys : List (List ℕ)) → EachFits format p → EachFits format q → program_lines p ++ xs ≡ program_lines q ++ ys
+pub compared : (format : ProgramFormat) (p q : List Instruction) (xs ys : List (List ℕ)) → EachFits format p → EachFits format q → program_lines p ++ xs ≡ program_lines q ++ ys
     → Compared format p q xs ys
 compared format [] [] xs ys f g e = equal refl e
 compared format [] (j ∷ q) xs ys f g e = second_longer j (program_lines q ++ ys) (omega arith) e
@@ -107,14 +107,14 @@ compared format (i ∷ p) (j ∷ q) xs ys f g e = elim (compared format p q xs y
 
 -- What may come after the sections of these programs, where `count` sections come before a last part of a text: one more
 -- instruction of the last of them, the line of the next core, or the first line of the last part and what is behind it.
-pub data Next (format : Format) (Section : List Instruction → Type 0) (Last : List ℕ → List (List ℕ) → Type 0) (count core : ℕ) (programs : List (List Instruction)) (next : List ℕ) (more : List (List ℕ)) : Type 0 where
+pub data Next (format : ProgramFormat) (Section : List Instruction → Type 0) (Last : List ℕ → List (List ℕ) → Type 0) (count core : ℕ) (programs : List (List Instruction)) (next : List ℕ) (more : List (List ℕ)) : Type 0 where
   goes_on : (i : Instruction) (before : List (List Instruction)) (last longer : List Instruction) → FitsIn format i → next ≡ instruction_text i
       → programs ≡ before ++ last ∷ [] → Section longer → length last < length longer → Next format Section Last count core programs next more
   next_core : next ≡ core_text (core + length programs) → length programs < count → Next format Section Last count core programs next more
   last_line : Last next more → length programs ≡ count → Next format Section Last count core programs next more
 
 -- after one more program
-next_behind : (format : Format) (Section : List Instruction → Type 0) (Last : List ℕ → List (List ℕ) → Type 0) (count core : ℕ) (program : List Instruction) (programs : List (List Instruction)) (next : List ℕ) (more : List (List ℕ))
+next_behind : (format : ProgramFormat) (Section : List Instruction → Type 0) (Last : List ℕ → List (List ℕ) → Type 0) (count core : ℕ) (program : List Instruction) (programs : List (List Instruction)) (next : List ℕ) (more : List (List ℕ))
     → Next format Section Last count (suc core) programs next more → Next format Section Last (suc count) core (program ∷ programs) next more
 next_behind format Section Last count core program programs next more (goes_on i before last longer fits is at section less) =
     goes_on i (program ∷ before) last longer fits is (ap (λ (ps : List (List Instruction)). program ∷ ps) at) section less
@@ -130,7 +130,7 @@ pub record IsOther (line : List ℕ) : Type 0 where
 pub end_is_other : IsOther end_text
 end_is_other = record { no_instruction = instruction_no_end; no_core = core_no_end }
 
-pub next_of : (format : Format) (Section : List Instruction → Type 0) → ((p : List Instruction) → Section p → EachFits format p) → (Last : List ℕ → List (List ℕ) → Type 0)
+pub next_of : (format : ProgramFormat) (Section : List Instruction → Type 0) → ((p : List Instruction) → Section p → EachFits format p) → (Last : List ℕ → List (List ℕ) → Type 0)
     → (line : List ℕ) (others : List (List ℕ)) → IsOther line → Last line others → (core : ℕ)
     → (set programs : List (List Instruction)) (next : List ℕ) (more : List (List ℕ)) → AllByRecursion Section set
     → AllByRecursion (EachFits format) programs → sections core set ++ line ∷ others ≡ sections core programs ++ next ∷ more
@@ -221,7 +221,7 @@ pub sections_no_other : (line : List ℕ) → IsOther line → (programs : List 
 sections_no_other line other programs front more e = is_among line front more (subst (NoneIs line) e (sections_have_none line other 0 programs))
 
 -- the lines after the header
-pub behind_header : (format : Format) (cores : ℕ) (set : SetParts) (lines : List (List ℕ)) → header_text (format_number format) cores ∷ lines ≡ set_lines set
+pub behind_header : (format : ProgramFormat) (cores : ℕ) (set : SetParts) (lines : List (List ℕ)) → header_text (format_number format) cores ∷ lines ≡ set_lines set
     → (format ≡ set.format) × (cores ≡ length set.programs) × (lines ≡ sections 0 set.programs ++ end_text ∷ [])
 behind_header format cores set lines e =
     let once = header_once format set.format cores (length set.programs) cc in

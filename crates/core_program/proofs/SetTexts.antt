@@ -5,8 +5,8 @@ use Rattle.std.proofs.lemmas.List.{length-drop, map_push}
 use Rattle.std.proofs.Math.Seq.{take-length}
 use Rattle.std.specs.Global.{Vec}
 use Rattle.decimal_text.proofs.Lines.{NoLf, const_no_lf}
-use Rattle.core_program.specs.declared.format.Format.{Format}
-use Rattle.core_program.specs.declared.format.Format.TheVariants.{One}
+use Rattle.core_program.specs.declared.format.ProgramFormat.{ProgramFormat}
+use Rattle.core_program.specs.declared.format.ProgramFormat.TheVariants.{One}
 use Rattle.core_program.specs.declared.instruction.Instruction.{Instruction}
 use Rattle.core_program.specs.declared.fault.ProgramFault.{ProgramFault}
 use Rattle.core_program.specs.declared.fault.ProgramFault.TheVariants.{BadLine, TooLong, SkipPastEnd, OutOfMemory}
@@ -25,12 +25,12 @@ use Rattle.core_program.proofs.Wrong.{CanGoOn, NoneFollows, wrong_behind}
 abbrev pub IsLast : List ℕ → List (List ℕ) → Type 0
 IsLast next more = (next ≡ end_text) × (more ≡ [])
 
-empty_section : (format : Format) → IsSection format []
+empty_section : (format : ProgramFormat) → IsSection format []
 empty_section format = record { few = omega arith; each_fits = tt }
 
 -- ---- the sections of a set
 
-begun_goes_on : (format : Format) (Section : Format → List Instruction → Type 0) → Section format [] → (cores : ℕ) (programs : List (List Instruction)) → 1 ≤ cores → cores ≤ 64
+begun_goes_on : (format : ProgramFormat) (Section : ProgramFormat → List Instruction → Type 0) → Section format [] → (cores : ℕ) (programs : List (List Instruction)) → 1 ≤ cores → cores ≤ 64
     → length programs ≤ cores → AllByRecursion (Section format) programs → CanGoOn (SetLines Section) (begun (header_text (format_number format) cores) programs)
 begun_goes_on format Section none cores programs some few within each =
     let full = filled_up (Section format) none cores programs within each in
@@ -49,23 +49,23 @@ begun_goes_on format Section none cores programs some few within each =
       ),
     )
 
-next_of_begun : (format : Format) (Section : Format → List Instruction → Type 0) → ((p : List Instruction) → Section format p → EachFits format p) → (cores : ℕ)
+next_of_begun : (format : ProgramFormat) (Section : ProgramFormat → List Instruction → Type 0) → ((p : List Instruction) → Section format p → EachFits format p) → (cores : ℕ)
     (programs : List (List Instruction)) (next : List ℕ) (more : List (List ℕ)) → AllByRecursion (EachFits format) programs
     → SetLines Section (begun (header_text (format_number format) cores) programs ++ next ∷ more) → Next format (Section format) IsLast cores 0 programs next more
 next_of_begun format Section fits cores programs next more each (set, p) =
     let b = behind_header format cores set (sections 0 programs ++ next ∷ more) p.1 in
-    let all : AllByRecursion (Section format) set.programs = subst (λ (f : Format). AllByRecursion (Section f) set.programs) (sym b.0) p.0.each in
+    let all : AllByRecursion (Section format) set.programs = subst (λ (f : ProgramFormat). AllByRecursion (Section f) set.programs) (sym b.0) p.0.each in
     subst (λ (n : ℕ). Next format (Section format) IsLast n 0 programs next more) (sym b.1)
     (next_of format (Section format) fits IsLast end_text [] end_is_other (refl, refl) 0 set.programs programs next more all each (sym b.2))
 
 -- lines that begin a set aren't the lines of a whole one
-begun_no_set : (format : Format) (Section : Format → List Instruction → Type 0) (cores : ℕ) (programs : List (List Instruction))
+begun_no_set : (format : ProgramFormat) (Section : ProgramFormat → List Instruction → Type 0) (cores : ℕ) (programs : List (List Instruction))
     → SetLines Section (begun (header_text (format_number format) cores) programs) → ⊥
 begun_no_set format Section cores programs (set, p) =
     sections_no_other end_text end_is_other programs (sections 0 set.programs) [] (behind_header format cores set (sections 0 programs) p.1).2
 
 -- a set of this format and so many cores is a text with sections
-pub set_has : (format : Format) (Section : Format → List Instruction → Type 0) → Section format [] → ((p : List Instruction) → Section format p → EachFits format p)
+pub set_has : (format : ProgramFormat) (Section : ProgramFormat → List Instruction → Type 0) → Section format [] → ((p : List Instruction) → Section format p → EachFits format p)
     → (cores : ℕ) → 1 ≤ cores → cores ≤ 64
     → HasSections format (SetLines Section) (Section format) IsLast (header_text (format_number format) cores) cores
 set_has format Section empty fit cores some few = record {
@@ -78,11 +78,11 @@ set_has format Section empty fit cores some few = record {
   last_other = λ next more is i e. instruction_no_end i (e ∙ is.0);
 }
 
-limited : (format : Format) (cores : ℕ) → 1 ≤ cores → cores ≤ 64
+limited : (format : ProgramFormat) (cores : ℕ) → 1 ≤ cores → cores ≤ 64
     → HasSections format (SetLines IsSection) (IsSection format) IsLast (header_text (format_number format) cores) cores
 limited format cores some few = set_has format IsSection (empty_section format) (λ p s. s.each_fits) cores some few
 
-unlimited : (format : Format) (cores : ℕ) → 1 ≤ cores → cores ≤ 64
+unlimited : (format : ProgramFormat) (cores : ℕ) → 1 ≤ cores → cores ≤ 64
     → HasSections format (SetLines EachFits) (EachFits format) IsLast (header_text (format_number format) cores) cores
 unlimited format cores some few = set_has format EachFits tt (λ p fits. fits) cores some few
 
@@ -92,8 +92,8 @@ unlimited format cores some few = set_has format EachFits tt (λ p fits. fits) c
 abbrev one_empty : SetParts
 one_empty = record { format = One; programs = [] ∷ [] }
 
-header_wrong : (Section : Format → List Instruction → Type 0) → Section One [] → (text : List ℕ)
-    → ((format : Format) (cores : ℕ) (rest : List ℕ) → HeaderInFront format cores text rest → ⊥) → IsFirstWrong (SetLines Section) text 1
+header_wrong : (Section : ProgramFormat → List Instruction → Type 0) → Section One [] → (text : List ℕ)
+    → ((format : ProgramFormat) (cores : ℕ) (rest : List ℕ) → HeaderInFront format cores text rest → ⊥) → IsFirstWrong (SetLines Section) text 1
 header_wrong Section empty text none =
     wrong_behind (SetLines Section) [] text text 1 (has_lines Section) refl refl
     (set_lines one_empty, (one_empty, (record { some = omega arith; few = omega arith; each = (empty, tt) }, refl))) follows (λ e g. cc)
@@ -103,13 +103,13 @@ header_wrong Section empty text none =
         let first : next ≡ header_text (format_number set.format) (length set.programs) = cc in
         none set.format (length set.programs) behind (p.0.some, p.0.few, is ∙ ap (λ (l : List ℕ). l ++ 10 ∷ behind) first)
 
-pub bad_header : (text : List ℕ) → ((format : Format) (cores : ℕ) (rest : List ℕ) → HeaderInFront format cores text rest → ⊥) → IsBadLine SetLines text 1
+pub bad_header : (text : List ℕ) → ((format : ProgramFormat) (cores : ℕ) (rest : List ℕ) → HeaderInFront format cores text rest → ⊥) → IsBadLine SetLines text 1
 bad_header text none = (header_wrong IsSection (empty_section One) text none, (header_wrong EachFits tt text none).wrong)
 
 -- ---- the line of a core, and the last line
 
 -- the sections that come after a header
-pub after_header : (format : Format) (text body rest : List ℕ) (header : List ℕ) (cores line : ℕ) (programs : List (List Instruction)) → text ≡ header ++ 10 ∷ body
+pub after_header : (format : ProgramFormat) (text body rest : List ℕ) (header : List ℕ) (cores line : ℕ) (programs : List (List Instruction)) → text ≡ header ++ 10 ∷ body
     → SectionsInFront format cores body programs rest → line ≡ 2 + length (sections 0 programs) → AfterSections format header cores text programs rest line
 after_header format text body rest header cores line programs is there line-is = record {
   within = there.within;
@@ -119,7 +119,7 @@ after_header format text body rest header cores line programs is there line-is =
   all = there.whole;
 }
 
-pub bad_line_of_set : (format : Format) (text rest : List ℕ) (cores line : ℕ) (programs : List (List Instruction)) → 1 ≤ cores → cores ≤ 64
+pub bad_line_of_set : (format : ProgramFormat) (text rest : List ℕ) (cores line : ℕ) (programs : List (List Instruction)) → 1 ≤ cores → cores ≤ 64
     → AfterSections format (header_text (format_number format) cores) cores text programs rest line → NotNext IsLast cores programs rest → IsBadLine SetLines text line
 bad_line_of_set format text rest cores line programs some few stands others = (
   line_wrong format (SetLines IsSection) (IsSection format) IsLast (header_text (format_number format) cores) cores (limited format cores some few) text rest line programs stands.each stands others,
@@ -128,7 +128,7 @@ bad_line_of_set format text rest cores line programs some few stands others = (
 )
 
 -- the line of a core is missing
-pub no_core_line : (format : Format) (text rest : List ℕ) (cores line : ℕ) (programs : List (List Instruction)) → 1 ≤ cores → cores ≤ 64
+pub no_core_line : (format : ProgramFormat) (text rest : List ℕ) (cores line : ℕ) (programs : List (List Instruction)) → 1 ≤ cores → cores ≤ 64
     → AfterSections format (header_text (format_number format) cores) cores text programs rest line → length programs < cores
     → ((behind : List ℕ) → rest ≡ core_text (length programs) ++ 10 ∷ behind → ⊥) → IsBadLine SetLines text line
 no_core_line format text rest cores line programs some few stands less none =
@@ -138,7 +138,7 @@ no_core_line format text rest cores line programs some few stands less none =
     })
 
 -- the last line is
-pub no_last_line : (format : Format) (text rest : List ℕ) (cores line : ℕ) (programs : List (List Instruction)) → 1 ≤ cores → cores ≤ 64
+pub no_last_line : (format : ProgramFormat) (text rest : List ℕ) (cores line : ℕ) (programs : List (List Instruction)) → 1 ≤ cores → cores ≤ 64
     → AfterSections format (header_text (format_number format) cores) cores text programs rest line → length programs ≡ cores
     → ((behind : List ℕ) → rest ≡ end_text ++ 10 ∷ behind → ⊥) → IsBadLine SetLines text line
 no_last_line format text rest cores line programs some few stands count none =
@@ -150,7 +150,7 @@ no_last_line format text rest cores line programs some few stands count none =
 -- ---- the last line
 
 -- the sections of all cores and the last line
-whole : (format : Format) (text rest behind : List ℕ) (cores line : ℕ) (programs : List (List Instruction)) → AfterSections format (header_text (format_number format) cores) cores text programs rest line
+whole : (format : ProgramFormat) (text rest behind : List ℕ) (cores line : ℕ) (programs : List (List Instruction)) → AfterSections format (header_text (format_number format) cores) cores text programs rest line
     → rest ≡ end_text ++ 10 ∷ behind → text ≡ text_of (begun (header_text (format_number format) cores) programs ++ end_text ∷ []) ++ behind
 whole format text rest behind cores line programs stands is =
     let front = begun (header_text (format_number format) cores) programs in
@@ -158,7 +158,7 @@ whole format text rest behind cores line programs stands is =
     ∙ sym (append_assoc (text_of front) (text_of (end_text ∷ [])) behind)
     ∙ ap (λ (xs : List ℕ). xs ++ behind) (sym (text_of-append front (end_text ∷ [])))
 
-lines_of_set : (format : Format) (cores : ℕ) (programs : List (List Instruction)) → length programs ≡ cores
+lines_of_set : (format : ProgramFormat) (cores : ℕ) (programs : List (List Instruction)) → length programs ≡ cores
     → begun (header_text (format_number format) cores) programs ++ end_text ∷ [] ≡ set_lines (record { format = format; programs = programs })
 lines_of_set format cores programs count = ap (λ (n : ℕ). header_text (format_number format) n ∷ (sections 0 programs ++ end_text ∷ [])) (sym count)
 
@@ -166,7 +166,7 @@ set_of : (Section : List Instruction → Type 0) (cores : ℕ) (programs : List 
     → AllByRecursion Section programs → length programs ≡ cores → IsSetOf Section programs
 set_of Section cores programs some few each count = record { some = omega (arith, some, count); few = omega (arith, few, count); each = each }
 
-more_wrong : (format : Format) (Section : Format → List Instruction → Type 0) → ((p : List Instruction) → Section format p → EachFits format p) → (text rest behind : List ℕ) (cores line k : ℕ)
+more_wrong : (format : ProgramFormat) (Section : ProgramFormat → List Instruction → Type 0) → ((p : List Instruction) → Section format p → EachFits format p) → (text rest behind : List ℕ) (cores line k : ℕ)
     (programs : List (List Instruction)) → 1 ≤ cores → cores ≤ 64 → AllByRecursion (Section format) programs → AfterSections format (header_text (format_number format) cores) cores text programs rest line
     → length programs ≡ cores → rest ≡ end_text ++ 10 ∷ behind → 0 < length behind → k ≡ line + 1 → IsFirstWrong (SetLines Section) text k
 more_wrong format Section fits text rest behind cores line k programs some few each stands count is more k-is =
@@ -189,7 +189,7 @@ more_wrong format Section fits text rest behind cores line k programs some few e
         (next_of_begun format Section fits cores programs end_text (next ∷ others) (each_fits_of format programs stands.each)
         (subst (SetLines Section) (append_assoc (begun (header_text (format_number format) cores) programs) (end_text ∷ []) (next ∷ others)) g))
 
-pub more_behind : (format : Format) (text rest behind : List ℕ) (cores line k : ℕ) (programs : List (List Instruction)) → 1 ≤ cores → cores ≤ 64
+pub more_behind : (format : ProgramFormat) (text rest behind : List ℕ) (cores line k : ℕ) (programs : List (List Instruction)) → 1 ≤ cores → cores ≤ 64
     → AfterSections format (header_text (format_number format) cores) cores text programs rest line
     → length programs ≡ cores → rest ≡ end_text ++ 10 ∷ behind → 0 < length behind → k ≡ line + 1 → IsBadLine SetLines text k
 more_behind format text rest behind cores line k programs some few stands count is more k-is = (
@@ -199,7 +199,7 @@ more_behind format text rest behind cores line k programs some few stands count 
 
 -- ---- what a reader of sections refuses
 
-pub sections_refused : (format : Format) (text body : List ℕ) (cores : ℕ) (fault : ProgramFault) → HeaderInFront format cores text body
+pub sections_refused : (format : ProgramFormat) (text body : List ℕ) (cores : ℕ) (fault : ProgramFault) → HeaderInFront format cores text body
     → IsSectionsFault format cores body fault → IsLineFault text fault
 sections_refused format text body cores (BadLine k) there h = absurd h
 sections_refused format text body cores (SkipPastEnd k) there h = absurd h

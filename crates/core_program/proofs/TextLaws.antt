@@ -3,7 +3,7 @@ use Rattle.std.proofs.Common.{◌≡◌, ℕ, zero, suc, ◌-◌, ◌<◌, ◌�
 use Rattle.std.specs.List.{AllByRecursion}
 use Rattle.std.proofs.lemmas.Bool.{cases_lt}
 use Rattle.std.proofs.lemmas.List.{take-append-drop, append_cancel_left}
-use Rattle.core_program.specs.declared.format.Format.{Format}
+use Rattle.core_program.specs.declared.format.ProgramFormat.{ProgramFormat}
 use Rattle.core_program.specs.declared.instruction.Instruction.{Instruction}
 use Rattle.core_program.specs.declared.fault.ProgramFault.{ProgramFault}
 use Rattle.core_program.specs.declared.fault.ProgramFault.TheVariants.{BadLine, TooLong, SkipPastEnd, OutOfMemory}
@@ -31,7 +31,7 @@ text_once lines others p q e =
       ]
     ]
 
-program_once : (left right : Format) (p q : List Instruction) → EachFits left p → EachFits right q → program_lines p ≡ program_lines q → p ≡ q
+program_once : (left right : ProgramFormat) (p q : List Instruction) → EachFits left p → EachFits right q → program_lines p ≡ program_lines q → p ≡ q
 program_once left right [] [] f g e = refl
 program_once left right [] (j ∷ q) f g e = absurd cc
 program_once left right (i ∷ p) [] f g e = absurd cc
@@ -40,7 +40,7 @@ program_once left right (i ∷ p) (j ∷ q) f g e =
     let rest : p ≡ q = program_once left right p q f.1 g.1 cc in
     cc
 
-pub one_program : (left right : Format) (bytes : List ℕ) (p q : List Instruction) → SpellsProgram left bytes p → SpellsProgram right bytes q → p ≡ q
+pub one_program : (left right : ProgramFormat) (bytes : List ℕ) (p q : List Instruction) → SpellsProgram left bytes p → SpellsProgram right bytes q → p ≡ q
 one_program left right bytes p q (s, p-is) (t, q-is) =
     program_once left right p q s.each_fits t.each_fits
     (text_once (program_lines p) (program_lines q) (program_lines_no_lf p) (program_lines_no_lf q) (sym p-is ∙ q-is))
@@ -50,7 +50,7 @@ no_instruction : (core : ℕ) (rest : List (List Instruction)) (i : Instruction)
 no_instruction core [] i lines is = instruction_no_end i cc
 no_instruction core (p ∷ rest) i lines is = instruction_no_core i core cc
 
-sections_once : (format : Format) (core : ℕ) (s t : List (List Instruction)) → AllByRecursion (IsSection format) s → AllByRecursion (IsSection format) t
+sections_once : (format : ProgramFormat) (core : ℕ) (s t : List (List Instruction)) → AllByRecursion (IsSection format) s → AllByRecursion (IsSection format) t
     → sections core s ++ end_text ∷ [] ≡ sections core t ++ end_text ∷ [] → s ≡ t
 sections_once format core [] [] f g e = refl
 sections_once format core [] (q ∷ t) f g e = absurd (core_no_end core cc)
@@ -72,14 +72,14 @@ pub one_set : (bytes : List ℕ) (s t : SetParts) → SpellsSet bytes s → Spel
 one_set bytes s t (f, s-is) (g, t-is) =
     let lines = text_once (set_lines s) (set_lines t) (set_no_lf s) (set_no_lf t) (sym s-is ∙ t-is) in
     let behind = behind_header s.format (length s.programs) t (sections 0 s.programs ++ end_text ∷ []) lines in
-    let each : AllByRecursion (IsSection s.format) t.programs = subst (λ (x : Format). AllByRecursion (IsSection x) t.programs) (sym behind.0) g.each in
+    let each : AllByRecursion (IsSection s.format) t.programs = subst (λ (x : ProgramFormat). AllByRecursion (IsSection x) t.programs) (sym behind.0) g.each in
     let programs : s.programs ≡ t.programs = sections_once s.format 0 s.programs t.programs f.each each behind.2 in
     let format : s.format ≡ t.format = behind.0 in
     λ i. record { format = format i; programs = programs i }
 
 -- ---- no fault
 
-no_wrong_program : (format : Format) (bytes : List ℕ) (program : List Instruction) (k : ℕ) → SpellsProgram format bytes program → IsFirstWrong (ProgramLines format IsSection) bytes k → ⊥
+no_wrong_program : (format : ProgramFormat) (bytes : List ℕ) (program : List Instruction) (k : ℕ) → SpellsProgram format bytes program → IsFirstWrong (ProgramLines format IsSection) bytes k → ⊥
 no_wrong_program format bytes program k (section, is) wrong = wrong.no_text (program_lines program, ((program, (section, refl)), is))
 
 no_wrong_set : (bytes : List ℕ) (set : SetParts) (k : ℕ) → SpellsSet bytes set → IsFirstWrong (SetLines IsSection) bytes k → ⊥
@@ -88,7 +88,7 @@ no_wrong_set bytes set k (all, is) wrong = wrong.no_text (set_lines set, ((set, 
 no_jump : (program : List Instruction) (k : ℕ) → IsProgram program → SkipsAt program k → ⊥
 no_jump program k is s = let wrong : true ≡ false = sym s.passes ∙ is.inside s.index in cc
 
-pub program_quiet : (format : Format) (bytes : List ℕ) (program : List Instruction) (fault : ProgramFault) → SpellsProgram format bytes program → IsProgram program
+pub program_quiet : (format : ProgramFormat) (bytes : List ℕ) (program : List Instruction) (fault : ProgramFault) → SpellsProgram format bytes program → IsProgram program
     → IsProgramFault format bytes fault → fault ≡ OutOfMemory
 program_quiet format bytes program (BadLine k) spells is h = absurd (no_wrong_program format bytes program k spells h.0)
 program_quiet format bytes program (TooLong k) spells is h = absurd (no_wrong_program format bytes program k spells h.0)
@@ -146,7 +146,7 @@ wrong_once Grammar bytes j k p q =
 least_once : (Holds : ℕ → Type 0) (j k : ℕ) → IsLeast Holds j → IsLeast Holds k → j ≡ k
 least_once Holds j k p q = let a = p.1 k q.0 in let b = q.1 j p.0 in omega arith
 
-pub one_program_fault : (format : Format) → AtMostOneFault (IsProgramFault format)
+pub one_program_fault : (format : ProgramFormat) → AtMostOneFault (IsProgramFault format)
 one_program_fault format bytes (BadLine j) (BadLine k) p q f g = ap (λ (n : ℕ). BadLine n) (wrong_once (ProgramLines format IsSection) bytes j k p.0 q.0)
 one_program_fault format bytes (BadLine j) (TooLong k) p q f g = absurd (p.1 (subst (BeginsText (ProgramLines format EachFits) bytes) (wrong_once (ProgramLines format IsSection) bytes k j q.0 p.0) q.1))
 one_program_fault format bytes (BadLine j) (SkipPastEnd k) p (program, (spells, least)) f g = absurd (no_wrong_program format bytes program j spells p.0)

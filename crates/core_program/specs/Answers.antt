@@ -1,7 +1,7 @@
 -- The faults of programs and of sets of programs, and what their parsers answer.
 use Rattle.std.specs.Prelude.{◌≡◌, ℕ, ◌+◌, ◌≤◌, true, List, length, take, slice_get, Some}
 use Rattle.core_program.specs.declared.instruction.Instruction.{Instruction}
-use Rattle.core_program.specs.declared.format.Format.{Format}
+use Rattle.core_program.specs.declared.format.ProgramFormat.{ProgramFormat}
 use Rattle.core_program.specs.declared.fault.ProgramFault.{ProgramFault}
 use Rattle.core_program.specs.declared.fault.ProgramFault.TheVariants.{BadLine, TooLong, SkipPastEnd, OutOfMemory}
 use Rattle.core_program.specs.Grammar.{program_lines, sections, set_lines, EachFits, IsSection, IsSetOf}
@@ -14,20 +14,20 @@ use Rattle.core_program.specs.Shape.{is_skip_past_end}
 -- Texts are told by what their sections are in each format: limited in length, or of any length.
 
 -- lines of a program of this format whose instructions are such a section
-abbrev pub ProgramLines : Format → (Format → List Instruction → Type 0) → List (List ℕ) → Type 0
+abbrev pub ProgramLines : ProgramFormat → (ProgramFormat → List Instruction → Type 0) → List (List ℕ) → Type 0
 ProgramLines format Section lines = (program : List Instruction) × (Section format program × (lines ≡ program_lines program))
 
 -- lines of a set whose sections are such in the set's format
-abbrev pub SetLines : (Format → List Instruction → Type 0) → List (List ℕ) → Type 0
+abbrev pub SetLines : (ProgramFormat → List Instruction → Type 0) → List (List ℕ) → Type 0
 SetLines Section lines = (set : SetParts) × (IsSetOf (Section set.format) set.programs × (lines ≡ set_lines set))
 
 -- Line k is the first that is wrong, and would be so if sections had no limit.
-abbrev pub IsBadLine : ((Format → List Instruction → Type 0) → List (List ℕ) → Type 0) → List ℕ → ℕ → Type 0
+abbrev pub IsBadLine : ((ProgramFormat → List Instruction → Type 0) → List (List ℕ) → Type 0) → List ℕ → ℕ → Type 0
 IsBadLine Lines bytes k = IsFirstWrong (Lines IsSection) bytes k × (BeginsText (Lines EachFits) bytes k → ⊥)
 
 -- Line k is the first that is wrong, and would be right if sections had no limit: it is the 4,097th instruction
 -- of its section.
-abbrev pub IsTooLong : ((Format → List Instruction → Type 0) → List (List ℕ) → Type 0) → List ℕ → ℕ → Type 0
+abbrev pub IsTooLong : ((ProgramFormat → List Instruction → Type 0) → List (List ℕ) → Type 0) → List ℕ → ℕ → Type 0
 IsTooLong Lines bytes k = IsFirstWrong (Lines IsSection) bytes k × BeginsText (Lines EachFits) bytes k
 
 -- The line of a set that a line of a core's program is. Before it come the header, the sections of the cores before its own, its core's
@@ -66,7 +66,7 @@ IsJumpFault set (TooLong k) = ⊥
 -- ---- answers
 
 -- the bytes are the text of this program, in this format
-abbrev pub SpellsProgram : Format → List ℕ → List Instruction → Type 0
+abbrev pub SpellsProgram : ProgramFormat → List ℕ → List Instruction → Type 0
 SpellsProgram format bytes program = IsSection format program × (bytes ≡ text_of (program_lines program))
 
 -- the bytes are the text of this set, in the format that their first line says
@@ -74,7 +74,7 @@ abbrev pub SpellsSet : List ℕ → SetParts → Type 0
 SpellsSet bytes set = IsSetOf (IsSection set.format) set.programs × (bytes ≡ text_of (set_lines set))
 
 -- Why bytes aren't the text of a program of this format. Lack of memory may come instead of a program and of every other fault.
-abbrev pub IsProgramFault : Format → List ℕ → ProgramFault → Type 0
+abbrev pub IsProgramFault : ProgramFormat → List ℕ → ProgramFault → Type 0
 IsProgramFault format bytes (BadLine k) = IsBadLine (ProgramLines format) bytes k
 IsProgramFault format bytes (TooLong k) = IsTooLong (ProgramLines format) bytes k
 IsProgramFault format bytes (SkipPastEnd k) = (program : List Instruction) × (SpellsProgram format bytes program × IsLeast (SkipsAt program) k)

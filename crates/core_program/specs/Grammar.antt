@@ -4,13 +4,13 @@ use Rattle.std.specs.List.{join_with_byte, AllByRecursion}
 use Rattle.decimal_text.specs.Numbers.{numeral}
 use Rattle.core_program.specs.declared.instruction.Instruction.{Instruction}
 use Rattle.core_program.specs.declared.instruction.Instruction.TheVariants.{Load, Store, StoreRegister, Add, SkipIfZero, Swap}
-use Rattle.core_program.specs.declared.format.Format.{Format}
-use Rattle.core_program.specs.declared.format.Format.TheVariants.{One, Two}
+use Rattle.core_program.specs.declared.format.ProgramFormat.{ProgramFormat}
+use Rattle.core_program.specs.declared.format.ProgramFormat.TheVariants.{One, Two}
 use Rattle.core_program.specs.SetParts.{SetParts}
 use Rattle.core_program.specs.Shape.{has_instruction}
 
 -- the number of a format
-abbrev pub format_number : Format → ℕ
+abbrev pub format_number : ProgramFormat → ℕ
 format_number One = 1
 format_number Two = 2
 
@@ -68,16 +68,16 @@ Fits (SkipIfZero tested skip) = (tested < 16) × (1 ≤ skip) × (skip ≤ 4095)
 Fits (Swap to addr value) = (to < 16) × (addr < 65536) × (value < 2 ^ 64)
 
 -- a program of this format may have the instruction, and its numbers are in range
-pub record FitsIn (format : Format) (instruction : Instruction) : Type 0 where
+pub record FitsIn (format : ProgramFormat) (instruction : Instruction) : Type 0 where
   pub has : IsTrue (has_instruction format instruction)
   pub numbers : Fits instruction
 
 -- instructions as a section of this format has them, however many
-abbrev pub EachFits : Format → List Instruction → Type 0
+abbrev pub EachFits : ProgramFormat → List Instruction → Type 0
 EachFits format program = AllByRecursion (FitsIn format) program
 
 -- the instructions of a section of this format: at most 4,096
-pub record IsSection (format : Format) (program : List Instruction) : Type 0 where
+pub record IsSection (format : ProgramFormat) (program : List Instruction) : Type 0 where
   pub few : length program ≤ 4096
   pub each_fits : EachFits format program
 

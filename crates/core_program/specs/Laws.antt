@@ -1,7 +1,7 @@
 -- What holds of all programs.
 use Rattle.std.specs.Prelude.{◌≡◌, ◌≢◌, ◌↔◌, ℕ, ◌≤◌, List, length, Some, None, slice_get}
 use Rattle.mem_op.specs.Consistency.{Operation, Swapped}
-use Rattle.core_program.specs.declared.format.Format.TheVariants.{One}
+use Rattle.core_program.specs.declared.format.ProgramFormat.TheVariants.{One}
 use Rattle.core_program.specs.declared.instruction.Instruction.{Instruction}
 use Rattle.core_program.specs.State.{State}
 use Rattle.core_program.specs.Shape.{IsOfFormat, IsProgram}

@@ -2,7 +2,7 @@
 use Rattle.std.specs.Prelude.{◌≡◌, ℕ, ◌+◌, ◌*◌, ◌<◌, ◌≤◌, List, ◌∷◌, ◌++◌, length, map, drop}
 use Rattle.std.specs.Global.{Vec}
 use Rattle.std.specs.List.{AllByRecursion}
-use Rattle.core_program.specs.declared.format.Format.{Format}
+use Rattle.core_program.specs.declared.format.ProgramFormat.{ProgramFormat}
 use Rattle.core_program.specs.declared.instruction.Instruction.{Instruction}
 use Rattle.core_program.specs.declared.fault.ProgramFault.{ProgramFault}
 use Rattle.core_program.specs.declared.fault.ProgramFault.TheVariants.{BadLine, TooLong, SkipPastEnd, OutOfMemory}
@@ -13,11 +13,11 @@ use Rattle.core_program.specs.Lines.{text_of}
 -- ---- a line
 
 -- the bytes begin with the line of an instruction of this format, and these come after it
-abbrev pub InstructionInFront : Format → Instruction → List ℕ → List ℕ → Type 0
+abbrev pub InstructionInFront : ProgramFormat → Instruction → List ℕ → List ℕ → Type 0
 InstructionInFront format instruction bytes rest = FitsIn format instruction × (bytes ≡ instruction_text instruction ++ 10 ∷ rest)
 
 -- the bytes don't begin with the line of an instruction of this format
-abbrev pub NoInstructionInFront : Format → List ℕ → Type 0
+abbrev pub NoInstructionInFront : ProgramFormat → List ℕ → Type 0
 NoInstructionInFront format bytes = (instruction : Instruction) (rest : List ℕ) → InstructionInFront format instruction bytes rest → ⊥
 
 -- nor with the line before the instructions of this core
@@ -25,7 +25,7 @@ abbrev pub NoCoreInFront : ℕ → List ℕ → Type 0
 NoCoreInFront core bytes = (rest : List ℕ) → bytes ≡ core_text core ++ 10 ∷ rest → ⊥
 
 -- the bytes begin with one instruction's line more than a section of this format may have
-pub record IsTooMany (format : Format) (bytes : List ℕ) : Type 0 where
+pub record IsTooMany (format : ProgramFormat) (bytes : List ℕ) : Type 0 where
   pub program : List Instruction
   pub each_fits : EachFits format program
   pub long : length program ≡ 4097
@@ -35,7 +35,7 @@ pub record IsTooMany (format : Format) (bytes : List ℕ) : Type 0 where
 -- ---- sections one after another
 
 -- the bytes begin with the sections of these programs of this format, cores 0, 1, .. of `cores`, whole ones, and these bytes come after them
-pub record SectionsInFront (format : Format) (cores : ℕ) (bytes : List ℕ) (programs : List (List Instruction)) (rest : List ℕ) : Type 0 where
+pub record SectionsInFront (format : ProgramFormat) (cores : ℕ) (bytes : List ℕ) (programs : List (List Instruction)) (rest : List ℕ) : Type 0 where
   pub within : length programs ≤ cores
   pub each : AllByRecursion (IsSection format) programs
   pub text : bytes ≡ text_of (sections 0 programs) ++ rest
@@ -46,7 +46,7 @@ abbrev pub section_lists : List (Vec Instruction) → List (List Instruction)
 section_lists sections = map (λ section. section.items) sections
 
 -- all sections of this format that the bytes begin with, at most those of `cores` cores; their first line is line 2 of a text
-pub record AreSectionsOf (format : Format) (cores : ℕ) (bytes : List ℕ) (found : Sections) : Type 0 where
+pub record AreSectionsOf (format : ProgramFormat) (cores : ℕ) (bytes : List ℕ) (found : Sections) : Type 0 where
   pub taken : found.taken ≤ length bytes
   pub in_front : SectionsInFront format cores bytes (section_lists found.programs.items) (drop found.taken bytes)
   pub line : found.line ≡ 2 + length (sections 0 (section_lists found.programs.items))
@@ -54,7 +54,7 @@ pub record AreSectionsOf (format : Format) (cores : ℕ) (bytes : List ℕ) (fou
   pub all : length (section_lists found.programs.items) < cores → NoCoreInFront (length (section_lists found.programs.items)) (drop found.taken bytes)
 
 -- line k is the 4,097th instruction of a section
-pub record IsSectionTooLong (format : Format) (cores : ℕ) (bytes : List ℕ) (k : ℕ) : Type 0 where
+pub record IsSectionTooLong (format : ProgramFormat) (cores : ℕ) (bytes : List ℕ) (k : ℕ) : Type 0 where
   pub before : List (List Instruction)
   pub rest : List ℕ
   pub in_front : SectionsInFront format cores bytes before rest
@@ -65,7 +65,7 @@ pub record IsSectionTooLong (format : Format) (cores : ℕ) (bytes : List ℕ) (
   pub line : k ≡ 2 + length (sections 0 before) + 1 + 4096
 
 -- why no sections were read
-abbrev pub IsSectionsFault : Format → ℕ → List ℕ → ProgramFault → Type 0
+abbrev pub IsSectionsFault : ProgramFormat → ℕ → List ℕ → ProgramFault → Type 0
 IsSectionsFault format cores bytes (TooLong k) = IsSectionTooLong format cores bytes k
 IsSectionsFault format cores bytes OutOfMemory = Unit {0}
 IsSectionsFault format cores bytes (BadLine k) = ⊥

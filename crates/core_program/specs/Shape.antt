@@ -3,8 +3,8 @@ use Rattle.std.specs.Prelude.{◌≡◌, ℕ, ◌+◌, ◌≤◌, Bool, true, fa
 use Rattle.std.specs.Option.{option_map_or}
 use Rattle.core_program.specs.declared.instruction.Instruction.{Instruction}
 use Rattle.core_program.specs.declared.instruction.Instruction.TheVariants.{Load, Store, StoreRegister, Add, SkipIfZero, Swap}
-use Rattle.core_program.specs.declared.format.Format.{Format}
-use Rattle.core_program.specs.declared.format.Format.TheVariants.{One, Two}
+use Rattle.core_program.specs.declared.format.ProgramFormat.{ProgramFormat}
+use Rattle.core_program.specs.declared.format.ProgramFormat.TheVariants.{One, Two}
 
 -- whether an instruction is a load, a store or a swap
 abbrev pub touches_memory : Instruction → Bool
@@ -33,7 +33,7 @@ pub record IsProgram (program : List Instruction) : Type 0 where
   pub inside : (i : ℕ) → is_skip_past_end program i ≡ false
 
 -- whether a program of this format may have this instruction: format 1 has no swaps
-abbrev pub has_instruction : Format → Instruction → Bool
+abbrev pub has_instruction : ProgramFormat → Instruction → Bool
 has_instruction format (Load to addr) = true
 has_instruction format (Store addr value) = true
 has_instruction format (StoreRegister addr from) = true
@@ -43,5 +43,5 @@ has_instruction One (Swap to addr value) = false
 has_instruction Two (Swap to addr value) = true
 
 -- a program of this format may have each of the instructions
-abbrev pub IsOfFormat : Format → List Instruction → Type 0
+abbrev pub IsOfFormat : ProgramFormat → List Instruction → Type 0
 IsOfFormat format program = All (λ instruction. IsTrue (has_instruction format instruction)) program

@@ -2,7 +2,7 @@
 use Rattle.std.specs.Prelude.{◌≡◌, ◌≢◌, ℕ, List}
 use Rattle.std.specs.List.{AllByRecursion}
 use Rattle.core_program.specs.declared.instruction.Instruction.{Instruction}
-use Rattle.core_program.specs.declared.format.Format.{Format}
+use Rattle.core_program.specs.declared.format.ProgramFormat.{ProgramFormat}
 use Rattle.core_program.specs.declared.fault.ProgramFault.{ProgramFault}
 use Rattle.core_program.specs.declared.fault.ProgramFault.TheVariants.{OutOfMemory}
 use Rattle.core_program.specs.Answers.{SpellsProgram, SpellsSet, IsProgramFault, IsSetFault}
@@ -11,8 +11,8 @@ use Rattle.core_program.specs.Shape.{IsProgram}
 
 -- the text of a program is that of no other, in whatever formats, and it has no fault: reading it gives that program
 pub record PrintedIsRead : Type 0 where
-  pub one_program : (f g : Format) (bytes : List ℕ) (p q : List Instruction) → SpellsProgram f bytes p → SpellsProgram g bytes q → p ≡ q
-  pub no_fault : (format : Format) (bytes : List ℕ) (program : List Instruction) (fault : ProgramFault) → SpellsProgram format bytes program → IsProgram program
+  pub one_program : (f g : ProgramFormat) (bytes : List ℕ) (p q : List Instruction) → SpellsProgram f bytes p → SpellsProgram g bytes q → p ≡ q
+  pub no_fault : (format : ProgramFormat) (bytes : List ℕ) (program : List Instruction) (fault : ProgramFault) → SpellsProgram format bytes program → IsProgram program
       → IsProgramFault format bytes fault → fault ≡ OutOfMemory
 
 -- the text of a set is that of no other, of its format or the other, and it has no fault

@@ -7,14 +7,14 @@ use super::instruction::Instruction;
 
 /// A format of programs and of sets of programs. A set says its own in its first line.
 #[derive(Clone, Copy, Debug, PartialEq, Eq)]
-pub enum Format {
+pub enum ProgramFormat {
     /// Format 1, which has no swaps.
     One,
     /// Format 2, which has them.
     Two,
 }
 
-impl Format {
+impl ProgramFormat {
     /// Whether a program of this format may have this instruction.
     pub fn has_instruction(self, instruction: &Instruction) -> bool
         ensures { result ≡ has_instruction self instruction.now }
@@ -25,7 +25,7 @@ impl Format {
             | Instruction::StoreRegister(..)
             | Instruction::Add(..)
             | Instruction::SkipIfZero(..) => true,
-            Instruction::Swap(..) => self == Format::Two,
+            Instruction::Swap(..) => self == ProgramFormat::Two,
         }
     }
 }

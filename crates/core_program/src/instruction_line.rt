@@ -5,7 +5,7 @@ ghost use Rattle.decimal_text.specs.Reading.{front_now};
 ghost use Rattle.core_program.specs.inner.Reading.{register_at, addr_at, last_register, last_addr, last_word, last_skip};
 ghost use Rattle.core_program.specs.inner.Reading.{load_of, store_of, store_register_of, add_of, skip_of, swap_of, instruction_of};
 
-use super::format::Format;
+use super::format::ProgramFormat;
 use super::instruction::Instruction;
 use super::register::Register;
 use super::skip::Skip;
@@ -136,7 +136,7 @@ fn swap(fields: &[u8]) -> Option<Instruction>
 
 /// The instruction whose line this is in a format, without its line feed.
 #[tactic(auto, unfolding(crate::specs::inner::Reading::instruction_of, decimal_text::specs::Reading::after))]
-pub(crate) fn read_instruction(format: Format, line: &[u8]) -> Option<Instruction>
+pub(crate) fn read_instruction(format: ProgramFormat, line: &[u8]) -> Option<Instruction>
     ensures { result ≡ instruction_of format line.now }
 {
     match (format, line) {
@@ -145,7 +145,7 @@ pub(crate) fn read_instruction(format: Format, line: &[u8]) -> Option<Instructio
         (_, [b's', b'r', b' ', fields @ ..]) => store_register(fields),
         (_, [b'a', b'i', b' ', fields @ ..]) => add(fields),
         (_, [b'j', b'z', b' ', fields @ ..]) => skip(fields),
-        (Format::Two, [b's', b'w', b' ', fields @ ..]) => swap(fields),
+        (ProgramFormat::Two, [b's', b'w', b' ', fields @ ..]) => swap(fields),
         _ => None,
     }
 }

@@ -18,7 +18,7 @@ mod state;
 mod text_laws;
 
 pub use fault::ProgramFault;
-pub use format::Format;
+pub use format::ProgramFormat;
 pub use instruction::Instruction;
 pub use laws::{
     conforming_is_no_fault, fault_is_where_log_differs, few_operations, no_swaps_in_format_one,

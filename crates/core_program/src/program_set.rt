@@ -4,7 +4,7 @@ ghost use Rattle.std.specs.Prelude.{◌≡◌, ◌≤◌, ◌⊎◌, length, sli
 ghost use Rattle.std.specs.Option.{option_copied};
 ghost use Rattle.core_program.specs.Shape.{IsOfFormat, IsProgram};
 
-use super::format::Format;
+use super::format::ProgramFormat;
 use super::instruction::Instruction;
 use super::program::Program;
 use mem_op::CoreId;
@@ -13,7 +13,7 @@ use std::marker::Model;
 /// The programs of 1..64 cores, one a core, and their format.
 #[derive(Drop)]
 pub struct ProgramSet {
-    format: Format,
+    format: ProgramFormat,
     programs: Vec<Program>,
 }
 
@@ -33,7 +33,7 @@ impl Model for ProgramSet {
 impl ProgramSet {
     /// The set of these programs, of a format; none where they aren't 1..64, or one of them has an
     /// instruction that the format hasn't.
-    pub fn new(format: Format, programs: Vec<Program>) -> Option<ProgramSet>
+    pub fn new(format: ProgramFormat, programs: Vec<Program>) -> Option<ProgramSet>
         ensures { MatchOption result
             ((length programs.items ≡ 0) ⊎ (65 ≤ length programs.items) ⊎ (¬ All (IsOfFormat format) programs.items))
             (λ set. (set ≡ record { format = format; programs = programs.items })
@@ -50,7 +50,7 @@ impl ProgramSet {
     }
 
     /// The format of its programs.
-    pub fn format(&self) -> Format
+    pub fn format(&self) -> ProgramFormat
         ensures value { result ≡ self.now.format }
         ensures programs { All (IsOfFormat self.now.format) self.now.programs }
     {
@@ -75,7 +75,7 @@ impl ProgramSet {
 }
 
 /// Whether a format has each of these instructions.
-fn is_of_format(format: Format, instructions: &[Instruction]) -> bool
+fn is_of_format(format: ProgramFormat, instructions: &[Instruction]) -> bool
     ensures { MatchBool result (IsOfFormat format instructions.now) (¬ IsOfFormat format instructions.now) }
 {
     for instruction in instructions {
@@ -87,7 +87,7 @@ fn is_of_format(format: Format, instructions: &[Instruction]) -> bool
 }
 
 /// Whether a format has each instruction of these programs.
-fn each_is_of_format(format: Format, programs: &[Program]) -> bool
+fn each_is_of_format(format: ProgramFormat, programs: &[Program]) -> bool
     ensures { MatchBool result (All (IsOfFormat format) programs.now) (¬ All (IsOfFormat format) programs.now) }
 {
     for program in programs {

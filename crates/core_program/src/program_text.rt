@@ -4,10 +4,10 @@ ghost use Rattle.std.specs.Prelude.{◌≡◌, IfOk, MatchResult, string_bytes};
 ghost use Rattle.core_program.specs.Answers.{IsProgramFault, SpellsProgram};
 ghost use Rattle.core_program.specs.Grammar.{instruction_text, Fits};
 ghost use Rattle.core_program.specs.Shape.{IsProgram};
-ghost use Rattle.core_program.specs.declared.format.Format.TheVariants.{Two};
+ghost use Rattle.core_program.specs.declared.format.ProgramFormat.TheVariants.{Two};
 
 use super::fault::ProgramFault;
-use super::format::Format;
+use super::format::ProgramFormat;
 use super::instruction::Instruction;
 use super::program::{Program, skip_past_end};
 use super::section::read_section;
@@ -21,14 +21,18 @@ impl Program {
             (λ program. SpellsProgram Two text.now program × IsProgram program)
             (λ fault. IsProgramFault Two text.now fault) }
     {
-        Program::parse_in(alloc, Format::Two, text)
+        Program::parse_in(alloc, ProgramFormat::Two, text)
     }
 
     /// The program whose text this is in a format: a line for each instruction, each ended by a line
     /// feed. BadLine at the first line that isn't an instruction's there or has no line feed, TooLong
     /// at the line of the 4,097th instruction, whichever comes first; where there is neither,
     /// SkipPastEnd at the first jump past the end.
-    pub fn parse_in(alloc: Global, format: Format, text: &[u8]) -> Result<Program, ProgramFault>
+    pub fn parse_in(
+        alloc: Global,
+        format: ProgramFormat,
+        text: &[u8],
+    ) -> Result<Program, ProgramFault>
         ensures { MatchResult result
             (λ program. SpellsProgram format text.now program × IsProgram program)
             (λ fault. IsProgramFault format text.now fault) }

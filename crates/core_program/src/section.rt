@@ -6,7 +6,7 @@ ghost use Rattle.core_program.specs.inner.Sections.{IsSectionOf, IsSectionFault}
 ghost use Rattle.core_program.specs.Sections.{InstructionInFront, NoInstructionInFront};
 
 use super::fault::ProgramFault;
-use super::format::Format;
+use super::format::ProgramFormat;
 use super::instruction::Instruction;
 use super::instruction_line::read_instruction;
 use memchr::memchr;
@@ -36,7 +36,7 @@ pub fn next_line(text: &[u8]) -> Option<(&[u8], &[u8])>
 
 /// The instruction whose line is the first, and the bytes after it; None where the first line isn't
 /// an instruction's in this format, or has no line feed.
-fn next_instruction(format: Format, text: &[u8]) -> Option<(Instruction, &[u8])>
+fn next_instruction(format: ProgramFormat, text: &[u8]) -> Option<(Instruction, &[u8])>
     ensures found { IfSome result (λ read. InstructionInFront format read.0 text.now read.1.now) }
     ensures none { IsNone result → NoInstructionInFront format text.now }
 {
@@ -49,7 +49,7 @@ fn next_instruction(format: Format, text: &[u8]) -> Option<(Instruction, &[u8])>
 /// 4,097th instruction, where there is one.
 pub(crate) fn read_section(
     alloc: Global,
-    format: Format,
+    format: ProgramFormat,
     text: &[u8],
     first: u64,
 ) -> Result<Section, ProgramFault>

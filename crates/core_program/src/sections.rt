@@ -6,7 +6,7 @@ ghost use Rattle.core_program.specs.Sections.{AreSectionsOf, IsSectionsFault};
 ghost use Rattle.core_program.specs.inner.Reading.{core_of};
 
 use super::fault::ProgramFault;
-use super::format::Format;
+use super::format::ProgramFormat;
 use super::instruction::Instruction;
 use super::section::{next_line, read_section};
 use decimal_text::{after_text, read_last};
@@ -49,7 +49,7 @@ fn after_core_line(core: u64, text: &[u8]) -> Option<&[u8]>
 /// line 2. TooLong at the line of a section's 4,097th instruction.
 pub fn read_sections(
     alloc: Global,
-    format: Format,
+    format: ProgramFormat,
     cores: u64,
     text: &[u8],
 ) -> Result<Sections, ProgramFault>

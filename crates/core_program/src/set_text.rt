@@ -11,7 +11,7 @@ ghost use Rattle.core_program.specs.Sections.{section_lists};
 ghost use Rattle.core_program.specs.Shape.{IsProgram};
 
 use super::fault::ProgramFault;
-use super::format::Format;
+use super::format::ProgramFormat;
 use super::instruction::Instruction;
 use super::program::{Program, skip_past_end};
 use super::program_set::ProgramSet;
@@ -25,14 +25,14 @@ const CORE_LIMIT: u64 = 64;
 
 /// The format that a header's first words say, and the bytes after them.
 #[tactic(auto, unfolding(crate::specs::inner::Reading::first_words))]
-fn format_of(line: &[u8]) -> Option<(Format, &[u8])>
+fn format_of(line: &[u8]) -> Option<(ProgramFormat, &[u8])>
     ensures { front_now result ≡ first_words line.now }
 {
     if let Some(rest) = after_text(b"tardis-programs 1 cores ", line) {
-        return Some((Format::One, rest));
+        return Some((ProgramFormat::One, rest));
     }
     let rest = after_text(b"tardis-programs 2 cores ", line)?;
-    Some((Format::Two, rest))
+    Some((ProgramFormat::Two, rest))
 }
 
 /// The number of cores after a header's first words, 1..64.
@@ -49,7 +49,7 @@ fn cores_of(bytes: &[u8]) -> Option<u64>
 
 /// The format and the number of cores that a header tells.
 #[tactic(auto, unfolding(crate::specs::inner::Reading::header_of))]
-fn header_of(line: &[u8]) -> Option<(Format, u64)>
+fn header_of(line: &[u8]) -> Option<(ProgramFormat, u64)>
     ensures { result ≡ header_of line.now }
 {
     let (format, rest) = format_of(line)?;
@@ -59,10 +59,10 @@ fn header_of(line: &[u8]) -> Option<(Format, u64)>
 
 /// The format and the number of cores that the first line tells, and the bytes after that line; None
 /// where it isn't a header with such a number.
-fn after_header(text: &[u8]) -> Option<(Format, u64, &[u8])>
+fn after_header(text: &[u8]) -> Option<(ProgramFormat, u64, &[u8])>
     ensures found { IfSome result (λ read. HeaderInFront read.0 read.1 text.now read.2.now) }
     ensures none { IsNone result →
-        (format : Format) (cores : ℕ) (rest : List ℕ) → ¬ HeaderInFront format cores text.now rest }
+        (format : ProgramFormat) (cores : ℕ) (rest : List ℕ) → ¬ HeaderInFront format cores text.now rest }
 {
     let (line, rest) = next_line(text)?;
     let (format, cores) = header_of(line)?;
@@ -72,7 +72,7 @@ fn after_header(text: &[u8]) -> Option<(Format, u64, &[u8])>
 /// A set's format, and its sections.
 #[derive(Drop)]
 struct Parts {
-    format: Format,
+    format: ProgramFormat,
     sections: Vec<Vec<Instruction>>,
 }
 
@@ -104,7 +104,7 @@ fn read_set(alloc: Global, text: &[u8]) -> Result<Parts, ProgramFault>
 /// program.
 fn programs_of(
     alloc: Global,
-    format: Format,
+    format: ProgramFormat,
     sections: Vec<Vec<Instruction>>,
 ) -> Result<Vec<Program>, ProgramFault>
     requires { IsSetOf (IsSection format) (section_lists sections.items) }
@@ -145,7 +145,7 @@ impl ProgramSet {
     /// is line 2.
     pub fn of_sections(
         alloc: Global,
-        format: Format,
+        format: ProgramFormat,
         sections: Vec<Vec<Instruction>>,
     ) -> Result<ProgramSet, ProgramFault>
         requires { IsSetOf (IsSection format) (section_lists sections.items) }

@@ -9,8 +9,8 @@ use Rattle.decimal_text.specs.Reading.{◌>>=◌, after, last_number}
 use Rattle.decimal_text.proofs.Lines.{NoLf, NoLf-append, const_no_lf, numeral_no_lf}
 use Rattle.decimal_text.proofs.Numbers.{after_again, after_takes}
 use Rattle.decimal_text.proofs.Reading.{bind_some, last_again, last_takes, some_is}
-use Rattle.core_program.specs.declared.format.Format.{Format}
-use Rattle.core_program.specs.declared.format.Format.TheVariants.{One, Two}
+use Rattle.core_program.specs.declared.format.ProgramFormat.{ProgramFormat}
+use Rattle.core_program.specs.declared.format.ProgramFormat.TheVariants.{One, Two}
 use Rattle.core_program.specs.Grammar.{format_number}
 use Rattle.core_program.specs.Lines.{IsOneLine}
 use Rattle.core_program.specs.inner.Reading.{below}
@@ -59,7 +59,7 @@ header_no_lf format name cores is =
 -- ---- the first words
 
 -- the words before the name
-abbrev words_of : Format → List ℕ
+abbrev words_of : ProgramFormat → List ℕ
 words_of One = codes "tardis-litmus 1 "
 words_of Two = codes "tardis-litmus 2 "
 
@@ -72,28 +72,28 @@ unfolding numeral
 numeral_two = refl
 
 -- a first line from its first words on
-header_text_is : (format : Format) (name : List ℕ) (cores : ℕ)
+header_text_is : (format : ProgramFormat) (name : List ℕ) (cores : ℕ)
     → header_text (format_number format) name cores ≡ words_of format ++ (name ++ (codes " cores " ++ numeral cores))
 unfolding header_text
 header_text_is One name cores = rw numeral_one refl
 header_text_is Two name cores = rw numeral_two refl
 
-words_take : (line : List ℕ) (x : Format × List ℕ) → first_words line ≡ Some x → line ≡ words_of x.0 ++ x.1
+words_take : (line : List ℕ) (x : ProgramFormat × List ℕ) → first_words line ≡ Some x → line ≡ words_of x.0 ++ x.1
 unfolding first_words
 words_take line x e = go (after (codes "tardis-litmus 1 ") line) refl e
   where
     second : after (codes "tardis-litmus 2 ") line >>= (λ rest. Some (Two, rest)) ≡ Some x → line ≡ words_of x.0 ++ x.1
     second e =
         let b = bind_some (after (codes "tardis-litmus 2 ") line) (λ rest. Some (Two, rest)) x e in
-        subst (λ (y : Format × List ℕ). line ≡ words_of y.0 ++ y.1) (some_is (Two, b.0) x b.2) (after_takes (codes "tardis-litmus 2 ") line b.0 b.1)
+        subst (λ (y : ProgramFormat × List ℕ). line ≡ words_of y.0 ++ y.1) (some_is (Two, b.0) x b.2) (after_takes (codes "tardis-litmus 2 ") line b.0 b.1)
 
     go : (o : Option (List ℕ)) → after (codes "tardis-litmus 1 ") line ≡ o
         → (if is_some o then (o >>= λ rest. Some (One, rest)) else (after (codes "tardis-litmus 2 ") line >>= λ rest. Some (Two, rest))) ≡ Some x
         → line ≡ words_of x.0 ++ x.1
-    go (Some rest) is e = subst (λ (y : Format × List ℕ). line ≡ words_of y.0 ++ y.1) (some_is (One, rest) x e) (after_takes (codes "tardis-litmus 1 ") line rest is)
+    go (Some rest) is e = subst (λ (y : ProgramFormat × List ℕ). line ≡ words_of y.0 ++ y.1) (some_is (One, rest) x e) (after_takes (codes "tardis-litmus 1 ") line rest is)
     go None is e = second e
 
-words_again : (format : Format) (rest : List ℕ) → first_words (words_of format ++ rest) ≡ Some (format, rest)
+words_again : (format : ProgramFormat) (rest : List ℕ) → first_words (words_of format ++ rest) ≡ Some (format, rest)
 unfolding first_words
 words_again One rest = rw (after_again (codes "tardis-litmus 1 ") rest) refl
 words_again Two rest = let other : after (codes "tardis-litmus 1 ") (codes "tardis-litmus 2 " ++ rest) ≡ None = unfold after in refl in
@@ -104,7 +104,7 @@ words_again Two rest = let other : after (codes "tardis-litmus 1 ") (codes "tard
 none_some : {A : Type 0} (x : A) → None ≡ Some x → ⊥
 none_some x e = cc
 
-record IsHeader (line : List ℕ) (format : Format) (name : List ℕ) (cores : ℕ) : Type 0 where
+record IsHeader (line : List ℕ) (format : ProgramFormat) (name : List ℕ) (cores : ℕ) : Type 0 where
   pub is_name : IsName name
   pub some : 1 ≤ cores
   pub few : cores ≤ 64
@@ -172,16 +172,16 @@ name_at_again name rest is =
     low_is_most k le = search arith
 
 -- the line read is one
-header_takes : (line : List ℕ) (x : Format × List ℕ × ℕ) → header_of line ≡ Some x → IsHeader line x.0 x.1 x.2
+header_takes : (line : List ℕ) (x : ProgramFormat × List ℕ × ℕ) → header_of line ≡ Some x → IsHeader line x.0 x.1 x.2
 unfolding header_of
 header_takes line x e =
     let a = bind_some (first_words line) (λ front. name_at front.1 >>= λ n. cores_at n.1 >>= λ c. Some (front.0, n.0, c)) x e in
     let n = bind_some (name_at a.0.1) (λ n. cores_at n.1 >>= λ c. Some (a.0.0, n.0, c)) x a.2 in
     let c = bind_some (cores_at n.0.1) (λ c. Some (a.0.0, n.0.0, c)) x n.2 in
-    subst (λ (y : Format × List ℕ × ℕ). IsHeader line y.0 y.1 y.2) {x = (a.0.0, n.0.0, c.0)} (some_is (a.0.0, n.0.0, c.0) x c.2)
+    subst (λ (y : ProgramFormat × List ℕ × ℕ). IsHeader line y.0 y.1 y.2) {x = (a.0.0, n.0.0, c.0)} (some_is (a.0.0, n.0.0, c.0) x c.2)
     (all a.0.0 a.0.1 n.0.0 n.0.1 c.0 (words_take line a.0 a.1) (name_takes a.0.1 n.0.0 n.0.1 n.1) (cores_takes n.0.1 c.0 c.1))
   where
-    all : (format : Format) (words name rest : List ℕ) (cores : ℕ) → line ≡ words_of format ++ words → IsName name × (words ≡ name ++ rest)
+    all : (format : ProgramFormat) (words name rest : List ℕ) (cores : ℕ) → line ≡ words_of format ++ words → IsName name × (words ≡ name ++ rest)
         → (1 ≤ cores) × (cores ≤ 64) × (rest ≡ codes " cores " ++ numeral cores) → IsHeader line format name cores
     all format words name rest cores is named counted = record {
       is_name = named.0;
@@ -192,7 +192,7 @@ header_takes line x e =
           ∙ sym (header_text_is format name cores);
     }
 
-pub header_again : (format : Format) (name : List ℕ) (cores : ℕ) → IsName name → 1 ≤ cores → cores ≤ 64
+pub header_again : (format : ProgramFormat) (name : List ℕ) (cores : ℕ) → IsName name → 1 ≤ cores → cores ≤ 64
     → header_of (header_text (format_number format) name cores) ≡ Some (format, name, cores)
 unfolding header_of
 header_again format name cores is some few =
@@ -203,7 +203,7 @@ header_again format name cores is some few =
       cores_again cores some few,
     ) refl
 
-pub header_once : (left right : Format) (name other : List ℕ) (cores count : ℕ) → IsName name → IsName other → 1 ≤ cores → cores ≤ 64 → 1 ≤ count → count ≤ 64
+pub header_once : (left right : ProgramFormat) (name other : List ℕ) (cores count : ℕ) → IsName name → IsName other → 1 ≤ cores → cores ≤ 64 → 1 ≤ count → count ≤ 64
     → header_text (format_number left) name cores ≡ header_text (format_number right) other count → (left ≡ right) × (name ≡ other) × (cores ≡ count)
 header_once left right name other cores count p q some few some' few' e =
     let same = some_is (left, name, cores) (right, other, count)
@@ -212,17 +212,17 @@ header_once left right name other cores count p q some few some' few' e =
 
 -- ---- at the front of bytes
 
-pub no_header_without_feed : (text : List ℕ) → IsOneLine text → (format : Format) (name : List ℕ) (cores : ℕ) (rest : List ℕ) → HeaderInFront format name cores text rest → ⊥
+pub no_header_without_feed : (text : List ℕ) → IsOneLine text → (format : ProgramFormat) (name : List ℕ) (cores : ℕ) (rest : List ℕ) → HeaderInFront format name cores text rest → ⊥
 no_header_without_feed text one format name cores rest there = no_feed text (header_text (format_number format) name cores) rest (no_lf_from text one) there.3
 
 pub no_header_of_other : (text line behind : List ℕ) → IsOneLine line → text ≡ line ++ 10 ∷ behind → None ≡ header_of line
-    → (format : Format) (name : List ℕ) (cores : ℕ) (rest : List ℕ) → HeaderInFront format name cores text rest → ⊥
+    → (format : ProgramFormat) (name : List ℕ) (cores : ℕ) (rest : List ℕ) → HeaderInFront format name cores text rest → ⊥
 no_header_of_other text line behind one is none format name cores rest there =
     let header = header_text (format_number format) name cores in
     let same = (line_once line header behind rest (no_lf_from line one) (header_no_lf (format_number format) name cores there.0) (sym is ∙ there.3)).0 in
     none_some (format, name, cores) (none ∙ ap header_of same ∙ header_again format name cores there.0 there.1 there.2)
 
-pub header_in_front : (text line behind : List ℕ) (format : Format) (name : List ℕ) (cores : ℕ) → text ≡ line ++ 10 ∷ behind → Some (format, name, cores) ≡ header_of line
+pub header_in_front : (text line behind : List ℕ) (format : ProgramFormat) (name : List ℕ) (cores : ℕ) → text ≡ line ++ 10 ∷ behind → Some (format, name, cores) ≡ header_of line
     → HeaderInFront format name cores text behind
 header_in_front text line behind format name cores is some =
     let t = header_takes line (format, name, cores) (sym some) in

@@ -3,7 +3,7 @@ use Rattle.std.proofs.Common.{◌≡◌, ◌≢◌, ℕ, ◌+◌, ◌<◌, ◌�
 use Rattle.std.specs.List.{AllByRecursion}
 use Rattle.std.proofs.lemmas.List.{length-map}
 use Rattle.decimal_text.proofs.Lines.{NoLf, const_no_lf}
-use Rattle.core_program.specs.declared.format.Format.{Format}
+use Rattle.core_program.specs.declared.format.ProgramFormat.{ProgramFormat}
 use Rattle.core_program.specs.declared.instruction.Instruction.{Instruction}
 use Rattle.core_program.specs.Answers.{IsBadLine, IsTooLong}
 use Rattle.core_program.specs.Grammar.{core_text, end_text, format_number, instruction_text, sections, EachFits, IsSection, IsSetOf}
@@ -25,7 +25,7 @@ IsLast cores next more =
     (shown : List ShownParts) × (forbidden : List (List ℕ)) × AreShown cores shown × AreForbidden (length shown) forbidden
     × (next ≡ show_text shown) × (more ≡ map forbid_text forbidden ++ end_text ∷ [])
 
-empty_section : (format : Format) → IsSection format []
+empty_section : (format : ProgramFormat) → IsSection format []
 empty_section format = record { few = omega arith; each_fits = tt }
 
 -- ---- no line feed
@@ -41,17 +41,17 @@ litmus_no_lf t is = (
       (show_no_lf t.shown, EachNoLf-append (map forbid_text t.forbidden) (end_text ∷ []) (forbids_no_lf t.forbidden) (const_no_lf end_text refl, tt)),
 )
 
-pub has_lines : (Section : Format → List Instruction → Type 0) → HasLines (LitmusLines Section)
+pub has_lines : (Section : ProgramFormat → List Instruction → Type 0) → HasLines (LitmusLines Section)
 has_lines Section lines g = subst EachNoLf (sym g.1.1) (litmus_no_lf g.0 g.1.0.name)
 
 -- ---- a test of this name and so many cores
 
-module _ (format : Format) (name : List ℕ) (cores : ℕ) (is_name : IsName name) (some : 1 ≤ cores) (few : cores ≤ 64) where
+module _ (format : ProgramFormat) (name : List ℕ) (cores : ℕ) (is_name : IsName name) (some : 1 ≤ cores) (few : cores ≤ 64) where
   -- the lines up to the last
   abbrev pub front_of : List (List Instruction) → List ShownParts → List (List ℕ) → List (List ℕ)
   front_of programs shown forbidden = begun (header_text (format_number format) name cores) programs ++ show_text shown ∷ map forbid_text forbidden
 
-  pub test_of : (Section : Format → List Instruction → Type 0) (programs : List (List Instruction)) (shown : List ShownParts) (forbidden : List (List ℕ))
+  pub test_of : (Section : ProgramFormat → List Instruction → Type 0) (programs : List (List Instruction)) (shown : List ShownParts) (forbidden : List (List ℕ))
       → length programs ≡ cores → AllByRecursion (Section format) programs → AreShown cores shown → AreForbidden (length shown) forbidden
       → IsTestOf Section (record { name = name; format = format; programs = programs; shown = shown; forbidden = forbidden })
   test_of Section programs shown forbidden count each are_shown are_forbidden = record {
@@ -69,7 +69,7 @@ module _ (format : Format) (name : List ℕ) (cores : ℕ) (is_name : IsName nam
   pub one_shown : AreShown cores (record { core = 0; register = 0 } ∷ [])
   one_shown = record { some = omega arith; few = omega arith; each = ((omega (arith, some), omega arith), tt) }
 
-  goes : (Section : Format → List Instruction → Type 0) → Section format [] → (programs : List (List Instruction)) → length programs ≤ cores → AllByRecursion (Section format) programs
+  goes : (Section : ProgramFormat → List Instruction → Type 0) → Section format [] → (programs : List (List Instruction)) → length programs ≤ cores → AllByRecursion (Section format) programs
       → CanGoOn (LitmusLines Section) (begun (header_text (format_number format) name cores) programs)
   goes Section empty programs within each =
       let full = filled_up (Section format) empty cores programs within each in
@@ -89,25 +89,25 @@ module _ (format : Format) (name : List ℕ) (cores : ℕ) (is_name : IsName nam
       )
 
   -- the lines of a test after its first
-  behind_first : (Section : Format → List Instruction → Type 0) (t : LitmusParts) (lines : List (List ℕ)) → IsTestOf Section t → header_text (format_number format) name cores ∷ lines ≡ litmus_lines t
+  behind_first : (Section : ProgramFormat → List Instruction → Type 0) (t : LitmusParts) (lines : List (List ℕ)) → IsTestOf Section t → header_text (format_number format) name cores ∷ lines ≡ litmus_lines t
       → (format ≡ t.format) × (cores ≡ length t.programs) × (lines ≡ sections 0 t.programs ++ last_lines t.shown t.forbidden)
   behind_first Section t lines is e =
       let first : header_text (format_number format) name cores ≡ header_text (format_number t.format) t.name (length t.programs) = cc in
       let once = header_once format t.format name t.name cores (length t.programs) is_name is.name some few is.programs.some is.programs.few first in
       (once.0, once.2, cc)
 
-  next_line : (Section : Format → List Instruction → Type 0) → ((p : List Instruction) → Section format p → EachFits format p) → (programs : List (List Instruction)) (next : List ℕ) (more : List (List ℕ))
+  next_line : (Section : ProgramFormat → List Instruction → Type 0) → ((p : List Instruction) → Section format p → EachFits format p) → (programs : List (List Instruction)) (next : List ℕ) (more : List (List ℕ))
       → AllByRecursion (EachFits format) programs → LitmusLines Section (begun (header_text (format_number format) name cores) programs ++ next ∷ more) → Next format (Section format) (IsLast cores) cores 0 programs next more
   next_line Section fit programs next more each (t, (is, e)) =
       let b = behind_first Section t (sections 0 programs ++ next ∷ more) is e in
       let last : IsLast cores (show_text t.shown) (map forbid_text t.forbidden ++ end_text ∷ []) =
       (t.shown, t.forbidden, subst (λ (n : ℕ). AreShown n t.shown) (sym b.1) is.shown, is.forbidden, refl, refl) in
-      let all : AllByRecursion (Section format) t.programs = subst (λ (f : Format). AllByRecursion (Section f) t.programs) (sym b.0) is.programs.each in
+      let all : AllByRecursion (Section format) t.programs = subst (λ (f : ProgramFormat). AllByRecursion (Section f) t.programs) (sym b.0) is.programs.each in
       subst (λ (n : ℕ). Next format (Section format) (IsLast cores) n 0 programs next more) (sym b.1)
       (next_of format (Section format) fit (IsLast cores) (show_text t.shown) (map forbid_text t.forbidden ++ end_text ∷ []) (show_is_other t.shown) last 0 t.programs programs next more
       all each (sym b.2))
 
-  pub has : (Section : Format → List Instruction → Type 0) → Section format [] → ((p : List Instruction) → Section format p → EachFits format p)
+  pub has : (Section : ProgramFormat → List Instruction → Type 0) → Section format [] → ((p : List Instruction) → Section format p → EachFits format p)
       → HasSections format (LitmusLines Section) (Section format) (IsLast cores) (header_text (format_number format) name cores) cores
   has Section empty fit = record {
     lines = has_lines Section;
@@ -145,7 +145,7 @@ module _ (format : Format) (name : List ℕ) (cores : ℕ) (is_name : IsName nam
       go (u ∷ us) (v ∷ vs) each within e = go us vs each.1 (omega (arith, within)) cc
 
   -- what the lines of a test have after a line of shown registers
-  behind_show : (Section : Format → List Instruction → Type 0) → ((p : List Instruction) → Section format p → EachFits format p) → (programs : List (List Instruction)) (shown : List ShownParts) (others : List (List ℕ))
+  behind_show : (Section : ProgramFormat → List Instruction → Type 0) → ((p : List Instruction) → Section format p → EachFits format p) → (programs : List (List Instruction)) (shown : List ShownParts) (others : List (List ℕ))
       → AllByRecursion (EachFits format) programs → AreShown cores shown → LitmusLines Section (begun (header_text (format_number format) name cores) programs ++ show_text shown ∷ others)
       → (forbidden : List (List ℕ)) × AreForbidden (length shown) forbidden × (others ≡ map forbid_text forbidden ++ end_text ∷ [])
   behind_show Section fit programs shown others each are g = by_next (next_line Section fit programs (show_text shown) others each g)
@@ -165,7 +165,7 @@ module _ (format : Format) (name : List ℕ) (cores : ℕ) (is_name : IsName nam
     regroup more = append_assoc (begun (header_text (format_number format) name cores) programs) (show_text shown ∷ map forbid_text forbidden) more
 
     -- neither another forbidden outcome nor the last line comes next
-    unfinished : (Section : Format → List Instruction → Type 0) → ((p : List Instruction) → Section format p → EachFits format p) → AllByRecursion (Section format) programs → (k : ℕ)
+    unfinished : (Section : ProgramFormat → List Instruction → Type 0) → ((p : List Instruction) → Section format p → EachFits format p) → AllByRecursion (Section format) programs → (k : ℕ)
         → k ≡ length (sections 0 programs) + 2 + 1 + length forbidden → (length forbidden < 16 → NoForbidInFront (length shown) rest) → NoEndInFront rest
         → IsFirstWrong (LitmusLines Section) text k
     unfinished Section fit each_section k k-is no_forbid no_end =
@@ -204,7 +204,7 @@ module _ (format : Format) (name : List ℕ) (cores : ℕ) (is_name : IsName nam
     whole = front_of programs shown forbidden ++ end_text ∷ []
 
     -- bytes come after the last line
-    too_much : (Section : Format → List Instruction → Type 0) → ((p : List Instruction) → Section format p → EachFits format p) → AllByRecursion (Section format) programs → (k : ℕ) (behind : List ℕ)
+    too_much : (Section : ProgramFormat → List Instruction → Type 0) → ((p : List Instruction) → Section format p → EachFits format p) → AllByRecursion (Section format) programs → (k : ℕ) (behind : List ℕ)
         → k ≡ length (sections 0 programs) + 2 + 2 + length forbidden → rest ≡ end_text ++ 10 ∷ behind → behind ≢ []
         → IsFirstWrong (LitmusLines Section) text k
     too_much Section fit each_section k behind k-is rest-is some_left =

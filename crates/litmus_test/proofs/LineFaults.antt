@@ -6,8 +6,8 @@ use Rattle.std.proofs.lemmas.List.{length-map}
 use Rattle.decimal_text.specs.Reading.{after}
 use Rattle.decimal_text.proofs.Lines.{const_no_lf}
 use Rattle.decimal_text.proofs.Numbers.{after_again, after_takes}
-use Rattle.core_program.specs.declared.format.Format.{Format}
-use Rattle.core_program.specs.declared.format.Format.TheVariants.{One}
+use Rattle.core_program.specs.declared.format.ProgramFormat.{ProgramFormat}
+use Rattle.core_program.specs.declared.format.ProgramFormat.TheVariants.{One}
 use Rattle.core_program.specs.declared.instruction.Instruction.{Instruction}
 use Rattle.core_program.specs.declared.fault.ProgramFault.{ProgramFault}
 use Rattle.core_program.specs.declared.fault.ProgramFault.TheVariants as program
@@ -37,8 +37,8 @@ use Rattle.litmus_test.proofs.WordLines.{show_is_other, show_no_lf}
 digit_name : IsName (48 ∷ [])
 digit_name = record { some = omega arith; few = omega arith; each = (refl, tt) }
 
-header_wrong : (Section : Format → List Instruction → Type 0) → Section One [] → (text : List ℕ)
-    → ((format : Format) (name : List ℕ) (cores : ℕ) (rest : List ℕ) → HeaderInFront format name cores text rest → ⊥) → IsFirstWrong (LitmusLines Section) text 1
+header_wrong : (Section : ProgramFormat → List Instruction → Type 0) → Section One [] → (text : List ℕ)
+    → ((format : ProgramFormat) (name : List ℕ) (cores : ℕ) (rest : List ℕ) → HeaderInFront format name cores text rest → ⊥) → IsFirstWrong (LitmusLines Section) text 1
 header_wrong Section empty text none =
     let shown : List ShownParts = record { core = 0; register = 0 } ∷ [] in
     let t : LitmusParts = record { name = 48 ∷ []; format = One; programs = [] ∷ []; shown = shown; forbidden = [] } in
@@ -59,7 +59,7 @@ header_wrong Section empty text none =
         let first : next ≡ header_text (format_number t.format) t.name (length t.programs) = cc in
         none t.format t.name (length t.programs) behind (is.name, is.programs.some, is.programs.few, there ∙ ap (λ (l : List ℕ). l ++ 10 ∷ behind) first)
 
-pub bad_header : (text : List ℕ) → ((format : Format) (name : List ℕ) (cores : ℕ) (rest : List ℕ) → HeaderInFront format name cores text rest → ⊥)
+pub bad_header : (text : List ℕ) → ((format : ProgramFormat) (name : List ℕ) (cores : ℕ) (rest : List ℕ) → HeaderInFront format name cores text rest → ⊥)
     → IsLineFault text (BadLitmusLine 1)
 bad_header text none = (
   (
@@ -115,7 +115,7 @@ sections_some [] some = absurd (omega (arith, some))
 sections_some (p ∷ programs) some = omega arith
 
 -- where sections may go on, the wrong line is an instruction line or not, as it begins
-pub fault_in_sections : (format : Format) (text rest name : List ℕ) (cores line : ℕ) (programs : List (List Instruction)) (begun_one : Bool) → IsName name
+pub fault_in_sections : (format : ProgramFormat) (text rest name : List ℕ) (cores line : ℕ) (programs : List (List Instruction)) (begun_one : Bool) → IsName name
     → AfterSections format (header_text (format_number format) name cores) cores text programs rest line → (begun_one ≡ true → 0 < length programs) → (begun_one ≡ false → programs ≡ [])
     → IsBadLine LitmusLines text line → IsLineFault text (wrong_line line begun_one rest)
 fault_in_sections format text rest name cores line programs begun_one is_name stands begins begins_not bad = go begun_one (begins_instruction rest) refl refl
@@ -164,7 +164,7 @@ fault_in_sections format text rest name cores line programs begun_one is_name st
 -- ---- in the sections
 
 -- the line of a core is missing
-pub no_core_line : (format : Format) (text rest name : List ℕ) (cores line : ℕ) (programs : List (List Instruction)) (begun_one : Bool) → IsName name → 1 ≤ cores → cores ≤ 64
+pub no_core_line : (format : ProgramFormat) (text rest name : List ℕ) (cores line : ℕ) (programs : List (List Instruction)) (begun_one : Bool) → IsName name → 1 ≤ cores → cores ≤ 64
     → AfterSections format (header_text (format_number format) name cores) cores text programs rest line → (begun_one ≡ true → 0 < length programs) → (begun_one ≡ false → programs ≡ [])
     → length programs < cores → NoCoreInFront (length programs) rest → IsLineFault text (wrong_line line begun_one rest)
 no_core_line format text rest name cores line programs begun_one is_name some few stands begins begins_not less none =
@@ -177,7 +177,7 @@ no_core_line format text rest name cores line programs begun_one is_name some fe
     others = record { no_core = λ l behind is. none behind is; no_last = λ same next more behind last is. absurd (omega (arith, less, same)) }
 
 -- a section is too long
-pub sections_refused : (format : Format) (text body name : List ℕ) (cores : ℕ) (fault : ProgramFault) → HeaderInFront format name cores text body → IsSectionsFault format cores body fault → IsLineFault text (from_program fault)
+pub sections_refused : (format : ProgramFormat) (text body name : List ℕ) (cores : ℕ) (fault : ProgramFault) → HeaderInFront format name cores text body → IsSectionsFault format cores body fault → IsLineFault text (from_program fault)
 sections_refused format text body name cores (program.BadLine k) there h = absurd h
 sections_refused format text body name cores (program.SkipPastEnd k) there h = absurd h
 sections_refused format text body name cores program.OutOfMemory there h = tt
@@ -194,7 +194,7 @@ sections_refused format text body name cores (program.TooLong k) (is_name, some,
 
 -- ---- behind the sections
 
-module _ (format : Format) (text rest name : List ℕ) (cores line : ℕ) (programs : List (List Instruction)) (is_name : IsName name) (some : 1 ≤ cores) (few : cores ≤ 64)
+module _ (format : ProgramFormat) (text rest name : List ℕ) (cores line : ℕ) (programs : List (List Instruction)) (is_name : IsName name) (some : 1 ≤ cores) (few : cores ≤ 64)
     (stands : AfterSections format (header_text (format_number format) name cores) cores text programs rest line) (count : length programs ≡ cores) where
   missing_show : NoShowInFront cores rest → IsBadLine LitmusLines text line
   missing_show none = (

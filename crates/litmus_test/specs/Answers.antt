@@ -1,7 +1,7 @@
 -- What the bytes of a litmus test say, and their first fault.
 use Rattle.std.specs.Prelude.{◌≡◌, ◌≢◌, ℕ, ◌+◌, ◌<◌, ◌≤◌, List, [], ◌∷◌, ◌++◌, length, codes}
 use Rattle.std.specs.List.{AllByRecursion}
-use Rattle.core_program.specs.declared.format.Format.{Format}
+use Rattle.core_program.specs.declared.format.ProgramFormat.{ProgramFormat}
 use Rattle.core_program.specs.declared.instruction.Instruction.{Instruction}
 use Rattle.core_program.specs.Answers.{IsBadLine, IsLeast, IsTooLong, SkipsInSetAt}
 use Rattle.core_program.specs.Grammar.{format_number, sections, EachFits, IsSection}
@@ -16,13 +16,13 @@ abbrev pub Spells : List ℕ → LitmusParts → Type 0
 Spells bytes t = IsTestOf IsSection t × (bytes ≡ text_of (litmus_lines t))
 
 -- lines of a test whose sections are such in its format
-abbrev pub LitmusLines : (Format → List Instruction → Type 0) → List (List ℕ) → Type 0
+abbrev pub LitmusLines : (ProgramFormat → List Instruction → Type 0) → List (List ℕ) → Type 0
 LitmusLines Section lines = (t : LitmusParts) × (IsTestOf Section t × (lines ≡ litmus_lines t))
 
 -- Line k is an instruction line: before it come the first line and sections, the last of them perhaps not at its end; and bytes are
 -- there that begin neither with `core ` nor with `show `.
 pub record IsInstructionLine (bytes : List ℕ) (k : ℕ) : Type 0 where
-  pub format : Format
+  pub format : ProgramFormat
   pub name : List ℕ
   pub is_name : IsName name
   pub cores : ℕ

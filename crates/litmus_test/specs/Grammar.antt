@@ -2,7 +2,7 @@
 use Rattle.std.specs.Prelude.{◌≡◌, ℕ, ◌<◌, ◌≤◌, ◌^◌, Bool, true, ◌||◌, ◌&&◌, ◌==◌, nat_le, List, [], ◌∷◌, ◌++◌, length, map, codes}
 use Rattle.std.specs.List.{flat_map, AllByRecursion}
 use Rattle.decimal_text.specs.Numbers.{numeral}
-use Rattle.core_program.specs.declared.format.Format.{Format}
+use Rattle.core_program.specs.declared.format.ProgramFormat.{ProgramFormat}
 use Rattle.core_program.specs.declared.instruction.Instruction.{Instruction}
 use Rattle.core_program.specs.Grammar.{end_text, format_number, sections, IsSetOf}
 use Rattle.litmus_test.specs.Parts.{LitmusParts, ShownParts}
@@ -70,7 +70,7 @@ pub record AreForbidden (count : ℕ) (forbidden : List (List ℕ)) : Type 0 whe
   pub each : AllByRecursion (IsOutcome count) forbidden
 
 -- a test whose sections are such in its format
-pub record IsTestOf (Section : Format → List Instruction → Type 0) (t : LitmusParts) : Type 0 where
+pub record IsTestOf (Section : ProgramFormat → List Instruction → Type 0) (t : LitmusParts) : Type 0 where
   pub name : IsName t.name
   pub programs : IsSetOf (Section t.format) t.programs
   pub shown : AreShown (length t.programs) t.shown

@@ -1,6 +1,6 @@
 -- The parts of a litmus test that contracts see.
 use Rattle.std.specs.Prelude.{ℕ, List}
-use Rattle.core_program.specs.declared.format.Format.{Format}
+use Rattle.core_program.specs.declared.format.ProgramFormat.{ProgramFormat}
 use Rattle.core_program.specs.declared.instruction.Instruction.{Instruction}
 
 -- a register of a core
@@ -12,7 +12,7 @@ pub record ShownParts : Type 0 where
 -- forbidden.
 pub record LitmusParts : Type 0 where
   pub name : List ℕ
-  pub format : Format
+  pub format : ProgramFormat
   pub programs : List (List Instruction)
   pub shown : List ShownParts
   pub forbidden : List (List ℕ)

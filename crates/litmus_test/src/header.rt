@@ -5,9 +5,9 @@ ghost use Rattle.litmus_test.specs.Grammar.{is_name_byte};
 ghost use Rattle.litmus_test.specs.inner.Ending.{HeaderInFront};
 ghost use Rattle.litmus_test.specs.inner.Reading.{cores_at, first_words, header_of, name_at, name_len};
 ghost use Rattle.decimal_text.specs.Reading.{front_now};
-ghost use Rattle.core_program.specs.declared.format.Format.{Format};
+ghost use Rattle.core_program.specs.declared.format.ProgramFormat.{ProgramFormat};
 
-use core_program::{Format, next_line};
+use core_program::{ProgramFormat, next_line};
 use decimal_text::{after_text, read_last};
 
 /// The most bytes of a name.
@@ -20,7 +20,7 @@ const CORE_LIMIT: u64 = 64;
 #[derive(Clone, Copy)]
 pub(crate) struct Header<'a> {
     /// The format of its programs.
-    pub(crate) format: Format,
+    pub(crate) format: ProgramFormat,
     /// Its name.
     pub(crate) name: &'a [u8],
     /// Its number of cores, 1..64.
@@ -76,14 +76,14 @@ fn cores_at(bytes: &[u8]) -> Option<u64>
 
 /// The format that the words before the name say, and the bytes after them.
 #[tactic(auto, unfolding(crate::specs::inner::Reading::first_words))]
-fn format_of(line: &[u8]) -> Option<(Format, &[u8])>
+fn format_of(line: &[u8]) -> Option<(ProgramFormat, &[u8])>
     ensures { front_now result ≡ first_words line.now }
 {
     if let Some(rest) = after_text(b"tardis-litmus 1 ", line) {
-        return Some((Format::One, rest));
+        return Some((ProgramFormat::One, rest));
     }
     let rest = after_text(b"tardis-litmus 2 ", line)?;
-    Some((Format::Two, rest))
+    Some((ProgramFormat::Two, rest))
 }
 
 /// What a first line tells; None where it isn't one.
@@ -106,7 +106,7 @@ pub(crate) fn after_header(text: &[u8]) -> Option<(Header<'_>, &[u8])>
     ensures found { IfSome result
         (λ read. HeaderInFront read.0.format read.0.name.now read.0.cores text.now read.1.now) }
     ensures none { IsNone result →
-        (format : Format) (name : List ℕ) (cores : ℕ) (rest : List ℕ) → ¬ HeaderInFront format name cores text.now rest }
+        (format : ProgramFormat) (name : List ℕ) (cores : ℕ) (rest : List ℕ) → ¬ HeaderInFront format name cores text.now rest }
 {
     let (line, rest) = next_line(text)?;
     let header = header_of(line)?;

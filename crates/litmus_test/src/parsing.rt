@@ -10,14 +10,14 @@ use super::ending::{read_ending, wrong_line};
 use super::fault::LitmusFault;
 use super::header::after_header;
 use super::test::{Litmus, Shown};
-use core_program::{Format, Instruction, ProgramSet, read_sections};
+use core_program::{Instruction, ProgramFormat, ProgramSet, read_sections};
 use std::alloc::Global;
 
 /// What the lines of a test say.
 #[derive(Drop)]
 pub(crate) struct Parts {
     name: Vec<u8>,
-    format: Format,
+    format: ProgramFormat,
     sections: Vec<Vec<Instruction>>,
     shown: Vec<Shown>,
     forbidden: Vec<Vec<u64>>,

@@ -19,7 +19,7 @@ use super::tardis_finding::{TardisFinding, finding_status, finding_told, numbere
 use flat_replay::Access;
 use search::search;
 use std::alloc::{AllocError, Global};
-use trace::{Refusal, Trace};
+use trace::{Trace, TraceFull};
 use verdict::check_counts;
 
 /// The operations of a core.
@@ -60,8 +60,8 @@ fn trace_of(alloc: Global, operations: &[TardisAccess], ends: &[usize]) -> Resul
     let cores = cores_of(alloc, operations, ends)?;
     match Trace::of(alloc, cores) {
         Ok(trace) => Ok(trace),
-        Err(Refusal::TooMany) => unreachable!(),
-        Err(Refusal::OutOfMemory) => Err(AllocError),
+        Err(TraceFull::TooMany) => unreachable!(),
+        Err(TraceFull::OutOfMemory) => Err(AllocError),
     }
 }
 

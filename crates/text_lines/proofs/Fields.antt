@@ -7,7 +7,7 @@ use Rattle.decimal_text.specs.Reading.{◌>>=◌, after, field_at, last_number}
 use Rattle.decimal_text.proofs.Lines.{NoLf, NoLf-append, numeral_no_lf}
 use Rattle.decimal_text.proofs.Numbers.{guard_some, after_takes}
 use Rattle.decimal_text.proofs.Reading.{bind_some, some_is, field_takes, field_again, last_takes, last_again}
-use Rattle.text_lines.specs.Fields.{below, front_below, field_below, last_below, last_some_below, named}
+use Rattle.text_lines.specs.Fields.{below, front_below, field_below, last_below, named}
 
 -- ---- numbers in range
 
@@ -43,23 +43,6 @@ pub last_below_again : (limit n : ℕ) → n < limit → last_below limit (numer
 unfolding last_below
 last_below_again limit n lt = rw (last_again n) (below_again limit n lt)
 
-pub last_some_takes : (limit : ℕ) (bytes : List ℕ) (n : ℕ) → last_some_below limit bytes ≡ Some n → (bytes ≡ numeral n) × (1 ≤ n) × (n < limit)
-unfolding last_some_below
-last_some_takes limit bytes n e =
-    let a = bind_some (last_number bytes) (λ k. cond (eqb k 0) None (below limit k)) n e in
-    elim (cases_Bool (eqb a.0 0)) [
-      | inl zero-is ↦ let wrong : None ≡ Some n = sym (cond-true (eqb a.0 0) None (below limit a.0) zero-is) ∙ a.2 in absurd cc
-      | inr other ↦
-          let g = below_is limit a.0 n (sym (cond-false (eqb a.0 0) None (below limit a.0) other) ∙ a.2) in
-          let some = eqb-false a.0 0 other in
-          (subst (λ (k : ℕ). bytes ≡ numeral k) g.0 (last_takes bytes a.0 a.1), omega (arith, g.0, some), g.1)
-    ]
-
-pub last_some_again : (limit n : ℕ) → 1 ≤ n → n < limit → last_some_below limit (numeral n) ≡ Some n
-unfolding last_some_below
-last_some_again limit n some lt =
-    rw (last_again n) (cond-false (eqb n 0) None (below limit n) (ne_eqb n 0 (λ e. omega (arith, e))) ∙ below_again limit n lt)
-
 -- ---- names
 
 -- a name and these fields are the text of something that fits
@@ -78,22 +61,6 @@ named_or text Fits name fields line other x takes else-takes e =
           (after_takes name line b.0 b.1 ∙ is.0, is.1)
       | inr not-there ↦ else-takes (sym (cond-false (is_some (after name line)) (after name line >>= fields) other not-there) ∙ e)
     ]
-
--- what comes after either of two names, each of which stands for something
-pub either_takes : {A : Type 0} (name : A → List ℕ) (a b : A) (line : List ℕ) (x : A × List ℕ)
-    → named (name a) (λ rest. Some (a, rest)) line (after (name b) line >>= λ rest. Some (b, rest)) ≡ Some x → line ≡ name x.0 ++ x.1
-either_takes {A} name a b line x e =
-    let first : Option (A × List ℕ) = after (name a) line >>= λ rest. Some (a, rest) in
-    let second : Option (A × List ℕ) = after (name b) line >>= λ rest. Some (b, rest) in
-    elim (cases_Bool (is_some (after (name a) line))) [
-      | inl there ↦ found a (sym (cond-true (is_some (after (name a) line)) first second there) ∙ e)
-      | inr not-there ↦ found b (sym (cond-false (is_some (after (name a) line)) first second not-there) ∙ e)
-    ]
-  where
-    found : (c : A) → (after (name c) line >>= λ rest. Some (c, rest)) ≡ Some x → line ≡ name x.0 ++ x.1
-    found c e =
-        let r = bind_some (after (name c) line) (λ rest. Some (c, rest)) x e in
-        after_takes (name c) line r.0 r.1 ∙ ap (λ (y : A × List ℕ). name y.0 ++ y.1) (some_is (c, r.0) x r.2)
 
 -- ---- no line feed
 

@@ -1,5 +1,5 @@
 -- The fields of a line, read from left to right, as functions on its bytes: None where what is looked for isn't there.
-use Rattle.std.specs.Prelude.{ℕ, ◌==◌, nat_lt, if◌then◌else◌, List, Option, Some, None, is_some}
+use Rattle.std.specs.Prelude.{ℕ, nat_lt, if◌then◌else◌, List, Option, Some, None, is_some}
 use Rattle.decimal_text.specs.Reading.{◌>>=◌, after, field_at, last_number}
 
 -- the number, where it is less than this
@@ -17,10 +17,6 @@ field_below limit bytes = field_at 32 bytes >>= front_below limit
 -- a number less than this that is all there is
 unfoldable pub last_below : ℕ → List ℕ → Option ℕ
 last_below limit bytes = last_number bytes >>= below limit
-
--- such a number that isn't 0
-unfoldable pub last_some_below : ℕ → List ℕ → Option ℕ
-last_some_below limit bytes = last_number bytes >>= λ n. if n == 0 then None else below limit n
 
 -- what a reading of the fields makes of a line that begins with this name, else what another reading makes of it
 abbrev pub named : {A : Type 0} → List ℕ → (List ℕ → Option A) → List ℕ → Option A → Option A

@@ -5,7 +5,7 @@ use Rattle.mem_op.specs.Consistency.{Operation}
 use Rattle.mem_op.specs.Limits.{operation_limit}
 use Rattle.trace.specs.declared.line.TraceLine.{TraceLine}
 use Rattle.trace.specs.declared.line.TraceLine.TheVariants.{Nothing, Performs}
-use Rattle.trace.specs.declared.refusal.Refusal.TheVariants.{TooMany}
+use Rattle.trace.specs.declared.refusal.TraceFull.TheVariants.{TooMany}
 use Rattle.trace.specs.Grammar.{IsLine}
 use Rattle.flat_replay.specs.Accesses.{own_operations}
 use Rattle.trace.specs.Texts.{with_line, trace_of}

@@ -5,10 +5,10 @@ use Rattle.mem_op.specs.Names.{name_text}
 use Rattle.mem_op.specs.declared.fault_name.FaultName.TheVariants as named
 use Rattle.trace.specs.declared.fault.TraceFault.{TraceFault}
 use Rattle.trace.specs.declared.fault.TraceFault.TheVariants as fault
-use Rattle.trace.specs.declared.refusal.Refusal.{Refusal}
-use Rattle.trace.specs.declared.refusal.Refusal.TheVariants.{TooMany, OutOfMemory}
+use Rattle.trace.specs.declared.refusal.TraceFull.{TraceFull}
+use Rattle.trace.specs.declared.refusal.TraceFull.TheVariants.{TooMany, OutOfMemory}
 
-abbrev pub refusal_text : Refusal → List ℕ
+abbrev pub refusal_text : TraceFull → List ℕ
 refusal_text TooMany = name_text named.TooMany
 refusal_text OutOfMemory = name_text named.OutOfMemory
 

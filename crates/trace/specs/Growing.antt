@@ -3,8 +3,8 @@ use Rattle.std.specs.Prelude.{◌≡◌, ◌≤◌, ⊤, ℕ, zero, suc, List, [
 use Rattle.mem_op.specs.Consistency.{Operation}
 use Rattle.mem_op.specs.Limits.{operation_limit}
 use Rattle.flat_replay.specs.Accesses.{own_operations}
-use Rattle.trace.specs.declared.refusal.Refusal.{Refusal}
-use Rattle.trace.specs.declared.refusal.Refusal.TheVariants.{TooMany, OutOfMemory}
+use Rattle.trace.specs.declared.refusal.TraceFull.{TraceFull}
+use Rattle.trace.specs.declared.refusal.TraceFull.TheVariants.{TooMany, OutOfMemory}
 
 -- at most 64 cores, each of at most 1,048,576 operations
 pub record IsOfSize (cores : List (List Operation)) : Type 0 where
@@ -19,12 +19,12 @@ with_operation zero operation (own ∷ others) = (own ++ operation ∷ []) ∷ o
 with_operation (suc core) operation (own ∷ others) = own ∷ with_operation core operation others
 
 -- why an operation isn't added: its core is full, or memory was refused
-abbrev pub IsRefusal : ℕ → List (List Operation) → Refusal → Type 0
+abbrev pub IsRefusal : ℕ → List (List Operation) → TraceFull → Type 0
 IsRefusal core cores TooMany = operation_limit ≤ length (own_operations cores core)
 IsRefusal core cores OutOfMemory = ⊤
 
 -- why operations make no trace: there are too many, or memory was refused
-abbrev pub IsRefusalOfAll : List (List Operation) → Refusal → Type 0
+abbrev pub IsRefusalOfAll : List (List Operation) → TraceFull → Type 0
 IsRefusalOfAll cores TooMany = ¬ IsOfSize cores
 IsRefusalOfAll cores OutOfMemory = ⊤
 

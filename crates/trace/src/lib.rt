@@ -18,5 +18,5 @@ pub use laws::{one_fault, spelled_is_read, spells_one};
 pub use line::TraceLine;
 pub use parsing::parse_line;
 pub use reader::{TraceReader, without_return};
-pub use refusal::Refusal;
+pub use refusal::TraceFull;
 pub use trace::Trace;

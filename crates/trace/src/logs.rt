@@ -5,7 +5,7 @@ ghost use Rattle.flat_replay.specs.Accesses.{operation_lists};
 ghost use Rattle.log_record.specs.Entries.{record_lists, operation_of, operations_of};
 ghost use Rattle.trace.specs.Growing.{IsRefusalOfAll};
 
-use super::refusal::Refusal;
+use super::refusal::TraceFull;
 use super::trace::Trace;
 use super::written::Written;
 use flat_replay::{Access, access_of};
@@ -34,7 +34,7 @@ fn operations_of_logs(alloc: Global, logs: &[Vec<Record>]) -> Result<Vec<Vec<Acc
 impl Trace {
     /// The trace of a set of logs, core 0's first. 23 TooMany where there are more than 64 logs, or one has more than
     /// 1,048,576 records; 10 OutOfMemory where memory was refused.
-    pub fn from_logs(alloc: Global, logs: &[Vec<Record>]) -> Result<Trace, Refusal>
+    pub fn from_logs(alloc: Global, logs: &[Vec<Record>]) -> Result<Trace, TraceFull>
         ensures trace { IfOk result (λ trace. trace ≡ operations_of (record_lists logs.now)) }
         ensures refused { IfErr result (IsRefusalOfAll (operations_of (record_lists logs.now))) }
     {

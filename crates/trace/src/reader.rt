@@ -9,7 +9,7 @@ ghost use Rattle.trace.specs.inner.Taking.{TakesLine};
 
 use super::fault::TraceFault;
 use super::line::read_line;
-use super::refusal::Refusal;
+use super::refusal::TraceFull;
 use super::trace::Trace;
 use std::alloc::Global;
 use std::marker::Model;
@@ -38,8 +38,8 @@ fn take_line(trace: &mut Trace, count: &mut u64, line: &[u8]) -> Result<(), Trac
     };
     match trace.add(line, said) {
         Ok(()) => Ok(()),
-        Err(Refusal::TooMany) => Err(TraceFault::TooMany { line: number }),
-        Err(Refusal::OutOfMemory) => Err(TraceFault::OutOfMemory),
+        Err(TraceFull::TooMany) => Err(TraceFault::TooMany { line: number }),
+        Err(TraceFull::OutOfMemory) => Err(TraceFault::OutOfMemory),
     }
 }
 

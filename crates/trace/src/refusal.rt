@@ -1,7 +1,7 @@
 //! Why an operation isn't added to a trace.
 
 ghost use Rattle.std.specs.Prelude.{◌≡◌};
-ghost use Rattle.trace.specs.declared.refusal.Refusal.TheVariants.{OutOfMemory};
+ghost use Rattle.trace.specs.declared.refusal.TraceFull.TheVariants.{OutOfMemory};
 
 use mem_op::FaultName;
 use std::alloc::{AllocError, AllocFailed};
@@ -11,14 +11,14 @@ use thiserror::Error;
 
 /// Why an operation isn't added to a trace.
 #[derive(Clone, Copy, Debug, PartialEq, Eq, Error)]
-pub enum Refusal {
+pub enum TraceFull {
     /// Its core has 1,048,576 operations.
     TooMany,
     /// A growth was refused.
     OutOfMemory,
 }
 
-impl Display for Refusal {
+impl Display for TraceFull {
     ghost use Rattle.std.specs.Prelude.{Some};
     ghost use Rattle.trace.specs.FaultTexts.{refusal_text};
 
@@ -26,24 +26,24 @@ impl Display for Refusal {
 
     fn fmt<W: fmt::Write>(&self, f: &mut fmt::Formatter<W>) -> fmt::Result {
         match self {
-            Refusal::TooMany => write!(f, "{}", FaultName::TooMany),
-            Refusal::OutOfMemory => write!(f, "{}", FaultName::OutOfMemory),
+            TraceFull::TooMany => write!(f, "{}", FaultName::TooMany),
+            TraceFull::OutOfMemory => write!(f, "{}", FaultName::OutOfMemory),
         }
     }
 }
 
-impl<T: Drop> From<AllocFailed<T>> for Refusal {
+impl<T: Drop> From<AllocFailed<T>> for TraceFull {
     ghost from_gives = { λ _ refusal. refusal ≡ OutOfMemory };
 
-    fn from(_: AllocFailed<T>) -> Refusal {
-        Refusal::OutOfMemory
+    fn from(_: AllocFailed<T>) -> TraceFull {
+        TraceFull::OutOfMemory
     }
 }
 
-impl From<AllocError> for Refusal {
+impl From<AllocError> for TraceFull {
     ghost from_gives = { λ _ refusal. refusal ≡ OutOfMemory };
 
-    fn from(_: AllocError) -> Refusal {
-        Refusal::OutOfMemory
+    fn from(_: AllocError) -> TraceFull {
+        TraceFull::OutOfMemory
     }
 }

@@ -11,7 +11,7 @@ ghost use Rattle.trace.specs.inner.Taking.{IsLineRefusal};
 ghost use Rattle.trace.specs.inner.Widening.{IsWidened};
 
 use super::line::TraceLine;
-use super::refusal::Refusal;
+use super::refusal::TraceFull;
 use super::written::Written;
 use flat_replay::{Access, Operations, lengths_of};
 use mem_op::{CoreId, OpId};
@@ -93,12 +93,12 @@ impl Trace {
     /// The trace of these operations, core 0's first; 23 TooMany where there are more than 64 cores, or one has more than
     /// 1,048,576.
     #[tactic(auto, using(crate::proofs::Growth::size_is))]
-    pub fn of(alloc: Global, cores: Vec<Vec<Access>>) -> Result<Trace, Refusal>
+    pub fn of(alloc: Global, cores: Vec<Vec<Access>>) -> Result<Trace, TraceFull>
         ensures trace { IfOk result (λ trace. trace ≡ operation_lists cores.items) }
         ensures refused { IfErr result (IsRefusalOfAll (operation_lists cores.items)) }
     {
         if cores.len() > CORE_LIMIT || !are_short(&cores) {
-            return Err(Refusal::TooMany);
+            return Err(TraceFull::TooMany);
         }
         Ok(Trace {
             cores,
@@ -153,27 +153,27 @@ impl Trace {
     /// cores before it then. 23 TooMany where the core has 1,048,576 operations, and 10 OutOfMemory where memory was
     /// refused: the operations are those that they were.
     #[tactic(auto, using(crate::proofs::Growth::size_of_widened, crate::proofs::Growth::size_with, crate::proofs::Growth::length_lists))]
-    pub fn push(&mut self, core: CoreId, access: Access) -> Result<(), Refusal>
+    pub fn push(&mut self, core: CoreId, access: Access) -> Result<(), TraceFull>
         ensures pushed { OnOk result (self.new ≡ with_operation core access self.old) }
         ensures refused { IfErr result (IsRefusal core self.old) }
         ensures kept { OnErr result (SameOperations self.old self.new) }
         ensures size { OnOk result (IsOfSize self.new) }
     {
         if self.count(core) >= OPERATION_LIMIT {
-            return Err(Refusal::TooMany);
+            return Err(TraceFull::TooMany);
         }
         let place = core.get() as usize;
         widen(self.alloc, &mut self.cores, place)?;
         self.written.push(core)?;
         if let Err(refusal) = push_at(&mut self.cores, place, access) {
             self.written.pop();
-            return Err(Refusal::from(refusal));
+            return Err(TraceFull::from(refusal));
         }
         Ok(())
     }
 
     /// Adds what one more line says.
-    pub(crate) fn add(&mut self, line: &[u8], said: TraceLine) -> Result<(), Refusal>
+    pub(crate) fn add(&mut self, line: &[u8], said: TraceLine) -> Result<(), TraceFull>
         ensures added { OnOk result (self.new ≡ with_line self.old said) }
         ensures refused { IfErr result (IsLineRefusal self.old said) }
         ensures size { OnOk result (IsOfSize self.new) }

@@ -195,14 +195,6 @@ pub takes_line : (l m : LineReplay) (said : List TraceLine) (line : List ℕ) (l
     → StandsFor m.replayer (with_said (steps_of said) last) → IsLine line last → TakesLine said line m
 takes_line l m said line last stands number after is = record { last = last; is_line = is; stands = stands_with l m said last stands number after }
 
--- what it stops with is told of the line
-pub stop_by : (said : List TraceLine) (line : List ℕ) (last : TraceLine) (stop : Stop) → IsLine line last → IsStopBy (steps_of said) last stop → IsStopAt said line stop
-stop_by said line Nothing stop is by = absurd by
-stop_by said line (Performs core operation) (Wrong wrong) is by = (core, operation, is, by)
-stop_by said line (Performs core operation) (Refused (BadTraceLine number)) is by = absurd cc
-stop_by said line (Performs core operation) (Refused OutOfMemory) is by = tt
-stop_by said line (Performs core operation) (Refused Read) is by = absurd cc
-
 -- a line that stands whole in a piece
 pub whole_line : (r : Result (Unit {0}) Stop) (l : LineReplay) (said : List TraceLine) (line begun part : List ℕ) → begun ≡ [] → line ≡ strip_carriage_return part
     → MatchResult r (λ _. TakesLine said line l) (IsStopAt said line)

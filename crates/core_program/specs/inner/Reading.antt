@@ -4,8 +4,8 @@ use Rattle.std.specs.Prelude.{ℕ, ◌^◌, ◌==◌, nat_lt, if◌then◌else�
 use Rattle.decimal_text.specs.Reading.{◌>>=◌, after, field_at, last_number}
 use Rattle.core_program.specs.declared.instruction.Instruction.{Instruction}
 use Rattle.core_program.specs.declared.instruction.Instruction.TheVariants.{Load, Store, StoreRegister, Add, SkipIfZero, Swap}
-use Rattle.core_program.specs.declared.format.Format.{Format}
-use Rattle.core_program.specs.declared.format.Format.TheVariants.{One, Two}
+use Rattle.core_program.specs.declared.format.ProgramFormat.{ProgramFormat}
+use Rattle.core_program.specs.declared.format.ProgramFormat.TheVariants.{One, Two}
 
 -- the number, where it is less than this, and the bytes after it
 abbrev pub front_below : ℕ → ℕ × List ℕ → Option (ℕ × List ℕ)
@@ -60,12 +60,12 @@ abbrev pub named : List ℕ → (List ℕ → Option Instruction) → List ℕ �
 named name fields line other = if is_some (after name line) then (after name line >>= fields) else other
 
 -- the swap whose line this is in a format that has swaps
-abbrev pub swap_in : Format → List ℕ → Option Instruction
+abbrev pub swap_in : ProgramFormat → List ℕ → Option Instruction
 swap_in One line = None
 swap_in Two line = named (codes "sw ") swap_of line None
 
 -- the instruction of this format whose line this is
-unfoldable pub instruction_of : Format → List ℕ → Option Instruction
+unfoldable pub instruction_of : ProgramFormat → List ℕ → Option Instruction
 instruction_of format line =
     named (codes "ld ") load_of line
     (named (codes "st ") store_of line
@@ -74,7 +74,7 @@ instruction_of format line =
     (named (codes "jz ") skip_of line (swap_in format line)))))
 
 -- the format that the first words of a header say, and the bytes after them
-unfoldable pub first_words : List ℕ → Option (Format × List ℕ)
+unfoldable pub first_words : List ℕ → Option (ProgramFormat × List ℕ)
 first_words line =
     if is_some (after (codes "tardis-programs 1 cores ") line) then (after (codes "tardis-programs 1 cores ") line >>= λ rest. Some (One, rest))
     else (after (codes "tardis-programs 2 cores ") line >>= λ rest. Some (Two, rest))
@@ -84,7 +84,7 @@ unfoldable pub cores_of : List ℕ → Option ℕ
 cores_of bytes = last_number bytes >>= λ n. if n == 0 then None else below 65 n
 
 -- the format and the number of cores of a header
-unfoldable pub header_of : List ℕ → Option (Format × ℕ)
+unfoldable pub header_of : List ℕ → Option (ProgramFormat × ℕ)
 header_of line = first_words line >>= λ front. cores_of front.1 >>= λ cores. Some (front.0, cores)
 
 -- the core whose section a line begins

@@ -3,7 +3,7 @@ use Rattle.std.specs.Prelude.{◌≡◌, ◌≢◌, ℕ, ◌+◌, ◌<◌, ◌�
 use Rattle.std.specs.Global.{Vec}
 use Rattle.std.specs.List.{AllByRecursion}
 use Rattle.decimal_text.specs.Reading.{after}
-use Rattle.core_program.specs.declared.format.Format.{Format}
+use Rattle.core_program.specs.declared.format.ProgramFormat.{ProgramFormat}
 use Rattle.core_program.specs.Grammar.{end_text, format_number}
 use Rattle.core_program.specs.Lines.{text_of}
 use Rattle.litmus_test.specs.Grammar.{header_text, forbid_text, show_text, AreForbidden, AreShown, IsName, IsOutcome}
@@ -13,7 +13,7 @@ use Rattle.litmus_test.specs.declared.fault.LitmusFault.TheVariants.{BadLitmusLi
 use Rattle.litmus_test.specs.declared.ending.Forbids.{Forbids}
 
 -- the bytes begin with the first line of this format, name and number of cores, and these come after it
-abbrev pub HeaderInFront : Format → List ℕ → ℕ → List ℕ → List ℕ → Type 0
+abbrev pub HeaderInFront : ProgramFormat → List ℕ → ℕ → List ℕ → List ℕ → Type 0
 HeaderInFront format name cores bytes rest =
     IsName name × (1 ≤ cores) × (cores ≤ 64) × (bytes ≡ header_text (format_number format) name cores ++ 10 ∷ rest)
 

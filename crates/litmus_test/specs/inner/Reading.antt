@@ -3,8 +3,8 @@
 use Rattle.std.specs.Prelude.{ℕ, suc, ◌^◌, ◌==◌, ◌&&◌, nat_lt, nat_le, min, Bool, true, false, if◌then◌else◌, List, [], ◌∷◌, length, Option, Some, None, is_some, codes, take, drop}
 use denote.Ref.{Bor}
 use Rattle.decimal_text.specs.Reading.{◌>>=◌, after, last_number, number_at}
-use Rattle.core_program.specs.declared.format.Format.{Format}
-use Rattle.core_program.specs.declared.format.Format.TheVariants.{One, Two}
+use Rattle.core_program.specs.declared.format.ProgramFormat.{ProgramFormat}
+use Rattle.core_program.specs.declared.format.ProgramFormat.TheVariants.{One, Two}
 use Rattle.core_program.specs.inner.Reading.{below}
 use Rattle.litmus_test.specs.Grammar.{is_name_byte}
 use Rattle.litmus_test.specs.Parts.{ShownParts}
@@ -48,11 +48,11 @@ unfoldable pub cores_at : List ℕ → Option ℕ
 cores_at bytes = after (codes " cores ") bytes >>= last_number >>= λ n. if n == 0 then None else below 65 n
 
 -- the format that the first words of a first line say, and the bytes after them
-unfoldable pub first_words : List ℕ → Option (Format × List ℕ)
+unfoldable pub first_words : List ℕ → Option (ProgramFormat × List ℕ)
 first_words line =
     if is_some (after (codes "tardis-litmus 1 ") line) then (after (codes "tardis-litmus 1 ") line >>= λ rest. Some (One, rest))
     else (after (codes "tardis-litmus 2 ") line >>= λ rest. Some (Two, rest))
 
 -- the format, the name and the number of cores of a first line
-unfoldable pub header_of : List ℕ → Option (Format × List ℕ × ℕ)
+unfoldable pub header_of : List ℕ → Option (ProgramFormat × List ℕ × ℕ)
 header_of line = first_words line >>= λ front. name_at front.1 >>= λ n. cores_at n.1 >>= λ cores. Some (front.0, n.0, cores)

@@ -1,7 +1,7 @@
 -- What a reader's parts do with lines.
 use Rattle.std.specs.Prelude.{ℕ, List, [], ◌∷◌, ◌++◌}
 use Rattle.mem_op.specs.Consistency.{Operation}
-use Rattle.trace.specs.declared.refusal.Refusal.{Refusal}
+use Rattle.trace.specs.declared.refusal.TraceFull.{TraceFull}
 use Rattle.trace.specs.declared.line.TraceLine.{TraceLine}
 use Rattle.trace.specs.declared.line.TraceLine.TheVariants.{Nothing, Performs}
 use Rattle.trace.specs.Grammar.{IsLine}
@@ -9,7 +9,7 @@ use Rattle.trace.specs.Growing.{IsRefusal}
 use Rattle.trace.specs.Reading.{Stands}
 
 -- why what a line says isn't added: its core is full, or memory was refused
-abbrev pub IsLineRefusal : List (List Operation) → TraceLine → Refusal → Type 0
+abbrev pub IsLineRefusal : List (List Operation) → TraceLine → TraceFull → Type 0
 IsLineRefusal cores Nothing refusal = ⊥
 IsLineRefusal cores (Performs core operation) refusal = IsRefusal core cores refusal
 

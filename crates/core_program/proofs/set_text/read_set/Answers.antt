@@ -2,7 +2,7 @@
 use Rattle.std.proofs.Common.{ℕ, List, ◌+◌, ◌<◌, refl, sym, ◌∙◌, arith, length, drop}
 use Rattle.std.proofs.lemmas.Result.{err_from_is_err_and}
 use Rattle.std.proofs.lemmas.List.{length-map}
-use Rattle.core_program.specs.declared.format.Format.{Format}
+use Rattle.core_program.specs.declared.format.ProgramFormat.{ProgramFormat}
 use Rattle.core_program.specs.declared.sections.Sections.{Sections}
 use Rattle.core_program.specs.Grammar.{format_number, header_text}
 use Rattle.core_program.specs.Sections.{AreSectionsOf, section_lists}
@@ -11,7 +11,7 @@ use Rattle.core_program.proofs.SectionsOf.{AfterSections}
 use Rattle.core_program.proofs.SetTexts.{after_header, bad_header, more_behind, no_core_line, no_last_line, rest_is, sections_refused}
 use Rattle.core_program.proofs.set_text.read_set.Goals as goal
 
-stands : (format : Format) (text body : List ℕ) (cores : ℕ) (found : Sections) → HeaderInFront format cores text body → AreSectionsOf format cores body found
+stands : (format : ProgramFormat) (text body : List ℕ) (cores : ℕ) (found : Sections) → HeaderInFront format cores text body → AreSectionsOf format cores body found
     → AfterSections format (header_text (format_number format) cores) cores text (section_lists found.programs.items) (drop found.taken body) found.line
 stands format text body cores found there are =
     after_header format text body (drop found.taken body) (header_text (format_number format) cores) cores found.line (section_lists found.programs.items) there.2 are.in_front are.line

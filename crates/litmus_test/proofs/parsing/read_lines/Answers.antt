@@ -2,7 +2,7 @@
 use Rattle.std.proofs.Common.{rules, ◌≡◌, ℕ, List, [], ◌∷◌, nat_lt, ◌+◌, ◌<◌, ◌≤◌, true, false, refl, sym, ap, subst, ◌∙◌, arith, length, drop}
 use Rattle.std.proofs.lemmas.Result.{err_from_is_err_and}
 use Rattle.std.proofs.lemmas.List.{length-map}
-use Rattle.core_program.specs.declared.format.Format.{Format}
+use Rattle.core_program.specs.declared.format.ProgramFormat.{ProgramFormat}
 use Rattle.core_program.specs.declared.instruction.Instruction.{Instruction}
 use Rattle.core_program.specs.declared.sections.Sections.{Sections}
 use Rattle.core_program.specs.Grammar.{format_number}
@@ -14,7 +14,7 @@ use Rattle.litmus_test.specs.inner.Ending.{HeaderInFront}
 use Rattle.litmus_test.proofs.LineFaults.{bad_header, ending_refused, no_core_line, sections_refused, test_spelled}
 use Rattle.litmus_test.proofs.parsing.read_lines.Goals as goal
 
-stands : (format : Format) (text body name : List ℕ) (cores : ℕ) (found : Sections) → HeaderInFront format name cores text body → AreSectionsOf format cores body found
+stands : (format : ProgramFormat) (text body name : List ℕ) (cores : ℕ) (found : Sections) → HeaderInFront format name cores text body → AreSectionsOf format cores body found
     → AfterSections format (header_text (format_number format) name cores) cores text (section_lists found.programs.items) (drop found.taken body) found.line
 stands format text body name cores found there are =
     after_header format text body (drop found.taken body) (header_text (format_number format) name cores) cores found.line (section_lists found.programs.items) there.3 are.in_front are.line

@@ -2,7 +2,7 @@
 use Rattle.std.proofs.Common.{arith, subst, sym}
 use Rattle.flat_replay.specs.Accesses.{operation_lists}
 use Rattle.trace.specs.Growing.{IsOfSize, IsRefusalOfAll}
-use Rattle.trace.specs.declared.refusal.Refusal.TheVariants.{TooMany}
+use Rattle.trace.specs.declared.refusal.TraceFull.TheVariants.{TooMany}
 use Rattle.tardis_c.specs.Accesses.{trace_of}
 use Rattle.tardis_c.specs.Parts.{parts_of}
 use Rattle.tardis_c.proofs.Cut.{parts_many}

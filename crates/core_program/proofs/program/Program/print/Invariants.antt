@@ -1,7 +1,7 @@
 -- The text so far is that of the instructions so far.
 use Rattle.std.proofs.Common.{◌≡◌, take}
 use Rattle.core_program.specs.Grammar.{program_lines, EachFits}
-use Rattle.core_program.specs.declared.format.Format.TheVariants.{Two}
+use Rattle.core_program.specs.declared.format.ProgramFormat.TheVariants.{Two}
 use Rattle.core_program.specs.Lines.{text_of}
 use Rattle.core_program.proofs.program.Program.print.Given as goal
 
