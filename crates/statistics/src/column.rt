@@ -138,22 +138,8 @@ impl Column {
                 sight,
                 Sight::Operation { due: true, .. } | Sight::Core(CoreEntry::Bumped)
             ),
-            Column::Requests => matches!(
-                sight,
-                Sight::Slice(HistoryEntry::Served(
-                    _,
-                    Message::ShReq { .. } | Message::ExReq { .. },
-                    _
-                ))
-            ),
-            Column::GiveBacks => matches!(
-                sight,
-                Sight::Slice(HistoryEntry::Served(
-                    _,
-                    Message::WbRep { .. } | Message::FlushRep { .. },
-                    _
-                ))
-            ),
+            Column::Requests => sight.is_request(),
+            Column::GiveBacks => sight.is_give_back(),
             Column::Evictions => matches!(sight, Sight::Slice(HistoryEntry::Evicted(_))),
             Column::PrivateWrites => sight.is_hit() && !sight.is_of(Kind::Load),
             Column::Pts | Column::Mts | Column::Rank => false,

@@ -1,6 +1,8 @@
 //! What the columns look at: the entries of a core's transcript with what they need of its past, and those of a slice's history.
 
-ghost use Rattle.std.specs.Prelude.{◌≡◌, ◌<◌, ◌||◌, get_or, length};
+ghost use Rattle.std.specs.Prelude.{◌≡◌, ◌<◌, ◌||◌, get_or, length, not};
+ghost use Rattle.manager_slice.specs.Messages.{is_request};
+ghost use Rattle.statistics.specs.Columns.{has_served};
 ghost use Rattle.statistics.specs.Sights.{brings_line, is_hit, is_of, is_operation, kind_at};
 
 use core_unit::{CoreEntry, Transcript};
@@ -50,6 +52,30 @@ impl Sight {
             Sight::Operation { came, .. } => !*came,
             Sight::Core(_) | Sight::Slice(_) => false,
         }
+    }
+
+    /// Whether a slice answered a request.
+    pub(crate) fn is_request(&self) -> bool
+        ensures { result ≡ has_served is_request self.now }
+    {
+        matches!(
+            self,
+            Sight::Slice(HistoryEntry::Served(_, Message::ShReq { .. } | Message::ExReq { .. }, _))
+        )
+    }
+
+    /// Whether a slice answered a give-back.
+    pub(crate) fn is_give_back(&self) -> bool
+        ensures { result ≡ has_served (λ m. not (is_request m)) self.now }
+    {
+        matches!(
+            self,
+            Sight::Slice(HistoryEntry::Served(
+                _,
+                Message::WbRep { .. } | Message::FlushRep { .. },
+                _
+            ))
+        )
     }
 }
 
