@@ -144,6 +144,27 @@ impl CoreUnit {
         &self.state
     }
 
+    /// Its stamp.
+    pub fn pts(&self) -> Stamp
+        ensures { result ≡ self.now.pts }
+    {
+        self.pts
+    }
+
+    /// Its rank.
+    pub fn rank(&self) -> Rank
+        ensures { result ≡ self.now.r }
+    {
+        self.r
+    }
+
+    /// Its private cache.
+    pub fn cache(&self) -> &PrivateCache
+        ensures { result.now ≡ self.now.cache }
+    {
+        &self.cache
+    }
+
     /// The message in hand, if there is one.
     pub fn in_hand(&self) -> Option<&Message>
         ensures { option_copied result ≡ self.now.hand }
