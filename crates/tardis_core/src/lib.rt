@@ -1,6 +1,7 @@
 //! The core machine: core units and manager slices, and what any list of events makes of them.
 #![tactic(auto)]
 
+mod keeping;
 mod machine;
 mod opening;
 pub mod rounds;

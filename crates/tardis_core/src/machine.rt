@@ -5,6 +5,7 @@ ghost use Rattle.std.specs.Option.{option_copied};
 ghost use Rattle.core_machine.specs.Parts.{IsMachine, IsReached};
 
 use super::seat::Seat;
+use core_machine::Event;
 use core_unit::CoreUnit;
 use lease_rule::Config;
 use line_stamps::Reply;
@@ -13,12 +14,13 @@ use mem_op::CoreId;
 use std::marker::Model;
 
 /// Core units and manager slices, with the reply that is kept for each core, once its message in hand
-/// is served.
+/// is served. Where it was asked to, it keeps the events that it performs, of which contracts say nothing.
 #[derive(Drop)]
 pub struct Core {
     pub(crate) config: Config,
     pub(crate) seats: Vec<Seat>,
     pub(crate) slices: Vec<ManagerSlice>,
+    pub(crate) events: Option<Vec<Event>>,
 }
 
 impl Model for Core {

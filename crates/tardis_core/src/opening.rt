@@ -31,6 +31,7 @@ impl Core {
             config: *config,
             seats,
             slices,
+            events: None,
         })
     }
 }

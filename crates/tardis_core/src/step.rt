@@ -50,7 +50,11 @@ impl Core {
         ended_runs_get_yes();
         never_refused();
         self.keeps();
-        self.apply(event)
+        let result = self.apply(event);
+        if self.events.is_some() && result.is_ok() {
+            self.keep(&event);
+        }
+        result
     }
 
     // Makes an event, which no law is needed for.
@@ -95,6 +99,7 @@ impl Core {
             config,
             seats,
             slices,
+            ..
         } = self;
         let Some(seat) = seats.get_mut(core.get() as usize) else {
             return Ok(Outcome::NoEffect);
