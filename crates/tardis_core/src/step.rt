@@ -50,16 +50,25 @@ impl Core {
         ended_runs_get_yes();
         never_refused();
         self.keeps();
-        let result = self.apply(event);
+        self.apply(event)
+    }
+
+    // Makes an event, which no law is needed for, and keeps it where events are kept.
+    #[inline(always)]
+    fn apply(&mut self, event: Event) -> Result<Outcome, CoreFault>
+        ensures leads { MachineLeads event self.old result self.new }
+        ensures outcome { OutcomeLeads (step_outcome self.old event) result self.old self.new }
+    {
+        let result = self.make(event);
         if self.events.is_some() && result.is_ok() {
             self.keep(&event);
         }
         result
     }
 
-    // Makes an event, which no law is needed for.
+    // Makes an event.
     #[inline(always)]
-    fn apply(&mut self, event: Event) -> Result<Outcome, CoreFault>
+    fn make(&mut self, event: Event) -> Result<Outcome, CoreFault>
         ensures leads { MachineLeads event self.old result self.new }
         ensures outcome { OutcomeLeads (step_outcome self.old event) result self.old self.new }
     {
