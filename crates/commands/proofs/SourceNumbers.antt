@@ -1,13 +1,17 @@
 -- What stands where in a set with sources in place of words, and that an order that explains the sources explains the words.
 use Rattle.std.proofs.Common.{◌≡◌, ◌∙◌, ap, sym, subst, refl, ℕ, zero, suc, ◌+◌, ◌*◌, ◌<◌, ◌≤◌, Bool, true, false, cond, List, [], ◌∷◌, ◌++◌, Option, None, Some, inl, inr, add-one, arith, get_or, length, take}
-use Rattle.std.specs.Prelude.{All, ◌&&◌, ◌==◌, if◌then◌else◌, is_some, map, option_and_then, option_map, slice_get, vec_len}
+use Rattle.std.specs.Prelude.{All, ◌⊎◌, ◌==◌, if◌then◌else◌, is_some, map, option_and_then, option_map, slice_get, vec_len}
 use Rattle.std.specs.Global.{Vec}
-use Rattle.std.specs.List.{filter_map}
+use Rattle.std.specs.List.{cons_option, filter_map}
 use Rattle.std.specs.Option.{option_map_or}
-use Rattle.std.proofs.lemmas.Bool.{and_parts, cases_lt, eqb-true}
+use Rattle.std.proofs.Math.Seq.{take-suc}
+use Rattle.std.proofs.lemmas.Bool.{and_parts, cases_Bool, cond-true, cond-false, eqb-true}
 use Rattle.std.proofs.lemmas.List.{length-map, map-append}
-use Rattle.std.proofs.lemmas.Option.{get_or_from_slice_get, slice_get-map, slice_get_within}
+use Rattle.std.proofs.lemmas.Option.{get_or_from_slice_get, same_Some, slice_get-map, slice_get_cases, slice_get_within}
 use Rattle.address_check.proofs.Collecting.{core_more}
+use Rattle.flat_replay.proofs.Flat.{after_is}
+use Rattle.line_stamps.proofs.Ordered.{In-slice_get, filter_map-In}
+use Rattle.line_stamps.specs.Ordered.{In}
 use Rattle.log_file.proofs.Joined.{length-core_entries}
 use Rattle.log_record.proofs.EntryFacts.{at, operation_at-operations_of, same_id}
 use Rattle.log_record.specs.Entries.{core_entries, operation_by, operation_of, operations_of, record_at, record_lists}
@@ -15,12 +19,12 @@ use Rattle.log_record.specs.declared.act.Act.{Act}
 use Rattle.log_record.specs.declared.act.Act.TheVariants.{Load, Store, Swap}
 use Rattle.log_record.specs.declared.record.Entry.{Entry}
 use Rattle.log_record.specs.declared.record.Record.{Record}
-use Rattle.mem_op.specs.Consistency.{Operation, Loaded, Stored, Swapped, IsSequentialOrder, IsSerialOrder, is_store_to, last_value, operation_at, word_left}
+use Rattle.mem_op.specs.Consistency.{Operation, Loaded, Stored, Swapped, GivesFlatAnswers, IsSequentialOrder, is_store_to, last_value, operation_at, word_left}
 use Rattle.mem_op.specs.Limits.{operation_limit}
 use Rattle.mem_op.specs.declared.id.OpId.{OpId}
 use Rattle.mem_op.specs.declared.id.Source.{Source}
 use Rattle.mem_op.specs.declared.id.Source.TheVariants.{Init, Store as From}
-use Rattle.refutation.proofs.Times.{LastStore, NoneOrLast, is_there, last_store, operations_in}
+use Rattle.refutation.proofs.Runs.{after-is}
 use Rattle.commands.specs.Sources.{may_give, no_number, number_read, numbered, numbered_by, numbered_from, source_number, sourced_operations, store_number, stores}
 
 -- ---- one more
@@ -224,160 +228,145 @@ module _ (logs : List (List Record)) (few : length logs ≤ 64) (short : All (λ
 
 -- ---- an order
 
-abbrev words : List (List Record) → List OpId → List Operation
-words logs order = filter_map (operation_at (operations_of logs)) order
+abbrev word_by : Entry → Operation
+word_by e = operation_of e.logged
 
-abbrev numbers : List (List Record) → List OpId → List Operation
-numbers logs order = filter_map (operation_at (sourced_operations logs)) order
+abbrev number_by : List (List Record) → Entry → Operation
+number_by logs e = operation_of (numbered logs e)
 
--- the record at a place of the order
-record Placed (logs : List (List Record)) (order : List OpId) (k : ℕ) : Type 0 where
-  pub id : OpId
-  pub r : Record
-  pub here : slice_get order k ≡ Some id
-  pub there : record_at logs id ≡ Some r
+-- the records by the ids of an order
+abbrev placed : List (List Record) → List OpId → List Entry
+placed logs order = filter_map (λ id. option_map (at id) (record_at logs id)) order
 
-module _ (logs : List (List Record)) (few : length logs ≤ 64) (short : All (λ log. length log ≤ operation_limit) logs)
-    (order : List OpId) (sequential : IsSequentialOrder (sourced_operations logs) order) where
-  serial : IsSerialOrder (operations_of logs) order
-  serial id =
-      sequential.serial id ∙ ap (λ b. if b then 1 else 0) (ap is_some (number_at logs id) ∙ go (record_at logs id) ∙ sym (ap is_some (operation_at-operations_of logs id)))
-    where
-      go : (o : Option Record) → is_some (option_map (number_of logs id) o) ≡ is_some (option_map operation_of o)
-      go None = refl
-      go (Some r) = refl
+placed_is : (logs : List (List Record)) (order : List OpId) (e : Entry) → In e (placed logs order) → record_at logs e.id ≡ Some e.logged
+placed_is logs order e p = (let found = filter_map-In (λ id. option_map (at id) (record_at logs id)) order e p in go found.0 (record_at logs found.0) refl found.2)
+  where
+    go : (id : OpId) (o : Option Record) → record_at logs id ≡ o → option_map (at id) o ≡ Some e → record_at logs e.id ≡ Some e.logged
+    go id None there is = absurd cc
+    go id (Some r) there is = subst (λ (x : Entry). record_at logs x.id ≡ Some x.logged) (same_Some (at id r) e is) there
 
-  word_by_id : (k : ℕ) → slice_get (words logs order) k ≡ option_and_then (operation_at (operations_of logs)) (slice_get order k)
-  word_by_id k = operations_in (operations_of logs) order (λ j id h. is_there (operations_of logs) order serial id j h) k
+-- the operations by them are those of the records
+by_entry : (logs : List (List Record)) (cores : List (List Operation)) (of : Entry → Operation) → ((id : OpId) → operation_at cores id ≡ option_map (λ r. of (at id r)) (record_at logs id))
+    → (order : List OpId) → filter_map (operation_at cores) order ≡ map of (placed logs order)
+by_entry logs cores of each [] = refl
+by_entry logs cores of each (id ∷ order) =
+    ap (λ o. cons_option o (filter_map (operation_at cores) order)) (each id) ∙ go (record_at logs id) (by_entry logs cores of each order)
+  where
+    go : (o : Option Record) → filter_map (operation_at cores) order ≡ map of (placed logs order)
+        → cons_option (option_map (λ r. of (at id r)) o) (filter_map (operation_at cores) order) ≡ map of (cons_option (option_map (at id) o) (placed logs order))
+    go None later = later
+    go (Some r) later = ap (λ ys. of (at id r) ∷ ys) later
 
-  number_by_id : (k : ℕ) → slice_get (numbers logs order) k ≡ option_and_then (operation_at (sourced_operations logs)) (slice_get order k)
-  number_by_id k = operations_in (sourced_operations logs) order (λ j id h. is_there (sourced_operations logs) order sequential.serial id j h) k
+last_value-push : (addr : ℕ) (ys : List Operation) (k : ℕ) (y : Operation) → slice_get ys k ≡ Some y → last_value addr (take (suc k) ys) ≡ cond (is_store_to addr y) (word_left y) (last_value addr (take k ys))
+last_value-push addr ys k y here =
+    ap (last_value addr) (take-suc ys k y (slice_get_within ys k y here) ∙ ap (λ x. take k ys ++ x ∷ []) (get_or_from_slice_get ys k y y here))
+    ∙ sym (after_is y (λ a. last_value a (take k ys)) (take k ys) addr refl) ∙ after-is (λ a. last_value a (take k ys)) y addr
 
-  word_there : (k : ℕ) (p : Placed logs order k) → slice_get (words logs order) k ≡ Some (operation_of p.r)
-  word_there k p =
-      word_by_id k ∙ ap (option_and_then (operation_at (operations_of logs))) p.here
-      ∙ operation_at-operations_of logs p.id ∙ ap (option_map operation_of) p.there
+module _ (logs : List (List Record)) (few : length logs ≤ 64) (short : All (λ log. length log ≤ operation_limit) logs) (es : List Entry) (each : (e : Entry) → In e es → record_at logs e.id ≡ Some e.logged) where
+  abbrev words : List Operation
+  words = map word_by es
 
-  number_there : (k : ℕ) (p : Placed logs order k) → slice_get (numbers logs order) k ≡ Some (number_of logs p.id p.r)
-  number_there k p =
-      number_by_id k ∙ ap (option_and_then (operation_at (sourced_operations logs))) p.here
-      ∙ number_at logs p.id ∙ ap (option_map (number_of logs p.id)) p.there
+  abbrev numbers : List Operation
+  numbers = map (number_by logs) es
 
-  placed_word : (k : ℕ) (z : Operation) → slice_get (words logs order) k ≡ Some z → Placed logs order k
-  placed_word k z is = go (slice_get order k) refl (sym (word_by_id k) ∙ is)
-    where
-      of_id : (id : OpId) (o : Option Record) → slice_get order k ≡ Some id → record_at logs id ≡ o → option_map operation_of o ≡ Some z → Placed logs order k
-      of_id id None here there is = absurd cc
-      of_id id (Some r) here there is = record { id = id; r = r; here = here; there = there }
+  by_place : (of : Entry → Operation) (k : ℕ) (e : Entry) → slice_get es k ≡ Some e → slice_get (map of es) k ≡ Some (of e)
+  by_place of k e here = slice_get-map of es k ∙ ap (option_map of) here
 
-      go : (o : Option OpId) → slice_get order k ≡ o → option_and_then (operation_at (operations_of logs)) o ≡ Some z → Placed logs order k
-      go None here is = absurd cc
-      go (Some id) here is = of_id id (record_at logs id) here refl (sym (operation_at-operations_of logs id) ∙ is)
+  -- the last word and the last number are 0, or those of one store
+  abbrev AreOf : ℕ → ℕ → Type 0
+  AreOf word number = ((word ≡ 0) × (number ≡ 0)) ⊎ ((e : Entry) × In e es × (word ≡ word_left (word_by e)) × (number ≡ store_number e.id))
 
-  placed_number : (k : ℕ) (z : Operation) → slice_get (numbers logs order) k ≡ Some z → Placed logs order k
-  placed_number k z is = go (slice_get order k) refl (sym (number_by_id k) ∙ is)
-    where
-      of_id : (id : OpId) (o : Option Record) → slice_get order k ≡ Some id → record_at logs id ≡ o → option_map (number_of logs id) o ≡ Some z → Placed logs order k
-      of_id id None here there is = absurd cc
-      of_id id (Some r) here there is = record { id = id; r = r; here = here; there = there }
-
-      go : (o : Option OpId) → slice_get order k ≡ o → option_and_then (operation_at (sourced_operations logs)) o ≡ Some z → Placed logs order k
-      go None here is = absurd cc
-      go (Some id) here is = of_id id (record_at logs id) here refl (sym (number_at logs id) ∙ is)
-
-  -- at a place both store to an address, or neither does
-  both_store : (a k : ℕ) (p : Placed logs order k) → is_store_to a (number_of logs p.id p.r) ≡ is_store_to a (operation_of p.r)
-  both_store a k p = same_stores logs p.id p.r.value p.r.ts p.r.rank p.r.addr p.r.act a
-
-  is_word : (k : ℕ) (p : Placed logs order k) (y : Operation) → slice_get (words logs order) k ≡ Some y → y ≡ operation_of p.r
-  is_word k p y at_word = let e : Some y ≡ Some (operation_of p.r) = sym at_word ∙ word_there k p in cc
-
-  is_number : (k : ℕ) (p : Placed logs order k) (z : Operation) → slice_get (numbers logs order) k ≡ Some z → z ≡ number_of logs p.id p.r
-  is_number k p z at_number = let e : Some z ≡ Some (number_of logs p.id p.r) = sym at_number ∙ number_there k p in cc
-
-  -- a word that is stored has a number, and the other way round
-  store_of_word : (a k : ℕ) (p : Placed logs order k) (y : Operation) → slice_get (words logs order) k ≡ Some y → is_store_to a y ≡ true → is_store_to a (number_of logs p.id p.r) ≡ true
-  store_of_word a k p y at_word does = both_store a k p ∙ ap (is_store_to a) (sym (is_word k p y at_word)) ∙ does
-
-  store_of_number : (a k : ℕ) (p : Placed logs order k) (z : Operation) → slice_get (numbers logs order) k ≡ Some z → is_store_to a z ≡ true → is_store_to a (operation_of p.r) ≡ true
-  store_of_number a k p z at_number does = sym (both_store a k p) ∙ ap (is_store_to a) (sym (is_number k p z at_number)) ∙ does
-
-  -- what is read is the last word
-  last_word : (k addr word : ℕ) (source : Source) → NoneOrLast addr (numbers logs order) k (last_value addr (take k (numbers logs order)))
-      → NoneOrLast addr (words logs order) k (last_value addr (take k (words logs order)))
-      → number_read logs source addr word ≡ last_value addr (take k (numbers logs order)) → word ≡ last_value addr (take k (words logs order))
-  last_word k addr word source (inl none) (inl also) reads = reads_zero logs few short source addr word (reads ∙ none.0) ∙ sym also.0
-  last_word k addr word source (inl none) (inr last) reads =
-      let p = placed_word last.place last.store last.here in
-      absurd (clash _ (store_of_word addr last.place p last.store last.here last.stores) (none.1 last.place (number_of logs p.id p.r) last.earlier (number_there last.place p)))
-  last_word k addr word source (inr last) (inl none) reads =
-      let p = placed_number last.place last.store last.here in
-      absurd (clash _ (store_of_number addr last.place p last.store last.here last.stores) (none.1 last.place (operation_of p.r) last.earlier (word_there last.place p)))
-  last_word k addr word source (inr last) (inr also) reads = elim (cases_lt last.place also.place) [
-    | inl before ↦ (
-        let p = placed_word also.place also.store also.here in
-        absurd (clash _ (store_of_word addr also.place p also.store also.here also.stores) (last.none also.place (number_of logs p.id p.r) before also.earlier (number_there also.place p))))
-    | inr not_before ↦ elim (cases_lt also.place last.place) [
-      | inl after ↦ (
-          let p = placed_number last.place last.store last.here in
-          absurd (clash _ (store_of_number addr last.place p last.store last.here last.stores) (also.none last.place (operation_of p.r) after last.earlier (word_there last.place p))))
-      | inr not_after ↦ (
-          let p = placed_word also.place also.store also.here in
-          let same : last.place ≡ also.place = omega (arith, not_before, not_after) in
-          let here : slice_get (numbers logs order) also.place ≡ Some last.store = subst (λ i. slice_get (numbers logs order) i ≡ Some last.store) same last.here in
-          let is : also.store ≡ operation_of p.r = is_word also.place p also.store also.here in
-          let number : word_left last.store ≡ store_number p.id =
-          ap word_left (is_number also.place p last.store here) ∙ leaves_number logs p.id p.r.value p.r.ts p.r.rank p.r.addr p.r.act addr (ap (is_store_to addr) (sym is) ∙ also.stores) in
-          sym (reads_store logs few short source addr word p.id p.r p.there (reads ∙ sym last.word ∙ number)) ∙ ap word_left (sym is) ∙ also.word)
-    ]
+  lasts : (addr k : ℕ) → k ≤ length es → AreOf (last_value addr (take k words)) (last_value addr (take k numbers))
+  lasts addr zero l = inl (refl, refl)
+  lasts addr (suc k) l = elim (slice_get_cases es k).1 [
+    | inr past ↦ absurd (let low = past.0 in omega arith)
+    | inl found ↦ (
+        let e = found.0 in
+        let here = found.2 in
+        let r = e.logged in
+        let word = last_value-push addr words k (word_by e) (by_place word_by k e here) in
+        let number = last_value-push addr numbers k (number_by logs e) (by_place (number_by logs) k e here) in
+        let both = same_stores logs e.id r.value r.ts r.rank r.addr r.act addr in
+        elim (cases_Bool (is_store_to addr (word_by e))) [
+          | inl does ↦ inr (
+            e,
+            In-slice_get e es k here,
+            word ∙ cond-true _ _ _ does,
+            number ∙ cond-true _ _ _ (both ∙ does) ∙ leaves_number logs e.id r.value r.ts r.rank r.addr r.act addr does,
+          )
+          | inr isnt ↦ subst (AreOf _) (sym (number ∙ cond-false _ _ _ (both ∙ isnt)))
+              (subst (λ w. AreOf w (last_value addr (take k numbers))) (sym (word ∙ cond-false _ _ _ isnt)) (lasts addr k (omega arith)))
+        ])
   ]
 
-  read_right : (k addr word : ℕ) (source : Source) (y z : Operation) → slice_get (words logs order) k ≡ Some y → slice_get (numbers logs order) k ≡ Some z
-      → number_read logs source addr word ≡ last_value addr (take k (numbers logs order)) → word ≡ last_value addr (take k (words logs order))
-  read_right k addr word source y z at_word at_number reads =
-      let w = slice_get_within (words logs order) k y at_word in
-      let n = slice_get_within (numbers logs order) k z at_number in
-      last_word k addr word source (last_store addr (numbers logs order) k (omega (arith, n))) (last_store addr (words logs order) k (omega (arith, w))) reads
+  -- what is read is the last word
+  read_right : (k addr word : ℕ) (source : Source) → k ≤ length es → number_read logs source addr word ≡ last_value addr (take k numbers) → word ≡ last_value addr (take k words)
+  read_right k addr word source l reads = elim (lasts addr k l) [
+    | inl none ↦ reads_zero logs few short source addr word (reads ∙ none.1) ∙ sym none.0
+    | inr one ↦ sym (reads_store logs few short source addr word one.0.id one.0.logged (each one.0 one.1) (reads ∙ one.3)) ∙ sym one.2
+  ]
 
-  -- a load, by its record
-  load_right : (k addr word : ℕ) (id : OpId) (value ts rank a : ℕ) (act : Act) → slice_get (words logs order) k ≡ Some (operation_by act a value)
-      → slice_get (numbers logs order) k ≡ Some (operation_of (numbered_by logs id (record { value = value; ts = ts; rank = rank; addr = a; act = act }) act))
-      → operation_by act a value ≡ Loaded addr word → word ≡ last_value addr (take k (words logs order))
-  load_right k addr word id value ts rank a (Load source) at_word at_number is =
-      let e : Loaded a value ≡ Loaded addr word = is in
-      let a-is : a ≡ addr = cc in
-      let v-is : value ≡ word = cc in
-      let right : value ≡ last_value a (take k (words logs order)) = read_right k a value source _ _ at_word at_number (sequential.flat.loads k a (number_read logs source a value) at_number) in
-      sym v-is ∙ right ∙ ap (λ x. last_value x (take k (words logs order))) a-is
-  load_right k addr word id value ts rank a Store at_word at_number is = absurd (let e : Stored a value ≡ Loaded addr word = is in cc)
-  load_right k addr word id value ts rank a (Swap source read) at_word at_number is = absurd (let e : Swapped a read value ≡ Loaded addr word = is in cc)
+  module _ (flat : GivesFlatAnswers numbers) where
+    -- a load, by its record
+    load_right : (k addr word : ℕ) (id : OpId) (value ts rank a : ℕ) (act : Act) → k ≤ length es
+        → slice_get numbers k ≡ Some (operation_of (numbered_by logs id (record { value = value; ts = ts; rank = rank; addr = a; act = act }) act))
+        → operation_by act a value ≡ Loaded addr word → word ≡ last_value addr (take k words)
+    load_right k addr word id value ts rank a (Load source) l here is =
+        let e : Loaded a value ≡ Loaded addr word = is in
+        let a-is : a ≡ addr = cc in
+        let v-is : value ≡ word = cc in
+        let right : value ≡ last_value a (take k words) = read_right k a value source l (flat.loads k a (number_read logs source a value) here) in
+        sym v-is ∙ right ∙ ap (λ x. last_value x (take k words)) a-is
+    load_right k addr word id value ts rank a Store l here is = absurd (let e : Stored a value ≡ Loaded addr word = is in cc)
+    load_right k addr word id value ts rank a (Swap source read) l here is = absurd (let e : Swapped a read value ≡ Loaded addr word = is in cc)
 
-  swap_right : (k addr word stored : ℕ) (id : OpId) (value ts rank a : ℕ) (act : Act) → slice_get (words logs order) k ≡ Some (operation_by act a value)
-      → slice_get (numbers logs order) k ≡ Some (operation_of (numbered_by logs id (record { value = value; ts = ts; rank = rank; addr = a; act = act }) act))
-      → operation_by act a value ≡ Swapped addr word stored → word ≡ last_value addr (take k (words logs order))
-  swap_right k addr word stored id value ts rank a (Load source) at_word at_number is = absurd (let e : Loaded a value ≡ Swapped addr word stored = is in cc)
-  swap_right k addr word stored id value ts rank a Store at_word at_number is = absurd (let e : Stored a value ≡ Swapped addr word stored = is in cc)
-  swap_right k addr word stored id value ts rank a (Swap source read) at_word at_number is =
-      let e : Swapped a read value ≡ Swapped addr word stored = is in
-      let a-is : a ≡ addr = cc in
-      let r-is : read ≡ word = cc in
-      let right : read ≡ last_value a (take k (words logs order)) = read_right k a read source _ _ at_word at_number (sequential.flat.swaps k a (number_read logs source a read) (store_number id) at_number) in
-      sym r-is ∙ right ∙ ap (λ x. last_value x (take k (words logs order))) a-is
+    swap_right : (k addr word stored : ℕ) (id : OpId) (value ts rank a : ℕ) (act : Act) → k ≤ length es
+        → slice_get numbers k ≡ Some (operation_of (numbered_by logs id (record { value = value; ts = ts; rank = rank; addr = a; act = act }) act))
+        → operation_by act a value ≡ Swapped addr word stored → word ≡ last_value addr (take k words)
+    swap_right k addr word stored id value ts rank a (Load source) l here is = absurd (let e : Loaded a value ≡ Swapped addr word stored = is in cc)
+    swap_right k addr word stored id value ts rank a Store l here is = absurd (let e : Stored a value ≡ Swapped addr word stored = is in cc)
+    swap_right k addr word stored id value ts rank a (Swap source read) l here is =
+        let e : Swapped a read value ≡ Swapped addr word stored = is in
+        let a-is : a ≡ addr = cc in
+        let r-is : read ≡ word = cc in
+        let right : read ≡ last_value a (take k words) = read_right k a read source l (flat.swaps k a (number_read logs source a read) (store_number id) here) in
+        sym r-is ∙ right ∙ ap (λ x. last_value x (take k words)) a-is
 
-  explains : IsSequentialOrder (operations_of logs) order
-  explains = record {
-    serial = serial;
-    program = sequential.program;
-    flat = record {
+    record Here (k : ℕ) (y : Operation) : Type 0 where
+      e : Entry
+      within : k ≤ length es
+      number : slice_get numbers k ≡ Some (number_by logs e)
+      is : word_by e ≡ y
+
+    entry_here : (k : ℕ) (y : Operation) → slice_get words k ≡ Some y → Here k y
+    entry_here k y is = elim (slice_get_cases es k).1 [
+      | inl found ↦ (
+          let low = found.1 in
+          record { e = found.0; within = omega arith; number = by_place (number_by logs) k found.0 found.2; is = same_Some (word_by found.0) y (sym (by_place word_by k found.0 found.2) ∙ is) })
+      | inr past ↦ absurd (let none = sym is ∙ slice_get-map word_by es k ∙ ap (option_map word_by) past.1 in cc)
+    ]
+
+    words_right : GivesFlatAnswers words
+    words_right = record {
       loads = λ k addr word is. (
-          let p = placed_word k (Loaded addr word) is in
-          load_right k addr word p.id p.r.value p.r.ts p.r.rank p.r.addr p.r.act (word_there k p) (number_there k p) (sym (is_word k p (Loaded addr word) is)));
+          let h = entry_here k (Loaded addr word) is in
+          let r = h.e.logged in
+          load_right k addr word h.e.id r.value r.ts r.rank r.addr r.act h.within h.number h.is);
       swaps = λ k addr word stored is. (
-          let p = placed_word k (Swapped addr word stored) is in
-          swap_right k addr word stored p.id p.r.value p.r.ts p.r.rank p.r.addr p.r.act (word_there k p) (number_there k p) (sym (is_word k p (Swapped addr word stored) is)));
-    };
-  }
+          let h = entry_here k (Swapped addr word stored) is in
+          let r = h.e.logged in
+          swap_right k addr word stored h.e.id r.value r.ts r.rank r.addr r.act h.within h.number h.is);
+    }
 
 pub order_explains : (logs : List (List Record)) (order : List OpId) → length logs ≤ 64 → All (λ log. length log ≤ operation_limit) logs
     → IsSequentialOrder (sourced_operations logs) order → IsSequentialOrder (operations_of logs) order
-order_explains logs order few short sequential = explains logs few short order sequential
+order_explains logs order few short sequential = record {
+  serial = λ id. sequential.serial id ∙ ap (λ b. if b then 1 else 0) (ap is_some (number_at logs id) ∙ both (record_at logs id) id ∙ sym (ap is_some (operation_at-operations_of logs id)));
+  program = sequential.program;
+  flat = subst GivesFlatAnswers (sym (by_entry logs (operations_of logs) word_by (operation_at-operations_of logs) order))
+      (words_right logs few short (placed logs order) (placed_is logs order) (subst GivesFlatAnswers (by_entry logs (sourced_operations logs) (number_by logs) (number_at logs) order) sequential.flat));
+}
+  where
+    both : (o : Option Record) (id : OpId) → is_some (option_map (number_of logs id) o) ≡ is_some (option_map operation_of o)
+    both None id = refl
+    both (Some r) id = refl

@@ -103,7 +103,7 @@ module _ (cores : List (List Operation)) (time : Point → ℕ) (timing : IsTimi
     ]
 
   -- the source lies in one of the ranges, so its fact holds
-  source-one : (read : OpId) (y : Operation) (there : operation_at cores read ≡ Some y) (source : Point) → time source < time (At read) → NoStoreBetween cores time (address_of y) source (At read)
+  source-one : (read : OpId) (y : Operation) (there : operation_at cores read ≡ Some y) (source : Point) → time source < time (At read) → NoStoreBetween cores time (address_of y) source (time (At read))
       → (ranges : List Range) → LiesIn ranges source → OneHolds cores time (map (λ range. Source read range) ranges)
   source-one read y there source before none [] lies = absurd cc
   source-one read y there source before none (range ∷ ranges) lies = elim (or_cases (is_in range source) (list_any (λ r. is_in r source) ranges) lies) [

@@ -1,15 +1,15 @@
 -- The times of operations in a sequential order: their places in it, counted from 1.
-use Rattle.std.specs.Prelude.{◌≡◌, ℕ, zero, suc, ◌+◌, ◌<◌, ◌≤◌, ◌⊎◌, Bool, true, false, not, ◌==◌, if◌then◌else◌, cond, List, [], ◌∷◌, ◌++◌, refl, Option, Some, None, slice_get, slice_index, slice_set, is_some, option_and_then, count_by, take, length, nat_le, find}
-use Rattle.std.specs.List.{filter_map, cons_option, position_or_len}
+use Rattle.std.specs.Prelude.{◌≡◌, ℕ, zero, suc, ◌+◌, ◌<◌, ◌≤◌, true, false, not, ◌==◌, if◌then◌else◌, List, [], ◌∷◌, ◌++◌, refl, Option, Some, None, slice_get, slice_index, slice_set, is_some, option_and_then, count_by, take, length, nat_le}
+use Rattle.std.specs.List.{position_or_len}
 use Rattle.std.proofs.Common.{sym, ◌∙◌, ap, subst, inl, inr, arith, get_or}
 use Rattle.std.proofs.Math.Seq.{take-suc}
-use Rattle.std.proofs.lemmas.Bool.{and_parts, eqb-true, cases_lt, leb-true, cond-true, cond-false}
-use Rattle.std.proofs.lemmas.List.{length-set, length-map, reverse-append}
+use Rattle.std.proofs.lemmas.Bool.{and_parts, eqb-true, cases_lt, cases_eq, cases_Bool, leb-true, cond-true, cond-false}
+use Rattle.std.proofs.lemmas.List.{length-set, length-map}
 use Rattle.std.proofs.lemmas.List.Sums.{sum_by-cons, get_or-le-sum_by, passes_at_first, fails_before_first, prefix_len-le-length}
 use Rattle.std.proofs.lemmas.Grind.{common_steps}
 use Rattle.std.proofs.lemmas.Option.{gets, same_Some, option_and_then_some, slice_get_within, slice_get-get_or, get_or_from_slice_get}
 use Rattle.mem_op.specs.declared.id.OpId.{OpId}
-use Rattle.mem_op.specs.Consistency.{Operation, operation_at, is_same_id, is_store_to, word_left, last_value, IsSequentialOrder, IsSerialOrder, Stored, value_or_zero, Loaded, Swapped}
+use Rattle.mem_op.specs.Consistency.{Operation, operation_at, is_same_id, is_store_to, last_value, IsSequentialOrder, IsSerialOrder}
 use Rattle.log_record.proofs.EntryFacts.{one_if, same_id-true, same_id-refl}
 use Rattle.flat_replay.specs.Accesses.{address_of, word_read}
 use Rattle.flat_replay.specs.Memory.{IsAnsweredBy, after}
@@ -19,8 +19,8 @@ use Rattle.line_stamps.proofs.Ordered.{In-slice_get}
 use Rattle.refutation.specs.declared.step.Point.{Point}
 use Rattle.refutation.specs.declared.step.Point.TheVariants.{Init, At}
 use Rattle.refutation.specs.Facts.{is_up_to}
-use Rattle.refutation.proofs.Runs.{Ran, zeros, ran-none, ran-more}
-use Rattle.refutation.proofs.Timings.{Sourced, IsTiming}
+use Rattle.refutation.proofs.Runs.{Ran, zeros, ran-none, ran-more, reads, after-is}
+use Rattle.refutation.proofs.Timings.{Gave, Sourced, IsTiming}
 
 -- where an id stands first, or how many there are
 abbrev pub place : List OpId → OpId → ℕ
@@ -67,73 +67,6 @@ is_there cores order serial id k here = go (operation_at cores id) refl
         let one : one_if (is_same_id id (get_or order k id)) ≡ 1 = ap (λ x. one_if (is_same_id id x)) (get_or_from_slice_get order k id id here) ∙ ap one_if (same_id-refl id) in
         let none : count_by (is_same_id id) order ≡ 0 = serial id ∙ ap (λ o. if is_some o then 1 else 0) e in
         omega arith)
-
--- the operation of the id at a place
-pub operations_in : (cores : List (List Operation)) (ids : List OpId) → ((k : ℕ) (id : OpId) → slice_get ids k ≡ Some id → (y : Operation) × (operation_at cores id ≡ Some y)) → (k : ℕ) → slice_get (filter_map (operation_at cores) ids) k ≡ option_and_then (operation_at cores) (slice_get ids k)
-operations_in cores [] there k = refl
-operations_in cores (x ∷ xs) there k = go (operation_at cores x) refl k (operations_in cores xs (λ j id h. there (suc j) id h))
-  where
-    first : (y : Operation) × (operation_at cores x ≡ Some y)
-    first = there 0 x refl
-
-    go : (o : Option Operation) → operation_at cores x ≡ o → (k : ℕ) → ((j : ℕ) → slice_get (filter_map (operation_at cores) xs) j ≡ option_and_then (operation_at cores) (slice_get xs j))
-        → slice_get (cons_option o (filter_map (operation_at cores) xs)) k ≡ option_and_then (operation_at cores) (slice_get (x ∷ xs) k)
-    go None e k later = absurd (let y = first.1 in cc)
-    go (Some y) e zero later = sym e
-    go (Some y) e (suc k) later = later k
-
--- ---- the last store among the first operations
-
--- the last one of them that stores to an address stores this value
-pub record LastStore (addr : ℕ) (ops : List Operation) (k value : ℕ) : Type 0 where
-  pub place : ℕ
-  pub store : Operation
-  pub earlier : place < k
-  pub here : slice_get ops place ≡ Some store
-  pub stores : is_store_to addr store ≡ true
-  pub word : word_left store ≡ value
-  pub none : (i : ℕ) (z : Operation) → place < i → i < k → slice_get ops i ≡ Some z → is_store_to addr z ≡ false
-
-abbrev pub NoneOrLast : ℕ → List Operation → ℕ → ℕ → Type 0
-NoneOrLast addr ops k value = ((value ≡ 0) × ((i : ℕ) (z : Operation) → i < k → slice_get ops i ≡ Some z → is_store_to addr z ≡ false)) ⊎ LastStore addr ops k value
-
-pub last_store : (addr : ℕ) (ops : List Operation) (k : ℕ) → k ≤ length ops → NoneOrLast addr ops k (last_value addr (take k ops))
-last_store addr ops zero l = inl (refl, λ i z below. absurd (omega arith))
-last_store addr ops (suc k) l = go (is_store_to addr y) refl (last_store addr ops k (omega arith))
-  where
-    y : Operation
-    y = get_or ops k (Stored 0 0)
-
-    here : slice_get ops k ≡ Some y
-    here = slice_get-get_or ops k (Stored 0 0) (omega arith)
-
-    value : last_value addr (take (suc k) ops) ≡ cond (is_store_to addr y) (word_left y) (last_value addr (take k ops))
-    value =
-        ap (last_value addr) (take-suc ops k (Stored 0 0) (omega arith)) ∙ ap (λ xs. value_or_zero (find (is_store_to addr) xs)) (reverse-append (take k ops) (y ∷ [])) ∙ grind arith
-
-    other : is_store_to addr y ≡ false → (i : ℕ) (z : Operation) → i ≡ k → slice_get ops i ≡ Some z → is_store_to addr z ≡ false
-    other t i z same at = ap (is_store_to addr) (same_Some z y (sym at ∙ ap (slice_get ops) same ∙ here)) ∙ t
-
-    go : (b : Bool) → is_store_to addr y ≡ b → NoneOrLast addr ops k (last_value addr (take k ops)) → NoneOrLast addr ops (suc k) (last_value addr (take (suc k) ops))
-    go true t last = inr (record {
-      place = k;
-      store = y;
-      earlier = omega arith;
-      here = here;
-      stores = t;
-      word = sym (value ∙ cond-true _ _ _ t);
-      none = λ i z above below at. absurd (omega arith);
-    })
-    go false t (inl none) = inl (value ∙ cond-false _ _ _ t ∙ none.0, λ i z below at. elim (cases_lt i k) [ inl m ↦ none.1 i z m at | inr m ↦ other t i z (omega arith) at ])
-    go false t (inr last) = inr (record {
-      place = last.place;
-      store = last.store;
-      earlier = (let e = last.earlier in omega arith);
-      here = last.here;
-      stores = last.stores;
-      word = last.word ∙ sym (value ∙ cond-false _ _ _ t);
-      none = λ i z above below at. elim (cases_lt i k) [ inl m ↦ last.none i z above m at | inr m ↦ other t i z (omega arith) at ];
-    })
 
 -- ---- the order performed up to a place
 
@@ -243,55 +176,49 @@ module _ (cores : List (List Operation)) (order : List OpId) (sequential : IsSeq
 
   -- ---- where a word comes from
 
-  -- the operation at an id's place
-  operation-placed : (a : OpId) (y : Operation) → operation_at cores a ≡ Some y → slice_get (done cores order) (place order a) ≡ Some y
-  operation-placed a y there =
-      operations_in cores order (λ k id h. is_there cores order sequential.serial id k h) (place order a)
-      ∙ ap (option_and_then (operation_at cores)) (at_place order a (placed a y there)) ∙ there
+  run-to : (t : ℕ) → t ≤ length order → Run cores order t
+  run-to zero l = run-none cores order
+  run-to (suc t) l = let run = run-to t (omega arith) in run-more cores order t run (turn t run (omega arith))
 
-  -- the id of the operation at a place
-  id_at : (k : ℕ) (z : Operation) → slice_get (done cores order) k ≡ Some z → (w : OpId) × (operation_at cores w ≡ Some z) × (place order w ≡ k)
-  id_at k z here =
-      option_and_then_some (operation_at cores) (slice_get order k) z (sym (operations_in cores order (λ j id h. is_there cores order sequential.serial id j h) k) ∙ here)
-      (λ w at there. (w, there, place-is w k at))
+  -- of each word that memory has at a place
+  source-to : (addr t : ℕ) → t ≤ length order → Sourced cores (time_in order) addr (memory cores order t addr) (suc t)
+  source-to addr zero l = record { source = Init; gives = refl; before = omega arith; last = λ w z at stores. inr (omega arith) }
+  source-to addr (suc t) l =
+      let now = turn t (run-to t (omega arith)) (omega arith) in
+      let there = now.there in
+      let old = source-to addr t (omega arith) in
+      let place_is = place-is now.id t now.here in
+      let left = now.left addr ∙ after-is (memory cores order t) now.y addr in
+      elim (cases_Bool (is_store_to addr now.y)) [
+        | inl does ↦ record {
+          source = At now.id;
+          gives = (now.y, there, does, sym (left ∙ cond-true _ _ _ does));
+          before = omega arith;
+          last = λ w z at stores. elim (cases_lt t (place order w)) [ inl l ↦ inr (omega arith) | inr l ↦ inl (omega arith) ];
+        }
+        | inr isnt ↦ record {
+          source = old.source;
+          gives = subst (λ word. Gave cores addr word old.source) (sym (left ∙ cond-false _ _ _ isnt)) old.gives;
+          before = (let before = old.before in omega arith);
+          last = λ w z at stores. elim (old.last w z at stores) [
+            | inl l ↦ inl l
+            | inr l ↦ elim (cases_eq (place order w) t) [
+              | inl here ↦ absurd (let same = apart w z (At now.id) at (omega arith) in cc)
+              | inr other ↦ inr (omega arith)
+            ]
+          ];
+        }
+      ]
 
-  sources : (a : OpId) (y : Operation) (value : ℕ) → operation_at cores a ≡ Some y → word_read y ≡ Some value → Sourced cores (time_in order) a (address_of y) value
+  sources : (a : OpId) (y : Operation) (value : ℕ) → operation_at cores a ≡ Some y → word_read y ≡ Some value → Sourced cores (time_in order) (address_of y) value (time_in order (At a))
   sources a y value there read =
-      let here = operation-placed a y there in
-      let within = slice_get_within (done cores order) (place order a) y here in
-      from (subst (NoneOrLast (address_of y) (done cores order) (place order a)) (sym (flat y value here read)) (last_store (address_of y) (done cores order) (place order a) (omega arith)))
-    where
-      flat : (z : Operation) (v : ℕ) → slice_get (done cores order) (place order a) ≡ Some z → word_read z ≡ Some v → v ≡ last_value (address_of z) (take (place order a) (done cores order))
-      flat (Loaded b w) v here read = sym (same_Some w v read) ∙ sequential.flat.loads (place order a) b w here
-      flat (Stored b w) v here read = absurd cc
-      flat (Swapped b r w) v here read = sym (same_Some r v read) ∙ sequential.flat.swaps (place order a) b r w here
-
-      from : NoneOrLast (address_of y) (done cores order) (place order a) value → Sourced cores (time_in order) a (address_of y) value
-      from (inl none) = record {
-        source = Init;
-        gives = none.0;
-        before = omega arith;
-        last = λ w z at stores. elim (cases_lt (place order w) (place order a)) [
-          | inl l ↦ absurd (let f = none.1 (place order w) z l (operation-placed w z at) in cc)
-          | inr l ↦ inr (omega arith)
-        ];
-      }
-      from (inr last) =
-          let id = id_at last.place last.store last.here in
-          let earlier = last.earlier in
-          let place_is : place order id.0 ≡ last.place = id.2 in
-          record {
-            source = At id.0;
-            gives = (last.store, id.1, last.stores, last.word);
-            before = omega arith;
-            last = λ w z at stores. elim (cases_lt last.place (place order w)) [
-              | inr l ↦ inl (omega arith)
-              | inl l ↦ elim (cases_lt (place order w) (place order a)) [
-                | inl m ↦ absurd (let f = last.none (place order w) z l m (operation-placed w z at) in cc)
-                | inr m ↦ inr (omega arith)
-              ]
-            ];
-          }
+      let t = place order a in
+      let within = placed a y there in
+      let now = turn t (run-to t (omega arith)) within in
+      let id = same_Some now.id a (sym now.here ∙ at_place order a within) in
+      let is = same_Some now.y y (sym now.there ∙ ap (operation_at cores) id ∙ there) in
+      let answers = subst (IsAnsweredBy (memory cores order t)) is now.answers in
+      subst (λ word. Sourced cores (time_in order) (address_of y) word (suc t)) (sym (reads (memory cores order t) y value answers read)) (source-to (address_of y) t (omega arith))
 
   -- its places are times
   pub timing-in : IsTiming cores (time_in order)

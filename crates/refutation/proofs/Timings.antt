@@ -14,27 +14,27 @@ abbrev pub Gave : List (List Operation) → ℕ → ℕ → Point → Type 0
 Gave cores addr value Init = value ≡ 0
 Gave cores addr value (At w) = (y : Operation) × (operation_at cores w ≡ Some y) × (is_store_to addr y ≡ true) × (word_left y ≡ value)
 
--- each store to the address takes place at one point or before it, or at another or after it
-abbrev pub NoStoreBetween : List (List Operation) → (Point → ℕ) → ℕ → Point → Point → Type 0
+-- each store to the address takes place at a point or before it, or at a time or after it
+abbrev pub NoStoreBetween : List (List Operation) → (Point → ℕ) → ℕ → Point → ℕ → Type 0
 NoStoreBetween cores time addr last later =
-    (w : OpId) (y : Operation) → operation_at cores w ≡ Some y → is_store_to addr y ≡ true → (time (At w) ≤ time last) ⊎ (time later ≤ time (At w))
+    (w : OpId) (y : Operation) → operation_at cores w ≡ Some y → is_store_to addr y ≡ true → (time (At w) ≤ time last) ⊎ (later ≤ time (At w))
 
--- where a read's word comes from
-pub record Sourced (cores : List (List Operation)) (time : Point → ℕ) (read : OpId) (addr value : ℕ) : Type 0 where
+-- where the word comes from that is at the address at a time
+pub record Sourced (cores : List (List Operation)) (time : Point → ℕ) (addr value later : ℕ) : Type 0 where
   pub source : Point
   pub gives : Gave cores addr value source
-  pub before : time source < time (At read)
-  pub last : NoStoreBetween cores time addr source (At read)
+  pub before : time source < later
+  pub last : NoStoreBetween cores time addr source later
 
 -- the times at which the operations take place in some sequential order
 pub record IsTiming (cores : List (List Operation)) (time : Point → ℕ) : Type 0 where
   pub program : (p q : Point) → is_up_to p q ≡ true → time p ≤ time q
   pub apart : (a : OpId) (y : Operation) (q : Point) → operation_at cores a ≡ Some y → time (At a) ≡ time q → At a ≡ q
-  pub sources : (a : OpId) (y : Operation) (value : ℕ) → operation_at cores a ≡ Some y → word_read y ≡ Some value → Sourced cores time a (address_of y) value
+  pub sources : (a : OpId) (y : Operation) (value : ℕ) → operation_at cores a ≡ Some y → word_read y ≡ Some value → Sourced cores time (address_of y) value (time (At a))
 
 -- the source of a read is not after this point, which is before the read
 abbrev pub SourceUntil : List (List Operation) → (Point → ℕ) → OpId → Point → Type 0
-SourceUntil cores time read last = (y : Operation) → operation_at cores read ≡ Some y → NoStoreBetween cores time (address_of y) last (At read)
+SourceUntil cores time read last = (y : Operation) → operation_at cores read ≡ Some y → NoStoreBetween cores time (address_of y) last (time (At read))
 
 -- a fact holds
 abbrev pub Holds : List (List Operation) → (Point → ℕ) → Fact → Type 0
