@@ -1,9 +1,9 @@
 -- Moves that lead back, and sets that are closed, state by state.
-use Rattle.std.specs.Prelude.{◌≡◌, ℕ, ◌+◌, ◌≤◌, Bool, true, ◌&&◌, IsTrue, List, [], ◌∷◌, refl, Some, length, map, replicate, slice_get, slice_index, slice_set}
+use Rattle.std.specs.Prelude.{◌≡◌, ℕ, ◌+◌, ◌≤◌, Bool, true, ◌&&◌, IsTrue, List, Some, length, map, slice_get, slice_index, slice_set}
 use Rattle.std.specs.List.{list_all}
 use Rattle.std.specs.Global.{Vec}
 use Rattle.std.specs.BTreeSet.{BTreeSet}
-use Rattle.std.proofs.Common.{ap, arith}
+use Rattle.std.proofs.Common.{arith}
 use Rattle.std.proofs.lemmas.Bool.{and_from}
 use Rattle.std.proofs.lemmas.Option.{slice_get_within}
 use Rattle.mem_op.specs.declared.id.OpId.{OpId}
@@ -20,13 +20,6 @@ use Rattle.refutation.proofs.NextOnes.{FirstOnes, ones-more}
 -- the limit of a core that has an operation there
 abbrev pub StopsAt : List (List Operation) → List ℕ → List ℕ → List ℕ → List ℕ → ℕ → Operation → Type 0
 StopsAt cores addresses next words limits core y = (slice_index next core ≤ slice_index limits core) × Waits cores addresses next words limits y
-
-abbrev nought : ℕ
-nought = 0
-
-pub zeros-are : {A : Type 0} (xs : List A) → replicate (length xs) nought ≡ map (λ _. nought) xs
-zeros-are [] = refl
-zeros-are (x ∷ xs) = ap (λ ns. nought ∷ ns) (zeros-are xs)
 
 module _ (cores : List (List Operation)) (facts : List Fact) (addresses : List ℕ) where
   -- the move of a core leads into a set, where it may be performed
@@ -59,7 +52,7 @@ module _ (cores : List (List Operation)) (facts : List Fact) (addresses : List �
 
   module _ (keys : BTreeSet (Vec ℕ × Vec ℕ)) (states : List State)
       (same : (next words : List ℕ) → (IsAmong keys next words → Has states next words) × (Has states next words → IsAmong keys next words)) where
-    pub closed-told : (n : ℕ) → length states ≤ n → IsIn cores addresses (IsAmong keys) (map (λ _. nought) cores) (map (λ _. nought) addresses)
+    pub closed-told : (n : ℕ) → length states ≤ n → IsIn cores addresses (IsAmong keys) (map (λ _. 0) cores) (map (λ _. 0) addresses)
         → FirstRight (IsAmong keys) states n → IsClosedSet cores facts addresses states
     closed-told n l first all = record {
       first = (same _ _).0 first;

@@ -1,16 +1,12 @@
 -- Paths, step by step.
-use Rattle.std.specs.Prelude.{◌≡◌, ℕ, suc, ◌≤◌, ◌==◌, nat_le, true, List, [], ◌∷◌, refl, Option, Some, None, slice_get, IsSomeAnd, take, drop, length, ◌-◌}
-use Rattle.std.proofs.Common.{sym, ◌∙◌, subst, arith, get_or}
-use Rattle.std.proofs.lemmas.Bool.{and_parts, and_from, eqb-true, eq-eqb, leb-true, le-leb}
+use Rattle.std.specs.Prelude.{◌≡◌, ℕ, suc, ◌≤◌, true, List, [], ◌∷◌, refl, Option, Some, None, slice_get, IsSomeAnd, take, drop, length, ◌-◌}
+use Rattle.std.proofs.Common.{arith, get_or}
+use Rattle.std.proofs.lemmas.Bool.Decides.{nat_tests}
 use Rattle.std.proofs.lemmas.List.{take_all}
 use Rattle.refutation.specs.declared.step.Point.{Point}
 use Rattle.refutation.specs.declared.step.Point.TheVariants.{Init, At}
 use Rattle.refutation.specs.declared.fact.Fact.{Fact}
 use Rattle.refutation.specs.Facts.{is_up_to, earlier_of, later_of, Leads, IsCycle}
-
--- a path with a fact in front
-pub leads-cons : (facts : List Fact) (from to : Point) (number : ℕ) (path : List ℕ) (fact : Fact) → slice_get facts number ≡ Some fact → is_up_to from (earlier_of fact) ≡ true → Leads facts (later_of fact) path to → Leads facts from (number ∷ path) to
-leads-cons facts from to number path fact at up more = rw at (up, more)
 
 -- the fact in front of a path
 pub leads-parts : (facts : List Fact) (from to : Point) (number : ℕ) (path : List ℕ) → Leads facts from (number ∷ path) to
@@ -28,38 +24,20 @@ pub up_to-trans : (p q r : Point) → is_up_to p q ≡ true → is_up_to q r ≡
 up_to-trans Init q r a b = refl
 up_to-trans (At p) Init r a b = absurd cc
 up_to-trans (At p) (At q) Init a b = absurd cc
-up_to-trans (At p) (At q) (At r) a b =
-    let s = and_parts (p.core == q.core) (nat_le p.index q.index) a in
-    let t = and_parts (q.core == r.core) (nat_le q.index r.index) b in
-    let core = eqb-true p.core q.core s.0 ∙ eqb-true q.core r.core t.0 in
-    let low = leb-true p.index q.index s.1 in
-    let high = leb-true q.index r.index t.1 in
-    and_from (p.core == r.core) (nat_le p.index r.index) (eq-eqb p.core r.core core) (le-leb p.index r.index (omega arith))
+up_to-trans (At p) (At q) (At r) a b = grind (arith, nat_tests)
 
 pub up_to-refl : (p : Point) → is_up_to p p ≡ true
 up_to-refl Init = refl
-up_to-refl (At p) = and_from (p.core == p.core) (nat_le p.index p.index) (eq-eqb p.core p.core refl) (le-leb p.index p.index (omega arith))
+up_to-refl (At p) = grind (arith, nat_tests)
 
 -- what leads to a point leads to those after it in program order
 pub leads-up : (facts : List Fact) (from : Point) (path : List ℕ) (to later : Point) → Leads facts from path to → is_up_to to later ≡ true → Leads facts from path later
 leads-up facts from [] to later leads up = up_to-trans from to later leads up
 leads-up facts from (number ∷ path) to later leads up =
     let parts = leads-parts facts from to number path leads in
-    leads-cons facts from later number path parts.0 parts.1 parts.2 (leads-up facts (later_of parts.0) path to later parts.3 up)
+    rw parts.1 (parts.2, leads-up facts (later_of parts.0) path to later parts.3 up)
 
 -- ---- cycles
-
-pub cycle-from : (facts : List Fact) (number : ℕ) (path : List ℕ) (fact : Fact) → slice_get facts number ≡ Some fact → Leads facts (later_of fact) path (earlier_of fact) → IsCycle facts (number ∷ path)
-cycle-from facts number path fact at back = record {
-  start = earlier_of fact;
-  some = λ e. cc;
-  back = leads-cons facts (earlier_of fact) (earlier_of fact) number path fact at (up_to-refl (earlier_of fact)) back;
-}
-
-pub cycle-to : (facts : List Fact) (number : ℕ) (path : List ℕ) (fact : Fact) → slice_get facts number ≡ Some fact → IsCycle facts (number ∷ path) → Leads facts (later_of fact) path (earlier_of fact)
-cycle-to facts number path fact at cycle =
-    let parts : (is_up_to cycle.start (earlier_of fact) ≡ true) × Leads facts (later_of fact) path cycle.start = rw at at cycle.back in
-    leads-up facts (later_of fact) path cycle.start (earlier_of fact) parts.1 parts.0
 
 -- the path in parts, as the code takes it
 pub is_cycle-exact : (facts : List Fact) (path : List ℕ) (fact : Fact) → 1 ≤ length path → slice_get facts (get_or path 0 0) ≡ Some fact
@@ -67,6 +45,8 @@ pub is_cycle-exact : (facts : List Fact) (path : List ℕ) (fact : Fact) → 1 �
 is_cycle-exact facts [] fact some at = absurd (omega arith)
 is_cycle-exact facts (number ∷ path) fact some at =
     let all : take (suc (length path) - 1) path ≡ path = take_all (suc (length path) - 1) path (omega arith) in (
-      λ back. cycle-from facts number path fact at (subst (λ p. Leads facts (later_of fact) p (earlier_of fact)) all back),
-      λ cycle. subst (λ p. Leads facts (later_of fact) p (earlier_of fact)) (sym all) (cycle-to facts number path fact at cycle),
+      λ back. record { start = earlier_of fact; some = λ e. cc; back = rw at (up_to-refl (earlier_of fact), rw all at back) },
+      λ cycle.
+          let parts : (is_up_to cycle.start (earlier_of fact) ≡ true) × Leads facts (later_of fact) path cycle.start = rw at at cycle.back in
+          rw all (leads-up facts (later_of fact) path cycle.start (earlier_of fact) parts.1 parts.0),
     )

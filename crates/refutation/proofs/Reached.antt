@@ -2,11 +2,11 @@
 use Rattle.std.specs.Prelude.{◌≡◌, ℕ, zero, suc, ◌+◌, ◌<◌, ◌≤◌, ◌⊎◌, true, List, [], ◌∷◌, ◌++◌, Option, None, Some, map, length, take, drop, slice_get, slice_index, slice_set, refl}
 use Rattle.std.specs.List.{prefix_len}
 use Rattle.std.proofs.Common.{sym, ◌∙◌, ap, subst, inl, inr, arith, get_or}
-use Rattle.std.proofs.lemmas.Bool.{cases_lt, cases_Bool}
+use Rattle.std.proofs.lemmas.Bool.{cases_lt}
 use Rattle.std.proofs.lemmas.Bool.Decides.{nat_tests}
-use Rattle.std.proofs.lemmas.List.{get_or-set_same, length-set, length-map, take_all, set-get_or, set-set, get_or-map}
+use Rattle.std.proofs.lemmas.List.{get_or-set_same, length-set, length-map, length-drop, take_all, set-get_or, set-set, get_or-map, get_or-drop}
 use Rattle.std.proofs.lemmas.Grind.{same_number_lists}
-use Rattle.std.proofs.lemmas.List.Sums.{prefix_len-drop_yes, prefix_len-drop_no, prefix_len-drop_all}
+use Rattle.std.proofs.lemmas.List.Sums.{prefix_len-le-length, prefix_len_passes}
 use Rattle.std.proofs.lemmas.Option.{none-some, same_Some, slice_get-get_or, slice_get_within, get_or_from_slice_get}
 use Rattle.mem_op.specs.declared.id.OpId.{OpId}
 use Rattle.mem_op.specs.Consistency.{Operation, Stored, operation_at, word_left, last_value, IsSequentialOrder}
@@ -87,35 +87,25 @@ module _ (cores : List (List Operation)) (addresses : List ℕ) where
   abbrev pub LookedAt : List ℕ → Type 0
   LookedAt words = (id : OpId) (y : Operation) → operation_at cores id ≡ Some y → (w : ℕ) × (word_of addresses words (address_of y) ≡ Some w)
 
-  stays : (next words : List ℕ) (core k : ℕ) → k ≡ 0 → Reached next words → Reached (slice_set next core (slice_index next core + k)) words
-  stays next words core k none reached =
-      let same : slice_index next core + k ≡ slice_index next core = omega arith in
-      subst (λ xs. Reached xs words) (sym (ap (slice_set next core) same ∙ set-get_or next core 0)) reached
-
-  settle-core : (words : List ℕ) → LookedAt words → (core : ℕ) (ys : List Operation) → slice_get cores core ≡ Some ys → (fuel : ℕ) (next : List ℕ) → Reached next words → length ys ≤ slice_index next core + fuel
-      → Reached (slice_set next core (slice_index next core + prefix_len (passing addresses words) (drop (slice_index next core) ys))) words
-  settle-core words looked core ys own zero next reached l = stays next words core _ (prefix_len-drop_all (passing addresses words) ys (slice_index next core) (omega arith)) reached
-  settle-core words looked core ys own (suc fuel) next reached l =
-      let p = passing addresses words in
+  settle-core : (words : List ℕ) → LookedAt words → (core : ℕ) (ys : List Operation) → slice_get cores core ≡ Some ys → (next : List ℕ) → Reached next words
+      → (k : ℕ) → k ≤ prefix_len (passing addresses words) (drop (slice_index next core) ys) → Reached (slice_set next core (slice_index next core + k)) words
+  settle-core words looked core ys own next reached zero l =
+      subst (λ xs. Reached xs words) (sym (ap (slice_set next core) (let e : slice_index next core + 0 ≡ slice_index next core = omega arith in e) ∙ set-get_or next core 0)) reached
+  settle-core words looked core ys own next reached (suc k) l =
       let n = slice_index next core in
-      let y = get_or ys n (Stored 0 0) in
-      elim (cases_lt n (length ys)) [
-        | inr past ↦ stays next words core _ (prefix_len-drop_all p ys n past) reached
-        | inl below ↦ elim (cases_Bool (p y)) [
-          | inr stops ↦ stays next words core _ (prefix_len-drop_no p ys n (Stored 0 0) below stops) reached
-          | inl pass ↦ (
-              let there = at-core cores core n ys own ∙ slice_get-get_or ys n (Stored 0 0) below in
-              let w = looked (next_id next core) y there in
-              let within = slice_get_within cores core ys own in
-              let many = reached.many in
-              let here : slice_index (slice_set next core (n + 1)) core ≡ n + 1 = get_or-set_same next core (n + 1) 0 (omega arith) in
-              let yes = prefix_len-drop_yes p ys n (Stored 0 0) below pass in
-              let same : n + 1 + prefix_len p (drop (n + 1) ys) ≡ n + prefix_len p (drop n ys) = omega arith in
-              subst (λ xs. Reached xs words)
-              (ap (λ m. slice_set (slice_set next core (n + 1)) core (m + prefix_len p (drop m ys))) here ∙ set-set next core (n + 1) (n + 1 + prefix_len p (drop (n + 1) ys)) ∙ ap (slice_set next core) same)
-              (settle-core words looked core ys own fuel (slice_set next core (n + 1)) (reach-pass next words reached core y there w.0 w.1 (ap (λ o. passes o y) (sym w.1) ∙ pass)) (omega arith)))
-        ]
-      ]
+      let far = slice_set next core (n + k) in
+      let most = prefix_len-le-length (passing addresses words) (drop n ys) in
+      let below : n + k < length ys = omega (arith, length-drop n ys) in
+      let y = get_or ys (n + k) (Stored 0 0) in
+      let within = slice_get_within cores core ys own in
+      let many = reached.many in
+      let here : slice_index far core ≡ n + k = get_or-set_same next core (n + k) 0 (omega arith) in
+      let there = at-core cores core (slice_index far core) ys own ∙ ap (slice_get ys) here ∙ slice_get-get_or ys (n + k) (Stored 0 0) below in
+      let w = looked (next_id far core) y there in
+      let pass = ap (passing addresses words) (sym (get_or-drop n ys k (Stored 0 0))) ∙ prefix_len_passes (passing addresses words) (drop n ys) k (Stored 0 0) (omega arith) in
+      subst (λ xs. Reached xs words)
+      (ap (λ m. slice_set far core (m + 1)) here ∙ set-set next core (n + k) (n + k + 1) ∙ ap (slice_set next core) (let e : n + k + 1 ≡ n + suc k = omega arith in e))
+      (reach-pass far words (settle-core words looked core ys own next reached k (omega arith)) core y there w.0 w.1 (ap (λ o. passes o y) (sym w.1) ∙ pass))
 
   reach-settling : (next words : List ℕ) → Reached next words → LookedAt words → (k : ℕ) → k ≤ length cores → Reached (settled addresses words (take k cores) next) words
   reach-settling next words reached looked zero l = reached
@@ -125,7 +115,7 @@ module _ (cores : List (List Operation)) (addresses : List ℕ) where
       let so_far = settled addresses words (take k cores) next in
       subst (λ xs. Reached xs words)
       (ap (λ n. slice_set so_far k (n + prefix_len (passing addresses words) (drop n ys))) (unsettled addresses words cores next k) ∙ sym (more-settled addresses words cores next k ys own))
-      (settle-core words looked k ys own (length ys) so_far (reach-settling next words reached looked k (omega arith)) (omega arith))
+      (settle-core words looked k ys own so_far (reach-settling next words reached looked k (omega arith)) _ (omega arith))
 
   pub reach-settled : (next words : List ℕ) → Reached next words → LookedAt words → Reached (settled addresses words cores next) words
   reach-settled next words reached looked =

@@ -1,10 +1,12 @@
 -- Of a trace that isn't consistent the states that can be reached are a closed set.
-use Rattle.std.specs.Prelude.{◌≡◌, ℕ, zero, suc, ◌+◌, ◌-◌, ◌<◌, ◌≤◌, Bool, true, false, if◌then◌else◌, List, [], ◌∷◌, refl, Option, None, Some, map, length, slice_get, slice_index, slice_set, flat_map}
+use Rattle.std.specs.Prelude.{◌≡◌, ℕ, zero, suc, ◌+◌, ◌-◌, ◌<◌, ◌≤◌, true, if◌then◌else◌, List, [], ◌∷◌, refl, Option, None, Some, map, length, slice_get, slice_index, slice_set, flat_map}
+use Rattle.std.specs.List.{range_with_len}
 use Rattle.std.proofs.Common.{sym, ◌∙◌, ap, subst, inl, inr, arith}
-use Rattle.std.proofs.lemmas.Bool.{cases_lt, cases_eq, eq-eqb, ne_eqb, cond-true, cond-false}
+use Rattle.std.proofs.lemmas.Bool.{cases_eq, cases_Bool, eq-eqb, ne_eqb, cond-true, cond-false}
+use Rattle.std.proofs.lemmas.List.FromFn.{get_or-range_with_len, length-range_with_len}
 use Rattle.std.proofs.lemmas.Option.{slice_get_within, same_Some}
 use Rattle.line_stamps.specs.Ordered.{In}
-use Rattle.line_stamps.proofs.Ordered.{In-slice_get, In-mapped, In-flat_map, flat_map-In}
+use Rattle.line_stamps.proofs.Ordered.{In-slice_get, In-get_or, In-mapped, In-flat_map, flat_map-In}
 use Rattle.mem_op.specs.Consistency.{Operation, operation_at, word_left, IsConsistent}
 use Rattle.mem_op.specs.declared.id.OpId.{OpId}
 use Rattle.flat_replay.specs.Accesses.{address_of}
@@ -57,14 +59,8 @@ in-list [] n v p = absurd p
 in-list (s ∷ states) n v (inl e) = record { number = 0; state = Open n v; there = ap Some e; next_is = refl; words_is = refl }
 in-list (s ∷ states) n v (inr p) = (let has = in-list states n v p in record { number = suc has.number; state = has.state; there = has.there; next_is = has.next_is; words_is = has.words_is })
 
-below : ℕ → List ℕ
-below zero = []
-below (suc k) = k ∷ below k
-
-in-below : (k core : ℕ) → core < k → In core (below k)
-unfolding below
-in-below zero core l = absurd (omega arith)
-in-below (suc k) core l = elim (cases_lt core k) [ inl m ↦ inr (in-below k core m) | inr m ↦ inl (omega arith) ]
+in-below : (k core : ℕ) → core < k → In core (range_with_len 0 k)
+in-below k core l = subst (λ n. In n (range_with_len 0 k)) (get_or-range_with_len 0 k core 0 l ∙ (let e : 0 + core ≡ core = omega arith in e)) (In-get_or (range_with_len 0 k) core 0 (omega (arith, length-range_with_len 0 k)))
 
 -- ---- all that can be reached
 
@@ -97,20 +93,28 @@ module _ (cores : List (List Operation)) (none : IsConsistent cores → ⊥) whe
 
   abbrev tree-of : ℕ → Tree
   tree-of zero next words = Open next words ∷ []
-  tree-of (suc fuel) next words = Open next words ∷ flat_map (by-core (tree-of fuel) next words) (below (length cores))
+  tree-of (suc fuel) next words = Open next words ∷ flat_map (by-core (tree-of fuel) next words) (range_with_len 0 (length cores))
 
   root : (fuel : ℕ) (next words : List ℕ) → In (Open next words) (tree-of fuel next words)
   root zero next words = inl refl
   root (suc fuel) next words = inl refl
 
-  -- the state behind is in the tree
+  -- behind an operation that fits are states of the tree
   behind-in : (fuel : ℕ) (next words : List ℕ) (core : ℕ) (y : Operation) → operation_at cores (next_id next core) ≡ Some y → fits (word_of addresses words (address_of y)) y ≡ true
-      → In (Open (next-behind next words core y) (words-behind words y)) (tree-of (suc fuel) next words)
-  behind-in fuel next words core y there fit =
+      → (s : State) → In s (tree-of fuel (next-behind next words core y) (words-behind words y)) → In s (tree-of (suc fuel) next words)
+  behind-in fuel next words core y there fit s p =
       let own = core-of cores (next_id next core) y there in
       let here : by-core (tree-of fuel) next words core ≡ tree-of fuel (next-behind next words core y) (words-behind words y) = ap (by-operation (tree-of fuel) next words core) there ∙ cond-true _ _ _ fit in
-      inr (In-flat_map (by-core (tree-of fuel) next words) (below (length cores)) core _ (in-below (length cores) core (slice_get_within cores core own.0 own.1))
-      (subst (In (Open (next-behind next words core y) (words-behind words y))) (sym here) (root fuel (next-behind next words core y) (words-behind words y))))
+      inr (In-flat_map (by-core (tree-of fuel) next words) (range_with_len 0 (length cores)) core s (in-below (length cores) core (slice_get_within cores core own.0 own.1)) (subst (In s) (sym here) p))
+
+  -- and all but the first are such
+  behind-of : (tree : Tree) (next words : List ℕ) (core : ℕ) (s : State) (o : Option Operation) → In s (by-operation tree next words core o)
+      → (y : Operation) × (o ≡ Some y) × (fits (word_of addresses words (address_of y)) y ≡ true) × In s (tree (next-behind next words core y) (words-behind words y))
+  behind-of tree next words core s None p = absurd p
+  behind-of tree next words core s (Some y) p = elim (cases_Bool (fits (word_of addresses words (address_of y)) y)) [
+    | inl fit ↦ (y, refl, fit, subst (In s) (cond-true _ _ _ fit) p)
+    | inr isnt ↦ absurd (subst (In s) (cond-false _ _ _ isnt) p)
+  ]
 
   -- where an operation is left, the state behind it has less left
   less-left : (next words : List ℕ) → Reached cores addresses next words → (core : ℕ) (y : Operation) → operation_at cores (next_id next core) ≡ Some y → left-of cores (slice_set next core (slice_index next core + 1)) < left-of cores next
@@ -135,31 +139,8 @@ module _ (cores : List (List Operation)) (none : IsConsistent cores → ⊥) whe
   ]
 
   module _ (set : List State) where
-    abbrev Within : List State → Type 0
-    Within states = (s : State) → In s states → In s set
-
-    abbrev AreRight : List State → Type 0
-    AreRight states = (s : State) → In s states → IsRightState cores [] addresses (Has set) s
-
-    abbrev IsWell : Tree → ℕ → Type 0
-    IsWell tree fuel = (next words : List ℕ) → Reached cores addresses next words → left-of cores next ≤ fuel → Within (tree next words) → AreRight (tree next words)
-
-    right-behind : (tree : Tree) (fuel : ℕ) → IsWell tree fuel → (next words : List ℕ) → Reached cores addresses next words → left-of cores next ≤ suc fuel → (core : ℕ) → Within (by-core tree next words core) → AreRight (by-core tree next words core)
-    right-behind tree fuel well next words reached l core = go (operation_at cores (next_id next core)) refl
-      where
-        go : (o : Option Operation) → operation_at cores (next_id next core) ≡ o → Within (by-operation tree next words core o) → AreRight (by-operation tree next words core o)
-        go None there = λ sub s p. absurd p
-        go (Some y) there = by_test (fits (word_of addresses words (address_of y)) y) refl
-          where
-            by_test : (b : Bool) → fits (word_of addresses words (address_of y)) y ≡ b → Within (if b then tree (next-behind next words core y) (words-behind words y) else [])
-                → AreRight (if b then tree (next-behind next words core y) (words-behind words y) else [])
-            by_test false fit = λ sub s p. absurd p
-            by_test true fit =
-                let less = less-left next words reached core y there in
-                let most = left-settled addresses (words-behind words y) cores (slice_set next core (slice_index next core + 1)) in
-                well (next-behind next words core y) (words-behind words y) (reach-behind next words reached core y there fit) (omega arith)
-
-    well-of : (fuel : ℕ) → IsWell (tree-of fuel) fuel
+    well-of : (fuel : ℕ) (next words : List ℕ) → Reached cores addresses next words → left-of cores next ≤ fuel → ((s : State) → In s (tree-of fuel next words) → In s set)
+        → (s : State) → In s (tree-of fuel next words) → IsRightState cores [] addresses (Has set) s
     well-of zero next words reached l sub s p = absurd (
         let found = one-left next words reached in
         let less = less-left next words reached found.0 found.1 found.2 in
@@ -167,12 +148,15 @@ module _ (cores : List (List Operation)) (none : IsConsistent cores → ⊥) whe
     well-of (suc fuel) next words reached l sub s (inl same) =
         subst (IsRightState cores [] addresses (Has set)) same (record {
           left = one-left next words reached;
-          back = λ core y there fit allowed. in-list set (next-behind next words core y) (words-behind words y) (sub _ (behind-in fuel next words core y there fit));
+          back = λ core y there fit allowed. in-list set (next-behind next words core y) (words-behind words y) (sub _ (behind-in fuel next words core y there fit _ (root fuel (next-behind next words core y) (words-behind words y))));
         })
     well-of (suc fuel) next words reached l sub s (inr later) =
-        let found = flat_map-In (by-core (tree-of fuel) next words) (below (length cores)) s later in
-        right-behind (tree-of fuel) fuel (well-of fuel) next words reached l found.0
-        (λ r p. sub r (inr (In-flat_map (by-core (tree-of fuel) next words) (below (length cores)) found.0 r found.1 p))) s found.2
+        let found = flat_map-In (by-core (tree-of fuel) next words) (range_with_len 0 (length cores)) s later in
+        let behind = behind-of (tree-of fuel) next words found.0 s (operation_at cores (next_id next found.0)) found.2 in
+        let less = less-left next words reached found.0 behind.0 behind.1 in
+        let most = left-settled addresses (words-behind words behind.0) cores (slice_set next found.0 (slice_index next found.0 + 1)) in
+        well-of fuel (next-behind next words found.0 behind.0) (words-behind words behind.0) (reach-behind next words reached found.0 behind.0 behind.1 behind.2) (omega arith)
+        (λ r p. sub r (behind-in fuel next words found.0 behind.0 behind.1 behind.2 r p)) s behind.3
 
   reached-closed : (states : List State) × IsClosedSet cores [] addresses states
   reached-closed =

@@ -1,8 +1,8 @@
 -- States: words put, and how far cores come by operations that pass.
-use Rattle.std.specs.Prelude.{◌≡◌, ◌≢◌, ℕ, zero, suc, ◌+◌, ◌-◌, ◌<◌, ◌≤◌, ◌⊎◌, Bool, true, false, ◌==◌, List, [], ◌∷◌, refl, if◌then◌else◌, Option, None, Some, map, length, take, drop, slice_get, slice_index, slice_set, option_and_then}
+use Rattle.std.specs.Prelude.{◌≡◌, ◌≢◌, ℕ, zero, suc, ◌+◌, ◌-◌, ◌<◌, ◌≤◌, ◌⊎◌, Bool, true, false, ◌==◌, List, [], ◌∷◌, refl, Option, None, Some, map, length, take, drop, slice_get, slice_index, slice_set, option_and_then}
 use Rattle.std.specs.List.{prefix_len}
 use Rattle.std.specs.Option.{option_map}
-use Rattle.std.proofs.Common.{sym, ◌∙◌, ap, subst, arith, get_or, add-one}
+use Rattle.std.proofs.Common.{sym, ◌∙◌, ap, subst, arith, get_or}
 use Rattle.std.proofs.lemmas.Bool.{and_parts, eqb-true}
 use Rattle.std.proofs.lemmas.Bool.Decides.{nat_tests}
 use Rattle.std.proofs.lemmas.List.{get_or-drop, length-drop}
@@ -99,12 +99,7 @@ settled-later addresses words (ys ∷ cores) (n ∷ next) (suc core) = settled-l
 
 slot-next : (addresses : List ℕ) (k addr : ℕ) → slot_of (k + 1) addresses addr ≡ option_map suc (slot_of k addresses addr)
 slot-next [] k addr = refl
-slot-next (a ∷ addresses) k addr = go (a == addr) (slot-next addresses (k + 1) addr)
-  where
-    go : (b : Bool) → slot_of (k + 1 + 1) addresses addr ≡ option_map suc (slot_of (k + 1) addresses addr)
-        → (if b then Some (k + 1) else slot_of (k + 1 + 1) addresses addr) ≡ option_map suc (if b then Some k else slot_of (k + 1) addresses addr)
-    go true later = rw add-one refl
-    go false later = later
+slot-next (a ∷ addresses) k addr = let later = slot-next addresses (k + 1) addr in grind (arith, nat_tests)
 
 abbrev pub word_at : List ℕ → Option ℕ → Option ℕ
 word_at words slot = option_and_then (λ j. slice_get words j) slot
@@ -126,23 +121,16 @@ at-none (Some j) word = (refl, refl)
 pub word_by_slot : (addresses words : List ℕ) (addr : ℕ) → word_of addresses words addr ≡ word_at words (slot_of 0 addresses addr)
 word_by_slot [] words addr = refl
 word_by_slot (a ∷ addresses) [] addr = (at-none (slot_of 0 (a ∷ addresses) addr) 0).0
-word_by_slot (a ∷ addresses) (w ∷ words) addr = go (a == addr)
-    (word_by_slot addresses words addr ∙ sym (at-next w words (slot_of 0 addresses addr) 0).0 ∙ ap (word_at (w ∷ words)) (sym (slot-next addresses 0 addr)))
-  where
-    go : (b : Bool) → word_of addresses words addr ≡ word_at (w ∷ words) (slot_of 1 addresses addr) → (if b then Some w else word_of addresses words addr) ≡ word_at (w ∷ words) (if b then Some 0 else slot_of 1 addresses addr)
-    go true later = refl
-    go false later = later
+word_by_slot (a ∷ addresses) (w ∷ words) addr =
+    let later = word_by_slot addresses words addr ∙ sym (at-next w words (slot_of 0 addresses addr) 0).0 ∙ ap (word_at (w ∷ words)) (sym (slot-next addresses 0 addr)) in
+    grind (arith, nat_tests)
 
 pub put_by_slot : (addresses words : List ℕ) (addr word : ℕ) → put_word addresses words addr word ≡ put_at words (slot_of 0 addresses addr) word
 put_by_slot [] words addr word = refl
 put_by_slot (a ∷ addresses) [] addr word = (at-none (slot_of 0 (a ∷ addresses) addr) word).1
-put_by_slot (a ∷ addresses) (w ∷ words) addr word = go (a == addr)
-    (ap (λ ws. w ∷ ws) (put_by_slot addresses words addr word) ∙ sym (at-next w words (slot_of 0 addresses addr) word).1 ∙ ap (λ o. put_at (w ∷ words) o word) (sym (slot-next addresses 0 addr)))
-  where
-    go : (b : Bool) → w ∷ put_word addresses words addr word ≡ put_at (w ∷ words) (slot_of 1 addresses addr) word
-        → (if b then word ∷ words else w ∷ put_word addresses words addr word) ≡ put_at (w ∷ words) (if b then Some 0 else slot_of 1 addresses addr) word
-    go true later = refl
-    go false later = later
+put_by_slot (a ∷ addresses) (w ∷ words) addr word =
+    let later = ap (λ ws. w ∷ ws) (put_by_slot addresses words addr word) ∙ sym (at-next w words (slot_of 0 addresses addr) word).1 ∙ ap (λ o. put_at (w ∷ words) o word) (sym (slot-next addresses 0 addr)) in
+    grind (arith, nat_tests)
 
 -- one core more is settled
 pub more-settled : (addresses words : List ℕ) (cores : List (List Operation)) (next : List ℕ) (core : ℕ) (ys : List Operation) → slice_get cores core ≡ Some ys
@@ -153,7 +141,3 @@ more-settled addresses words (zs ∷ cores) [] (suc core) ys at = refl
 more-settled addresses words (zs ∷ cores) (n ∷ next) zero ys at = ap (λ xs. (n + prefix_len (passing addresses words) (drop n xs)) ∷ next) (same_Some zs ys at)
 more-settled addresses words (zs ∷ cores) (n ∷ next) (suc core) ys at =
     ap (λ rest. (n + prefix_len (passing addresses words) (drop n zs)) ∷ rest) (more-settled addresses words cores next core ys at)
-
-pub settled-more : (addresses words : List ℕ) (cores : List (List Operation)) (next : List ℕ) (core : ℕ) (ys : List Operation) → slice_get cores core ≡ Some ys
-    → settled addresses words (take (core + 1) cores) next ≡ slice_set (settled addresses words (take core cores) next) core (slice_index next core + prefix_len (passing addresses words) (drop (slice_index next core) ys))
-settled-more addresses words cores next core ys at = rw add-one (more-settled addresses words cores next core ys at)

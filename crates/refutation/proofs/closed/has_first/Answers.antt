@@ -1,11 +1,10 @@
-use Rattle.std.proofs.Common.{◌∙◌, ap, sym, length}
-use Rattle.std.specs.Prelude.{replicate}
+use Rattle.std.proofs.Common.{◌∙◌, ap, sym, length, refl}
+use Rattle.std.proofs.lemmas.Simd.{splat_is_map}
 use Rattle.trace.proofs.Growth.{length_lists}
-use Rattle.refutation.proofs.Leading.{zeros-are}
 use Rattle.refutation.proofs.closed.has_first.Goals as goal
 
 pub returns : goal.returns
 returns c =
-    let many = sym (length_lists c.cores.result.now) ∙ ap length c.cores.ensures.value in
-    let next = c.deref.ensures.value ∙ c.in_ok-next.ensures ∙ ap (λ n. replicate n 0) many ∙ zeros-are c.args.trace.now in
-    rw (next, c.in_ok-words.ensures ∙ zeros-are c.args.addresses.now) at c.is_in.ensures
+    let many = ap length (sym c.cores.ensures.value) ∙ length_lists c.cores.result.now in
+    let next = c.deref.ensures.value ∙ c.in_ok-next.ensures ∙ splat_is_map c.args.trace.now _ 0 many in
+    rw (next, c.in_ok-words.ensures ∙ splat_is_map c.args.addresses.now _ 0 refl) at c.is_in.ensures
