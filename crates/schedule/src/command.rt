@@ -1,7 +1,9 @@
 //! Commands of a schedule.
 
-use line_stamps::Recall;
+use line_stamps::{Recall, RecallKind};
 use mem_op::{Addr, CoreId};
+use std::fmt;
+use std::fmt::Display;
 
 /// A command of a schedule.
 #[derive(Clone, Copy, Debug, PartialEq, Eq)]
@@ -26,4 +28,34 @@ pub enum Command {
     Op(CoreId),
     /// `finish c`: `op c` until the core has ended.
     Finish(CoreId),
+}
+
+/// Its line in a schedule, without the line feed.
+impl Display for Command {
+    ghost use Rattle.std.specs.Prelude.{Some};
+    ghost use Rattle.schedule.specs.Grammar.{command_text};
+
+    ghost output = { λ command. Some (command_text command) };
+
+    #[tactic(auto, using(decimal_text::proofs::Printing::numeral_decimal), unfolding(crate::specs::Grammar::command_text))]
+    fn fmt<W: fmt::Write>(&self, f: &mut fmt::Formatter<W>) -> fmt::Result {
+        match self {
+            Command::Turn(core) => write!(f, "turn {}", core.get()),
+            Command::Serve(core) => write!(f, "serve {}", core.get()),
+            Command::Take(core) => write!(f, "take {}", core.get()),
+            Command::Recall(recall) => {
+                let (owner, addr, rts) = (recall.owner.get(), recall.addr.get(), recall.rts.get());
+                match recall.kind {
+                    RecallKind::WriteBack => write!(f, "recall {owner} {addr} wb {rts}"),
+                    RecallKind::Flush => write!(f, "recall {owner} {addr} flush {rts}"),
+                }
+            }
+            Command::Evict(core, addr) => write!(f, "evict {} {}", core.get(), addr.get()),
+            Command::Spill(addr) => write!(f, "spill {}", addr.get()),
+            Command::Bump(core) => write!(f, "bump {}", core.get()),
+            Command::Round(core) => write!(f, "round {}", core.get()),
+            Command::Op(core) => write!(f, "op {}", core.get()),
+            Command::Finish(core) => write!(f, "finish {}", core.get()),
+        }
+    }
 }
