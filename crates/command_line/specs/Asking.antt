@@ -123,13 +123,14 @@ programs_given rows = unwrap_or (first_of (codes "PROGRAMS") rows) []
 abbrev pub out_given : List Row → Text
 out_given rows = unwrap_or (first_of (codes "OUT") rows) []
 
--- a run of the programs of the file that was given, by the numbers, the schedule and the seed that were given, and the file for the
--- numbers of the run that was
+-- a run of the programs of the file that was given, by the numbers, the schedule and the seed that were given, and the files for the
+-- numbers of the run and for its events that were
 pub record IsSim (rows : List Row) (sim : Sim) : Type 0 where
   pub limits : AreLimits rows sim.limits
   pub schedule : text_of sim.schedule ≡ first_of (codes "schedule") rows
   pub seed : IsNumberOf (one_of (codes "seed") rows) sim.seed
   pub statistics : text_of sim.statistics ≡ first_of (codes "stats") rows
+  pub events : text_of sim.events ≡ first_of (codes "trace") rows
   pub programs : sim.programs.now ≡ programs_given rows
   pub out : sim.out.now ≡ out_given rows
 

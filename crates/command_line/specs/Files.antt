@@ -41,10 +41,10 @@ files_read (Confirm asked) = asked.certificate.now ∷ names_of asked.trace
 files_read (Replay asked) = asked.trace.now ∷ []
 files_read Version = []
 
--- the names of the files that are put, but for logs: of a picture, of the numbers of runs, of an order, of a refutation
+-- the names of the files that are put, but for logs: of a picture, of the numbers and the events of runs, of an order, of a refutation
 abbrev pub files_put : Request → List Text
 files_put (Explain asked) = names_given (asked.picture ∷ [])
-files_put (Sim asked) = names_given (asked.statistics ∷ [])
+files_put (Sim asked) = names_given (asked.statistics ∷ asked.events ∷ [])
 files_put (Run asked) = names_given (asked.statistics ∷ [])
 files_put (Litmus asked) = names_given (asked.statistics ∷ [])
 files_put (Search asked) = names_given (asked.order ∷ asked.refutation ∷ asked.picture ∷ [])

@@ -85,10 +85,10 @@ with_names app = with_rule (with_rule app (name (codes "PROGRAMS"))) (name (code
 abbrev pub with_stats : App → App
 with_stats app = with_rule app (file_option (codes "stats"))
 
--- tardis sim [--slices N] [--lease N] [--period N] [--cache N] [--slice-lines N] [--inbox N] [--schedule F] [--seed N] [--stats F]
+-- tardis sim [--slices N] [--lease N] [--period N] [--cache N] [--slice-lines N] [--inbox N] [--schedule F] [--seed N] [--stats F] [--trace F]
 -- PROGRAMS OUT
 abbrev pub sim : App
-sim = with_names (with_stats (with_sim_options (with_limits (new_app (codes "sim")))))
+sim = with_names (with_rule (with_stats (with_sim_options (with_limits (new_app (codes "sim"))))) (file_option (codes "trace")))
 
 -- tardis run [--slices N] [--lease N] [--period N] [--cache N] [--slice-lines N] [--inbox N] [--stats F] PROGRAMS OUT
 abbrev pub run : App

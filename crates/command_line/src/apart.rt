@@ -62,7 +62,7 @@ fn files_put<'a>(alloc: Global, request: &Request<'a>) -> Result<Vec<&'a str>, A
 {
     match request {
         Request::Explain(asked) => names_of(alloc, &[asked.picture], &[]),
-        Request::Sim(asked) => names_of(alloc, &[asked.statistics], &[]),
+        Request::Sim(asked) => names_of(alloc, &[asked.statistics, asked.events], &[]),
         Request::Run(asked) => names_of(alloc, &[asked.statistics], &[]),
         Request::Litmus(asked) => names_of(alloc, &[asked.statistics], &[]),
         Request::Search(asked) => {

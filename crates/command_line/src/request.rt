@@ -98,6 +98,8 @@ pub struct Sim<'a> {
     pub seed: Option<u64>,
     /// The name of the file that the numbers of the run go to, where one is given.
     pub statistics: Option<&'a str>,
+    /// The name of the file that the events of the run go to, where one is given.
+    pub events: Option<&'a str>,
     /// The name of the file of the programs.
     pub programs: &'a str,
     /// What the names of the logs begin with.

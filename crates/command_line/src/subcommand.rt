@@ -84,6 +84,10 @@ const SIM: Subcommand<'static> = Subcommand {
             "Seed of the random interleaving that follows the schedule, 0 to 18446744073709551615 [default: no draws, core 0 first]",
         ),
         Argument::File("stats", STATS_HELP),
+        Argument::File(
+            "trace",
+            "Write each event of the run, its outcome and its line after it to F, as CSV [default: none]",
+        ),
         Argument::Name("PROGRAMS", PROGRAMS_HELP),
         Argument::Name("OUT", OUT_HELP),
     ],

@@ -231,6 +231,7 @@ fn sim_of<'a>(matches: &ArgMatches<'a>) -> Request<'a>
         schedule: name_of(matches, "schedule"),
         seed: number_of(matches, "seed"),
         statistics: name_of(matches, "stats"),
+        events: name_of(matches, "trace"),
         programs: word_of(matches, "PROGRAMS"),
         out: word_of(matches, "OUT"),
     })
