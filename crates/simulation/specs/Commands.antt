@@ -1,5 +1,5 @@
 -- What the commands of a schedule do, one after the other.
-use Rattle.std.specs.Prelude.{◌≡◌, ℕ, List, [], ◌∷◌, ◌++◌, Some, slice_get, take}
+use Rattle.std.specs.Prelude.{◌≡◌, ⊤, ℕ, List, [], ◌∷◌, ◌++◌, Some, slice_get, take}
 use Rattle.manager_slice.specs.declared.fault.SliceFault.{SliceFault}
 use Rattle.core_unit.specs.declared.outcome.Outcome.{Outcome}
 use Rattle.schedule.specs.declared.command.Command.{Command}
@@ -21,6 +21,11 @@ use Rattle.simulation.specs.declared.fault.SimulationFault.TheVariants.{Core, Sl
 -- the event leads from p to q, with whatever outcome
 abbrev pub EventLeadsAnyhow : CoreParts → Event → CoreParts → Type 0
 EventLeadsAnyhow p e q = (o : Outcome) × EventLeads p e o q
+
+-- a recall comes to the owner that it names
+abbrev pub IsAtOwner : Event → Type 0
+IsAtOwner (event.Recall c x) = x.owner ≡ c
+IsAtOwner e = ⊤
 
 -- the command leads from p to q
 abbrev pub CommandLeads : CoreParts → Command → CoreParts → Type 0

@@ -3,9 +3,12 @@
 
 mod commands;
 mod drawing;
+mod event_table;
+mod event_text;
 mod fault;
 mod finishing;
 mod simulating;
 
+pub use event_table::print_events;
 pub use fault::SimulationFault;
 pub use simulating::simulate;
