@@ -1,6 +1,6 @@
 -- The judge says Yes to the logs that a run leaves.
 use Rattle.std.proofs.Common.{◌≡◌, ◌<◌, ◌≤◌, ℕ, zero, suc, ◌+◌, List, [], ◌∷◌, ◌++◌, length, map, inl, inr, refl, sym, ap, subst, ◌∙◌, arith, eq-eqb, Bor}
-use Rattle.std.specs.Prelude.{Contains, Option, None, Some, Ok, if◌then◌else◌, nat_eq, slice_get}
+use Rattle.std.specs.Prelude.{Contains, Option, None, Some, Ok, Err, if◌then◌else◌, nat_eq, slice_get}
 use Rattle.std.specs.Option.{option_map, option_map_or}
 use Rattle.std.proofs.lemmas.List.{length-append}
 use Rattle.std.proofs.lemmas.List.Elements.{Contains-append_right}
@@ -29,7 +29,7 @@ use Rattle.machine_laws.proofs.Below.{ended_below_get_yes, whole_below_get_yes}
 use Rattle.simulation.specs.Events.{simulated_events}
 use Rattle.simulation.proofs.Ended.{simulated_ended}
 use Rattle.simulation.proofs.SimulatedRuns.{simulated_run}
-use Rattle.command_line.specs.Files.{IsApart, files_read, names_given}
+use Rattle.command_line.specs.Files.{IsApart, files_put, files_read, names_given}
 use Rattle.command_line.specs.RunFiles.{IsLogName}
 use Rattle.command_line.specs.declared.request.Request.TheVariants as request
 use Rattle.command_line.specs.declared.request.Run.{Run as AskedRun}
@@ -43,6 +43,8 @@ use Rattle.commands.specs.Programs.{AreProgramsIn}
 use Rattle.commands.specs.Programmed.{config_of, log_format}
 use Rattle.commands.specs.Running.{IsThreadRun}
 use Rattle.commands.specs.Simulating as simulating
+use Rattle.commands.specs.declared.refusal.Refusal.TheVariants.{Simulation}
+use Rattle.commands.proofs.Unread.{front, later}
 
 -- ---- texts
 
@@ -98,18 +100,34 @@ spared format mid new out cores made n (Some name) text few apart put first = λ
 at_most_64 : (told : List ℕ → Option (List ℕ)) (name : List ℕ) (set : SetParts) → AreProgramsIn told name set → length set.programs ≤ 64
 at_most_64 told name set (text, tells, spells) = spells.0.few
 
-pub sim_leaves : (old new : Files) (unread : List ℕ → Type 0) (asked : AskedSim) (count : ℕ) → simulating.IsRun old new unread asked (Ok count)
-    → IsApart (request.Sim asked) → LeavesYes old.told new.told asked.programs.now asked.out.now
-sim_leaves old new unread asked count (sound, set, read, (commands, parsed, (q, did, (counted, (mid, put, later))))) apart =
+-- the file of events has some text
+puts_text : (old new : Files) (events : Option (Bor (List ℕ))) → simulating.PutsEvents old new events → (text : List ℕ) × PutsAt old new events text
+puts_text old new None is = ([], is)
+puts_text old new (Some name) (text, such, puts) = (text, puts)
+
+ended_leaves : (old mid new : Files) (unread : List ℕ → Type 0) (asked : AskedSim) (count : ℕ) → simulating.IsRun old mid unread asked (Ok count)
+    → simulating.PutsEvents mid new asked.events → IsApart (request.Sim asked) → LeavesYes old.told new.told asked.programs.now asked.out.now
+ended_leaves old mid new unread asked count (sound, set, read, (commands, parsed, (q, did, (counted, (between, put, numbers))))) events apart =
     let g = config_of asked.limits in
     let start = opening_parts set.programs g in
     let run = simulated_run commands asked.seed start q did in
     let led = subst (λ (w : World). Run g w (simulated_events commands asked.seed start q did) (world q)) (opening_world set.programs g) run.run in
-    leaves old.told new.told asked.programs.now asked.out.now set (world q) read
-    (spared (log_format set.format) mid new asked.out.now (length set.programs) (log_at (world q)) (length set.programs) asked.statistics _
-    (at_most_64 old.told asked.programs.now set read)
-    (λ name log has. apart.logs name log (Contains-append_right (files_read (request.Sim asked)) (names_given (asked.statistics ∷ [])) name has)) later put.0.logs)
-    (ended_below_get_yes set.programs g (world q) (at_most_64 old.told asked.programs.now set read) (simulated_events commands asked.seed start q did, led) (simulated_ended commands asked.seed start q did))
+    let cores = length set.programs in
+    let few = at_most_64 old.told asked.programs.now set read in
+    let (text, after) = puts_text mid new asked.events events in
+    let in_put = Contains-append_right (files_read (request.Sim asked)) (files_put (request.Sim asked)) in
+    let first = spared (log_format set.format) between mid asked.out.now cores (log_at (world q)) cores asked.statistics _ few
+    (λ name log has. apart.logs name log (in_put name (front asked.statistics (asked.events ∷ []) name has))) numbers put.0.logs in
+    let all = spared (log_format set.format) mid new asked.out.now cores (log_at (world q)) cores asked.events text few
+    (λ name log has. apart.logs name log (in_put name (later asked.statistics (asked.events ∷ []) name has))) after first in
+    leaves old.told new.told asked.programs.now asked.out.now set (world q) read all
+    (ended_below_get_yes set.programs g (world q) few (simulated_events commands asked.seed start q did, led) (simulated_ended commands asked.seed start q did))
+
+pub sim_leaves : (old new : Files) (unread : List ℕ → Type 0) (asked : AskedSim) (count : ℕ) → simulating.IsTracedRun old new unread asked (Ok count)
+    → IsApart (request.Sim asked) → LeavesYes old.told new.told asked.programs.now asked.out.now
+sim_leaves old new unread asked count (mid, Ok n, is, traced) apart = ended_leaves old mid new unread asked n is traced.1 apart
+sim_leaves old new unread asked count (mid, Err (Simulation fault), is, traced) apart = let other : Ok count ≡ Err (Simulation fault) = traced.0 in absurd cc
+sim_leaves old new unread asked count (mid, Err fault, is, traced) apart = let other : Ok count ≡ Err fault = traced.0 in absurd cc
 
 -- ---- a run in threads
 

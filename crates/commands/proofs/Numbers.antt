@@ -1,6 +1,6 @@
 -- How what was left first and then goes together.
 use Rattle.std.proofs.Common.{ℕ, List, sym, subst, ◌∙◌, inl, inr, Bor}
-use Rattle.std.specs.Prelude.{Option}
+use Rattle.std.specs.Prelude.{◌⊎◌, Option}
 use Rattle.log_record.specs.declared.format.Format.{Format}
 use Rattle.log_record.specs.declared.record.Record.{Record}
 use Rattle.host_files.specs.Files.{Files, KeepsFiles}
@@ -15,6 +15,10 @@ use Rattle.commands.specs.declared.refusal.Refusal.TheVariants.{LogUnwritten, Ou
 pub keeps_both : (told mid new : List ℕ → Option (List ℕ)) (out : List ℕ) (statistics : Option (Bor (List ℕ))) → KeepsOthers told mid out 64
     → KeepsFiles mid new (IsNameOf statistics) → KeepsFiles told new (IsLeftName out statistics)
 keeps_both told mid new out statistics first later name none = later name (λ is. none (inr is)) ∙ first name (λ c below same. none (inl (c, below, same)))
+
+pub keeps_then : (told mid new : List ℕ → Option (List ℕ)) (First Later : List ℕ → Type 0) → KeepsFiles told mid First → KeepsFiles mid new Later
+    → KeepsFiles told new (λ name. First name ⊎ Later name)
+keeps_then told mid new First Later first later name none = later name (λ is. none (inr is)) ∙ first name (λ is. none (inl is))
 
 pub keeps_first : (told new : List ℕ → Option (List ℕ)) (out : List ℕ) (statistics : Option (Bor (List ℕ))) → KeepsOthers told new out 64 → KeepsFiles told new (IsLeftName out statistics)
 keeps_first told new out statistics first name none = first name (λ c below same. none (inl (c, below, same)))

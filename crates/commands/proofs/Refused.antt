@@ -1,5 +1,5 @@
 -- What holds after a refusal, from what the commands promise.
-use Rattle.std.proofs.Common.{◌≡◌, ap, ℕ, List, Err}
+use Rattle.std.proofs.Common.{◌≡◌, ap, ℕ, List, Ok, Err, inr, refl, subst, sym}
 use Rattle.std.specs.Option.{IsSomeAnd}
 use Rattle.command_line.specs.declared.request.Check.{Check}
 use Rattle.command_line.specs.declared.request.Confirm.{Confirm}
@@ -32,12 +32,13 @@ use Rattle.commands.specs.Promises.{ComesFirst, IsRefused, IsUnreadThere, Leaves
 use Rattle.commands.specs.Replaying.{IsReplayedBy}
 use Rattle.commands.specs.Running.{IsThreadRun}
 use Rattle.commands.specs.Searching.{IsSearched}
-use Rattle.commands.specs.Simulating.{IsRun}
+use Rattle.commands.specs.Simulating.{IsRun, IsTraced, IsTracedRun}
 use Rattle.commands.specs.Sinks.{Sink}
 use Rattle.commands.specs.Tabling.{IsCounted}
 use Rattle.commands.specs.Traces.{AreNoLogsIn, IsUnreadIn}
 use Rattle.commands.specs.Upgrading.{IsUpgraded}
 use Rattle.commands.specs.declared.place.Input.TheVariants as input
+use Rattle.commands.specs.declared.place.Output.TheVariants as output
 use Rattle.commands.specs.declared.refusal.Refusal.{Refusal}
 use Rattle.commands.specs.declared.refusal.Refusal.TheVariants.{Judge, Config, Simulation, Run, Collect, Undecided, Unread, Unwritten, LogUnwritten, OutOfMemory}
 
@@ -152,7 +153,7 @@ module _ (old new : Files) (Unreadable : List ℕ → Type 0) (out out' : Sink) 
   sim_kept asked other is first = keeps_told old new is.0
 
   sim_left : (asked : AskedSim) (refusal : Refusal) → IsRun old new Unreadable asked (Err refusal) → LeavesSoFar old new (request.Sim asked) refusal
-  sim_left asked (Simulation fault) is = is
+  sim_left asked (Simulation fault) is = (new, is, inr (inr refl))
   sim_left asked other is = tt
 
   sim_unread : (asked : AskedSim) (refusal : Refusal) → IsRun old new Unreadable asked (Err refusal) → IsUnreadThere Unreadable (request.Sim asked) refusal
@@ -162,8 +163,26 @@ module _ (old new : Files) (Unreadable : List ℕ → Type 0) (out out' : Sink) 
   sim_unread asked (Judge fault) is = absurd is.2
   sim_unread asked other is = tt
 
-  pub sim_refused : (asked : AskedSim) (refusal : Refusal) → IsRun old new Unreadable asked (Err refusal) → IsRefused old new Unreadable out out' (request.Sim asked) refusal
-  sim_refused asked refusal is = record { kept = sim_kept asked refusal is; left = sim_left asked refusal is; unread = sim_unread asked refusal is; unended = tt }
+  untraced_refused : (asked : AskedSim) (refusal : Refusal) → IsRun old new Unreadable asked (Err refusal) → IsRefused old new Unreadable out out' (request.Sim asked) refusal
+  untraced_refused asked refusal is = record { kept = sim_kept asked refusal is; left = sim_left asked refusal is; unread = sim_unread asked refusal is; unended = tt }
+
+  -- the events weren't put
+  events_refused : (asked : AskedSim) (mid : Files) (count : ℕ) (refusal : Refusal) → IsTraced mid new asked.events (Ok count) (Err refusal)
+      → IsRefused old new Unreadable out out' (request.Sim asked) refusal
+  events_refused asked mid count (Unwritten output.Events) is = record { kept = λ first. absurd first; left = tt; unread = tt; unended = tt }
+  events_refused asked mid count OutOfMemory is = record { kept = λ first. absurd first; left = tt; unread = tt; unended = tt }
+  events_refused asked mid count other is = absurd is
+
+  pub sim_refused : (asked : AskedSim) (refusal : Refusal) → IsTracedRun old new Unreadable asked (Err refusal) → IsRefused old new Unreadable out out' (request.Sim asked) refusal
+  sim_refused asked refusal (mid, Ok count, is, traced) = events_refused asked mid count refusal traced
+  sim_refused asked refusal (mid, Err (Simulation fault), is, traced) =
+      let same : refusal ≡ Simulation fault = (let both : Err refusal ≡ Err (Simulation fault) = traced.0 in cc) in
+      subst (λ (r : Refusal). IsRefused old new Unreadable out out' (request.Sim asked) r) (sym same)
+      (record { kept = λ first. absurd first; left = (mid, is, traced.1); unread = tt; unended = tt })
+  sim_refused asked refusal (mid, Err fault, is, traced) =
+      let same : refusal ≡ fault = (let both : Err refusal ≡ Err fault = traced.0 in cc) in
+      subst (λ (r : Refusal). IsRefused old new Unreadable out out' (request.Sim asked) r) (sym same)
+      (untraced_refused asked fault (subst (λ (files : Files). IsRun old files Unreadable asked (Err fault)) (sym traced.1) is))
 
   -- ---- run
 

@@ -1,5 +1,5 @@
 -- How a run ends after its simulation.
-use Rattle.std.proofs.Common.{◌≡◌, ℕ, List, length, subst}
+use Rattle.std.proofs.Common.{◌≡◌, ℕ, List, length, inl, inr, refl, subst, Bor}
 use Rattle.std.specs.Prelude.{Option, None, Result, Ok, Err, IfErr, IfOk, OnOk}
 use Rattle.command_line.specs.declared.request.Sim.{Sim}
 use Rattle.lease_rule.specs.Ranges.{first_bad}
@@ -15,7 +15,7 @@ use Rattle.commands.specs.Logs.{performed_below}
 use Rattle.commands.specs.Programs.{AreProgramsIn, IsUnprogrammed}
 use Rattle.commands.specs.Numbers.{AreLeft, AreLeftAsFar, IsUnleft}
 use Rattle.commands.specs.Programmed.{config_of, log_format}
-use Rattle.commands.specs.Simulating.{AreCommandsOf, IsRun, IsUnscheduled, numbers_in}
+use Rattle.commands.specs.Simulating.{AreCommandsOf, IsRun, IsTraced, IsTracedRun, IsUnscheduled, TriesEvents, numbers_in}
 use Rattle.commands.specs.declared.place.Input.TheVariants as input
 use Rattle.commands.specs.declared.place.Output.TheVariants as output
 use Rattle.commands.specs.declared.refusal.Refusal.{Refusal}
@@ -68,3 +68,23 @@ unscheduled remaining failed old now new asked set fault sound read same why onl
     go (Unread input.Schedule) why = (only, (sound, set, read, why))
     go OutOfMemory why = tt
     go other why = absurd why
+
+-- ---- the events of a simulation
+
+-- nothing is put after what is refused
+pub untried : (mid : Files) (events : Option (Bor (List ℕ))) (fault : Refusal) → IsTraced mid mid events (Err fault) (Err fault)
+untried mid events (Simulation fault) = (refl, inr (inr refl))
+untried mid events fault = (refl, refl)
+
+pub untraced : (old new : Files) (unread : List ℕ → Type 0) (asked : Sim) (fault : Refusal) → IsRun old new unread asked (Err fault)
+    → IsTracedRun old new unread asked (Err fault)
+untraced old new unread asked fault is = (new, Err fault, is, untried new asked.events fault)
+
+-- whatever came of them
+pub tried : (mid new : Files) (events : Option (Bor (List ℕ))) (first result : Result ℕ Refusal) → IsTraced mid new events first result → TriesEvents mid new events
+tried mid new events (Ok count) (Ok n) is = inl is.1
+tried mid new events (Ok count) (Err (Unwritten output.Events)) is = inr (inl is)
+tried mid new events (Ok count) (Err OutOfMemory) is = inr (inr is)
+tried mid new events (Ok count) (Err other) is = absurd is
+tried mid new events (Err (Simulation fault)) result is = is.1
+tried mid new events (Err fault) result is = inr (inr is.1)

@@ -23,7 +23,7 @@ use Rattle.commands.specs.Refusals.{refusal_status, refusal_text}
 use Rattle.commands.specs.Replaying.{IsConsistentText, IsOutOfOrder, TellsText}
 use Rattle.commands.specs.Running.{LeavesRun}
 use Rattle.commands.specs.Searching.{IsOutputName}
-use Rattle.commands.specs.Simulating.{LeavesSimulation}
+use Rattle.commands.specs.Simulating.{IsSimName, LeavesTraced}
 use Rattle.commands.specs.Sinks.{Sink, Takes, Took, line}
 use Rattle.commands.specs.Traces.{TellsTrace, own_files}
 use Rattle.commands.specs.Upgrading.{LeavesAnew}
@@ -89,12 +89,12 @@ AreWrong told out out' other = ⊤
 
 -- ---- which files are put
 
--- a name under which what was asked for may put a file: that of a log, of a run's numbers, of the totals of a litmus test's runs, of a
--- picture or of a certificate
+-- a name under which what was asked for may put a file: that of a log, of a run's numbers or events, of the totals of a litmus test's runs, of
+-- a picture or of a certificate
 abbrev pub IsPutName : Request → List ℕ → Type 0
 IsPutName (Explain asked) name = IsNameOf asked.picture name
 IsPutName (Upgrade asked) name = IsLogName asked.out.now name
-IsPutName (Sim asked) name = IsLeftName asked.out.now asked.statistics name
+IsPutName (Sim asked) name = IsSimName asked name
 IsPutName (Run asked) name = IsLeftName asked.out.now asked.statistics name
 IsPutName (Litmus asked) name = IsNameOf asked.statistics name
 IsPutName (Search asked) name = IsOutputName asked name
@@ -118,7 +118,7 @@ ComesFirst refusal = ⊤
 
 -- after a fault of a run its logs as far as the fault are left
 abbrev pub LeavesSoFar : Files → Files → Request → Refusal → Type 0
-LeavesSoFar old new (Sim asked) (refused.Simulation fault) = LeavesSimulation old new asked fault
+LeavesSoFar old new (Sim asked) (refused.Simulation fault) = LeavesTraced old new asked fault
 LeavesSoFar old new (Run asked) (refused.Run fault) = LeavesRun old new asked fault
 LeavesSoFar old new asked refusal = ⊤
 

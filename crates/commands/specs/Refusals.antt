@@ -92,6 +92,7 @@ output_text output.Picture = codes "picture"
 output_text output.Order = codes "order"
 output_text output.Refutation = codes "refutation"
 output_text output.Statistics = codes "statistics"
+output_text output.Events = codes "trace"
 
 -- a No is told as one
 abbrev pub run_cause_text : ℕ → RunCause → List ℕ

@@ -1,5 +1,5 @@
 -- What the simulation of programs answers.
-use Rattle.std.specs.Prelude.{◌≡◌, ◌≢◌, ⊤, ℕ, List, [], length, map, Option, None, Some, Result, Ok, Err}
+use Rattle.std.specs.Prelude.{◌≡◌, ◌≢◌, ◌⊎◌, ⊤, ℕ, List, [], length, map, Option, None, Some, Result, Ok, Err}
 use Rattle.std.specs.Option.{IsSomeAnd}
 use Rattle.std.specs.Borrow.{Bor}
 use Rattle.command_line.specs.declared.request.Sim.{Sim}
@@ -18,7 +18,8 @@ use Rattle.simulation.specs.declared.fault.SimulationFault.{SimulationFault}
 use Rattle.commands.specs.Programs.{IsUnprogrammed}
 use Rattle.host_files.specs.Files.{Files, IsOnlyRead}
 use Rattle.commands.specs.Logs.{ArePutUpTo, performed_below}
-use Rattle.commands.specs.Numbers.{AreLeft, AreLeftAsFar, IsUnleft, numbers_of}
+use Rattle.commands.specs.Numbers.{AreLeft, AreLeftAsFar, IsLeftName, IsUnleft, numbers_of}
+use Rattle.commands.specs.Outputs.{FailsPutAt, IsNameOf, PutsSuchAt}
 use Rattle.commands.specs.Programmed.{Programmed, config_of, log_format}
 use Rattle.commands.specs.declared.place.Input.TheVariants as input
 use Rattle.commands.specs.declared.place.Output.TheVariants as output
@@ -93,3 +94,36 @@ IsRun old new unread asked (Err (Unwritten output.Statistics)) =
 IsRun old new unread asked (Err OutOfMemory) = ⊤
 IsRun old new unread asked (Err fault) =
     IsOnlyRead old new × (first_bad (config_of asked.limits) ≡ None) × IsUnprogrammed old.told unread asked.programs.now fault
+
+-- ---- its events
+
+-- a name under which a simulation may put a file: that of a log, of its numbers or of its events
+abbrev pub IsSimName : Sim → List ℕ → Type 0
+IsSimName asked name = IsLeftName asked.out.now asked.statistics name ⊎ IsNameOf asked.events name
+
+-- a file of events was put where a name was given for it
+abbrev pub PutsEvents : Files → Files → Option (Bor (List ℕ)) → Type 0
+PutsEvents mid new events = PutsSuchAt mid new events (λ text. ⊤)
+
+-- the same, or the put failed, or it didn't come to that
+abbrev pub TriesEvents : Files → Files → Option (Bor (List ℕ)) → Type 0
+TriesEvents mid new events = PutsEvents mid new events ⊎ FailsPutAt mid new events ⊎ (new ≡ mid)
+
+-- What a simulation answers that answered `first` before its events were put, when the folder was `mid`. After a fault of the run they are put
+-- too; else they are put only where all before them was left.
+abbrev pub IsTraced : Files → Files → Option (Bor (List ℕ)) → Result ℕ Refusal → Result ℕ Refusal → Type 0
+IsTraced mid new events (Ok count) (Ok n) = (n ≡ count) × PutsEvents mid new events
+IsTraced mid new events (Ok count) (Err (Unwritten output.Events)) = FailsPutAt mid new events
+IsTraced mid new events (Ok count) (Err OutOfMemory) = new ≡ mid
+IsTraced mid new events (Ok count) (Err other) = ⊥
+IsTraced mid new events (Err (Simulation fault)) result = (result ≡ Err (Simulation fault)) × TriesEvents mid new events
+IsTraced mid new events (Err fault) result = (result ≡ Err fault) × (new ≡ mid)
+
+-- the answer of a simulation whose events are put last
+abbrev pub IsTracedRun : Files → Files → (List ℕ → Type 0) → Sim → Result ℕ Refusal → Type 0
+IsTracedRun old new unread asked result =
+    (mid : Files) × (first : Result ℕ Refusal) × IsRun old mid unread asked first × IsTraced mid new asked.events first result
+
+-- after this fault of the simulation its logs and numbers are left as far as they could be written, and then its events
+abbrev pub LeavesTraced : Files → Files → Sim → SimulationFault → Type 0
+LeavesTraced old new asked fault = (mid : Files) × LeavesSimulation old mid asked fault × TriesEvents mid new asked.events

@@ -25,6 +25,8 @@ pub enum Output {
     Refutation,
     /// The numbers of a run, or of runs.
     Statistics,
+    /// The events of a run.
+    Events,
 }
 
 impl Input {
@@ -53,6 +55,7 @@ impl Output {
             Output::Order => "order",
             Output::Refutation => "refutation",
             Output::Statistics => "statistics",
+            Output::Events => "trace",
         }
     }
 }

@@ -1,39 +1,43 @@
 //! Programs run on the core machine, one event after the other.
 
 ghost use Rattle.std.specs.Prelude.{◌≡◌, ◌≤◌, IfErr, IfOk, OnOk};
+ghost use Rattle.core_machine.specs.Opening.{opening_parts};
 ghost use Rattle.host_files.specs.Files.{IsOnlyRead, IsUnread, KeepsFiles};
-ghost use Rattle.commands.specs.Numbers.{IsLeftName};
+ghost use Rattle.commands.specs.Outputs.{IsNameOf};
 ghost use Rattle.commands.specs.Simulating as simulating;
 
 use super::config::config_of;
 use super::left::{Leaving, leave};
-use super::place::Input;
+use super::place::{Input, Output};
+use super::putting::put_under;
 use super::refusal::Refusal;
 use super::run_logs::{MachineLogs, log_format};
 use super::text::{read_programs, read_text};
 use command_line::Sim;
+use core_program::ProgramSet;
 use host_files::Folder;
+use lease_rule::Config;
 use log_file::ReadFault;
 use schedule::{Command, parse};
-use simulation::simulate;
+use simulation::{print_events, simulate};
 use std::alloc::Global;
-use tardis_core::Core;
+use tardis_core::{Core, CoreFault};
 
 /// Runs the programs in a file of the folder by a schedule and then to their ends, and writes the log
-/// of each core, and then the run's numbers where a file is given for them, also where a fault ends the run. The number of operations that were performed, or
-/// why there is none.
+/// of each core, and then the run's numbers and its events where files are given for them, also where a fault ends the run. The number
+/// of operations that were performed, or why there is none.
 pub fn sim<F: Folder>(alloc: Global, folder: &mut F, asked: &Sim<'_>) -> Result<u64, Refusal>
-    ensures exact { simulating.IsRun (F.files folder.old)
+    ensures exact { simulating.IsTracedRun (F.files folder.old)
         (F.files folder.new)
         (IsUnread F.Source.remaining F.Source.failed
         (F.files folder.old) (F.files folder.new)) asked.now result }
     ensures files { KeepsFiles (F.files folder.old).told (F.files folder.new).told
-        (IsLeftName asked.now.out.now asked.now.statistics) }
+        (simulating.IsSimName asked.now) }
 {
     let config = config_of(&asked.limits)?;
     let programs = read_programs(alloc, folder, asked.programs)?;
     let commands = read_schedule(alloc, folder, asked.schedule, programs.len())?;
-    let Ok(mut machine) = Core::new(alloc, &programs, &config) else {
+    let Ok(mut machine) = new_machine(alloc, &programs, &config, asked.events.is_some()) else {
         return Err(Refusal::OutOfMemory);
     };
     let ended = simulate(alloc, &mut machine, commands.as_slice(), asked.seed);
@@ -45,8 +49,54 @@ pub fn sim<F: Folder>(alloc: Global, folder: &mut F, asked: &Sim<'_>) -> Result<
         slices: config.slices(),
     };
     let left = leave(alloc, folder, &leaving, &MachineLogs { machine: &machine });
+    let traced = leave_events(alloc, folder, asked.events, &programs, &machine, left);
     ended?;
-    left
+    traced
+}
+
+/// The machine at the start of these programs, which keeps its events or doesn't.
+fn new_machine(
+    alloc: Global,
+    programs: &ProgramSet,
+    config: &Config,
+    keeps: bool,
+) -> Result<Core, CoreFault>
+    ensures { IfOk result (λ machine. machine ≡ opening_parts programs.now.programs config.now) }
+{
+    let mut machine = Core::new(alloc, programs, config)?;
+    if keeps {
+        machine.keep_events(alloc);
+    }
+    Ok(machine)
+}
+
+/// Puts the events of a run under the name that is given for them, if one is, where what comes before them was left: 29 where that fails,
+/// and 10 where a growth was refused, also of the events themselves.
+fn leave_events<F: Folder>(
+    alloc: Global,
+    folder: &mut F,
+    name: Option<&str>,
+    programs: &ProgramSet,
+    machine: &Core,
+    left: Result<u64, Refusal>,
+) -> Result<u64, Refusal>
+    ensures traced { simulating.IsTraced (F.files folder.old) (F.files folder.new) name.entry left result }
+    ensures others { KeepsFiles (F.files folder.old).told (F.files folder.new).told (IsNameOf name.entry) }
+{
+    let count = match left {
+        Ok(count) => count,
+        Err(refusal) => return Err(refusal),
+    };
+    let Some(name) = name else {
+        return Ok(count);
+    };
+    let Ok(text) = print_events(alloc, programs, machine) else {
+        return Err(Refusal::OutOfMemory);
+    };
+    match put_under(folder, Some(name), text.as_slice()) {
+        Ok(()) => Ok(count),
+        Err(_) => Err(Refusal::Unwritten(Output::Events)),
+    }
 }
 
 /// The commands in a file of the folder, for `cores` cores; none where no name is given.

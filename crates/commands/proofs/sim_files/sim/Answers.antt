@@ -1,4 +1,4 @@
-use Rattle.std.proofs.Common.{◌≡◌, ◌∙◌, ℕ, List, length, map, Option, None, Err, subst, rules}
+use Rattle.std.proofs.Common.{◌≡◌, ◌∙◌, ℕ, List, length, map, Option, None, Err, refl, subst, rules}
 use Rattle.std.specs.Prelude.{IfErr, OnOk}
 use Rattle.lease_rule.specs.Ranges.{first_bad}
 use Rattle.simulation.specs.Simulating.{IsSimulated, IsSimulationFault}
@@ -8,11 +8,12 @@ use Rattle.core_machine.specs.Works.{log_at}
 use Rattle.host_files.specs.Files.{Files, IsUnread, KeepsFiles}
 use Rattle.commands.specs.Programs.{AreProgramsIn}
 use Rattle.commands.proofs.Files.{keeps_files, only_read_after}
-use Rattle.commands.proofs.Runs.{came, faulted, unprogrammed, unscheduled}
+use Rattle.commands.proofs.Numbers.{keeps_then}
+use Rattle.commands.proofs.Runs.{came, faulted, tried, unprogrammed, unscheduled, untraced}
 use Rattle.commands.specs.Numbers.{AreLeft, AreLeftAsFar, IsUnleft, numbers_of}
 use Rattle.commands.specs.Programmed.{config_of, log_format}
 use Rattle.commands.specs.Simulating.{AreCommandsOf}
-use Rattle.commands.specs.declared.refusal.Refusal.TheVariants.{Simulation}
+use Rattle.commands.specs.declared.refusal.Refusal.TheVariants.{OutOfMemory, Simulation}
 use Rattle.commands.proofs.sim_files.sim.Goals as goal
 
 pub returns-in_err-programs-clause-exact : goal.returns-in_err-programs-clause-exact
@@ -23,7 +24,7 @@ returns-in_err-programs-clause-exact g c =
     let old = files c.args.folder.now in
     let new = files c.read_programs.new.folder in
     let unread = IsUnread g.F.Source.ByteSource.remaining g.F.Source.ByteSource.failed old new in
-    rw is (unprogrammed old new unread c.args.asked.now c.in_err-programs.field-0.0 sound c.in_err-programs.ensures.err c.in_err-programs.ensures.read)
+    rw is (untraced old new unread c.args.asked.now _ (unprogrammed old new unread c.args.asked.now c.in_err-programs.field-0.0 sound c.in_err-programs.ensures.err c.in_err-programs.ensures.read))
 
 pub returns-in_err-programs-clause-files : goal.returns-in_err-programs-clause-files
 returns-in_err-programs-clause-files g c = keeps_files _ _ _ c.in_err-programs.ensures.read
@@ -39,11 +40,15 @@ returns-in_err-commands-clause-exact g c =
     let sound : first_bad (config_of asked.limits) ≡ None = search rules in
     let read : AreProgramsIn old.told asked.programs.now set = search rules in
     let is : c.from_residual-in_err-commands.result ≡ Err c.in_err-commands.field-0.0 = search rules in
-    rw is (unscheduled g.F.Source.ByteSource.remaining g.F.Source.ByteSource.failed old now new asked set c.in_err-commands.field-0.0 sound read c.in_ok-programs.ensures.quiet (search rules)
-    (only_read_after _ _ _ c.in_ok-programs.ensures.quiet c.in_err-commands.ensures.read))
+    let unread = IsUnread g.F.Source.ByteSource.remaining g.F.Source.ByteSource.failed old new in
+    rw is (untraced old new unread asked _ (unscheduled g.F.Source.ByteSource.remaining g.F.Source.ByteSource.failed old now new asked set c.in_err-commands.field-0.0 sound read c.in_ok-programs.ensures.quiet (search rules)
+    (only_read_after _ _ _ c.in_ok-programs.ensures.quiet c.in_err-commands.ensures.read)))
 
 pub returns-in_err-commands-clause-files : goal.returns-in_err-commands-clause-files
 returns-in_err-commands-clause-files g c = keeps_files _ _ _ (only_read_after _ _ _ c.in_ok-programs.ensures.quiet c.in_err-commands.ensures.read)
+
+pub returns-in_default-clause-exact : goal.returns-in_default-clause-exact
+returns-in_default-clause-exact g c = untraced _ _ _ _ OutOfMemory tt
 
 pub returns-in_default-clause-files : goal.returns-in_default-clause-files
 returns-in_default-clause-files g c = keeps_files _ _ _ (only_read_after _ _ _ c.in_ok-programs.ensures.quiet c.in_ok-commands.ensures.read)
@@ -53,7 +58,8 @@ returns-in_err-ended-clause-exact g c =
     let files = g.F.Folder.files in
     let old = files c.args.folder.now in
     let now = files c.read_schedule.new.folder in
-    let new = files c.leave-left.new.folder in
+    let mid = files c.leave-left.new.folder in
+    let new = files c.leave_events-traced.new.folder in
     let unread = IsUnread g.F.Source.ByteSource.remaining g.F.Source.ByteSource.failed old new in
     let asked = c.args.asked.now in
     let set = c.in_ok-programs.programs in
@@ -70,15 +76,22 @@ returns-in_err-ended-clause-exact g c =
     let same : c.log_format.result ≡ log_format set.format = search rules in
     let parts : c.slices.result ≡ asked.limits.slices = search rules in
     let text = λ (n k : ℕ). numbers_of n k (map (λ seat. seat.unit) q.seats) q.slices in
-    let far = subst (λ (f : Files). AreLeftAsFar c.log_format.result f new asked.out.now c.len-2.result (log_at (world q)) asked.statistics (text c.len-2.result c.slices.result)) as_it_was c.leave-left.ensures.far in
-    rw is (faulted old new unread asked set commands q sound read parsed c.in_err-ended.field-0.0 fault (rw (← many, ← same, ← parts) far))
+    let far = subst (λ (f : Files). AreLeftAsFar c.log_format.result f mid asked.out.now c.len-2.result (log_at (world q)) asked.statistics (text c.len-2.result c.slices.result)) as_it_was c.leave-left.ensures.far in
+    rw is (
+      mid,
+      Err (Simulation c.in_err-ended.field-0.0),
+      faulted old mid unread asked set commands q sound read parsed c.in_err-ended.field-0.0 fault (rw (← many, ← same, ← parts) far),
+      refl,
+      tried mid new asked.events _ _ c.leave_events-traced.ensures.traced,
+    )
 
 pub returns-clause-exact : goal.returns-clause-exact
 returns-clause-exact g c =
     let files = g.F.Folder.files in
     let old = files c.args.folder.now in
     let now = files c.read_schedule.new.folder in
-    let new = files c.leave-left.new.folder in
+    let mid = files c.leave-left.new.folder in
+    let new = files c.leave_events-traced.new.folder in
     let unread = IsUnread g.F.Source.ByteSource.remaining g.F.Source.ByteSource.failed old new in
     let asked = c.args.asked.now in
     let set = c.in_ok-programs.programs in
@@ -94,17 +107,21 @@ returns-clause-exact g c =
     let same : c.log_format.result ≡ log_format set.format = search rules in
     let parts : c.slices.result ≡ asked.limits.slices = search rules in
     let text = λ (n k : ℕ). numbers_of n k (map (λ seat. seat.unit) q.seats) q.slices in
-    let left = subst (λ (f : Files). OnOk c.leave-left.result (AreLeft c.log_format.result f new asked.out.now c.len-2.result (log_at (world q)) asked.statistics (text c.len-2.result c.slices.result))) as_it_was c.leave-left.ensures.left in
-    let why = subst (λ (f : Files). IfErr c.leave-left.result (IsUnleft c.log_format.result f new asked.out.now c.len-2.result (log_at (world q)) asked.statistics)) as_it_was c.leave-left.ensures.err in
-    came old new unread asked set commands q sound read parsed simulated c.leave-left.result
-    (rw (← many) c.leave-left.ensures.ok) (rw (← many, ← same, ← parts) left) (rw (← many, ← same) why)
+    let left = subst (λ (f : Files). OnOk c.leave-left.result (AreLeft c.log_format.result f mid asked.out.now c.len-2.result (log_at (world q)) asked.statistics (text c.len-2.result c.slices.result))) as_it_was c.leave-left.ensures.left in
+    let why = subst (λ (f : Files). IfErr c.leave-left.result (IsUnleft c.log_format.result f mid asked.out.now c.len-2.result (log_at (world q)) asked.statistics)) as_it_was c.leave-left.ensures.err in (
+      mid,
+      c.leave-left.result,
+      came old mid unread asked set commands q sound read parsed simulated c.leave-left.result
+          (rw (← many) c.leave-left.ensures.ok) (rw (← many, ← same, ← parts) left) (rw (← many, ← same) why),
+      c.leave_events-traced.ensures.traced,
+    )
 
 -- what was put after the reading was put in all
 put_after : (old now : Files) (told : List ℕ → Option (List ℕ)) (IsPut : List ℕ → Type 0) → now ≡ old → KeepsFiles now.told told IsPut → KeepsFiles old.told told IsPut
 put_after old now told IsPut as_it_was others = subst (λ (files : Files). KeepsFiles files.told told IsPut) as_it_was others
 
 pub returns-in_err-ended-clause-files : goal.returns-in_err-ended-clause-files
-returns-in_err-ended-clause-files g c = put_after _ _ _ _ (c.in_ok-commands.ensures.quiet ∙ c.in_ok-programs.ensures.quiet) c.leave-left.ensures.others
+returns-in_err-ended-clause-files g c = put_after _ _ _ _ (c.in_ok-commands.ensures.quiet ∙ c.in_ok-programs.ensures.quiet) (keeps_then _ _ _ _ _ c.leave-left.ensures.others c.leave_events-traced.ensures.others)
 
 pub returns-clause-files : goal.returns-clause-files
-returns-clause-files g c = put_after _ _ _ _ (c.in_ok-commands.ensures.quiet ∙ c.in_ok-programs.ensures.quiet) c.leave-left.ensures.others
+returns-clause-files g c = put_after _ _ _ _ (c.in_ok-commands.ensures.quiet ∙ c.in_ok-programs.ensures.quiet) (keeps_then _ _ _ _ _ c.leave-left.ensures.others c.leave_events-traced.ensures.others)
