@@ -1,32 +1,39 @@
--- The lines of a test, and the first that is wrong.
-use Rattle.std.proofs.Common.{◌≡◌, ◌≢◌, ℕ, ◌+◌, ◌<◌, ◌≤◌, true, false, List, [], ◌∷◌, ◌++◌, length, map, refl, sym, ap, subst, ◌∙◌, arith, append_assoc, append-nil, length-append}
+-- The lines of a test, and what may come after some of them.
+use Rattle.std.proofs.Common.{◌≡◌, ℕ, ◌+◌, ◌<◌, ◌≤◌, List, [], ◌∷◌, ◌++◌, length, map, refl, sym, ap, subst, ◌∙◌, arith, append_assoc}
 use Rattle.std.specs.List.{AllByRecursion}
-use Rattle.std.proofs.lemmas.List.{length-map}
 use Rattle.decimal_text.proofs.Lines.{NoLf, const_no_lf}
 use Rattle.core_program.specs.declared.format.ProgramFormat.{ProgramFormat}
 use Rattle.core_program.specs.declared.instruction.Instruction.{Instruction}
-use Rattle.core_program.specs.Answers.{IsBadLine, IsTooLong}
-use Rattle.core_program.specs.Grammar.{core_text, end_text, format_number, instruction_text, sections, EachFits, IsSection, IsSetOf}
-use Rattle.core_program.specs.Lines.{text_of, BeginsText, IsFirstWrong}
-use Rattle.core_program.proofs.SectionsOf.{AfterSections, HasSections, NotNext, each_fits_of, line_wrong}
+use Rattle.core_program.specs.Answers.{IsBadLine}
+use Rattle.core_program.specs.Grammar.{end_text, sections, EachFits, IsSection}
+use Rattle.core_program.specs.Lines.{IsFirstWrong}
+use Rattle.core_program.proofs.SectionsOf.{HasSections, each_fits_of}
 use Rattle.core_program.proofs.SetLines.{Next, goes_on, next_core, last_line, begun, filled_up, next_of, sections-append, sections_no_lf, sections_no_other, EachNoLf-append}
-use Rattle.core_program.proofs.TextLines.{EachNoLf, lines_once, text_of-append, text_of-cons}
-use Rattle.core_program.proofs.Wrong.{CanGoOn, HasLines, NoneFollows, wrong_behind}
-use Rattle.litmus_test.specs.Answers.{IsInstructionLine, LitmusLines, Spells}
-use Rattle.litmus_test.specs.Grammar.{forbid_text, header_text, last_lines, litmus_lines, show_text, AreForbidden, AreShown, IsName, IsOutcome, IsTestOf}
+use Rattle.core_program.proofs.TextLines.{EachNoLf}
+use Rattle.core_program.proofs.Wrong.{CanGoOn, HasLines}
+use Rattle.litmus_test.specs.Answers.{LitmusLines}
+use Rattle.litmus_test.specs.Grammar.{forbid_text, last_lines, litmus_lines, show_text, AreForbidden, AreShown, IsOutcome, IsTestOf}
 use Rattle.litmus_test.specs.Parts.{LitmusParts, ShownParts}
-use Rattle.litmus_test.specs.inner.Ending.{ForbidInFront, HeaderInFront, NoEndInFront, NoForbidInFront, NoShowInFront, ShowInFront}
-use Rattle.litmus_test.proofs.Headers.{header_no_lf, header_once}
+use Rattle.litmus_test.specs.inner.Reading.{head_text, HeadParts, IsHead}
+use Rattle.litmus_test.proofs.Headers.{head_no_lf, head_once}
 use Rattle.litmus_test.proofs.WordLines.{forbid_no_end, forbid_no_lf, show_is_other, show_no_lf, show_once}
 
--- the lines after the sections of a test of so many cores
-abbrev pub IsLast : ℕ → List ℕ → List (List ℕ) → Type 0
-IsLast cores next more =
-    (shown : List ShownParts) × (forbidden : List (List ℕ)) × AreShown cores shown × AreForbidden (length shown) forbidden
-    × (next ≡ show_text shown) × (more ≡ map forbid_text forbidden ++ end_text ∷ [])
+-- ---- sections of two kinds: limited in length, or of any length
 
-empty_section : (format : ProgramFormat) → IsSection format []
-empty_section format = record { few = omega arith; each_fits = tt }
+pub record IsKind (Section : ProgramFormat → List Instruction → Type 0) : Type 0 where
+  pub empty : (format : ProgramFormat) → Section format []
+  pub fits : (format : ProgramFormat) (p : List Instruction) → Section format p → EachFits format p
+  pub each : (format : ProgramFormat) (programs : List (List Instruction)) → AllByRecursion (IsSection format) programs → AllByRecursion (Section format) programs
+
+pub limited : IsKind IsSection
+limited = record { empty = λ format. record { few = omega arith; each_fits = tt }; fits = λ format p section. section.each_fits; each = λ format programs each. each }
+
+pub unlimited : IsKind EachFits
+unlimited = record { empty = λ format. tt; fits = λ format p each. each; each = each_fits_of }
+
+-- a line that is the first wrong one for both
+pub bad_line : (text : List ℕ) (k : ℕ) → ((Section : ProgramFormat → List Instruction → Type 0) → IsKind Section → IsFirstWrong (LitmusLines Section) text k) → IsBadLine LitmusLines text k
+bad_line text k wrong = (wrong IsSection limited, (wrong EachFits unlimited).wrong)
 
 -- ---- no line feed
 
@@ -34,225 +41,124 @@ pub forbids_no_lf : (forbidden : List (List ℕ)) → EachNoLf (map forbid_text 
 forbids_no_lf [] = tt
 forbids_no_lf (values ∷ forbidden) = (forbid_no_lf values, forbids_no_lf forbidden)
 
-litmus_no_lf : (t : LitmusParts) → IsName t.name → EachNoLf (litmus_lines t)
-litmus_no_lf t is = (
-  header_no_lf (format_number t.format) t.name (length t.programs) is,
-  EachNoLf-append (sections 0 t.programs) (last_lines t.shown t.forbidden) (sections_no_lf 0 t.programs)
-      (show_no_lf t.shown, EachNoLf-append (map forbid_text t.forbidden) (end_text ∷ []) (forbids_no_lf t.forbidden) (const_no_lf end_text refl, tt)),
-)
+-- what the first line of a test tells
+abbrev pub heading : LitmusParts → HeadParts
+heading t = record { format = t.format; name = t.name; cores = length t.programs }
+
+pub heading_is : (Section : ProgramFormat → List Instruction → Type 0) (t : LitmusParts) → IsTestOf Section t → IsHead (heading t)
+heading_is Section t is = record { is_name = is.name; some = is.programs.some; few = is.programs.few }
 
 pub has_lines : (Section : ProgramFormat → List Instruction → Type 0) → HasLines (LitmusLines Section)
-has_lines Section lines g = subst EachNoLf (sym g.1.1) (litmus_no_lf g.0 g.1.0.name)
+has_lines Section lines (t, (is, e)) =
+    subst EachNoLf (sym e) (
+      head_no_lf (heading t) (heading_is Section t is),
+      EachNoLf-append (sections 0 t.programs) (last_lines t.shown t.forbidden) (sections_no_lf 0 t.programs)
+          (show_no_lf t.shown, EachNoLf-append (map forbid_text t.forbidden) (end_text ∷ []) (forbids_no_lf t.forbidden) (const_no_lf end_text refl, tt)),
+    )
 
--- ---- a test of this name and so many cores
+-- ---- the lines after the sections
 
-module _ (format : ProgramFormat) (name : List ℕ) (cores : ℕ) (is_name : IsName name) (some : 1 ≤ cores) (few : cores ≤ 64) where
-  -- the lines up to the last
-  abbrev pub front_of : List (List Instruction) → List ShownParts → List (List ℕ) → List (List ℕ)
-  front_of programs shown forbidden = begun (header_text (format_number format) name cores) programs ++ show_text shown ∷ map forbid_text forbidden
+-- those of a test of so many cores
+abbrev pub IsLast : ℕ → List ℕ → List (List ℕ) → Type 0
+IsLast cores next more =
+    (shown : List ShownParts) × (forbidden : List (List ℕ)) × AreShown cores shown × AreForbidden (length shown) forbidden
+    × (next ≡ show_text shown) × (more ≡ map forbid_text forbidden ++ end_text ∷ [])
 
-  pub test_of : (Section : ProgramFormat → List Instruction → Type 0) (programs : List (List Instruction)) (shown : List ShownParts) (forbidden : List (List ℕ))
-      → length programs ≡ cores → AllByRecursion (Section format) programs → AreShown cores shown → AreForbidden (length shown) forbidden
-      → IsTestOf Section (record { name = name; format = format; programs = programs; shown = shown; forbidden = forbidden })
-  test_of Section programs shown forbidden count each are_shown are_forbidden = record {
-    name = is_name;
-    programs = record { some = omega (arith, some, count); few = omega (arith, few, count); each = each };
-    shown = subst (λ (n : ℕ). AreShown n shown) (sym count) are_shown;
-    forbidden = are_forbidden;
-  }
+-- a register that any test may show
+one_register : List ShownParts
+one_register = record { core = 0; register = 0 } ∷ []
 
+one_shown : (cores : ℕ) → 1 ≤ cores → AreShown cores one_register
+unfolding one_register
+one_shown cores some = record { some = omega arith; few = omega arith; each = ((omega (arith, some), omega arith), tt) }
+
+-- what comes after so many lines of forbidden outcomes: one more and other lines, or the last line
+pub data Comes (count n : ℕ) (lines : List (List ℕ)) : Type 0 where
+  one_more : (values : List ℕ) (others : List (List ℕ)) → IsOutcome count values → n < 16 → lines ≡ forbid_text values ∷ others → Comes count n lines
+  the_end : lines ≡ end_text ∷ [] → Comes count n lines
+
+comes : (count : ℕ) (xs ys lines : List (List ℕ)) → AreForbidden count ys → map forbid_text xs ++ lines ≡ map forbid_text ys ++ end_text ∷ [] → Comes count (length xs) lines
+comes count xs ys lines are e = go xs ys are.each (omega (arith, are.few)) e
+  where
+    go : (us vs : List (List ℕ)) → AllByRecursion (IsOutcome count) vs → length vs + length xs ≤ 16 + length us
+        → map forbid_text us ++ lines ≡ map forbid_text vs ++ end_text ∷ [] → Comes count (length xs) lines
+    go [] [] each within e = the_end e
+    go [] (v ∷ vs) each within e = one_more v (map forbid_text vs ++ end_text ∷ []) each.0 (omega (arith, within)) e
+    go (u ∷ us) [] each within e = absurd (forbid_no_end u cc)
+    go (u ∷ us) (v ∷ vs) each within e = go us vs each.1 (omega (arith, within)) cc
+
+-- ---- tests of one first line
+
+module _ (h : HeadParts) (is : IsHead h) where
   -- the lines of such a test
-  pub lines_of : (programs : List (List Instruction)) (shown : List ShownParts) (forbidden : List (List ℕ)) → length programs ≡ cores
-      → begun (header_text (format_number format) name cores) programs ++ last_lines shown forbidden ≡ litmus_lines (record { name = name; format = format; programs = programs; shown = shown; forbidden = forbidden })
-  lines_of programs shown forbidden count = ap (λ (n : ℕ). header_text (format_number format) name n ∷ (sections 0 programs ++ last_lines shown forbidden)) (sym count)
+  unfoldable pub whole : (Section : ProgramFormat → List Instruction → Type 0) (programs : List (List Instruction)) (shown : List ShownParts) (forbidden : List (List ℕ))
+      → length programs ≡ h.cores → AllByRecursion (Section h.format) programs → AreShown h.cores shown → AreForbidden (length shown) forbidden
+      → LitmusLines Section (begun (head_text h) programs ++ last_lines shown forbidden)
+  whole Section programs shown forbidden count each are_shown are_forbidden = (
+    record { name = h.name; format = h.format; programs = programs; shown = shown; forbidden = forbidden },
+    (
+      record {
+        name = is.is_name;
+        programs = record { some = omega (arith, is.some, count); few = omega (arith, is.few, count); each = each };
+        shown = subst (λ (n : ℕ). AreShown n shown) (sym count) are_shown;
+        forbidden = are_forbidden;
+      },
+      ap (λ (n : ℕ). head_text (record { format = h.format; name = h.name; cores = n }) ∷ (sections 0 programs ++ last_lines shown forbidden)) (sym count),
+    ),
+  )
 
-  pub one_shown : AreShown cores (record { core = 0; register = 0 } ∷ [])
-  one_shown = record { some = omega arith; few = omega arith; each = ((omega (arith, some), omega arith), tt) }
-
-  goes : (Section : ProgramFormat → List Instruction → Type 0) → Section format [] → (programs : List (List Instruction)) → length programs ≤ cores → AllByRecursion (Section format) programs
-      → CanGoOn (LitmusLines Section) (begun (header_text (format_number format) name cores) programs)
-  goes Section empty programs within each =
-      let full = filled_up (Section format) empty cores programs within each in
-      let shown : List ShownParts = record { core = 0; register = 0 } ∷ [] in
-      let last : List (List ℕ) = last_lines shown [] in (
-        sections (0 + length programs) full.0 ++ last,
-        (
-          record { name = name; format = format; programs = programs ++ full.0; shown = shown; forbidden = [] },
-          (
-            test_of Section (programs ++ full.0) shown [] full.1 full.2 one_shown (record { few = omega arith; each = tt }),
-            ap (λ (ls : List (List ℕ)). header_text (format_number format) name cores ∷ ls)
-                (sym (append_assoc (sections 0 programs) (sections (0 + length programs) full.0) last)
-                ∙ ap (λ (ls : List (List ℕ)). ls ++ last) (sym (sections-append 0 programs full.0)))
-                ∙ lines_of (programs ++ full.0) shown [] full.1,
-          ),
-        ),
+  pub goes : (Section : ProgramFormat → List Instruction → Type 0) → IsKind Section → (programs : List (List Instruction)) → length programs ≤ h.cores → AllByRecursion (Section h.format) programs
+      → CanGoOn (LitmusLines Section) (begun (head_text h) programs)
+  goes Section kind programs within each =
+      let full = filled_up (Section h.format) (kind.empty h.format) h.cores programs within each in
+      let more = sections (0 + length programs) full.0 in
+      let last = last_lines one_register [] in (
+        more ++ last,
+        subst (LitmusLines Section)
+            (ap (λ (ls : List (List ℕ)). head_text h ∷ ls) (ap (λ (ls : List (List ℕ)). ls ++ last) (sections-append 0 programs full.0) ∙ append_assoc (sections 0 programs) more last))
+            (whole Section (programs ++ full.0) one_register [] full.1 full.2 (one_shown h.cores is.some) (record { few = omega arith; each = tt })),
       )
 
   -- the lines of a test after its first
-  behind_first : (Section : ProgramFormat → List Instruction → Type 0) (t : LitmusParts) (lines : List (List ℕ)) → IsTestOf Section t → header_text (format_number format) name cores ∷ lines ≡ litmus_lines t
-      → (format ≡ t.format) × (cores ≡ length t.programs) × (lines ≡ sections 0 t.programs ++ last_lines t.shown t.forbidden)
-  behind_first Section t lines is e =
-      let first : header_text (format_number format) name cores ≡ header_text (format_number t.format) t.name (length t.programs) = cc in
-      let once = header_once format t.format name t.name cores (length t.programs) is_name is.name some few is.programs.some is.programs.few first in
-      (once.0, once.2, cc)
+  behind_first : (Section : ProgramFormat → List Instruction → Type 0) (t : LitmusParts) (lines : List (List ℕ)) → IsTestOf Section t → head_text h ∷ lines ≡ litmus_lines t
+      → (h ≡ heading t) × (lines ≡ sections 0 t.programs ++ last_lines t.shown t.forbidden)
+  behind_first Section t lines test e =
+      let first : head_text h ≡ head_text (heading t) = cc in
+      (head_once h (heading t) is (heading_is Section t test) first, cc)
 
-  next_line : (Section : ProgramFormat → List Instruction → Type 0) → ((p : List Instruction) → Section format p → EachFits format p) → (programs : List (List Instruction)) (next : List ℕ) (more : List (List ℕ))
-      → AllByRecursion (EachFits format) programs → LitmusLines Section (begun (header_text (format_number format) name cores) programs ++ next ∷ more) → Next format (Section format) (IsLast cores) cores 0 programs next more
-  next_line Section fit programs next more each (t, (is, e)) =
-      let b = behind_first Section t (sections 0 programs ++ next ∷ more) is e in
-      let last : IsLast cores (show_text t.shown) (map forbid_text t.forbidden ++ end_text ∷ []) =
-      (t.shown, t.forbidden, subst (λ (n : ℕ). AreShown n t.shown) (sym b.1) is.shown, is.forbidden, refl, refl) in
-      let all : AllByRecursion (Section format) t.programs = subst (λ (f : ProgramFormat). AllByRecursion (Section f) t.programs) (sym b.0) is.programs.each in
-      subst (λ (n : ℕ). Next format (Section format) (IsLast cores) n 0 programs next more) (sym b.1)
-      (next_of format (Section format) fit (IsLast cores) (show_text t.shown) (map forbid_text t.forbidden ++ end_text ∷ []) (show_is_other t.shown) last 0 t.programs programs next more
-      all each (sym b.2))
+  next_line : (Section : ProgramFormat → List Instruction → Type 0) → IsKind Section → (programs : List (List Instruction)) (next : List ℕ) (more : List (List ℕ))
+      → AllByRecursion (EachFits h.format) programs → LitmusLines Section (begun (head_text h) programs ++ next ∷ more) → Next h.format (Section h.format) (IsLast h.cores) h.cores 0 programs next more
+  next_line Section kind programs next more each (t, (test, e)) =
+      let b = behind_first Section t (sections 0 programs ++ next ∷ more) test e in
+      let count : h.cores ≡ length t.programs = ap (λ (g : HeadParts). g.cores) b.0 in
+      let last : IsLast h.cores (show_text t.shown) (map forbid_text t.forbidden ++ end_text ∷ []) =
+      (t.shown, t.forbidden, subst (λ (n : ℕ). AreShown n t.shown) (sym count) test.shown, test.forbidden, refl, refl) in
+      let all : AllByRecursion (Section h.format) t.programs = subst (λ (g : HeadParts). AllByRecursion (Section g.format) t.programs) (sym b.0) test.programs.each in
+      subst (λ (n : ℕ). Next h.format (Section h.format) (IsLast h.cores) n 0 programs next more) (sym count)
+      (next_of h.format (Section h.format) (kind.fits h.format) (IsLast h.cores) (show_text t.shown) (map forbid_text t.forbidden ++ end_text ∷ []) (show_is_other t.shown) last 0 t.programs programs next more
+      all each (sym b.1))
 
-  pub has : (Section : ProgramFormat → List Instruction → Type 0) → Section format [] → ((p : List Instruction) → Section format p → EachFits format p)
-      → HasSections format (LitmusLines Section) (Section format) (IsLast cores) (header_text (format_number format) name cores) cores
-  has Section empty fit = record {
+  pub has : (Section : ProgramFormat → List Instruction → Type 0) → IsKind Section → HasSections h.format (LitmusLines Section) (Section h.format) (IsLast h.cores) (head_text h) h.cores
+  has Section kind = record {
     lines = has_lines Section;
-    fits = fit;
-    can = λ programs within each. goes Section empty programs within each;
-    next = λ programs next more each g. next_line Section fit programs next more each g;
+    fits = kind.fits h.format;
+    can = goes Section kind;
+    next = next_line Section kind;
     unended = λ programs g. sections_no_other (show_text g.0.shown) (show_is_other g.0.shown) programs (sections 0 g.0.programs) (map forbid_text g.0.forbidden ++ end_text ∷ [])
-        (behind_first Section g.0 (sections 0 programs) g.1.0 g.1.1).2;
+        (behind_first Section g.0 (sections 0 programs) g.1.0 g.1.1).1;
     last_no_lf = λ next more last. subst NoLf (sym last.4) (show_no_lf last.0);
     last_other = λ next more last i e. (show_is_other last.0).no_instruction i (e ∙ last.4);
   }
 
-  pub limited : HasSections format (LitmusLines IsSection) (IsSection format) (IsLast cores) (header_text (format_number format) name cores) cores
-  limited = has IsSection (empty_section format) (λ p s. s.each_fits)
-
-  pub unlimited : HasSections format (LitmusLines EachFits) (EachFits format) (IsLast cores) (header_text (format_number format) name cores) cores
-  unlimited = has EachFits tt (λ p fits. fits)
-
-  -- ---- after the line of the shown registers
-
-  -- what comes after forbidden outcomes in the lines of a test
-  data Follows (count n : ℕ) (next : List ℕ) (more : List (List ℕ)) : Type 0 where
-    one_more : (values : List ℕ) → IsOutcome count values → next ≡ forbid_text values → n < 16 → Follows count n next more
-    the_end : next ≡ end_text → more ≡ [] → Follows count n next more
-
-  follows_of : (count : ℕ) (xs ys : List (List ℕ)) (next : List ℕ) (more : List (List ℕ)) → AreForbidden count ys
-      → map forbid_text xs ++ next ∷ more ≡ map forbid_text ys ++ end_text ∷ [] → Follows count (length xs) next more
-  follows_of count xs ys next more are e = go xs ys are.each (omega (arith, are.few)) e
+  -- what comes after a line of shown registers and lines of forbidden outcomes
+  pub comes_behind : (Section : ProgramFormat → List Instruction → Type 0) → IsKind Section → (programs : List (List Instruction)) (shown : List ShownParts) (forbidden lines : List (List ℕ))
+      → AllByRecursion (EachFits h.format) programs → AreShown h.cores shown → LitmusLines Section (begun (head_text h) programs ++ show_text shown ∷ (map forbid_text forbidden ++ lines))
+      → Comes (length shown) (length forbidden) lines
+  comes_behind Section kind programs shown forbidden lines each are g = by_next (next_line Section kind programs (show_text shown) (map forbid_text forbidden ++ lines) each g)
     where
-      go : (us vs : List (List ℕ)) → AllByRecursion (IsOutcome count) vs → length vs + length xs ≤ 16 + length us
-          → map forbid_text us ++ next ∷ more ≡ map forbid_text vs ++ end_text ∷ [] → Follows count (length xs) next more
-      go [] [] each within e = the_end (cc) (cc)
-      go [] (v ∷ vs) each within e = one_more v each.0 (cc) (omega (arith, within))
-      go (u ∷ us) [] each within e = absurd (forbid_no_end u cc)
-      go (u ∷ us) (v ∷ vs) each within e = go us vs each.1 (omega (arith, within)) cc
-
-  -- what the lines of a test have after a line of shown registers
-  behind_show : (Section : ProgramFormat → List Instruction → Type 0) → ((p : List Instruction) → Section format p → EachFits format p) → (programs : List (List Instruction)) (shown : List ShownParts) (others : List (List ℕ))
-      → AllByRecursion (EachFits format) programs → AreShown cores shown → LitmusLines Section (begun (header_text (format_number format) name cores) programs ++ show_text shown ∷ others)
-      → (forbidden : List (List ℕ)) × AreForbidden (length shown) forbidden × (others ≡ map forbid_text forbidden ++ end_text ∷ [])
-  behind_show Section fit programs shown others each are g = by_next (next_line Section fit programs (show_text shown) others each g)
-    where
-      by_next : Next format (Section format) (IsLast cores) cores 0 programs (show_text shown) others
-          → (forbidden : List (List ℕ)) × AreForbidden (length shown) forbidden × (others ≡ map forbid_text forbidden ++ end_text ∷ [])
+      by_next : Next h.format (Section h.format) (IsLast h.cores) h.cores 0 programs (show_text shown) (map forbid_text forbidden ++ lines) → Comes (length shown) (length forbidden) lines
       by_next (goes_on i before last longer fits is at section less) = absurd ((show_is_other shown).no_instruction i (sym is))
       by_next (next_core is less) = absurd ((show_is_other shown).no_core (0 + length programs) (sym is))
-      by_next (last_line (ys, forbidden, are_ys, are_forbidden, same, rest) count) =
-          let once : shown ≡ ys = show_once cores few shown ys are are_ys same in
-          (forbidden, subst (λ (zs : List ShownParts). AreForbidden (length zs) forbidden) (sym once) are_forbidden, rest)
-
-  module _ (text : List ℕ) (programs : List (List Instruction)) (shown : List ShownParts) (forbidden : List (List ℕ)) (rest : List ℕ)
-      (count : length programs ≡ cores) (each : AllByRecursion (IsSection format) programs) (are_shown : AreShown cores shown) (are_forbidden : AreForbidden (length shown) forbidden)
-      (is : text ≡ text_of (front_of programs shown forbidden) ++ rest) where
-    regroup : (more : List (List ℕ)) → front_of programs shown forbidden ++ more ≡ begun (header_text (format_number format) name cores) programs ++ show_text shown ∷ (map forbid_text forbidden ++ more)
-    regroup more = append_assoc (begun (header_text (format_number format) name cores) programs) (show_text shown ∷ map forbid_text forbidden) more
-
-    -- neither another forbidden outcome nor the last line comes next
-    unfinished : (Section : ProgramFormat → List Instruction → Type 0) → ((p : List Instruction) → Section format p → EachFits format p) → AllByRecursion (Section format) programs → (k : ℕ)
-        → k ≡ length (sections 0 programs) + 2 + 1 + length forbidden → (length forbidden < 16 → NoForbidInFront (length shown) rest) → NoEndInFront rest
-        → IsFirstWrong (LitmusLines Section) text k
-    unfinished Section fit each_section k k-is no_forbid no_end =
-        wrong_behind (LitmusLines Section) (front_of programs shown forbidden) text rest k (has_lines Section) is
-        (omega (arith, k-is, length-append (begun (header_text (format_number format) name cores) programs) (show_text shown ∷ map forbid_text forbidden), length-map forbidden forbid_text)) (
-          end_text ∷ [],
-          (
-            record { name = name; format = format; programs = programs; shown = shown; forbidden = forbidden },
-            (test_of Section programs shown forbidden count each_section are_shown are_forbidden, regroup (end_text ∷ []) ∙ lines_of programs shown forbidden count),
-          ),
-        )
-        follows unended
-      where
-        by_next : (next : List ℕ) (more : List (List ℕ)) (behind : List ℕ) → rest ≡ next ++ 10 ∷ behind → Follows (length shown) (length forbidden) next more → ⊥
-        by_next next more behind there (one_more values are next-is less) = no_forbid less values behind (are, there ∙ ap (λ (l : List ℕ). l ++ 10 ∷ behind) next-is)
-        by_next next more behind there (the_end next-is none) = no_end behind (there ∙ ap (λ (l : List ℕ). l ++ 10 ∷ behind) next-is)
-
-        follows : NoneFollows (LitmusLines Section) (front_of programs shown forbidden) rest
-        follows next more behind g there =
-            let b = behind_show Section fit programs shown (map forbid_text forbidden ++ next ∷ more) (each_fits_of format programs each) are_shown
-            (subst (LitmusLines Section) (regroup (next ∷ more)) g) in
-            by_next next more behind there (follows_of (length shown) forbidden b.0 next more b.1 b.2)
-
-        no_whole : (xs ys : List (List ℕ)) → map forbid_text xs ≡ map forbid_text ys ++ end_text ∷ [] → ⊥
-        no_whole [] [] e = cc
-        no_whole [] (y ∷ ys) e = cc
-        no_whole (x ∷ xs) [] e = forbid_no_end x cc
-        no_whole (x ∷ xs) (y ∷ ys) e = no_whole xs ys cc
-
-        unended : rest ≡ [] → LitmusLines Section (front_of programs shown forbidden) → ⊥
-        unended none g =
-            let b = behind_show Section fit programs shown (map forbid_text forbidden) (each_fits_of format programs each) are_shown g in
-            no_whole forbidden b.0 b.2
-
-    abbrev whole : List (List ℕ)
-    whole = front_of programs shown forbidden ++ end_text ∷ []
-
-    -- bytes come after the last line
-    too_much : (Section : ProgramFormat → List Instruction → Type 0) → ((p : List Instruction) → Section format p → EachFits format p) → AllByRecursion (Section format) programs → (k : ℕ) (behind : List ℕ)
-        → k ≡ length (sections 0 programs) + 2 + 2 + length forbidden → rest ≡ end_text ++ 10 ∷ behind → behind ≢ []
-        → IsFirstWrong (LitmusLines Section) text k
-    too_much Section fit each_section k behind k-is rest-is some_left =
-        wrong_behind (LitmusLines Section) whole text behind k (has_lines Section) whole-is
-        (omega (
-          arith,
-          k-is,
-          length-append (front_of programs shown forbidden) (end_text ∷ []),
-          length-append (begun (header_text (format_number format) name cores) programs) (show_text shown ∷ map forbid_text forbidden),
-          length-map forbidden forbid_text,
-        )) (
-          [],
-          (
-            record { name = name; format = format; programs = programs; shown = shown; forbidden = forbidden },
-            (
-              test_of Section programs shown forbidden count each_section are_shown are_forbidden,
-              append-nil whole ∙ regroup (end_text ∷ []) ∙ lines_of programs shown forbidden count,
-            ),
-          ),
-        )
-        follows (λ none g. some_left none)
-      where
-        whole-is : text ≡ text_of whole ++ behind
-        whole-is =
-            is ∙ ap (λ (xs : List ℕ). text_of (front_of programs shown forbidden) ++ xs) (rest-is ∙ sym (text_of-cons end_text [] behind))
-            ∙ sym (append_assoc (text_of (front_of programs shown forbidden)) (text_of (end_text ∷ [])) behind)
-            ∙ ap (λ (xs : List ℕ). xs ++ behind) (sym (text_of-append (front_of programs shown forbidden) (end_text ∷ [])))
-
-        no_more : (next : List ℕ) (more : List (List ℕ)) → Follows (length shown) (length forbidden) end_text (next ∷ more) → ⊥
-        no_more next more (one_more values are next-is less) = forbid_no_end values (sym next-is)
-        no_more next more (the_end next-is none) = cc
-
-        follows : NoneFollows (LitmusLines Section) whole behind
-        follows next more after g there =
-            let b = behind_show Section fit programs shown (map forbid_text forbidden ++ end_text ∷ next ∷ more) (each_fits_of format programs each) are_shown
-            (subst (LitmusLines Section) (append_assoc (front_of programs shown forbidden) (end_text ∷ []) (next ∷ more) ∙ regroup (end_text ∷ next ∷ more)) g) in
-            no_more next more (follows_of (length shown) forbidden b.0 end_text (next ∷ more) b.1 b.2)
-
-    pub unfinished_line : (k : ℕ) → k ≡ length (sections 0 programs) + 2 + 1 + length forbidden → (length forbidden < 16 → NoForbidInFront (length shown) rest) → NoEndInFront rest
-        → IsBadLine LitmusLines text k
-    unfinished_line k k-is no_forbid no_end = (
-      unfinished IsSection (λ p s. s.each_fits) each k k-is no_forbid no_end,
-      (unfinished EachFits (λ p fits. fits) (each_fits_of format programs each) k k-is no_forbid no_end).wrong,
-    )
-
-    pub too_much_line : (k : ℕ) (behind : List ℕ) → k ≡ length (sections 0 programs) + 2 + 2 + length forbidden → rest ≡ end_text ++ 10 ∷ behind → behind ≢ []
-        → IsBadLine LitmusLines text k
-    too_much_line k behind k-is rest-is some_left = (
-      too_much IsSection (λ p s. s.each_fits) each k behind k-is rest-is some_left,
-      (too_much EachFits (λ p fits. fits) (each_fits_of format programs each) k behind k-is rest-is some_left).wrong,
-    )
+      by_next (last_line (ys, others, are_ys, are_others, same, rest) count) =
+          let once : shown ≡ ys = show_once h.cores is.few shown ys are are_ys same in
+          comes (length shown) forbidden others lines (subst (λ (zs : List ShownParts). AreForbidden (length zs) others) (sym once) are_others) rest

@@ -1,107 +1,59 @@
 -- The fault of a line that is wrong, wherever the reader of a test meets it.
-use Rattle.std.proofs.Common.{◌≡◌, ◌≢◌, ℕ, ◌+◌, ◌<◌, ◌≤◌, Bool, true, false, cond, ◌&&◌, not, List, [], ◌∷◌, ◌++◌, length, map, Option, Some, None, is_some, refl, sym, ap, subst, ◌∙◌, arith, append_assoc, append-nil, length-append}
-use Rattle.std.specs.Prelude.{codes, if◌then◌else◌}
-use Rattle.std.specs.List.{AllByRecursion}
+use Rattle.std.proofs.Common.{◌≡◌, ℕ, ◌+◌, ◌<◌, List, [], ◌∷◌, ◌++◌, length, map, refl, sym, ap, subst, ◌∙◌, arith, append_assoc, length-append}
 use Rattle.std.proofs.lemmas.List.{length-map}
-use Rattle.decimal_text.specs.Reading.{after}
 use Rattle.decimal_text.proofs.Lines.{const_no_lf}
-use Rattle.decimal_text.proofs.Numbers.{after_again, after_takes}
 use Rattle.core_program.specs.declared.format.ProgramFormat.{ProgramFormat}
 use Rattle.core_program.specs.declared.format.ProgramFormat.TheVariants.{One}
 use Rattle.core_program.specs.declared.instruction.Instruction.{Instruction}
 use Rattle.core_program.specs.declared.fault.ProgramFault.{ProgramFault}
 use Rattle.core_program.specs.declared.fault.ProgramFault.TheVariants as program
 use Rattle.core_program.specs.Answers.{IsBadLine}
-use Rattle.core_program.specs.Grammar.{core_text, end_text, format_number, program_lines, sections, EachFits, IsSection, IsSetOf}
+use Rattle.core_program.specs.Grammar.{core_text, end_text, format_number, sections, EachFits, IsSection}
 use Rattle.core_program.specs.Lines.{text_of, IsFirstWrong}
-use Rattle.core_program.specs.Sections.{IsSectionsFault, NoCoreInFront, SectionsInFront}
+use Rattle.core_program.specs.Sections.{IsSectionsFault, NoCoreInFront}
 use Rattle.core_program.proofs.SectionsOf.{AfterSections, NotNext, each_fits_of, line_wrong, too_long_right, too_long_wrong}
 use Rattle.core_program.proofs.SetLines.{begun, sections_no_lf, sections_no_other, EachNoLf-append}
 use Rattle.core_program.proofs.SetTexts.{after_header}
-use Rattle.core_program.proofs.TextLines.{EachNoLf, EachNoLf-front, lines_once, text_of-append, text_of-cons}
+use Rattle.core_program.proofs.TextLines.{EachNoLf, lines_once, text_of-append, text_of-cons}
 use Rattle.core_program.proofs.Wrong.{NoneFollows, wrong_behind}
-use Rattle.litmus_test.specs.Answers.{IsFault, IsInstructionLine, LitmusLines, Spells}
+use Rattle.litmus_test.specs.Answers.{IsInstructionLine, LitmusLines, Spells}
 use Rattle.litmus_test.specs.FaultTexts.{from_program}
-use Rattle.litmus_test.specs.Grammar.{forbid_text, header_text, last_lines, litmus_lines, show_text, AreForbidden, AreShown, IsName, IsTestOf}
-use Rattle.litmus_test.specs.Parts.{LitmusParts, ShownParts}
+use Rattle.litmus_test.specs.Grammar.{forbid_text, header_text, last_lines, show_text, AreForbidden, AreShown}
+use Rattle.litmus_test.specs.Parts.{ShownParts}
 use Rattle.litmus_test.specs.declared.fault.LitmusFault.{LitmusFault}
 use Rattle.litmus_test.specs.declared.fault.LitmusFault.TheVariants.{BadLitmusLine, BadLine, TooLong, SkipPastEnd, OutOfMemory}
-use Rattle.litmus_test.specs.inner.Ending.{ForbidsInFront, HeaderInFront, IsEnding, IsEndingFault, NoShowInFront, ShowInFront, begins_instruction, show_missing, end_missing, bytes_after, memory_short, wrong_line}
+use Rattle.litmus_test.specs.inner.Ending.{BeginsInstruction, IsEnding, IsEndingFault, IsWrongLine, NoShowInFront, show_missing, end_missing, bytes_after, memory_short}
+use Rattle.litmus_test.specs.inner.Reading.{head_text, HeadParts, IsHead}
 use Rattle.litmus_test.specs.inner.Whole.{IsLineFault}
-use Rattle.litmus_test.proofs.Headers.{header_no_lf}
-use Rattle.litmus_test.proofs.LastLines.{IsLast, front_of, has_lines, limited, one_shown, test_of, too_much_line, unfinished_line, unlimited, lines_of, forbids_no_lf}
-use Rattle.litmus_test.proofs.WordLines.{show_is_other, show_no_lf}
+use Rattle.litmus_test.proofs.Headers.{head_no_lf, header_no_lf}
+use Rattle.litmus_test.proofs.LastLines.{Comes, IsKind, IsLast, bad_line, comes_behind, forbids_no_lf, goes, has, has_lines, heading, heading_is, limited, one_more, the_end, unlimited, whole}
+use Rattle.litmus_test.proofs.WordLines.{forbid_no_end, show_is_other, show_no_lf}
+use Rattle.text_lines.specs.Items.{ItemInFront, NoItemInFront}
 
 -- ---- the first line
 
-digit_name : IsName (48 ∷ [])
-digit_name = record { some = omega arith; few = omega arith; each = (refl, tt) }
+-- a first line that a test may have
+any_head : HeadParts
+any_head = record { format = One; name = 48 ∷ []; cores = 1 }
 
-header_wrong : (Section : ProgramFormat → List Instruction → Type 0) → Section One [] → (text : List ℕ)
-    → ((format : ProgramFormat) (name : List ℕ) (cores : ℕ) (rest : List ℕ) → HeaderInFront format name cores text rest → ⊥) → IsFirstWrong (LitmusLines Section) text 1
-header_wrong Section empty text none =
-    let shown : List ShownParts = record { core = 0; register = 0 } ∷ [] in
-    let t : LitmusParts = record { name = 48 ∷ []; format = One; programs = [] ∷ []; shown = shown; forbidden = [] } in
-    wrong_behind (LitmusLines Section) [] text text 1 (has_lines Section) refl refl (
-      litmus_lines t,
-      (
-        t,
-        (
-          test_of One (48 ∷ []) 1 digit_name (omega arith) (omega arith) Section ([] ∷ []) shown [] refl (empty, tt)
-              (one_shown One (48 ∷ []) 1 digit_name (omega arith) (omega arith)) (record { few = omega arith; each = tt }),
-          refl,
-        ),
-      ),
-    ) follows (λ e g. cc)
+any_is_head : IsHead any_head
+unfolding any_head
+any_is_head = record { is_name = record { some = omega arith; few = omega arith; each = (refl, tt) }; some = omega arith; few = omega arith }
+
+pub bad_header : (text : List ℕ) → NoItemInFront head_text IsHead text → IsLineFault text (BadLitmusLine 1)
+bad_header text none = (bad_line text 1 wrong, λ x. omega (arith, x.line))
   where
-    follows : NoneFollows (LitmusLines Section) [] text
-    follows next more behind (t, (is, e)) there =
-        let first : next ≡ header_text (format_number t.format) t.name (length t.programs) = cc in
-        none t.format t.name (length t.programs) behind (is.name, is.programs.some, is.programs.few, there ∙ ap (λ (l : List ℕ). l ++ 10 ∷ behind) first)
+    follows : (Section : ProgramFormat → List Instruction → Type 0) → NoneFollows (LitmusLines Section) [] text
+    follows Section next more behind (t, (is, e)) there =
+        let first : next ≡ head_text (heading t) = cc in
+        none (heading t) behind (heading_is Section t is, there ∙ ap (λ (l : List ℕ). l ++ 10 ∷ behind) first)
 
-pub bad_header : (text : List ℕ) → ((format : ProgramFormat) (name : List ℕ) (cores : ℕ) (rest : List ℕ) → HeaderInFront format name cores text rest → ⊥)
-    → IsLineFault text (BadLitmusLine 1)
-bad_header text none = (
-  (
-    header_wrong IsSection (record { few = omega arith; each_fits = tt }) text none,
-    (header_wrong EachFits tt text none).wrong,
-  ),
-  λ x. omega (arith, x.line),
-)
+    wrong : (Section : ProgramFormat → List Instruction → Type 0) → IsKind Section → IsFirstWrong (LitmusLines Section) text 1
+    wrong Section kind =
+        let can = goes any_head any_is_head Section kind [] (omega arith) tt in
+        wrong_behind (LitmusLines Section) [] text text 1 (has_lines Section) refl refl (head_text any_head ∷ can.0, can.1) (follows Section) (λ e g. cc)
 
 -- ---- instruction lines
-
-pub begins_tells : (bytes : List ℕ) → begins_instruction bytes ≡ true
-    → (bytes ≢ []) × ((rest : List ℕ) → bytes ≢ codes "core " ++ rest) × ((rest : List ℕ) → bytes ≢ codes "show " ++ rest)
-begins_tells [] e = absurd cc
-begins_tells (b ∷ bs) e = (λ none. cc, no_core, no_show)
-  where
-    none_of : (s t : Bool) → (not s && not t) ≡ true → (s ≡ false) × (t ≡ false)
-    none_of true t e = absurd cc
-    none_of false true e = absurd cc
-    none_of false false e = (refl, refl)
-
-    parts : (is_some (after (codes "core ") (b ∷ bs)) ≡ false) × (is_some (after (codes "show ") (b ∷ bs)) ≡ false)
-    parts = none_of (is_some (after (codes "core ") (b ∷ bs))) (is_some (after (codes "show ") (b ∷ bs))) e
-
-    no_core : (rest : List ℕ) → b ∷ bs ≢ codes "core " ++ rest
-    no_core rest is =
-        let wrong : true ≡ false = sym (ap (λ (xs : List ℕ). is_some (after (codes "core ") xs)) is ∙ ap is_some (after_again (codes "core ") rest)) ∙ parts.0 in
-        cc
-
-    no_show : (rest : List ℕ) → b ∷ bs ≢ codes "show " ++ rest
-    no_show rest is =
-        let wrong : true ≡ false = sym (ap (λ (xs : List ℕ). is_some (after (codes "show ") xs)) is ∙ ap is_some (after_again (codes "show ") rest)) ∙ parts.1 in
-        cc
-
-begins_is : (bytes : List ℕ) → bytes ≢ [] → ((rest : List ℕ) → bytes ≢ codes "core " ++ rest) → ((rest : List ℕ) → bytes ≢ codes "show " ++ rest) → begins_instruction bytes ≡ true
-begins_is [] there no_core no_show = absurd (there refl)
-begins_is (b ∷ bs) there no_core no_show = go (after (codes "core ") (b ∷ bs)) (after (codes "show ") (b ∷ bs)) refl refl
-  where
-    go : (o p : Option (List ℕ)) → after (codes "core ") (b ∷ bs) ≡ o → after (codes "show ") (b ∷ bs) ≡ p → (not (is_some o) && not (is_some p)) ≡ true
-    go (Some r) p c s = absurd (no_core r (after_takes (codes "core ") (b ∷ bs) r c))
-    go None (Some r) c s = absurd (no_show r (after_takes (codes "show ") (b ∷ bs) r s))
-    go None None c s = refl
 
 -- the lines before an instruction line are all lines before it
 instruction_line_lines : (text rest : List ℕ) (line : ℕ) (front : List (List ℕ)) → EachNoLf front → line ≡ length front + 1 → text ≡ text_of front ++ rest
@@ -110,161 +62,180 @@ instruction_line_lines text rest line front none line-is is x =
     lines_once front (header_text (format_number x.format) x.name x.cores ∷ sections 0 x.programs) rest x.rest none (header_no_lf (format_number x.format) x.name x.cores x.is_name, sections_no_lf 0 x.programs)
     (omega (arith, line-is, x.line)) (sym is ∙ x.text)
 
-sections_some : (programs : List (List Instruction)) → 0 < length programs → 0 < length (sections 0 programs)
-sections_some [] some = absurd (omega (arith, some))
-sections_some (p ∷ programs) some = omega arith
+-- programs have lines where there are some
+some_lines : (programs : List (List Instruction)) → 0 < length programs → 0 < length (sections 0 programs)
+some_lines [] some = absurd (omega (arith, some))
+some_lines (p ∷ programs) some = omega arith
 
--- where sections may go on, the wrong line is an instruction line or not, as it begins
-pub fault_in_sections : (format : ProgramFormat) (text rest name : List ℕ) (cores line : ℕ) (programs : List (List Instruction)) (begun_one : Bool) → IsName name
-    → AfterSections format (header_text (format_number format) name cores) cores text programs rest line → (begun_one ≡ true → 0 < length programs) → (begun_one ≡ false → programs ≡ [])
-    → IsBadLine LitmusLines text line → IsLineFault text (wrong_line line begun_one rest)
-fault_in_sections format text rest name cores line programs begun_one is_name stands begins begins_not bad = go begun_one (begins_instruction rest) refl refl
-  where
-    front : List (List ℕ)
-    front = begun (header_text (format_number format) name cores) programs
+some_programs : (programs : List (List Instruction)) → 0 < length (sections 0 programs) → 0 < length programs
+some_programs [] some = absurd (omega (arith, some))
+some_programs (p ∷ programs) some = omega arith
 
-    same : (x : IsInstructionLine text line) → (begun (header_text (format_number format) name cores) programs ≡ header_text (format_number x.format) x.name x.cores ∷ sections 0 x.programs) × (rest ≡ x.rest)
-    same x =
-        instruction_line_lines text rest line (begun (header_text (format_number format) name cores) programs) (header_no_lf (format_number format) name cores is_name, sections_no_lf 0 programs)
-        (omega (arith, stands.line_is)) stands.text_is x
+-- ---- sections that are too long
 
-    go : (b i : Bool) → begun_one ≡ b → begins_instruction rest ≡ i → IsLineFault text (if b && i then BadLine line else BadLitmusLine line)
-    go true true b i =
-        let t = begins_tells rest i in (
-          bad,
-          record {
-            format = format;
-            name = name;
-            is_name = is_name;
-            cores = cores;
-            programs = programs;
-            some = begins b;
-            each = each_fits_of format programs stands.each;
-            rest = rest;
-            text = stands.text_is;
-            line = stands.line_is;
-            there = t.0;
-            no_core = t.1;
-            no_show = t.2;
-          },
-        )
-    go true false b i = (
-      bad,
-      λ x.
-          let is = (same x).1 in
-          let wrong : true ≡ false = sym (subst (λ (xs : List ℕ). begins_instruction xs ≡ true) (sym is) (begins_is x.rest x.there x.no_core x.no_show)) ∙ i in
-          cc,
-    )
-    go false i b is = (
-      bad,
-      λ x. let none : length (sections 0 programs) ≡ 0 = ap (λ (ps : List (List Instruction)). length (sections 0 ps)) (begins_not b) in
-          omega (arith, none, x.line, stands.line_is, sections_some x.programs x.some),
+pub sections_refused : (h : HeadParts) (text body : List ℕ) (fault : ProgramFault) → ItemInFront head_text IsHead h text body → IsSectionsFault h.format h.cores body fault
+    → IsLineFault text (from_program fault)
+sections_refused h text body (program.BadLine k) there s = absurd s
+sections_refused h text body (program.SkipPastEnd k) there s = absurd s
+sections_refused h text body program.OutOfMemory there s = tt
+sections_refused h text body (program.TooLong k) (is, text-is) s =
+    let line = 2 + length (sections 0 s.before) in
+    let stands : AfterSections h.format (head_text h) h.cores text s.before s.rest line = after_header h.format text body s.rest (head_text h) h.cores line s.before text-is s.in_front refl in
+    let from = s.core ∙ ap (λ (xs : List ℕ). core_text (length s.before) ++ 10 ∷ xs) s.many.text in (
+      too_long_wrong h.format (IsLast h.cores) (head_text h) h.cores text s.rest s.many.rest line k s.before s.many.program stands from s.more s.many.each_fits s.many.long (omega (arith, s.line))
+          (LitmusLines IsSection) (has h is IsSection limited),
+      too_long_right h.format (IsLast h.cores) (head_text h) h.cores text s.rest s.many.rest line k s.before s.many.program stands from s.more s.many.each_fits s.many.long (omega (arith, s.line))
+          (LitmusLines EachFits) (has h is EachFits unlimited),
     )
 
--- ---- in the sections
+-- ---- behind sections
 
--- the line of a core is missing
-pub no_core_line : (format : ProgramFormat) (text rest name : List ℕ) (cores line : ℕ) (programs : List (List Instruction)) (begun_one : Bool) → IsName name → 1 ≤ cores → cores ≤ 64
-    → AfterSections format (header_text (format_number format) name cores) cores text programs rest line → (begun_one ≡ true → 0 < length programs) → (begun_one ≡ false → programs ≡ [])
-    → length programs < cores → NoCoreInFront (length programs) rest → IsLineFault text (wrong_line line begun_one rest)
-no_core_line format text rest name cores line programs begun_one is_name some few stands begins begins_not less none =
-    fault_in_sections format text rest name cores line programs begun_one is_name stands begins begins_not (
-      line_wrong format (LitmusLines IsSection) (IsSection format) (IsLast cores) (header_text (format_number format) name cores) cores (limited format name cores is_name some few) text rest line programs stands.each stands others,
-      (line_wrong format (LitmusLines EachFits) (EachFits format) (IsLast cores) (header_text (format_number format) name cores) cores (unlimited format name cores is_name some few) text rest line programs (each_fits_of format programs stands.each) stands others).wrong,
-    )
-  where
-    others : NotNext (IsLast cores) cores programs rest
-    others = record { no_core = λ l behind is. none behind is; no_last = λ same next more behind last is. absurd (omega (arith, less, same)) }
-
--- a section is too long
-pub sections_refused : (format : ProgramFormat) (text body name : List ℕ) (cores : ℕ) (fault : ProgramFault) → HeaderInFront format name cores text body → IsSectionsFault format cores body fault → IsLineFault text (from_program fault)
-sections_refused format text body name cores (program.BadLine k) there h = absurd h
-sections_refused format text body name cores (program.SkipPastEnd k) there h = absurd h
-sections_refused format text body name cores program.OutOfMemory there h = tt
-sections_refused format text body name cores (program.TooLong k) (is_name, some, few, is) h =
-    let header = header_text (format_number format) name cores in
-    let line = 2 + length (sections 0 h.before) in
-    let stands : AfterSections format header cores text h.before h.rest line = after_header format text body h.rest header cores line h.before is h.in_front refl in
-    let from = h.core ∙ ap (λ (xs : List ℕ). core_text (length h.before) ++ 10 ∷ xs) h.many.text in (
-      too_long_wrong format (IsLast cores) header cores text h.rest h.many.rest line k h.before h.many.program stands from h.more h.many.each_fits h.many.long (omega (arith, h.line))
-          (LitmusLines IsSection) (limited format name cores is_name some few),
-      too_long_right format (IsLast cores) header cores text h.rest h.many.rest line k h.before h.many.program stands from h.more h.many.each_fits h.many.long (omega (arith, h.line))
-          (LitmusLines EachFits) (unlimited format name cores is_name some few),
-    )
-
--- ---- behind the sections
-
-module _ (format : ProgramFormat) (text rest name : List ℕ) (cores line : ℕ) (programs : List (List Instruction)) (is_name : IsName name) (some : 1 ≤ cores) (few : cores ≤ 64)
-    (stands : AfterSections format (header_text (format_number format) name cores) cores text programs rest line) (count : length programs ≡ cores) where
-  missing_show : NoShowInFront cores rest → IsBadLine LitmusLines text line
-  missing_show none = (
-    line_wrong format (LitmusLines IsSection) (IsSection format) (IsLast cores) (header_text (format_number format) name cores) cores (limited format name cores is_name some few) text rest line programs stands.each stands others,
-    (line_wrong format (LitmusLines EachFits) (EachFits format) (IsLast cores) (header_text (format_number format) name cores) cores (unlimited format name cores is_name some few) text rest line programs (each_fits_of format programs stands.each) stands others).wrong,
-  )
+module _ (h : HeadParts) (is : IsHead h) (text rest : List ℕ) (line : ℕ) (programs : List (List Instruction))
+    (stands : AfterSections h.format (head_text h) h.cores text programs rest line) where
+  -- where sections may go on, the wrong line is an instruction line or not, as it begins
+  wrong_told : (fault : LitmusFault) → IsWrongLine line (length programs) rest fault → NotNext (IsLast h.cores) h.cores programs rest → IsLineFault text fault
+  wrong_told fault wrong others = go fault wrong
     where
-      others : NotNext (IsLast cores) cores programs rest
-      others = record {
-        no_core = λ less behind is. absurd (omega (arith, less, count));
-        no_last = λ same next more behind last is. none last.0 behind (last.2, is ∙ ap (λ (l : List ℕ). l ++ 10 ∷ behind) last.4);
-      }
+      bad : IsBadLine LitmusLines text line
+      bad = bad_line text line (λ Section kind.
+          line_wrong h.format (LitmusLines Section) (Section h.format) (IsLast h.cores) (head_text h) h.cores (has h is Section kind) text rest line programs (kind.each h.format programs stands.each) stands others)
 
-  -- the text up to the forbidden outcomes
-  up_to : (shown : List ShownParts) (forbidden : List (List ℕ)) (behind tail : List ℕ) → rest ≡ show_text shown ++ 10 ∷ behind → behind ≡ text_of (map forbid_text forbidden) ++ tail
-      → text ≡ text_of (front_of format name cores is_name some few programs shown forbidden) ++ tail
-  up_to shown forbidden behind tail first next =
-      let front = begun (header_text (format_number format) name cores) programs in
-      let back = show_text shown ∷ map forbid_text forbidden in
-      stands.text_is ∙ ap (λ (xs : List ℕ). text_of front ++ xs) (first ∙ ap (λ (xs : List ℕ). show_text shown ++ 10 ∷ xs) next ∙ sym (text_of-cons (show_text shown) (map forbid_text forbidden) tail))
-      ∙ sym (append_assoc (text_of front) (text_of back) tail)
-      ∙ ap (λ (xs : List ℕ). xs ++ tail) (sym (text_of-append front back))
+      no_instruction : (0 < length programs → BeginsInstruction rest → ⊥) → IsInstructionLine text line → ⊥
+      no_instruction none x =
+          let same = instruction_line_lines text rest line (begun (head_text h) programs) (head_no_lf h is, sections_no_lf 0 programs) (omega (arith, stands.line_is)) stands.text_is x in
+          let sections-are : sections 0 programs ≡ sections 0 x.programs = cc in
+          none (some_programs programs (omega (arith, ap length sections-are, some_lines x.programs x.some)))
+          (subst BeginsInstruction (sym same.1) (record { there = x.there; no_core = x.no_core; no_show = x.no_show }))
 
-  -- a line behind that of the shown registers is no instruction line
-  no_instruction : (shown : List ShownParts) (others : List (List ℕ)) (tail : List ℕ) (k : ℕ) → EachNoLf others
-      → text ≡ text_of (begun (header_text (format_number format) name cores) programs ++ show_text shown ∷ others) ++ tail → k ≡ length (sections 0 programs) + 3 + length others
-      → IsInstructionLine text k → ⊥
-  no_instruction shown others tail k none is k-is x =
-      let front = begun (header_text (format_number format) name cores) programs in
-      let same = instruction_line_lines text tail k (front ++ show_text shown ∷ others)
-      (EachNoLf-append front (show_text shown ∷ others) (header_no_lf (format_number format) name cores is_name, sections_no_lf 0 programs) (show_no_lf shown, none))
-      (omega (arith, k-is, length-append front (show_text shown ∷ others))) is x in
-      let behind : sections 0 x.programs ≡ sections 0 programs ++ show_text shown ∷ others = cc in
-      sections_no_other (show_text shown) (show_is_other shown) x.programs (sections 0 programs) others behind
+      go : (f : LitmusFault) → IsWrongLine line (length programs) rest f → IsLineFault text f
+      go (BadLine k) (at, some, begins) =
+          subst (λ (n : ℕ). IsLineFault text (BadLine n)) (sym at) (
+            bad,
+            record {
+              format = h.format;
+              name = h.name;
+              is_name = is.is_name;
+              cores = h.cores;
+              programs = programs;
+              some = some;
+              each = each_fits_of h.format programs stands.each;
+              rest = rest;
+              text = stands.text_is;
+              line = stands.line_is;
+              there = begins.there;
+              no_core = begins.no_core;
+              no_show = begins.no_show;
+            },
+          )
+      go (BadLitmusLine k) (at, none) = subst (λ (n : ℕ). IsLineFault text (BadLitmusLine n)) (sym at) (bad, no_instruction none)
+      go (TooLong k) w = absurd w
+      go (SkipPastEnd k) w = absurd w
+      go OutOfMemory w = absurd w
 
-  pub ending_refused : (fault : LitmusFault) → IsEndingFault cores line rest fault → IsLineFault text fault
-  ending_refused fault (show_missing none is) =
-      subst (IsLineFault text) (sym is)
-      (fault_in_sections format text rest name cores line programs true is_name stands (λ e. omega (arith, count, some)) (λ e. absurd cc) (missing_show none))
-  ending_refused fault (end_missing shown forbidden behind tail (are, first) front none is) =
-      let text-is = up_to shown forbidden behind tail first front.text in
-      let k = line + 1 + length forbidden in
-      let k-is : k ≡ length (sections 0 programs) + 2 + 1 + length forbidden = omega (arith, stands.line_is) in
-      subst (IsLineFault text) (sym is) (
-        unfinished_line format name cores is_name some few text programs shown forbidden tail count stands.each are front.are text-is k k-is front.all none,
-        no_instruction shown (map forbid_text forbidden) tail k (forbids_no_lf forbidden) text-is (omega (arith, k-is, length-map forbidden forbid_text)),
-      )
-  ending_refused fault (bytes_after shown forbidden behind tail after_end (are, first) front there left is) =
-      let text-is = up_to shown forbidden behind tail first front.text in
-      let lines = front_of format name cores is_name some few programs shown forbidden in
-      let k = line + 2 + length forbidden in
-      let k-is : k ≡ length (sections 0 programs) + 2 + 2 + length forbidden = omega (arith, stands.line_is) in
-      let whole-is : text ≡ text_of (begun (header_text (format_number format) name cores) programs ++ show_text shown ∷ (map forbid_text forbidden ++ end_text ∷ [])) ++ after_end =
-      text-is ∙ ap (λ (xs : List ℕ). text_of lines ++ xs) (there ∙ sym (text_of-cons end_text [] after_end))
-      ∙ sym (append_assoc (text_of lines) (text_of (end_text ∷ [])) after_end)
-      ∙ ap (λ (xs : List ℕ). xs ++ after_end) (sym (text_of-append lines (end_text ∷ [])))
-      ∙ ap (λ (ls : List (List ℕ)). text_of ls ++ after_end) (append_assoc (begun (header_text (format_number format) name cores) programs) (show_text shown ∷ map forbid_text forbidden) (end_text ∷ [])) in
-      subst (IsLineFault text) (sym is) (
-        too_much_line format name cores is_name some few text programs shown forbidden tail count stands.each are front.are text-is k after_end k-is there left,
-        no_instruction shown (map forbid_text forbidden ++ end_text ∷ []) after_end k
-            (EachNoLf-append (map forbid_text forbidden) (end_text ∷ []) (forbids_no_lf forbidden) (const_no_lf end_text refl, tt)) whole-is
-            (omega (arith, k-is, length-append (map forbid_text forbidden) (end_text ∷ []), length-map forbidden forbid_text)),
-      )
-  ending_refused fault (memory_short is) = subst (IsLineFault text) (sym is) tt
+  -- the line of a core is missing
+  pub no_core_line : (fault : LitmusFault) → IsWrongLine line (length programs) rest fault → length programs < h.cores → NoCoreInFront (length programs) rest → IsLineFault text fault
+  no_core_line fault wrong less none =
+      wrong_told fault wrong (record { no_core = λ l behind there. none behind there; no_last = λ same next more behind last there. absurd (omega (arith, less, same)) })
 
-  pub test_spelled : (shown : List ShownParts) (forbidden : List (List ℕ)) → IsEnding cores rest shown forbidden
-      → Spells text (record { name = name; format = format; programs = programs; shown = shown; forbidden = forbidden })
-  test_spelled shown forbidden ending =
-      let front = begun (header_text (format_number format) name cores) programs in (
-        test_of format name cores is_name some few IsSection programs shown forbidden count stands.each ending.are_shown ending.are_forbidden,
-        stands.text_is ∙ ap (λ (xs : List ℕ). text_of front ++ xs) ending.text ∙ sym (text_of-append front (last_lines shown forbidden))
-            ∙ ap text_of (lines_of format name cores is_name some few programs shown forbidden count),
-      )
+  module _ (count : length programs ≡ h.cores) where
+    missing_show : (fault : LitmusFault) → IsWrongLine line h.cores rest fault → NoShowInFront h.cores rest → IsLineFault text fault
+    missing_show fault wrong none =
+        wrong_told fault (subst (λ (n : ℕ). IsWrongLine line n rest fault) (sym count) wrong) (record {
+          no_core = λ less behind there. absurd (omega (arith, less, count));
+          no_last = λ same next more behind last there. none last.0 behind (last.2, there ∙ ap (λ (l : List ℕ). l ++ 10 ∷ behind) last.4);
+        })
+
+    module _ (shown : List ShownParts) (forbidden : List (List ℕ)) (are_shown : AreShown h.cores shown) (are_forbidden : AreForbidden (length shown) forbidden) where
+      -- the lines up to the forbidden outcomes, and these
+      abbrev front_of : List (List ℕ) → List (List ℕ)
+      front_of tail = begun (head_text h) programs ++ show_text shown ∷ (map forbid_text forbidden ++ tail)
+
+      regroup : (tail more : List (List ℕ)) → front_of tail ++ more ≡ front_of (tail ++ more)
+      regroup tail more =
+          append_assoc (begun (head_text h) programs) (show_text shown ∷ (map forbid_text forbidden ++ tail)) more
+          ∙ ap (λ (ls : List (List ℕ)). begun (head_text h) programs ++ show_text shown ∷ ls) (append_assoc (map forbid_text forbidden) tail more)
+
+      up_to : (tail : List (List ℕ)) (behind after last : List ℕ) → rest ≡ show_text shown ++ 10 ∷ behind → behind ≡ text_of (map forbid_text forbidden) ++ after → after ≡ text_of tail ++ last
+          → text ≡ text_of (front_of tail) ++ last
+      up_to tail behind after last first next end =
+          let front = begun (head_text h) programs in
+          let forbids = map forbid_text forbidden in
+          stands.text_is ∙ ap (λ (xs : List ℕ). text_of front ++ xs) (first ∙ ap (λ (xs : List ℕ). show_text shown ++ 10 ∷ xs)
+          (next ∙ ap (λ (xs : List ℕ). text_of forbids ++ xs) end ∙ sym (append_assoc (text_of forbids) (text_of tail) last) ∙ ap (λ (xs : List ℕ). xs ++ last) (sym (text_of-append forbids tail)))
+          ∙ sym (text_of-cons (show_text shown) (forbids ++ tail) last))
+          ∙ sym (append_assoc (text_of front) (text_of (show_text shown ∷ (forbids ++ tail))) last)
+          ∙ ap (λ (xs : List ℕ). xs ++ last) (sym (text_of-append front (show_text shown ∷ (forbids ++ tail))))
+
+      -- after these lines the text can go on, but neither does nor ends as a test's
+      wrong_behind_them : (tail more : List (List ℕ)) (last : List ℕ) (k : ℕ) → tail ++ more ≡ end_text ∷ [] → EachNoLf tail → text ≡ text_of (front_of tail) ++ last → k ≡ line + 1 + length forbidden + length tail
+          → ((next : List ℕ) (others : List (List ℕ)) (behind : List ℕ) → Comes (length shown) (length forbidden) (tail ++ next ∷ others) → last ≡ next ++ 10 ∷ behind → ⊥)
+          → (last ≡ [] → Comes (length shown) (length forbidden) tail → ⊥) → IsLineFault text (BadLitmusLine k)
+      wrong_behind_them tail more last k both none text-is k-is goes_wrong ends_wrong = (bad_line text k wrong, no_instruction)
+        where
+          lines-are : length (front_of tail) ≡ line + length forbidden + length tail
+          lines-are = omega (
+            arith,
+            length-append (begun (head_text h) programs) (show_text shown ∷ (map forbid_text forbidden ++ tail)),
+            length-append (map forbid_text forbidden) tail,
+            length-map forbidden forbid_text,
+            stands.line_is,
+          )
+
+          wrong : (Section : ProgramFormat → List Instruction → Type 0) → IsKind Section → IsFirstWrong (LitmusLines Section) text k
+          wrong Section kind =
+              let each = each_fits_of h.format programs stands.each in
+              let test = whole h is Section programs shown forbidden count (kind.each h.format programs stands.each) are_shown are_forbidden in
+              let can = subst (LitmusLines Section) (sym (regroup tail more ∙ ap front_of both)) test in
+              wrong_behind (LitmusLines Section) (front_of tail) text last k (has_lines Section) text-is (omega (arith, k-is, lines-are)) (more, can)
+              (λ next others behind g there.
+              goes_wrong next others behind (comes_behind h is Section kind programs shown forbidden (tail ++ next ∷ others) each are_shown (subst (LitmusLines Section) (regroup tail (next ∷ others)) g)) there)
+              (λ ended g. ends_wrong ended (comes_behind h is Section kind programs shown forbidden tail each are_shown g))
+
+          no_instruction : IsInstructionLine text k → ⊥
+          no_instruction x =
+              let same = instruction_line_lines text last k (front_of tail)
+              (EachNoLf-append (begun (head_text h) programs) (show_text shown ∷ (map forbid_text forbidden ++ tail)) (head_no_lf h is, sections_no_lf 0 programs)
+              (show_no_lf shown, EachNoLf-append (map forbid_text forbidden) tail (forbids_no_lf forbidden) none)) (omega (arith, k-is, lines-are)) text-is x in
+              let behind : sections 0 x.programs ≡ sections 0 programs ++ show_text shown ∷ (map forbid_text forbidden ++ tail) = cc in
+              sections_no_other (show_text shown) (show_is_other shown) x.programs (sections 0 programs) (map forbid_text forbidden ++ tail) behind
+
+    pub ending_refused : (fault : LitmusFault) → IsEndingFault h.cores line rest fault → IsLineFault text fault
+    ending_refused fault (show_missing none wrong) = missing_show fault wrong none
+    ending_refused fault (end_missing shown forbidden behind after (are, first) front none fault-is) =
+        subst (IsLineFault text) (sym fault-is)
+        (wrong_behind_them shown forbidden are front.are [] (end_text ∷ []) after (line + 1 + length forbidden) refl tt (up_to shown forbidden are front.are [] behind after after first front.text refl) (omega arith)
+        (λ next others l comes there. goes_wrong next others l comes there) (λ ended comes. nothing comes))
+      where
+        goes_wrong : (next : List ℕ) (others : List (List ℕ)) (l : List ℕ) → Comes (length shown) (length forbidden) (next ∷ others) → after ≡ next ++ 10 ∷ l → ⊥
+        goes_wrong next others l (one_more values more is less same) there =
+            let same_line : next ≡ forbid_text values = cc in
+            front.all less values l (is, there ∙ ap (λ (xs : List ℕ). xs ++ 10 ∷ l) same_line)
+        goes_wrong next others l (the_end same) there =
+            let same_line : next ≡ end_text = cc in
+            none l (there ∙ ap (λ (xs : List ℕ). xs ++ 10 ∷ l) same_line)
+
+        nothing : Comes (length shown) (length forbidden) [] → ⊥
+        nothing (one_more values more is less same) = cc
+        nothing (the_end same) = cc
+    ending_refused fault (bytes_after shown forbidden behind after last (are, first) front there left fault-is) =
+        subst (IsLineFault text) (sym fault-is)
+        (wrong_behind_them shown forbidden are front.are (end_text ∷ []) [] last (line + 2 + length forbidden) refl (const_no_lf end_text refl, tt)
+        (up_to shown forbidden are front.are (end_text ∷ []) behind after last first front.text (there ∙ sym (text_of-cons end_text [] last))) (omega arith)
+        (λ next others l comes from. no_more next others comes) (λ ended comes. left ended))
+      where
+        no_more : (next : List ℕ) (others : List (List ℕ)) → Comes (length shown) (length forbidden) (end_text ∷ next ∷ others) → ⊥
+        no_more next others (one_more values more is less same) =
+            let same_line : forbid_text values ≡ end_text = cc in
+            forbid_no_end values same_line
+        no_more next others (the_end same) = cc
+    ending_refused fault (memory_short fault-is) = subst (IsLineFault text) (sym fault-is) tt
+
+    pub test_spelled : (shown : List ShownParts) (forbidden : List (List ℕ)) → IsEnding h.cores rest shown forbidden
+        → Spells text (record { name = h.name; format = h.format; programs = programs; shown = shown; forbidden = forbidden })
+    unfolding whole
+    test_spelled shown forbidden ending =
+        let front = begun (head_text h) programs in
+        let test = whole h is IsSection programs shown forbidden count stands.each ending.are_shown ending.are_forbidden in (
+          test.1.0,
+          stands.text_is ∙ ap (λ (xs : List ℕ). text_of front ++ xs) ending.text ∙ sym (text_of-append front (last_lines shown forbidden)) ∙ ap text_of test.1.1,
+        )

@@ -1,17 +1,14 @@
 -- The text of a litmus test, and which tests have one.
 use Rattle.std.specs.Prelude.{◌≡◌, ℕ, ◌<◌, ◌≤◌, ◌^◌, Bool, true, ◌||◌, ◌&&◌, ◌==◌, nat_le, List, [], ◌∷◌, ◌++◌, length, map, codes}
-use Rattle.std.specs.List.{flat_map, AllByRecursion}
+use Rattle.std.specs.List.{AllByRecursion}
 use Rattle.decimal_text.specs.Numbers.{numeral}
 use Rattle.core_program.specs.declared.format.ProgramFormat.{ProgramFormat}
 use Rattle.core_program.specs.declared.instruction.Instruction.{Instruction}
 use Rattle.core_program.specs.Grammar.{end_text, format_number, sections, IsSetOf}
 use Rattle.litmus_test.specs.Parts.{LitmusParts, ShownParts}
+use Rattle.text_lines.specs.Words.{spaced}
 
 -- ---- the texts
-
--- words, each with a space before it
-abbrev pub spaced : {A : Type 0} → (A → List ℕ) → List A → List ℕ
-spaced word xs = flat_map (λ x. 32 ∷ word x) xs
 
 -- the first line of a test of this format, for this number of cores
 unfoldable pub header_text : ℕ → List ℕ → ℕ → List ℕ

@@ -1,14 +1,11 @@
 -- The text of a table: comma-separated values, a line for the registers and then one for each row.
 use Rattle.std.specs.Prelude.{ℕ, Bool, if◌then◌else◌, List, [], ◌∷◌, ◌++◌, map, codes}
-use Rattle.std.specs.List.{flat_map, join_with_byte}
+use Rattle.std.specs.List.{flat_map}
+use Rattle.csv_lines.specs.Lines.{cells_line}
 use Rattle.decimal_text.specs.Numbers.{numeral}
 use Rattle.litmus_test.specs.Grammar.{shown_text}
 use Rattle.litmus_test.specs.Parts.{ShownParts}
 use Rattle.litmus_test.specs.TableParts.{RowParts, TableParts}
-
--- the cells of a line, with a comma between each two
-abbrev pub cells_line : List (List ℕ) → List ℕ
-cells_line cells = join_with_byte 44 cells ++ 10 ∷ []
 
 abbrev pub header_cells : List ShownParts → List (List ℕ)
 header_cells shown = map shown_text shown ++ codes "count" ∷ codes "forbidden" ∷ []

@@ -2,4 +2,3 @@
 pub mod Ending
 pub mod Reading
 pub mod Whole
-pub mod Writing

@@ -1,14 +1,14 @@
 //! The lines after the sections of a litmus test.
 
-ghost use Rattle.std.specs.Prelude.{◌≡◌, ◌+◌, ◌<◌, ◌≤◌, ◌^◌, true, IfOk, MatchResult};
-ghost use Rattle.litmus_test.specs.inner.Ending.{AreForbidsOf, IsEnding, IsEndingFault, begins_instruction, word_lists, wrong_line};
+ghost use Rattle.std.specs.Prelude.{◌+◌, ◌<◌, ◌≤◌, ◌^◌, IfOk, MatchBool, MatchResult};
+ghost use Rattle.litmus_test.specs.inner.Ending.{AreForbidsOf, BeginsInstruction, IsEnding, IsEndingFault, IsWrongLine, word_lists};
 
 use super::fault::LitmusFault;
 use super::test::Shown;
 use super::words::{read_forbid, read_show};
-use core_program::next_line;
 use decimal_text::after_text;
 use std::alloc::{AllocError, Global};
+use text_lines::next_line;
 
 /// The most outcomes that are forbidden.
 const FORBID_LIMIT: usize = 16;
@@ -33,19 +33,18 @@ pub(crate) struct Forbids {
 
 /// Whether bytes are there that begin neither with `core ` nor with `show `.
 fn begins_instruction(bytes: &[u8]) -> bool
-    ensures { result ≡ begins_instruction bytes.now }
+    ensures { MatchBool result (BeginsInstruction bytes.now) (BeginsInstruction bytes.now → ⊥) }
 {
-    match bytes {
-        [] => false,
-        _ => after_text(b"core ", bytes).is_none() && after_text(b"show ", bytes).is_none(),
-    }
+    !bytes.is_empty()
+        && after_text(b"core ", bytes).is_none()
+        && after_text(b"show ", bytes).is_none()
 }
 
-/// The fault of a line that is wrong where sections may go on, once one has begun.
-pub(crate) fn wrong_line(line: u64, begun: bool, bytes: &[u8]) -> LitmusFault
-    ensures { result ≡ wrong_line line begun bytes.now }
+/// The fault of a line that is wrong where sections may go on, of which so many have begun.
+pub(crate) fn wrong_line(line: u64, begun: u64, bytes: &[u8]) -> LitmusFault
+    ensures { IsWrongLine line begun bytes.now result }
 {
-    if begun && begins_instruction(bytes) {
+    if begun > 0 && begins_instruction(bytes) {
         LitmusFault::BadLine(line)
     } else {
         LitmusFault::BadLitmusLine(line)
@@ -59,17 +58,8 @@ fn read_forbids(alloc: Global, count: usize, text: &[u8]) -> Result<Forbids, All
     let mut outcomes = Vec::new(alloc);
     let mut rest = text;
     for _ in 0..FORBID_LIMIT {
-        let Some((line, behind)) = next_line(rest) else {
-            return Ok(Forbids {
-                outcomes,
-                taken: text.len() - rest.len(),
-            });
-        };
-        let Some(values) = read_forbid(alloc, count, line)? else {
-            return Ok(Forbids {
-                outcomes,
-                taken: text.len() - rest.len(),
-            });
+        let Some((values, behind)) = read_forbid(alloc, count, rest)? else {
+            break;
         };
         outcomes.push(values)?;
         rest = behind;
@@ -95,10 +85,10 @@ pub(crate) fn read_ending(
         (λ fault. IsEndingFault cores line text.now fault) }
 {
     let Some((first, behind)) = next_line(text) else {
-        return Err(wrong_line(line, true, text));
+        return Err(wrong_line(line, cores, text));
     };
     let Some(shown) = read_show(alloc, cores, first)? else {
-        return Err(wrong_line(line, true, text));
+        return Err(wrong_line(line, cores, text));
     };
     let forbids = read_forbids(alloc, shown.len(), behind)?;
     let behind_forbids = line + 1 + forbids.outcomes.len() as u64;

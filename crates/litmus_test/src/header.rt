@@ -1,14 +1,14 @@
 //! The first line of a litmus test.
 
-ghost use Rattle.std.specs.Prelude.{◌≡◌, ◌≤◌, ℕ, List, IfSome, IsNone, length, option_map};
-ghost use Rattle.litmus_test.specs.Grammar.{is_name_byte};
-ghost use Rattle.litmus_test.specs.inner.Ending.{HeaderInFront};
-ghost use Rattle.litmus_test.specs.inner.Reading.{cores_at, first_words, header_of, name_at, name_len};
+ghost use Rattle.std.specs.Prelude.{◌≡◌, ◌≤◌, IfSome, IsNone, length, option_map};
 ghost use Rattle.decimal_text.specs.Reading.{front_now};
-ghost use Rattle.core_program.specs.declared.format.ProgramFormat.{ProgramFormat};
+ghost use Rattle.litmus_test.specs.Grammar.{is_name_byte};
+ghost use Rattle.litmus_test.specs.inner.Reading.{IsHead, cores_at, format_at, head, head_of, head_text, name_at, name_len};
+ghost use Rattle.text_lines.specs.Items.{ItemInFront, NoItemInFront};
 
-use core_program::{ProgramFormat, next_line};
-use decimal_text::{after_text, read_last};
+use core_program::ProgramFormat;
+use decimal_text::{after_text, read_field, read_last};
+use text_lines::next_line;
 
 /// The most bytes of a name.
 const NAME_LIMIT: usize = 32;
@@ -74,24 +74,25 @@ fn cores_at(bytes: &[u8]) -> Option<u64>
     Some(cores)
 }
 
-/// The format that the words before the name say, and the bytes after them.
-#[tactic(auto, unfolding(crate::specs::inner::Reading::first_words))]
-fn format_of(line: &[u8]) -> Option<(ProgramFormat, &[u8])>
-    ensures { front_now result ≡ first_words line.now }
+/// The format before the name, and the bytes after it.
+#[tactic(auto, unfolding(crate::specs::inner::Reading::format_at))]
+fn format_at(line: &[u8]) -> Option<(ProgramFormat, &[u8])>
+    ensures { front_now result ≡ format_at line.now }
 {
-    if let Some(rest) = after_text(b"tardis-litmus 1 ", line) {
-        return Some((ProgramFormat::One, rest));
+    let (number, rest) = read_field(b' ', after_text(b"tardis-litmus ", line)?)?;
+    match number? {
+        1 => Some((ProgramFormat::One, rest)),
+        2 => Some((ProgramFormat::Two, rest)),
+        _ => None,
     }
-    let rest = after_text(b"tardis-litmus 2 ", line)?;
-    Some((ProgramFormat::Two, rest))
 }
 
 /// What a first line tells; None where it isn't one.
-#[tactic(auto, unfolding(crate::specs::inner::Reading::header_of))]
+#[tactic(auto, unfolding(crate::specs::inner::Reading::head_of))]
 fn header_of(line: &[u8]) -> Option<Header<'_>>
-    ensures { option_map (λ read. (read.format, read.name.now, read.cores)) result ≡ header_of line.now }
+    ensures { option_map head result ≡ head_of line.now }
 {
-    let (format, rest) = format_of(line)?;
+    let (format, rest) = format_at(line)?;
     let (name, rest) = name_at(rest)?;
     let cores = cores_at(rest)?;
     Some(Header {
@@ -103,10 +104,8 @@ fn header_of(line: &[u8]) -> Option<Header<'_>>
 
 /// What the first line tells, and the bytes after it; None where it isn't as it should be.
 pub(crate) fn after_header(text: &[u8]) -> Option<(Header<'_>, &[u8])>
-    ensures found { IfSome result
-        (λ read. HeaderInFront read.0.format read.0.name.now read.0.cores text.now read.1.now) }
-    ensures none { IsNone result →
-        (format : ProgramFormat) (name : List ℕ) (cores : ℕ) (rest : List ℕ) → ¬ HeaderInFront format name cores text.now rest }
+    ensures found { IfSome result (λ read. ItemInFront head_text IsHead (head read.0) text.now read.1.now) }
+    ensures none { IsNone result → NoItemInFront head_text IsHead text.now }
 {
     let (line, rest) = next_line(text)?;
     let header = header_of(line)?;

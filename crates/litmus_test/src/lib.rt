@@ -6,7 +6,6 @@ mod ending;
 mod fault;
 mod header;
 mod parsing;
-mod reading;
 mod table;
 mod table_text;
 mod test;

@@ -1,6 +1,6 @@
 //! Reads the text of a litmus test.
 
-ghost use Rattle.std.specs.Prelude.{◌≡◌, MatchResult};
+ghost use Rattle.std.specs.Prelude.{MatchResult};
 ghost use Rattle.std.specs.List.{AllByRecursion};
 ghost use Rattle.core_program.specs.Shape.{IsProgram};
 ghost use Rattle.litmus_test.specs.Answers.{IsFault, Spells};
@@ -37,7 +37,7 @@ fn read_lines(alloc: Global, text: &[u8]) -> Result<Parts, LitmusFault>
     let count = sections.programs.len() as u64;
     let rest = &body[sections.taken..];
     if count < header.cores {
-        return Err(wrong_line(sections.line, count > 0, rest));
+        return Err(wrong_line(sections.line, count, rest));
     }
     let ending = read_ending(alloc, header.cores, rest, sections.line)?;
     Ok(Parts {

@@ -1,29 +1,18 @@
 //! Tables as comma-separated values.
 
-ghost use Rattle.std.specs.Prelude.{◌≡◌, ◌≤◌, ℕ, List, ◌∷◌, ◌++◌, [], length, string_bytes, take, IfErr, IfOk, IsErrOf, OnOk};
+ghost use Rattle.std.specs.Prelude.{◌≡◌, ◌≤◌, ℕ, length, string_bytes, take, IfOk, IsErrOf, OnOk};
 ghost use Rattle.std.specs.Io.KnownBytes.{Appends};
 ghost use Rattle.csv.specs.Records.{fields_of};
-ghost use Rattle.decimal_text.specs.Numbers.{numeral};
 ghost use Rattle.litmus_test.specs.Grammar.{shown_text};
-ghost use Rattle.litmus_test.specs.TableText.{cells_line, header_cells, row_cells, table_text};
-ghost use Rattle.litmus_test.specs.inner.Writing.{IsFresh, IsPlainRow, written};
+ghost use Rattle.litmus_test.specs.TableText.{header_cells, row_cells, table_text};
 ghost use Rattle.log_file.specs.Devices.{Failed};
 
 use super::table::{Row, Table};
 use super::test::Shown;
-use csv::{StringRecord, Terminator, Writer, WriterBuilder};
-use decimal_text::print_number;
+use csv::StringRecord;
+use csv_lines::{new_writer, push_number, text_of, write_line};
 use log_file::{ByteSink, WriteFault, write_all};
 use std::alloc::{AllocError, Global};
-
-/// Adds a number's cell.
-fn push_number(alloc: Global, cells: &mut StringRecord, number: u64) -> Result<(), AllocError>
-    ensures { OnOk result (fields_of cells.new ≡ fields_of cells.old ++ numeral number ∷ []) }
-{
-    let text = print_number(alloc, number)?;
-    cells.push_field(text.as_str())?;
-    Ok(())
-}
 
 /// The name of a register of a core, as tests have it.
 #[tactic(auto, using(decimal_text::proofs::Printing::numeral_decimal), unfolding(crate::specs::Grammar::shown_text))]
@@ -62,36 +51,16 @@ fn row_cells(alloc: Global, row: &Row) -> Result<StringRecord, AllocError>
     Ok(cells)
 }
 
-/// Writes a line of these cells.
-fn write_line(writer: &mut Writer<Vec<u8>>, cells: &StringRecord) -> Result<(), WriteFault>
-    requires { IsPlainRow (fields_of cells.now) }
-    ensures text { OnOk result (IsFresh writer.old
-        → Appends (written writer.old) (written writer.new) (cells_line (fields_of cells.now))) }
-    ensures fresh { OnOk result (IsFresh writer.old → IsFresh writer.new) }
-    ensures refused { IfErr result (λ fault. fault ≡ WriteFault.OutOfMemory) }
-{
-    match writer.write_byte_record(cells.as_byte_record()) {
-        Ok(()) => Ok(()),
-        Err(_) => Err(WriteFault::OutOfMemory),
-    }
-}
-
 /// The text of a table.
-fn print_table(alloc: Global, table: &Table) -> Result<Vec<u8>, WriteFault>
-    ensures text { IfOk result (λ text. text.items ≡ table_text table.now) }
-    ensures refused { IfErr result (λ fault. fault ≡ WriteFault.OutOfMemory) }
+fn print_table(alloc: Global, table: &Table) -> Result<Vec<u8>, AllocError>
+    ensures { IfOk result (λ text. text.items ≡ table_text table.now) }
 {
-    let mut writer = WriterBuilder::new()
-        .terminator(Terminator::Any(b'\n'))
-        .from_writer(Vec::new(alloc));
+    let mut writer = new_writer(alloc);
     write_line(&mut writer, &header_cells(alloc, table.shown())?)?;
     for row in table.rows() {
         write_line(&mut writer, &row_cells(alloc, row)?)?;
     }
-    match writer.into_inner() {
-        Ok(text) => Ok(text),
-        Err(_) => Err(WriteFault::OutOfMemory),
-    }
+    text_of(writer)
 }
 
 /// Writes a table as comma-separated values: a line of the shown registers, `count` and `forbidden`,

@@ -1,17 +1,41 @@
 //! Reads the lines that are made of words.
 
-ghost use Rattle.std.specs.Prelude.{◌≡◌, ◌≢◌, ◌≤◌, ℕ, List, [], ◌∷◌, ◌++◌, None, Some, IfOk, MatchBool, MatchOption};
+ghost use Rattle.std.specs.Prelude.{◌≡◌, ◌≢◌, ◌≤◌, List, [], ◌∷◌, ◌++◌, None, Some, min, IfOk, MatchBool, MatchOption};
 ghost use Rattle.litmus_test.specs.Grammar.{AreShown, IsOutcome, forbid_text, show_text};
 ghost use Rattle.litmus_test.specs.Parts.{ShownParts};
-ghost use Rattle.litmus_test.specs.inner.Reading.{shown_at};
+ghost use Rattle.litmus_test.specs.inner.Reading.{shown_at, shown_now};
+ghost use Rattle.text_lines.specs.Fields.{below};
+ghost use Rattle.text_lines.specs.Items.{ItemInFront, NoItemInFront};
 
-use super::reading::{shown_field, value_field};
 use super::test::Shown;
-use decimal_text::after_text;
+use core_program::Register;
+use decimal_text::{after_text, read_number};
+use mem_op::CoreId;
 use std::alloc::{AllocError, Global};
+use text_lines::{ends_word, next_line, read_spaced};
 
 /// The most registers that are shown.
 const SHOWN_LIMIT: usize = 8;
+
+/// The core of this number, where it is below `cores`, and below 64.
+fn core_of(cores: u64, number: u64) -> Option<CoreId>
+    ensures { result ≡ below (min cores 64) number }
+{
+    let core = CoreId::new(number).ok()?;
+    if number < cores { Some(core) } else { None }
+}
+
+/// A space and then a register of one of `cores` cores, and the bytes after them.
+#[tactic(auto, unfolding(crate::specs::inner::Reading::shown_at))]
+fn shown_field(cores: u64, bytes: &[u8]) -> Option<(CoreId, Register, &[u8])>
+    ensures { shown_now result ≡ shown_at cores bytes.now }
+{
+    let (core, rest) = read_number(after_text(b" ", bytes)?)?;
+    let (register, rest) = read_number(after_text(b".r", rest)?)?;
+    let core = core_of(cores, core?)?;
+    let register = Register::new(register?)?;
+    ends_word(rest).then_some((core, register, rest))
+}
 
 /// Adds the register that bytes begin with, where they begin with one, and answers the bytes after it.
 fn push_shown<'a>(
@@ -73,27 +97,30 @@ pub(crate) fn read_show(
     }
 }
 
-/// The outcome of so many registers whose line this is; none where it isn't one.
-pub(crate) fn read_forbid(
+/// The outcome of so many registers whose line is the first, and the bytes after it; none where it isn't such a line.
+pub(crate) fn read_forbid<'a>(
     alloc: Global,
     count: usize,
-    line: &[u8],
-) -> Result<Option<Vec<u64>>, AllocError>
+    text: &'a [u8],
+) -> Result<Option<(Vec<u64>, &'a [u8])>, AllocError>
     ensures { IfOk result (λ found. MatchOption found
-        ((values : List ℕ) → IsOutcome count values → line.now ≢ forbid_text values)
-        (λ values. IsOutcome count values.items × (line.now ≡ forbid_text values.items))) }
+        (NoItemInFront forbid_text (IsOutcome count) text.now)
+        (λ read. ItemInFront forbid_text (IsOutcome count) read.0.items text.now read.1.now)) }
 {
+    let Some((line, behind)) = next_line(text) else {
+        return Ok(None);
+    };
     let Some(words) = after_text(b"forbid", line) else {
         return Ok(None);
     };
     let mut values = Vec::new(alloc);
     let mut rest = words;
-    while let Some((value, behind)) = value_field(rest) {
+    while let Some((value, more)) = read_spaced(rest) {
         values.push(value)?;
-        rest = behind;
+        rest = more;
     }
     if are_values(rest, values.len(), count) {
-        Ok(Some(values))
+        Ok(Some((values, behind)))
     } else {
         Ok(None)
     }

@@ -1,35 +1,25 @@
--- What the readers of a test's first and last lines have found. Clauses of private functions cite these.
-use Rattle.std.specs.Prelude.{◌≡◌, ◌≢◌, ℕ, ◌+◌, ◌<◌, ◌≤◌, ◌&&◌, not, Bool, true, false, if◌then◌else◌, List, [], ◌∷◌, ◌++◌, length, map, drop, is_some, codes}
+-- What the readers of the lines after the sections have found. Clauses of private functions cite these.
+use Rattle.std.specs.Prelude.{◌≡◌, ◌≢◌, ℕ, ◌+◌, ◌<◌, ◌≤◌, List, [], ◌∷◌, ◌++◌, length, map, drop, codes}
 use Rattle.std.specs.Global.{Vec}
-use Rattle.std.specs.List.{AllByRecursion}
-use Rattle.decimal_text.specs.Reading.{after}
-use Rattle.core_program.specs.declared.format.ProgramFormat.{ProgramFormat}
-use Rattle.core_program.specs.Grammar.{end_text, format_number}
-use Rattle.core_program.specs.Lines.{text_of}
-use Rattle.litmus_test.specs.Grammar.{header_text, forbid_text, show_text, AreForbidden, AreShown, IsName, IsOutcome}
+use Rattle.core_program.specs.Grammar.{end_text}
+use Rattle.litmus_test.specs.Grammar.{forbid_text, last_lines, show_text, AreForbidden, AreShown, IsOutcome}
 use Rattle.litmus_test.specs.Parts.{ShownParts}
 use Rattle.litmus_test.specs.declared.fault.LitmusFault.{LitmusFault}
-use Rattle.litmus_test.specs.declared.fault.LitmusFault.TheVariants.{BadLitmusLine, BadLine, OutOfMemory}
+use Rattle.litmus_test.specs.declared.fault.LitmusFault.TheVariants.{BadLitmusLine, BadLine, TooLong, SkipPastEnd, OutOfMemory}
 use Rattle.litmus_test.specs.declared.ending.Forbids.{Forbids}
+use Rattle.text_lines.specs.Items.{lines_of, ItemInFront, NoItemInFront}
+use Rattle.text_lines.specs.Lines.{text_of}
 
--- the bytes begin with the first line of this format, name and number of cores, and these come after it
-abbrev pub HeaderInFront : ProgramFormat → List ℕ → ℕ → List ℕ → List ℕ → Type 0
-HeaderInFront format name cores bytes rest =
-    IsName name × (1 ≤ cores) × (cores ≤ 64) × (bytes ≡ header_text (format_number format) name cores ++ 10 ∷ rest)
-
--- the bytes begin with the line of these registers, of this outcome, and these come after it
+-- the bytes begin with the line of these registers, and these come after it
 abbrev pub ShowInFront : ℕ → List ShownParts → List ℕ → List ℕ → Type 0
-ShowInFront cores shown bytes rest = AreShown cores shown × (bytes ≡ show_text shown ++ 10 ∷ rest)
+ShowInFront cores shown bytes rest = ItemInFront show_text (AreShown cores) shown bytes rest
 
-abbrev pub ForbidInFront : ℕ → List ℕ → List ℕ → List ℕ → Type 0
-ForbidInFront count values bytes rest = IsOutcome count values × (bytes ≡ forbid_text values ++ 10 ∷ rest)
-
--- they don't
+-- they don't, nor with the line of an outcome
 abbrev pub NoShowInFront : ℕ → List ℕ → Type 0
-NoShowInFront cores bytes = (shown : List ShownParts) (rest : List ℕ) → ShowInFront cores shown bytes rest → ⊥
+NoShowInFront cores bytes = NoItemInFront show_text (AreShown cores) bytes
 
 abbrev pub NoForbidInFront : ℕ → List ℕ → Type 0
-NoForbidInFront count bytes = (values rest : List ℕ) → ForbidInFront count values bytes rest → ⊥
+NoForbidInFront count bytes = NoItemInFront forbid_text (IsOutcome count) bytes
 
 abbrev pub NoEndInFront : List ℕ → Type 0
 NoEndInFront bytes = (rest : List ℕ) → bytes ≡ end_text ++ 10 ∷ rest → ⊥
@@ -41,7 +31,7 @@ word_lists lists = map (λ values. values.items) lists
 -- the forbidden outcomes whose lines the bytes begin with, and these come after them
 pub record ForbidsInFront (count : ℕ) (bytes : List ℕ) (forbidden : List (List ℕ)) (rest : List ℕ) : Type 0 where
   pub are : AreForbidden count forbidden
-  pub text : bytes ≡ text_of (map forbid_text forbidden) ++ rest
+  pub text : bytes ≡ lines_of forbid_text forbidden ++ rest
   -- all of them, up to as many as there may be
   pub all : length forbidden < 16 → NoForbidInFront count rest
 
@@ -52,17 +42,22 @@ pub record AreForbidsOf (count : ℕ) (bytes : List ℕ) (found : Forbids) : Typ
 -- ---- a line that is wrong where sections may go on
 
 -- bytes are there that begin neither with `core ` nor with `show `
-abbrev pub begins_instruction : List ℕ → Bool
-begins_instruction [] = false
-begins_instruction (b ∷ bs) = not (is_some (after (codes "core ") (b ∷ bs))) && not (is_some (after (codes "show ") (b ∷ bs)))
+pub record BeginsInstruction (bytes : List ℕ) : Type 0 where
+  pub there : bytes ≢ []
+  pub no_core : (more : List ℕ) → bytes ≢ codes "core " ++ more
+  pub no_show : (more : List ℕ) → bytes ≢ codes "show " ++ more
 
--- it is an instruction line where a section has begun
-abbrev pub wrong_line : ℕ → Bool → List ℕ → LitmusFault
-wrong_line line begun bytes = if begun && begins_instruction bytes then BadLine line else BadLitmusLine line
+-- the fault is that of this line, an instruction line where so many sections have begun, one at least, and bytes begin it so
+abbrev pub IsWrongLine : ℕ → ℕ → List ℕ → LitmusFault → Type 0
+IsWrongLine line begun bytes (BadLine k) = (k ≡ line) × (0 < begun) × BeginsInstruction bytes
+IsWrongLine line begun bytes (BadLitmusLine k) = (k ≡ line) × (0 < begun → BeginsInstruction bytes → ⊥)
+IsWrongLine line begun bytes (TooLong k) = ⊥
+IsWrongLine line begun bytes (SkipPastEnd k) = ⊥
+IsWrongLine line begun bytes OutOfMemory = ⊥
 
 -- why the lines after the sections, of which line `line` is the first, aren't those of a test
 pub data IsEndingFault (cores line : ℕ) (bytes : List ℕ) (fault : LitmusFault) : Type 0 where
-  show_missing : NoShowInFront cores bytes → fault ≡ wrong_line line true bytes → IsEndingFault cores line bytes fault
+  show_missing : NoShowInFront cores bytes → IsWrongLine line cores bytes fault → IsEndingFault cores line bytes fault
   end_missing : (shown : List ShownParts) (forbidden : List (List ℕ)) (behind rest : List ℕ) → ShowInFront cores shown bytes behind
       → ForbidsInFront (length shown) behind forbidden rest → NoEndInFront rest
       → fault ≡ BadLitmusLine (line + 1 + length forbidden) → IsEndingFault cores line bytes fault
@@ -75,4 +70,4 @@ pub data IsEndingFault (cores line : ℕ) (bytes : List ℕ) (fault : LitmusFaul
 pub record IsEnding (cores : ℕ) (bytes : List ℕ) (shown : List ShownParts) (forbidden : List (List ℕ)) : Type 0 where
   pub are_shown : AreShown cores shown
   pub are_forbidden : AreForbidden (length shown) forbidden
-  pub text : bytes ≡ text_of (show_text shown ∷ (map forbid_text forbidden ++ end_text ∷ []))
+  pub text : bytes ≡ text_of (last_lines shown forbidden)

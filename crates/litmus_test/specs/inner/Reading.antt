@@ -1,22 +1,16 @@
 -- Reading the lines of a litmus test from left to right, as functions on their bytes. Private contracts cite these; the public ones
 -- speak of the texts alone.
-use Rattle.std.specs.Prelude.{ℕ, suc, ◌^◌, ◌==◌, ◌&&◌, nat_lt, nat_le, min, Bool, true, false, if◌then◌else◌, List, [], ◌∷◌, length, Option, Some, None, is_some, codes, take, drop}
+use Rattle.std.specs.Prelude.{ℕ, suc, ◌≤◌, ◌==◌, ◌&&◌, nat_le, min, if◌then◌else◌, List, [], ◌∷◌, Option, Some, None, codes, take, drop}
 use denote.Ref.{Bor}
-use Rattle.decimal_text.specs.Reading.{◌>>=◌, after, last_number, number_at}
+use Rattle.decimal_text.specs.Reading.{◌>>=◌, after, field_at, last_number, number_at}
 use Rattle.core_program.specs.declared.format.ProgramFormat.{ProgramFormat}
 use Rattle.core_program.specs.declared.format.ProgramFormat.TheVariants.{One, Two}
-use Rattle.core_program.specs.inner.Reading.{below}
-use Rattle.litmus_test.specs.Grammar.{is_name_byte}
+use Rattle.core_program.specs.Grammar.{format_number}
+use Rattle.litmus_test.specs.Grammar.{header_text, is_name_byte, IsName}
 use Rattle.litmus_test.specs.Parts.{ShownParts}
-
--- no word goes on with these bytes
-abbrev pub ends_word : List ℕ → Bool
-ends_word [] = true
-ends_word (b ∷ bs) = b == 32
-
--- what was read, where the word ends
-abbrev pub at_end : {A : Type 0} → A → List ℕ → Option (A × List ℕ)
-at_end x rest = if ends_word rest then Some (x, rest) else None
+use Rattle.litmus_test.specs.declared.header.Header.{Header}
+use Rattle.text_lines.specs.Fields.{below}
+use Rattle.text_lines.specs.Words.{at_end}
 
 -- a space and then a register of one of so many cores, and the bytes after it
 unfoldable pub shown_at : ℕ → List ℕ → Option (ShownParts × List ℕ)
@@ -29,9 +23,25 @@ abbrev pub shown_now : Option (ℕ × ℕ × Bor (List ℕ)) → Option (ShownPa
 shown_now None = None
 shown_now (Some x) = Some (record { core = x.0; register = x.1 }, x.2.now)
 
--- a space and then a word, and the bytes after it
-unfoldable pub value_at : List ℕ → Option (ℕ × List ℕ)
-value_at bytes = after (codes " ") bytes >>= number_at >>= λ n. below (2 ^ 64) n.0 >>= λ value. at_end value n.1
+-- ---- the first line
+
+-- what it tells
+pub record HeadParts : Type 0 where
+  pub format : ProgramFormat
+  pub name : List ℕ
+  pub cores : ℕ
+
+-- what the code keeps of it
+abbrev pub head : Header → HeadParts
+head header = record { format = header.format; name = header.name.now; cores = header.cores }
+
+abbrev pub head_text : HeadParts → List ℕ
+head_text h = header_text (format_number h.format) h.name h.cores
+
+pub record IsHead (h : HeadParts) : Type 0 where
+  pub is_name : IsName h.name
+  pub some : 1 ≤ h.cores
+  pub few : h.cores ≤ 64
 
 -- how many bytes of a name come first
 abbrev pub name_len : List ℕ → ℕ
@@ -47,12 +57,16 @@ name_at bytes =
 unfoldable pub cores_at : List ℕ → Option ℕ
 cores_at bytes = after (codes " cores ") bytes >>= last_number >>= λ n. if n == 0 then None else below 65 n
 
--- the format that the first words of a first line say, and the bytes after them
-unfoldable pub first_words : List ℕ → Option (ProgramFormat × List ℕ)
-first_words line =
-    if is_some (after (codes "tardis-litmus 1 ") line) then (after (codes "tardis-litmus 1 ") line >>= λ rest. Some (One, rest))
-    else (after (codes "tardis-litmus 2 ") line >>= λ rest. Some (Two, rest))
+-- the format of a number
+abbrev pub format_of : ℕ → Option ProgramFormat
+format_of n = if n == 1 then Some One else (if n == 2 then Some Two else None)
 
--- the format, the name and the number of cores of a first line
-unfoldable pub header_of : List ℕ → Option (ProgramFormat × List ℕ × ℕ)
-header_of line = first_words line >>= λ front. name_at front.1 >>= λ n. cores_at n.1 >>= λ cores. Some (front.0, n.0, cores)
+-- the format before the name, and the bytes after it
+unfoldable pub format_at : List ℕ → Option (ProgramFormat × List ℕ)
+format_at line = after (codes "tardis-litmus ") line >>= field_at 32 >>= λ number. format_of number.0 >>= λ format. Some (format, number.1)
+
+-- what a first line tells
+unfoldable pub head_of : List ℕ → Option HeadParts
+head_of line =
+    format_at line >>= λ front. name_at front.1 >>= λ name. cores_at name.1 >>= λ cores.
+    Some (record { format = front.0; name = name.0; cores = cores })

@@ -1,16 +1,19 @@
-use Rattle.std.proofs.Common.{refl}
-use Rattle.litmus_test.proofs.Headers.{header_in_front, no_header_of_other, no_header_without_feed}
+use Rattle.std.proofs.Common.{refl, sym}
+use Rattle.litmus_test.specs.inner.Reading.{head, head_text, IsHead}
+use Rattle.litmus_test.proofs.Headers.{head_no_lf, head_takes, no_head}
+use Rattle.litmus_test.proofs.InFront.{first_of_line, none_of_other, none_without_feed}
 use Rattle.litmus_test.proofs.header.after_header.Goals as goal
 
 pub returns-in_err-line-clause-none : goal.returns-in_err-line-clause-none
-returns-in_err-line-clause-none c = λ _. no_header_without_feed c.args.text.now (c.in_err-line.ensures.none refl)
+returns-in_err-line-clause-none c = λ _. none_without_feed head_text IsHead c.args.text.now (c.in_err-line.ensures.none refl)
 
 pub returns-in_err-header-clause-none : goal.returns-in_err-header-clause-none
 returns-in_err-header-clause-none c = λ _.
     let found = c.in_ok-line.ensures.found in
-    no_header_of_other c.args.text.now c.in_ok-line.line.now c.in_ok-line.rest.now found.0 found.1 c.in_err-header.ensures
+    none_of_other head_text IsHead head_no_lf c.args.text.now c.in_ok-line.line.now c.in_ok-line.rest.now found.0 found.1 (no_head c.in_ok-line.line.now c.in_err-header.ensures)
 
 pub returns-clause-found : goal.returns-clause-found
 returns-clause-found c =
     let found = c.in_ok-line.ensures.found in
-    header_in_front c.args.text.now c.in_ok-line.line.now c.in_ok-line.rest.now c.in_ok-header.header.format c.in_ok-header.header.name.now c.in_ok-header.header.cores found.1 c.in_ok-header.ensures
+    let h = head c.in_ok-header.header in
+    first_of_line head_text IsHead c.args.text.now c.in_ok-line.line.now c.in_ok-line.rest.now h found.1 (head_takes c.in_ok-line.line.now h (sym c.in_ok-header.ensures))

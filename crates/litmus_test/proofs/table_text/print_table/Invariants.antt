@@ -1,8 +1,8 @@
 -- The lines so far are those of the rows so far.
 use Rattle.std.proofs.Common.{◌≡◌, ◌++◌, take, Some}
 use Rattle.std.specs.List.{flat_map}
-use Rattle.litmus_test.specs.TableText.{cells_line, header_cells, row_line}
-use Rattle.litmus_test.specs.inner.Writing.{IsFresh, written}
+use Rattle.litmus_test.specs.TableText.{header_cells, row_line}
+use Rattle.csv_lines.specs.Lines.{cells_line, IsFresh, written}
 use Rattle.litmus_test.proofs.table_text.print_table.Given as goal
 
 abbrev pub invariant-loop-row : goal.invariant-loop-row
