@@ -8,7 +8,7 @@ use Rattle.log_record.specs.declared.record.Record.{Record}
 use Rattle.manager_slice.specs.declared.managed.HistoryEntry.{HistoryEntry}
 use Rattle.core_unit.specs.declared.entry.CoreEntry.{CoreEntry}
 use Rattle.core_unit.specs.declared.entry.CoreEntry.TheVariants.{Performed, Dropped, Gave, Got, Bumped}
-use Rattle.statistics.specs.Columns.{by_place, column_at, counted, counts}
+use Rattle.statistics.specs.Columns.{by_place, column_at, column_count, counted, counts}
 use Rattle.statistics.specs.Sights.{brings_line, has_come, is_operation, kind_at, seen, seen_back}
 use Rattle.statistics.specs.declared.sight.Sight.{Sight}
 use Rattle.statistics.specs.declared.sight.Sight.TheVariants.{Operation, Core, Slice}
@@ -35,7 +35,7 @@ passes_here test old new i fails b = record {
   above = λ k h. b.above k (omega arith);
 }
 
-pub all_counted : (s : Sight) (old new : List ℕ) (sights : List Sight) → length new ≡ 20 → IsBegun (λ k. counts (column_at k) s) old new 20 → IsCounted old sights
+pub all_counted : (s : Sight) (old new : List ℕ) (sights : List Sight) → length new ≡ column_count → IsBegun (λ k. counts (column_at k) s) old new column_count → IsCounted old sights
     → IsCounted new (sights ++ s ∷ [])
 all_counted s old new sights long b is = record {
   length = long;
@@ -126,4 +126,4 @@ one_service es i e new lt at counted =
 
 pub all_told : (numbers : List ℕ) (sights : List Sight) → IsCounted numbers sights → numbers ≡ counted sights
 unfolding by_place
-all_told numbers sights is = fill_by_all (λ place. count_by (counts (column_at place)) sights) numbers 20 0 is.length is.each
+all_told numbers sights is = fill_by_all (λ place. count_by (counts (column_at place)) sights) numbers column_count 0 is.length is.each

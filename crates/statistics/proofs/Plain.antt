@@ -5,7 +5,7 @@ use Rattle.std.specs.List.{range_with_len}
 use Rattle.csv_lines.proofs.Plain.{all_plain, plain_cons, plain_number}
 use Rattle.csv_lines.specs.Lines.{IsPlain, IsPlainRow}
 use Rattle.decimal_text.specs.Numbers.{numeral}
-use Rattle.statistics.specs.Columns.{column_at, column_name, columns}
+use Rattle.statistics.specs.Columns.{column_at, column_count, column_name, columns}
 use Rattle.statistics.specs.TableText.{cell_at, has_column, header_cells, row_cells, whose_name}
 use Rattle.statistics.specs.Totals.{number_in}
 use Rattle.statistics.specs.declared.column.Column.{Column}
@@ -59,4 +59,4 @@ header_plain = record { some = omega arith; each = (refl, all_plain column_name 
 
 pub row_plain : (w : Whose) (t : RunTotals) → IsPlainRow (row_cells w t)
 unfolding row_cells
-row_plain w t = record { some = omega arith; each = (plain_whose w, all_plain (cell_at w t) (plain_cell w t) (range_with_len 0 20)) }
+row_plain w t = record { some = omega arith; each = (plain_whose w, all_plain (cell_at w t) (plain_cell w t) (range_with_len 0 column_count)) }

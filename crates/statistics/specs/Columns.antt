@@ -25,6 +25,9 @@ columns =
     Operations ∷ Loads ∷ Stores ∷ Swaps ∷ Hits ∷ ShReq ∷ ExReq ∷ Renewals ∷ Upgrades ∷ WbRep ∷ FlushRep ∷ Dropped ∷ SelfIncrements ∷ Pts
     ∷ Requests ∷ GiveBacks ∷ Evictions ∷ Mts ∷ PrivateWrites ∷ Rank ∷ []
 
+abbrev pub column_count : ℕ
+column_count = 20
+
 abbrev pub column_name : Column → List ℕ
 column_name Operations = codes "operations"
 column_name Loads = codes "loads"
@@ -141,7 +144,7 @@ column_at place = get_or columns place Operations
 
 -- one number for each column, by its place
 unfoldable pub by_place : (ℕ → ℕ) → List ℕ
-by_place number = map number (range_with_len 0 20)
+by_place number = map number (range_with_len 0 column_count)
 
 -- how much of this each column counts
 abbrev pub counted : List Sight → List ℕ

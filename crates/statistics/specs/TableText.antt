@@ -4,7 +4,7 @@ use Rattle.std.specs.Prelude.{ℕ, ◌+◌, Bool, true, not, if◌then◌else◌
 use Rattle.std.specs.List.{range_with_len}
 use Rattle.csv_lines.specs.Lines.{cells_line}
 use Rattle.decimal_text.specs.Numbers.{numeral}
-use Rattle.statistics.specs.Columns.{column_at, column_name, columns, is_of_slices}
+use Rattle.statistics.specs.Columns.{column_at, column_count, column_name, columns, is_of_slices}
 use Rattle.statistics.specs.Totals.{none, number_in, with_part, with_parts}
 use Rattle.statistics.specs.declared.column.Column.{Column}
 use Rattle.statistics.specs.declared.numbers.Numbers.{Numbers}
@@ -34,7 +34,7 @@ cell_at whose totals place = if has_column whose (column_at place) then numeral 
 
 -- the cells of a line
 unfoldable pub row_cells : Whose → RunTotals → List (List ℕ)
-row_cells whose totals = whose_name whose ∷ map (cell_at whose totals) (range_with_len 0 20)
+row_cells whose totals = whose_name whose ∷ map (cell_at whose totals) (range_with_len 0 column_count)
 
 -- the line of core c, or of slice s
 abbrev pub core_cells : ℕ → Numbers → List (List ℕ)

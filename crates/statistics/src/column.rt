@@ -63,7 +63,7 @@ pub(crate) const COLUMNS: [Column; COLUMN_COUNT] = [
 /// The column at a place.
 #[tactic(auto, unfolding(crate::specs::Columns::column_at))]
 pub(crate) fn column_at(place: usize) -> Column
-    requires { place < 20 }
+    requires { place < COLUMN_COUNT }
     ensures { result ≡ column_at place }
 {
     COLUMNS[place]

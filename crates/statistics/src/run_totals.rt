@@ -65,7 +65,7 @@ impl RunTotals {
 
     /// The number in a column, which stands at this place.
     pub(crate) fn number(&self, place: usize, column: Column) -> u64
-        requires { place < 20 }
+        requires { place < COLUMN_COUNT }
         ensures { result ≡ totals.number_in column place self.now }
     {
         match column {

@@ -69,7 +69,7 @@ fn push_cell(
     totals: &RunTotals,
     place: usize,
 ) -> Result<(), AllocError>
-    requires { place < 20 }
+    requires { place < COLUMN_COUNT }
     ensures { OnOk result (fields_of cells.new ≡ fields_of cells.old ++ text.cell_at whose totals.now place ∷ []) }
 {
     let column = column_at(place);

@@ -1,9 +1,9 @@
 -- Counts so far.
 use Rattle.std.specs.Prelude.{◌≡◌, ℕ, ◌<◌, List, count_by, get_or, length}
-use Rattle.statistics.specs.Columns.{column_at, counts}
+use Rattle.statistics.specs.Columns.{column_at, column_count, counts}
 use Rattle.statistics.specs.declared.sight.Sight.{Sight}
 
 -- the count of each column is that of this
 pub record IsCounted (numbers : List ℕ) (seen : List Sight) : Type 0 where
-  pub length : length numbers ≡ 20
-  pub each : (place : ℕ) → place < 20 → get_or numbers place 0 ≡ count_by (counts (column_at place)) seen
+  pub length : length numbers ≡ column_count
+  pub each : (place : ℕ) → place < column_count → get_or numbers place 0 ≡ count_by (counts (column_at place)) seen

@@ -1,12 +1,12 @@
 use Rattle.std.proofs.Common.{◌≡◌, ◌<◌, ◌∙◌, ◌+◌, ℕ, List, true, false, length, sym, subst, arith}
-use Rattle.statistics.specs.Columns.{column_at, counts}
+use Rattle.statistics.specs.Columns.{column_at, column_count, counts}
 use Rattle.statistics.proofs.Counting.{IsBegun, all_counted, counts_here, passes_here}
 use Rattle.statistics.proofs.numbers.count.Goals.{then-counts, else-counts}
 use Rattle.statistics.proofs.numbers.count.Goals as goal
 
 pub returns : goal.returns
 returns c = λ seen is.
-    let all : c.loop-place.place ≡ 20 = omega arith in
+    let all : c.loop-place.place ≡ column_count = omega arith in
     all_counted c.args.sight.now c.args.counts.now c.loop-place.counts seen c.loop-place.invariant.long
     (subst (λ (n : ℕ). IsBegun (λ k. counts (column_at k) c.args.sight.now) c.args.counts.now c.loop-place.counts n) all c.loop-place.invariant.begun) is
 

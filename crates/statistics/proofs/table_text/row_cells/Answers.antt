@@ -2,6 +2,7 @@ use Rattle.std.proofs.Common.{◌≡◌, ℕ, ◌∷◌, ◌++◌, ◌∙◌, []
 use Rattle.std.specs.List.{range_with_len}
 use Rattle.std.proofs.lemmas.List.FromFn.{map-range_with_len_more}
 use Rattle.csv.specs.Records.{fields_of}
+use Rattle.statistics.specs.Columns.{column_count}
 use Rattle.statistics.specs.TableText.{cell_at, row_cells, whose_name}
 use Rattle.statistics.proofs.table_text.row_cells.Goals as goal
 
@@ -15,5 +16,5 @@ loop-place-preserved c =
 pub returns : goal.returns
 unfolding row_cells
 returns c =
-    let all : c.loop-place.place ≡ 20 = omega arith in
+    let all : c.loop-place.place ≡ column_count = omega arith in
     subst (λ (n : ℕ). fields_of c.loop-place.cells ≡ whose_name c.args.whose ∷ map (cell_at c.args.whose c.args.totals.now) (range_with_len 0 n)) all c.loop-place.invariant
