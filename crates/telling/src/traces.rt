@@ -46,6 +46,9 @@ fn slip_of_core(core: &str) -> Option<&'static str> {
 
 /// What has usually gone wrong after the core and its colon.
 fn slip_of_act(act: &str) -> Option<&'static str> {
+    if are_two(act.split('#').next().unwrap_or("")) {
+        return Some("Two operations stand in one line.");
+    }
     if act.contains("fence") || act.starts_with("dmb") || act.starts_with("SYNC") {
         return Some("A fence is written sync.");
     }
@@ -55,12 +58,18 @@ fn slip_of_act(act: &str) -> Option<&'static str> {
     if !act.contains("==") && !act.contains(":=") {
         return Some("A load has ==, and a store :=.");
     }
-    if are_apart(addresses(act)) {
+    if act.starts_with('{') && are_apart(addresses(act)) {
         return Some("A swap reads and stores at one address.");
     }
     act.split(|letter: char| !letter.is_ascii_digit())
         .any(|digits| is_too_great(digits))
         .then_some("A number is above 18446744073709551615.")
+}
+
+/// Whether an act goes on with another one: it names more addresses than its own, or another core.
+fn are_two(act: &str) -> bool {
+    let most = if act.starts_with('{') { 2 } else { 1 };
+    act.split("M[").count() > most + 1 || act.contains(": ")
 }
 
 /// The first address of a line, and the second.
