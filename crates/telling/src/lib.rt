@@ -2,17 +2,23 @@
 #![tactic(auto)]
 
 mod arguments;
+mod certificates;
+mod certified_orders;
 mod explanations;
+mod failed_sets;
+mod failed_steps;
 mod findings;
 mod logs;
 mod programs;
 mod refusals;
 mod shown;
 mod slips;
+mod step_lines;
 mod steps;
 mod traces;
 
 pub use arguments::{count_of, push_argument, tell};
+pub use certificates::CertificateTelling;
 pub use explanations::print;
 pub use findings::first_sentence;
 pub use refusals::{Kind, Place, Refused, Telling};

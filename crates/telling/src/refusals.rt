@@ -131,7 +131,7 @@ impl<'a> Telling<'a> {
 }
 
 /// A text with more after it.
-fn joined(mut text: String, more: &str) -> Result<String, AllocError>
+pub(crate) fn joined(mut text: String, more: &str) -> Result<String, AllocError>
     ensures { IfOk result (λ whole. string_bytes whole ≡ string_bytes text ++ more.now) }
 {
     text.push_str(more)?;

@@ -341,7 +341,7 @@ impl<'a> Standing<'a> {
     }
 
     /// A point that isn't performed and comes before an operation, by a fact.
-    fn earlier(&self, id: &OpId) -> Option<Point> {
+    pub(crate) fn earlier(&self, id: &OpId) -> Option<Point> {
         for fact in self.facts {
             if fact.later == Point::At(*id) && !self.was_performed(&fact.earlier) {
                 return Some(fact.earlier);

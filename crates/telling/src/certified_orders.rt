@@ -1,0 +1,173 @@
+//! What is told of a line of an order of a trace.
+
+use super::arguments::count_of;
+use super::certificates::push_end;
+use super::shown::{Deed, Stored, Written};
+use super::slips::{RefusedLine, field_of, number_in, push_trouble};
+use super::step_lines::begins_step;
+use mem_op::{CoreId, OpId, OpIndex};
+use refutation::Point;
+use std::alloc::{AllocError, Global};
+use std::str;
+use trace::{Address, Trace};
+
+/// How an order is written.
+const LINES: &str =
+    "An order has a line C.I for each operation, then end N with their number; a refutation begins with tardis-refutation 1.\n";
+
+/// Adds what is told of a line of an order.
+pub(crate) fn push_order_line(
+    told: &mut String,
+    alloc: Global,
+    trace: &Trace,
+    at: &RefusedLine<'_>,
+) -> Written {
+    let before = ids_before(alloc, at)?;
+    let placed = Placed {
+        trace,
+        before: before.as_slice(),
+    };
+    match id_of(at.line) {
+        Some(_) if !at.is_whole() => {
+            told.push_str("The file ends in the middle of a line: it is cut off.\n")
+        }
+        Some(id) => placed.push_wrong(told, &id),
+        None if at.is_missing() || at.line.starts_with(b"end") => {
+            placed.push_missing(told)?;
+            push_end(told, at, count_of(trace) as u64)
+        }
+        None => {
+            told.push_str(LINES)?;
+            push_slip(told, at)
+        }
+    }
+}
+
+/// The ids of the lines before one.
+fn ids_before(alloc: Global, at: &RefusedLine<'_>) -> Result<Vec<OpId>, AllocError> {
+    let mut ids = Vec::new(alloc);
+    let before = at.place.line.saturating_sub(1) as usize;
+    for line in at.text.split(|byte| *byte == b'\n').take(before) {
+        if let Some(id) = id_of(line) {
+            ids.push(id)?;
+        }
+    }
+    Ok(ids)
+}
+
+/// The id that a line is.
+fn id_of(line: &[u8]) -> Option<OpId> {
+    let (core, index) = str::from_utf8(line).ok()?.split_once('.')?;
+    Some(OpId {
+        core: CoreId::new(number_in(core)?).ok()?,
+        index: OpIndex::new(number_in(index)?).ok()?,
+    })
+}
+
+/// Adds what has usually gone wrong in a line that is neither an id's nor the last one.
+fn push_slip(told: &mut String, at: &RefusedLine<'_>) -> Written {
+    let first = at.words.first().copied().unwrap_or("");
+    if let Some(slip) = slip_of(first, at.words) {
+        return write!(told, "{slip}\n");
+    }
+    if let Some(slip) = at.slip() {
+        return write!(told, "{slip}\n");
+    }
+    match field_of("source", first).1 {
+        Some(trouble) if first.contains('.') => push_trouble(told, "id", first, trouble),
+        _ => Ok(()),
+    }
+}
+
+/// What is told of a line of something else than an order, by its words.
+fn slip_of(first: &str, words: &[&str]) -> Option<&'static str> {
+    if words.iter().any(|word| word.starts_with("M[")) {
+        return Some("It is a line of a trace: explain --certificate takes the certificate first.");
+    }
+    if matches!(first, "tardis-log" | "S" | "L" | "X") {
+        return Some("It is a line of a log: with --logs confirm takes the certificate first.");
+    }
+    if first == "tardis-refutation" {
+        return Some("The first line of a refutation is tardis-refutation 1, and nothing else.");
+    }
+    begins_step(first).then_some(
+        "It is a step of a refutation, before which its first line is missing.",
+    )
+}
+
+/// An order as far as it is right: these operations of the trace.
+#[derive(Clone, Copy)]
+struct Placed<'a> {
+    trace: &'a Trace,
+    before: &'a [OpId],
+}
+
+impl<'a> Placed<'a> {
+    /// Adds why an operation can't come next.
+    fn push_wrong(&self, told: &mut String, id: &OpId) -> Written {
+        let (at, placed) = (Point::At(*id), self.placed(id.core));
+        let Some(access) = self.trace.operation(id) else {
+            return write!(told, "The trace has no operation {at}.\n");
+        };
+        if id.index.get() < placed {
+            return write!(told, "{at} stands on a line before it.\n");
+        }
+        if id.index.get() > placed {
+            let core = id.core.get();
+            return write!(
+                told,
+                "The next operation of core {core} is {core}.{placed}.\n"
+            );
+        }
+        let deed = Deed(self.trace, *id);
+        match self.last_store(access.addr()) {
+            Some(store) => write!(
+                told,
+                "{deed}, but {} {} before it, last of all.\n",
+                Point::At(store),
+                Stored(self.trace.operation(&store))
+            ),
+            None => write!(
+                told,
+                "{deed}, but nothing was stored there before it, and 0 is there.\n"
+            ),
+        }
+    }
+
+    /// How many operations of a core stand before.
+    fn placed(&self, core: CoreId) -> u64 {
+        self.before.iter().filter(|id| id.core == core).count() as u64
+    }
+
+    /// The last store or swap before at an address.
+    fn last_store(&self, addr: Address) -> Option<OpId> {
+        for id in self.before.iter().rev() {
+            if self
+                .trace
+                .operation(id)
+                .is_some_and(|it| it.is_store_to(addr))
+            {
+                return Some(*id);
+            }
+        }
+        None
+    }
+
+    /// Adds an operation that is missing, if one is.
+    fn push_missing(&self, told: &mut String) -> Written {
+        for (core, operations) in self.trace.cores().iter().enumerate() {
+            let Ok(core) = CoreId::new(core as u64) else {
+                return Ok(());
+            };
+            let placed = self.placed(core);
+            if placed < operations.len() as u64 {
+                let core = core.get();
+                return write!(
+                    told,
+                    "Operations are missing before it: the next one of core {core} is {core}.{placed}.\n"
+                );
+            }
+        }
+        Ok(())
+    }
+}
