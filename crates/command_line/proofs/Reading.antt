@@ -10,13 +10,11 @@ use Rattle.clap.specs.Matches.{ReadsOne}
 use Rattle.clap.specs.Words.{Row, Text, kind_of, subcommand_of}
 use Rattle.clap.specs.declared.error.Error.{Error}
 use Rattle.clap.specs.declared.error.kind.ErrorKind.TheVariants as error_kind
-use Rattle.command_line.specs.Asking.{AreMarked, AskVersion, Asks, IsAskedBy, IsCommandLine, IsMixedIn, IsNotOneOf, IsNumber, IsNumberOf, IsRefusalOf, IsRefusedBy, IsStrayIn, StandNotAlone, files_given, is_litmus, is_programs, is_trace, texts}
+use Rattle.command_line.specs.Asking.{AskVersion, Asks, IsAskedBy, IsCommandLine, IsNumber, IsNumberOf, IsRefusalOf, IsRefusedBy, IsStrayIn, texts}
 use Rattle.command_line.specs.Files.{IsApart}
 use Rattle.command_line.specs.Grammar.{tardis}
 use Rattle.command_line.specs.declared.misuse.Misuse.{Misuse}
 use Rattle.command_line.specs.declared.misuse.Misuse.TheVariants.{Usage, OutOfMemory}
-use Rattle.command_line.specs.declared.request.FileKind.{FileKind}
-use Rattle.command_line.specs.declared.request.FileKind.TheVariants as of_file
 use Rattle.command_line.specs.declared.request.Request.{Request}
 use Rattle.command_line.specs.declared.request.Request.TheVariants as request
 
@@ -41,6 +39,7 @@ asked_by words named (request.Check check) line is asks = (line, (named, is, ask
 asked_by words named (request.Order order) line is asks = (line, (named, is, asks))
 asked_by words named (request.Explain explain) line is asks = (line, (named, is, asks))
 asked_by words named (request.Inspect inspect) line is asks = (line, (named, is, asks))
+asked_by words named (request.Vet vet) line is asks = (line, (named, is, asks))
 asked_by words named (request.Upgrade upgrade) line is asks = (line, (named, is, asks))
 asked_by words named (request.Sim sim) line is asks = (line, (named, is, asks))
 asked_by words named (request.Run run) line is asks = (line, (named, is, asks))
@@ -58,18 +57,6 @@ unread named r is = rw is tt
 pub stray : (named : Text × List Row) (r : Misuse) → (named.0 ≡ codes "search") ⊎ (named.0 ≡ codes "confirm") → IsStrayIn named.1 r → IsRefusedBy named r
 stray named (Usage text) which files = inl (which, files)
 stray named OutOfMemory which files = tt
-
--- a file that isn't a log isn't alone
-pub mixed_one : (rows : List Row) (of : FileKind) (r : Misuse) → AreMarked (is_litmus of) (is_programs of) (is_trace of) rows → StandNotAlone rows → IsMixedIn rows r
-mixed_one rows of_file.Litmus (Usage text) marks others = (true, false, false, marks, others)
-mixed_one rows of_file.Programs (Usage text) marks others = (false, true, false, marks, others)
-mixed_one rows of_file.Trace (Usage text) marks others = (false, false, true, marks, others)
-mixed_one rows of OutOfMemory marks others = tt
-
-pub mixed_files : (rows : List Row) (of : FileKind) (r : Misuse) → AreMarked (is_litmus of) (is_programs of) (is_trace of) rows → IsNotOneOf (files_given rows) r
-    → IsMixedIn rows r
-mixed_files rows of (Usage text) marks files = mixed_one rows of (Usage text) marks (inl files)
-mixed_files rows of OutOfMemory marks files = tt
 
 -- what the words ask for isn't apart
 pub not_apart : (words : List Text) (asked : Request) (are : Bool) (r : Misuse) → Asks words asked → IsTrue are ↔ IsApart asked → are ≡ false → IsRefusalOf words r

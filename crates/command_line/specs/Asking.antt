@@ -74,16 +74,17 @@ abbrev pub is_trace : FileKind → Bool
 is_trace kind.Trace = true
 is_trace other = false
 
--- whether `--litmus` is there, whether `--programs` is, and whether `--trace` is
-pub record AreMarked (litmus programs trace : Bool) (rows : List Row) : Type 0 where
+-- whether `--litmus` is there, whether `--programs` is, whether `--trace` is, and which certificate `--certificate` names, if any
+pub record AreMarked (litmus programs trace : Bool) (certificate : Option Text) (rows : List Row) : Type 0 where
   pub litmus_flag : IsFlag (one_of (codes "litmus") rows) litmus
   pub programs_flag : IsFlag (one_of (codes "programs") rows) programs
   pub trace_flag : IsFlag (one_of (codes "trace") rows) trace
+  pub certificate_is : first_of (codes "certificate") rows ≡ certificate
 
 -- A check of the files that were given by one worker, against the programs that were given, the file for a picture that was, and whether
--- another order is searched; no flag says that a file isn't a log
+-- another order is searched; no option says that a file isn't a log
 pub record IsExplain (rows : List Row) (explain : Explain) : Type 0 where
-  pub marks : AreMarked false false false rows
+  pub marks : AreMarked false false false None rows
   pub workers : explain.check.workers ≡ 1
   pub program : text_of explain.check.program ≡ first_of (codes "program") rows
   pub picture : text_of explain.picture ≡ first_of (codes "svg") rows
@@ -98,7 +99,7 @@ pub record LackLogOptions (rows : List Row) : Type 0 where
 
 -- the one file that was given is looked at, of the kind that a flag says, without an option that is of logs
 pub record IsInspect (rows : List Row) (inspect : Inspect) : Type 0 where
-  pub marks : AreMarked (is_litmus inspect.kind) (is_programs inspect.kind) (is_trace inspect.kind) rows
+  pub marks : AreMarked (is_litmus inspect.kind) (is_programs inspect.kind) (is_trace inspect.kind) None rows
   pub file : files_given rows ≡ inspect.file.now ∷ []
   pub alone : LackLogOptions rows
 
@@ -162,6 +163,12 @@ IsTraceOf are_logs are_sourced files (One name) = (are_logs ≡ false) × (are_s
 IsTraceOf are_logs are_sourced files (Logs names) = (are_logs ≡ true) × (are_sourced ≡ false) × (texts names.items ≡ files)
 IsTraceOf are_logs are_sourced files (Sourced names) = (are_logs ≡ true) × (are_sourced ≡ true) × (texts names.items ≡ files)
 
+-- the certificate that was given is looked at, of the trace in the one file that was, without an option that is of logs
+pub record IsVet (rows : List Row) (vet : Confirm) : Type 0 where
+  pub marks : AreMarked false false false (Some vet.certificate.now) rows
+  pub trace : IsTraceOf false false (files_given rows) vet.trace
+  pub alone : LackLogOptions rows
+
 -- the same of these files with that of a certificate, where the first word names the trace, or else the certificate of logs
 abbrev pub IsCertifiedBy : Bool → Bool → Text → List Text → Text → TraceFiles → Type 0
 IsCertifiedBy are_logs are_sourced first files certificate (One name) = (are_logs ≡ false) × (are_sourced ≡ false) × (name.now ≡ first) × (files ≡ certificate ∷ [])
@@ -199,6 +206,7 @@ IsAskedBy named (request.Check check) = (named.0 ≡ codes "check") × IsCheck n
 IsAskedBy named (request.Order order) = (named.0 ≡ codes "order") × IsOrder named.1 order
 IsAskedBy named (request.Explain explain) = (named.0 ≡ codes "explain") × IsExplain named.1 explain
 IsAskedBy named (request.Inspect inspect) = (named.0 ≡ codes "explain") × IsInspect named.1 inspect
+IsAskedBy named (request.Vet vet) = (named.0 ≡ codes "explain") × IsVet named.1 vet
 IsAskedBy named (request.Upgrade upgrade) = (named.0 ≡ codes "upgrade") × IsUpgrade named.1 upgrade
 IsAskedBy named (request.Sim sim) = (named.0 ≡ codes "sim") × IsSim named.1 sim
 IsAskedBy named (request.Run run) = (named.0 ≡ codes "run") × IsThreaded named.1 run
@@ -262,17 +270,24 @@ HaveLogOption rows =
 abbrev pub StandNotAlone : List Row → Type 0
 StandNotAlone rows = AreNotOne (files_given rows) ⊎ HaveLogOption rows
 
--- a flag says that the file isn't a log, and another file, another flag or an option stands beside it
-abbrev pub AreMixedBy : Bool → Bool → Bool → List Row → Type 0
-AreMixedBy false false false rows = ⊥
-AreMixedBy true false false rows = StandNotAlone rows
-AreMixedBy false true false rows = StandNotAlone rows
-AreMixedBy false false true rows = StandNotAlone rows
-AreMixedBy litmus programs trace rows = ⊤
+-- only such files are refused for their usage
+abbrev pub IsNotAloneOf : List Row → Misuse → Type 0
+IsNotAloneOf rows (Usage text) = StandNotAlone rows
+IsNotAloneOf rows OutOfMemory = ⊤
+
+-- an option says that the file isn't a log, and another file, another such option or one that is of logs stands beside it
+abbrev pub AreMixedBy : Bool → Bool → Bool → Option Text → List Row → Type 0
+AreMixedBy false false false None rows = ⊥
+AreMixedBy true false false None rows = StandNotAlone rows
+AreMixedBy false true false None rows = StandNotAlone rows
+AreMixedBy false false true None rows = StandNotAlone rows
+AreMixedBy false false false (Some certificate) rows = StandNotAlone rows
+AreMixedBy litmus programs trace certificate rows = ⊤
 
 abbrev pub AreMixed : List Row → Type 0
 AreMixed rows =
-    (litmus : Bool) × (programs : Bool) × (trace : Bool) × AreMarked litmus programs trace rows × AreMixedBy litmus programs trace rows
+    (litmus : Bool) × (programs : Bool) × (trace : Bool) × (certificate : Option Text) × AreMarked litmus programs trace certificate rows
+    × AreMixedBy litmus programs trace certificate rows
 
 -- only a look at a file that isn't a log, and isn't alone, is refused for its usage
 abbrev pub IsMixedIn : List Row → Misuse → Type 0

@@ -4,7 +4,7 @@ use Rattle.std.specs.Borrow.{Bor}
 use Rattle.clap.specs.Words.{Text}
 use Rattle.command_line.specs.RunFiles.{IsLogName}
 use Rattle.command_line.specs.declared.request.Request.{Request}
-use Rattle.command_line.specs.declared.request.Request.TheVariants.{Check, Order, Explain, Inspect, Upgrade, Sim, Run, Litmus, Search, Confirm, Replay, Version}
+use Rattle.command_line.specs.declared.request.Request.TheVariants.{Check, Order, Explain, Inspect, Vet, Upgrade, Sim, Run, Litmus, Search, Confirm, Replay, Version}
 use Rattle.command_line.specs.declared.request.TraceFiles.{TraceFiles}
 use Rattle.command_line.specs.declared.request.TraceFiles.TheVariants.{One, Logs, Sourced}
 
@@ -32,6 +32,7 @@ files_read (Check asked) = names_given (asked.program ∷ []) ++ texts asked.fil
 files_read (Order asked) = texts asked.files.items
 files_read (Explain asked) = names_given (asked.check.program ∷ []) ++ texts asked.check.files.items
 files_read (Inspect asked) = asked.file.now ∷ []
+files_read (Vet asked) = asked.certificate.now ∷ names_of asked.trace
 files_read (Upgrade asked) = texts asked.files.items
 files_read (Sim asked) = names_given (asked.schedule ∷ []) ++ asked.programs.now ∷ []
 files_read (Run asked) = asked.programs.now ∷ []

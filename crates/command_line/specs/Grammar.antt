@@ -43,16 +43,17 @@ check = with_rule (with_check_options (new_app (codes "check"))) files
 abbrev pub order : App
 order = with_rule (new_app (codes "order")) files
 
--- [--litmus] [--programs] [--trace]
+-- [--litmus] [--programs] [--trace] [--certificate F]
 abbrev pub with_kinds : App → App
-with_kinds app = with_rule (with_rule (with_rule app (flag (codes "litmus"))) (flag (codes "programs"))) (flag (codes "trace"))
+with_kinds app =
+    with_rule (with_rule (with_rule (with_rule app (flag (codes "litmus"))) (flag (codes "programs"))) (flag (codes "trace"))) (file_option (codes "certificate"))
 
--- [--program F] [--svg F] [--no-search] [--litmus] [--programs] [--trace]
+-- [--program F] [--svg F] [--no-search] [--litmus] [--programs] [--trace] [--certificate F]
 abbrev pub with_explain_options : App → App
 with_explain_options app =
     with_kinds (with_rule (with_rule (with_rule app (file_option (codes "program"))) (file_option (codes "svg"))) (flag (codes "no-search")))
 
--- tardis explain [--program F] [--svg F] [--no-search] [--litmus] [--programs] [--trace] FILE..
+-- tardis explain [--program F] [--svg F] [--no-search] [--litmus] [--programs] [--trace] [--certificate F] FILE..
 abbrev pub explain : App
 explain = with_rule (with_explain_options (new_app (codes "explain"))) files
 

@@ -50,7 +50,9 @@ fn files_read<'a>(alloc: Global, request: &Request<'a>) -> Result<Vec<&'a str>, 
         Request::Run(asked) => names_of(alloc, &[], &[asked.programs]),
         Request::Litmus(asked) => names_of(alloc, &[], &[asked.test]),
         Request::Search(asked) => names_of_trace(alloc, None, &asked.trace),
-        Request::Confirm(asked) => names_of_trace(alloc, Some(asked.certificate), &asked.trace),
+        Request::Confirm(asked) | Request::Vet(asked) => {
+            names_of_trace(alloc, Some(asked.certificate), &asked.trace)
+        }
         Request::Replay(asked) => names_of(alloc, &[], &[asked.trace]),
         Request::Version => Ok(Vec::new(alloc)),
     }

@@ -1,11 +1,11 @@
 //! What the words after `explain` ask for.
 
-ghost use Rattle.std.specs.Prelude.{◌≡◌, IfErr, IfOk, IsTrue, codes, false};
+ghost use Rattle.std.specs.Prelude.{◌≡◌, ◌∷◌, IfErr, IfOk, IsOk, IsTrue, None, Some, [], codes, false};
 ghost use Rattle.clap.specs.Words.{found_of, rows_of};
 ghost use Rattle.command_line.specs.Asking as asking;
 
 use super::misuse::Misuse;
-use super::request::{Check, Explain, FileKind, Inspect, Request};
+use super::request::{Check, Confirm, Explain, FileKind, Inspect, Request, TraceFiles};
 use super::words::{files_of, flag_of, misuse, name_of, only};
 use clap::ArgMatches;
 use std::alloc::Global;
@@ -19,11 +19,13 @@ pub(crate) fn explaining_of<'a>(
     ensures usage { IfErr result (asking.IsMixedIn (rows_of (found_of matches.now))) }
 {
     let (litmus, programs) = (flag_of(matches, "litmus"), flag_of(matches, "programs"));
-    match (litmus, programs, flag_of(matches, "trace")) {
-        (false, false, false) => explain_of(alloc, matches),
-        (true, false, false) => inspect_of(alloc, matches, FileKind::Litmus),
-        (false, true, false) => inspect_of(alloc, matches, FileKind::Programs),
-        (false, false, true) => inspect_of(alloc, matches, FileKind::Trace),
+    let (trace, certificate) = (flag_of(matches, "trace"), name_of(matches, "certificate"));
+    match (litmus, programs, trace, certificate) {
+        (false, false, false, None) => explain_of(alloc, matches),
+        (true, false, false, None) => inspect_of(alloc, matches, FileKind::Litmus),
+        (false, true, false, None) => inspect_of(alloc, matches, FileKind::Programs),
+        (false, false, true, None) => inspect_of(alloc, matches, FileKind::Trace),
+        (false, false, false, Some(certificate)) => vet_of(alloc, matches, certificate),
         _ => Err(misuse(alloc, NOT_ALONE)),
     }
 }
@@ -34,17 +36,40 @@ fn inspect_of<'a>(
     matches: &ArgMatches<'a>,
     kind: FileKind,
 ) -> Result<Request<'a>, Misuse>
-    requires { asking.AreMarked (asking.is_litmus kind) (asking.is_programs kind) (asking.is_trace kind)
+    requires { asking.AreMarked (asking.is_litmus kind) (asking.is_programs kind) (asking.is_trace kind) None
         (rows_of (found_of matches.now)) }
     ensures asked { IfOk result (asking.IsAskedBy (codes "explain", rows_of (found_of matches.now))) }
     ensures usage { IfErr result (asking.IsMixedIn (rows_of (found_of matches.now))) }
+{
+    let file = alone(alloc, matches)?;
+    Ok(Request::Inspect(Inspect { kind, file }))
+}
+
+/// What is asked of this certificate and the trace in the one file that is given, or why nothing is.
+fn vet_of<'a>(
+    alloc: Global,
+    matches: &ArgMatches<'a>,
+    certificate: &'a str,
+) -> Result<Request<'a>, Misuse>
+    requires { asking.AreMarked false false false (Some certificate.now) (rows_of (found_of matches.now)) }
+    ensures asked { IfOk result (asking.IsAskedBy (codes "explain", rows_of (found_of matches.now))) }
+    ensures usage { IfErr result (asking.IsMixedIn (rows_of (found_of matches.now))) }
+{
+    let trace = TraceFiles::One(alone(alloc, matches)?);
+    Ok(Request::Vet(Confirm { certificate, trace }))
+}
+
+/// The name of the one file that is given, without an option that is of logs, or the refusal of others.
+fn alone<'a>(alloc: Global, matches: &ArgMatches<'a>) -> Result<&'a str, Misuse>
+    ensures one { IfOk result (λ name. asking.files_given (rows_of (found_of matches.now)) ≡ name.now ∷ []) }
+    ensures lack { IsOk result → asking.LackLogOptions (rows_of (found_of matches.now)) }
+    ensures usage { IfErr result (asking.IsNotAloneOf (rows_of (found_of matches.now))) }
 {
     let files = files_of(alloc, matches)?;
     if has_log_option(matches) {
         return Err(misuse(alloc, NOT_ALONE));
     }
-    let file = only(alloc, files.as_slice(), NOT_ALONE)?;
-    Ok(Request::Inspect(Inspect { kind, file }))
+    only(alloc, files.as_slice(), NOT_ALONE)
 }
 
 /// Whether an option is there that is of logs.
@@ -60,11 +85,11 @@ fn has_log_option(matches: &ArgMatches<'_>) -> bool
 
 /// What the user is told where a file that isn't a log isn't the only one, or options stand beside it that are of logs.
 const NOT_ALONE: &str =
-    "error: with '--litmus', '--programs' or '--trace' one file is read, and no other option goes with it\n\nFor more information, try '--help'.\n";
+    "error: with '--litmus', '--programs', '--trace' or '--certificate' one FILE is given, and no other option\n\nFor more information, try '--help'.\n";
 
 /// What the words after `explain` ask for of logs.
 fn explain_of<'a>(alloc: Global, matches: &ArgMatches<'a>) -> Result<Request<'a>, Misuse>
-    requires { asking.AreMarked false false false (rows_of (found_of matches.now)) }
+    requires { asking.AreMarked false false false None (rows_of (found_of matches.now)) }
     ensures asked { IfOk result (asking.IsAskedBy (codes "explain", rows_of (found_of matches.now))) }
     ensures memory { IfErr result (λ misuse. misuse ≡ Misuse.OutOfMemory) }
 {

@@ -11,6 +11,8 @@ pub enum Request<'a> {
     Explain(Explain<'a>),
     /// Whether a file can be read as what it has to be, and what is wrong with it.
     Inspect(Inspect<'a>),
+    /// Whether a certificate holds of a trace, and what is wrong with it.
+    Vet(Confirm<'a>),
     /// A set of logs, written anew in format 2.
     Upgrade(Upgrade<'a>),
     /// A run of the machine, one event after the other.
@@ -162,7 +164,7 @@ pub struct Search<'a> {
     pub trace: TraceFiles<'a>,
 }
 
-/// Asks whether a trace is consistent, by a certificate alone.
+/// Asks whether a trace is consistent, by a certificate alone; or whether that holds of the trace.
 #[derive(Debug, Drop)]
 pub struct Confirm<'a> {
     /// The name of the file of the certificate: an order or a refutation.

@@ -62,8 +62,12 @@ const EXPLAIN: Subcommand<'static> = Subcommand {
         Argument::Flag("litmus", "FILE is a litmus test, and is only read"),
         Argument::Flag("programs", "FILE is a set of programs, and is only read"),
         Argument::Flag("trace", "FILE is a trace, and is only read"),
+        Argument::File(
+            "certificate",
+            "Confirms the order or refutation F of the trace FILE, or tells why it isn't one",
+        ),
         Argument::Files(
-            "The logs, that of core 0 first; with --litmus, --programs or --trace one file",
+            "The logs, that of core 0 first; with --litmus, --programs, --trace or --certificate one file",
         ),
     ],
 };
