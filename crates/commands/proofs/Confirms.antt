@@ -41,12 +41,19 @@ uncertified old new unread asked cores OutOfMemory is why = tt
 uncertified old new unread asked cores other is why = absurd why
 
 -- it doesn't hold
-pub refused : (old new : Files) (unread : List ℕ → Type 0) (asked : Confirm) (cores : List (List Operation)) (text : List ℕ) (fault : Refusal)
+refused : (old new : Files) (unread : List ℕ → Type 0) (asked : Confirm) (cores : List (List Operation)) (text : List ℕ) (fault : Refusal)
     → IsTraceIn old.told asked.trace cores → Tells (old.told asked.certificate.now) text → new ≡ old → IsLook asked.trace cores text (Err fault)
     → IsConfirmed old new unread asked (Err fault)
 refused old new unread asked cores text (Certificate fault) is tells same why = ((cores, is, (text, tells, why)), same)
 refused old new unread asked cores text OutOfMemory is tells same why = tt
 refused old new unread asked cores text other is tells same why = absurd why
+
+-- it holds, or it doesn't
+pub looked : (old new : Files) (unread : List ℕ → Type 0) (asked : Confirm) (cores : List (List Operation)) (text : List ℕ) (result : Result SearchAnswer Refusal)
+    → IsTraceIn old.told asked.trace cores → Tells (old.told asked.certificate.now) text → new ≡ old → IsLook asked.trace cores text result
+    → IsConfirmed old new unread asked result
+looked old new unread asked cores text (Ok answer) is tells same look = ((cores, is, (text, tells, look)), same)
+looked old new unread asked cores text (Err fault) is tells same look = refused old new unread asked cores text fault is tells same look
 
 -- and so the answer is right
 pub right : (old new : Files) (unread : List ℕ → Type 0) (asked : Confirm) (result : Result SearchAnswer Refusal) → IsConfirmed old new unread asked result

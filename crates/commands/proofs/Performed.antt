@@ -34,7 +34,7 @@ use Rattle.commands.specs.Sinks.{Sink, Takes, Took, line}
 use Rattle.commands.specs.Traces.{TellsTrace}
 use Rattle.commands.specs.Upgrading.{IsUpgraded, LeavesAnew}
 use Rattle.commands.specs.declared.answer.CommandAnswer.{CommandAnswer}
-use Rattle.commands.specs.declared.answer.CommandAnswer.TheVariants.{Judged, Ordered, Explained, Readable, Searched, Replayed, Counted, Done, Version}
+use Rattle.commands.specs.declared.answer.CommandAnswer.TheVariants.{Judged, Ordered, Explained, Readable, Searched, Certified, Replayed, Counted, Done, Version}
 use Rattle.commands.specs.declared.refusal.Refusal.{Refusal}
 use Rattle.commands.specs.declared.refusal.Refusal.TheVariants.{Judge, Collect, Unread, Unwritten, OutOfMemory}
 use Rattle.commands.specs.declared.search_answer.SearchAnswer.{SearchAnswer}
@@ -85,6 +85,7 @@ low (Readable kind cores) two = absurd (omega (arith, two))
 low (Searched (searched.Yes operations)) two = absurd (omega (arith, two))
 low (Searched (searched.No operations)) two = absurd (omega (arith, two))
 low (Searched (searched.NoBySources operations)) two = absurd (omega (arith, two))
+low (Certified answer) two = absurd (omega (arith, two))
 low (Replayed (replayed.Yes count)) two = absurd (omega (arith, two))
 low (Replayed (replayed.No wrong)) two = absurd (omega (arith, two))
 low (Counted true) two = absurd (omega (arith, two))
@@ -193,6 +194,8 @@ told_more old middle new P Q out sink sink' (request.Explain asked) refusal is m
     record { kept = λ first. keeps_told middle new read ∙ is.kept first; left = tt; unread = unread_there P Q turned (request.Explain asked) refusal is.unread; unended = tt }
 told_more old middle new P Q out sink sink' (request.Inspect asked) refusal is more read turned =
     record { kept = λ first. keeps_told middle new read ∙ is.kept first; left = tt; unread = unread_there P Q turned (request.Inspect asked) refusal is.unread; unended = tt }
+told_more old middle new P Q out sink sink' (request.Vet asked) refusal is more read turned =
+    record { kept = λ first. keeps_told middle new read ∙ is.kept first; left = tt; unread = unread_there P Q turned (request.Vet asked) refusal is.unread; unended = tt }
 told_more old middle new P Q out sink sink' other refusal is more read turned = absurd more
 
 told_after : (old middle new : Files) (unread : Files → List ℕ → Type 0) (out sink sink' : Sink) (asked : Request) (refusal : Refusal)
@@ -223,4 +226,5 @@ pub wrong_after : (told : List ℕ → Option (List ℕ)) (middle new : Files) (
 wrong_after told middle new out sink sink' asked wrong (inr same) = subst (λ (s : Sink). AreWrong told out s asked) (sym same.1) wrong
 wrong_after told middle new out sink sink' (request.Explain asked) wrong (inl more) = wrong
 wrong_after told middle new out sink sink' (request.Inspect asked) wrong (inl more) = tt
+wrong_after told middle new out sink sink' (request.Vet asked) wrong (inl more) = tt
 wrong_after told middle new out sink sink' other wrong (inl more) = absurd more

@@ -267,6 +267,17 @@ module _ (old new : Files) (Unreadable : List ℕ → Type 0) (out out' : Sink) 
       → IsRefused old new Unreadable out out' (request.Confirm asked) refusal
   confirm_refused asked refusal is read = record { kept = λ first. keeps_told old new read; left = tt; unread = confirm_unread asked refusal is; unended = tt }
 
+  vet_unread : (asked : Confirm) (refusal : Refusal) → IsConfirmed old new Unreadable asked (Err refusal) → IsUnreadThere Unreadable (request.Vet asked) refusal
+  vet_unread asked (Judge (Read file)) is = logs_unread asked.trace file is
+  vet_unread asked (Unread input.Trace) is = file_unread asked.trace is
+  vet_unread asked (Unread input.Certificate) is = is.1
+  vet_unread asked (Unread place) is = absurd is
+  vet_unread asked other is = tt
+
+  pub vet_refused : (asked : Confirm) (refusal : Refusal) → IsConfirmed old new Unreadable asked (Err refusal) → IsOnlyRead old new
+      → IsRefused old new Unreadable out out' (request.Vet asked) refusal
+  vet_refused asked refusal is read = record { kept = λ first. keeps_told old new read; left = tt; unread = vet_unread asked refusal is; unended = tt }
+
   pub confirm_no_table : (asked : Confirm) (refusal : Refusal) → IsConfirmed old new Unreadable asked (Err refusal) → IsOfTable refusal → ⊥
   confirm_no_table asked (Collect fault) is of = is
   confirm_no_table asked other is of = of

@@ -4,7 +4,7 @@ use Rattle.trace_replay.specs.Texts.{verdict_status as replay_status}
 use Rattle.verdict.specs.Statuses.{verdict_status}
 use Rattle.commands.specs.SearchAnswers.{search_status}
 use Rattle.commands.specs.declared.answer.CommandAnswer.{CommandAnswer}
-use Rattle.commands.specs.declared.answer.CommandAnswer.TheVariants.{Judged, Ordered, Explained, Readable, Searched, Replayed, Counted, Done, Version}
+use Rattle.commands.specs.declared.answer.CommandAnswer.TheVariants.{Judged, Ordered, Explained, Readable, Searched, Certified, Replayed, Counted, Done, Version}
 
 abbrev pub answer_status : CommandAnswer → ℕ
 answer_status (Judged verdict) = verdict_status verdict
@@ -12,6 +12,7 @@ answer_status (Ordered verdict) = verdict_status verdict
 answer_status (Explained verdict) = verdict_status verdict
 answer_status (Readable kind cores) = 0
 answer_status (Searched answer) = search_status answer
+answer_status (Certified answer) = 0
 answer_status (Replayed verdict) = replay_status verdict
 answer_status (Counted forbidden) = if forbidden then 1 else 0
 answer_status (Done operations) = 0

@@ -16,9 +16,8 @@ use Rattle.commands.specs.Traces.{AreTraceless, TellsTrace}
 use Rattle.commands.specs.declared.search_answer.SearchAnswer.{SearchAnswer}
 use Rattle.commands.specs.declared.search_answer.SearchAnswer.TheVariants.{Yes}
 use Rattle.commands.specs.declared.place.Input.TheVariants as input
-use Rattle.commands.specs.declared.place.Output.TheVariants as output
 use Rattle.commands.specs.declared.refusal.Refusal.{Refusal}
-use Rattle.commands.specs.declared.refusal.Refusal.TheVariants.{Certificate, OutOfMemory, Unread, Unwritten}
+use Rattle.commands.specs.declared.refusal.Refusal.TheVariants.{Certificate, OutOfMemory, Unread}
 
 -- of the trace in these files the text of a sequential order certifies a yes, and that of a refutation a no
 abbrev pub Certifies : TraceFiles → List (List Operation) → List ℕ → SearchAnswer → Type 0
@@ -46,8 +45,6 @@ TellsBoth told asked Holds =
 -- opened or read.
 abbrev pub IsConfirmed : Files → Files → (List ℕ → Type 0) → Confirm → Result SearchAnswer Refusal → Type 0
 IsConfirmed old new unread asked (Ok answer) = TellsBoth old.told asked (λ cores text. Certifies asked.trace cores text answer) × (new ≡ old)
-IsConfirmed old new unread asked (Err (Unwritten output.Standard)) =
-    TellsBoth old.told asked (λ cores text. (answer : SearchAnswer) × Certifies asked.trace cores text answer) × (new ≡ old)
 IsConfirmed old new unread asked (Err (Certificate fault)) = TellsBoth old.told asked (λ cores text. IsBadCertificate cores text fault) × (new ≡ old)
 IsConfirmed old new unread asked (Err (Unread input.Certificate)) = TellsTrace old.told asked.trace (λ cores. ⊤) × unread asked.certificate.now
 IsConfirmed old new unread asked (Err OutOfMemory) = ⊤

@@ -6,7 +6,7 @@ use Rattle.command_line.specs.Asking.{AreRefused, Asks}
 use Rattle.command_line.specs.Files.{files_read}
 use Rattle.command_line.specs.RunFiles.{IsLogName}
 use Rattle.command_line.specs.declared.request.Request.{Request}
-use Rattle.command_line.specs.declared.request.Request.TheVariants.{Check, Order, Explain, Inspect, Upgrade, Sim, Run, Litmus, Search, Confirm, Replay}
+use Rattle.command_line.specs.declared.request.Request.TheVariants.{Check, Order, Explain, Inspect, Vet, Upgrade, Sim, Run, Litmus, Search, Confirm, Replay}
 use Rattle.command_line.specs.declared.request.TraceFiles.{TraceFiles}
 use Rattle.command_line.specs.declared.request.TraceFiles.TheVariants.{One, Logs, Sourced}
 use Rattle.host_files.specs.Files.{Files}
@@ -140,6 +140,8 @@ file_at (Explain asked) input.Programs = asked.check.program
 file_at (Inspect asked) input.Programs = Some asked.file
 file_at (Inspect asked) input.Test = Some asked.file
 file_at (Inspect asked) input.Trace = Some asked.file
+file_at (Vet asked) input.Trace = trace_file asked.trace
+file_at (Vet asked) input.Certificate = Some asked.certificate
 file_at (Sim asked) input.Programs = Some asked.programs
 file_at (Sim asked) input.Schedule = asked.schedule
 file_at (Run asked) input.Programs = Some asked.programs
@@ -158,6 +160,7 @@ logs_read (Explain asked) = asked.check.files.items
 logs_read (Upgrade asked) = asked.files.items
 logs_read (Search asked) = trace_logs asked.trace
 logs_read (Confirm asked) = trace_logs asked.trace
+logs_read (Vet asked) = trace_logs asked.trace
 logs_read other = []
 
 -- a file of which 28 is told is one that couldn't be opened or read

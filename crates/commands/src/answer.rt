@@ -23,6 +23,8 @@ pub enum CommandAnswer {
     Readable(FileKind, usize),
     /// Whether a trace is consistent, by a search or by a certificate.
     Searched(SearchAnswer),
+    /// A certificate holds of a trace, and gives this answer.
+    Certified(SearchAnswer),
     /// Whether a trace is right in the order of its lines.
     Replayed(ReplayVerdict),
     /// A table of the outcomes of a litmus test was written, and whether one of them is forbidden.
@@ -50,6 +52,7 @@ impl CommandAnswer {
             CommandAnswer::Counted(true) => 1,
             CommandAnswer::Counted(false)
             | CommandAnswer::Readable(_, _)
+            | CommandAnswer::Certified(_)
             | CommandAnswer::Done(_)
             | CommandAnswer::Version => 0,
         }
@@ -72,6 +75,12 @@ impl Display for CommandAnswer {
                 write!(f, "right: a trace of {cores} cores")
             }
             CommandAnswer::Searched(answer) => write!(f, "{answer}"),
+            CommandAnswer::Certified(SearchAnswer::Yes(operations)) => {
+                write!(f, "right: an order of {operations} operations")
+            }
+            CommandAnswer::Certified(
+                SearchAnswer::No(operations) | SearchAnswer::NoBySources(operations),
+            ) => { write!(f, "right: a refutation of {operations} operations") }
             CommandAnswer::Replayed(verdict) => write!(f, "{verdict}"),
             CommandAnswer::Counted(_) => f.write_str(""),
             CommandAnswer::Done(operations) => write!(f, "done: {operations} operations"),

@@ -14,7 +14,7 @@ use super::inspect_files::inspect;
 use super::litmus_files::count_outcomes;
 use super::more::tell_more;
 use super::order_files::order;
-use super::output::{print_answer, refuse, tell, tell_answer};
+use super::output::{print_answer, print_done, refuse, tell, tell_answer};
 use super::refusal::Refusal;
 use super::replay_file::{ReplayWatch, replay};
 use super::run_files::run;
@@ -126,24 +126,20 @@ fn perform<
             let cores = inspect(alloc, folder, asked)?;
             print_answer(alloc, out, CommandAnswer::Readable(asked.kind, cores))
         }
-        Request::Sim(asked) => {
-            let operations = sim(alloc, folder, asked)?;
-            print_answer(alloc, out, CommandAnswer::Done(operations))
-        }
-        Request::Run(asked) => {
-            let operations = run(rt, alloc, watch, folder, asked)?;
-            print_answer(alloc, out, CommandAnswer::Done(operations))
-        }
-        Request::Upgrade(asked) => {
-            let operations = upgrade(rt, alloc, folder, asked)?;
-            print_answer(alloc, out, CommandAnswer::Done(operations))
-        }
+        Request::Sim(asked) => print_done(alloc, out, sim(alloc, folder, asked)?),
+        Request::Run(asked) => print_done(alloc, out, run(rt, alloc, watch, folder, asked)?),
+        Request::Upgrade(asked) => print_done(alloc, out, upgrade(rt, alloc, folder, asked)?),
         Request::Search(asked) => Ok(CommandAnswer::Searched(search(
             rt, alloc, watch, folder, asked, out,
         )?)),
-        Request::Confirm(asked) => Ok(CommandAnswer::Searched(confirm(
-            rt, alloc, folder, asked, out,
-        )?)),
+        Request::Confirm(asked) => {
+            let answer = confirm(rt, alloc, folder, asked)?;
+            print_answer(alloc, out, CommandAnswer::Searched(answer))
+        }
+        Request::Vet(asked) => {
+            let answer = confirm(rt, alloc, folder, asked)?;
+            print_answer(alloc, out, CommandAnswer::Certified(answer))
+        }
         Request::Replay(asked) => Ok(CommandAnswer::Replayed(replay(
             alloc, watch, folder, asked, out,
         )?)),

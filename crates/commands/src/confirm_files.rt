@@ -22,7 +22,7 @@ use super::trace_files::read_files;
 use command_line::{Confirm, TraceFiles};
 use decimal_text::after_text;
 use host_files::Folder;
-use log_file::{ByteSink, ReadFault, write_all};
+use log_file::ReadFault;
 use refutation::{CertificateFault, first_bad_line};
 use std::alloc::Global;
 use std::thread::Threads;
@@ -32,15 +32,13 @@ use trace::Trace;
 /// The first line of a refutation's text.
 const HEADER: &[u8] = b"tardis-refutation 1\n";
 
-/// Looks whether the certificate in a file of the folder holds of the trace in others, and prints the line of the answer that it
-/// gives. The answer, or why there is none: the trace is read first, and 43 comes with the first line of the certificate that isn't as
-/// it should be.
-pub fn confirm<R: Threads + Sync, F: Folder, O: ByteSink>(
+/// Looks whether the certificate in a file of the folder holds of the trace in others. The answer that it gives, or why there is none: the
+/// trace is read first, and 43 comes with the first line of the certificate that isn't as it should be.
+pub fn confirm<R: Threads + Sync, F: Folder>(
     rt: &R,
     alloc: Global,
     folder: &mut F,
     asked: &Confirm<'_>,
-    out: &mut O,
 ) -> Result<SearchAnswer, Refusal>
     ensures exact { confirming.IsConfirmed (F.files folder.old) (F.files folder.new)
         (IsUnread F.Source.remaining F.Source.failed
@@ -53,10 +51,7 @@ pub fn confirm<R: Threads + Sync, F: Folder, O: ByteSink>(
 {
     let read = read_files(rt, alloc, folder, &asked.trace)?;
     let text = read_certificate(alloc, folder, asked.certificate)?;
-    let answer = look_at(alloc, &asked.trace, &read.trace, text.as_slice())?;
-    let line = format!(in alloc; "{answer}\n")?;
-    write_all(out, line.as_bytes())?;
-    Ok(answer)
+    look_at(alloc, &asked.trace, &read.trace, text.as_slice())
 }
 
 /// The text of a certificate: 28 where its file can't be opened or read, and 10 where a growth was refused.
@@ -79,7 +74,7 @@ fn read_certificate<F: Folder>(
 }
 
 /// The answer that a certificate gives of the trace in these files, or its first line that isn't as it should be.
-fn look_at(
+pub(crate) fn look_at(
     alloc: Global,
     files: &TraceFiles<'_>,
     trace: &Trace,

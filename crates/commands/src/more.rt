@@ -8,10 +8,11 @@ ghost use Rattle.commands.specs.inner.Performing.{IsToldMore};
 use super::place::Input;
 use super::refusal::Refusal;
 use super::refusal_telling::tell_refusal;
-use super::refused_file::{RefusedFile, RefusedLog};
-use command_line::{Check, Request};
+use super::refused_file::{RefusedCertificate, RefusedFile, RefusedLog};
+use command_line::{Check, Confirm, Request, TraceFiles};
 use host_files::Folder;
 use log_file::ByteSink;
+use refutation::CertificateFault;
 use std::alloc::Global;
 use verdict::JudgeFault;
 
@@ -40,6 +41,7 @@ fn refused_file<'a>(request: &'a Request<'a>, refusal: &Refusal) -> Option<Refus
     match request {
         Request::Explain(asked) => refused_of_logs(&asked.check, refusal),
         Request::Inspect(asked) => refused_of_look(asked.file, refusal),
+        Request::Vet(asked) => refused_of_vet(asked, refusal),
         _ => None,
     }
 }
@@ -75,5 +77,23 @@ fn refused_of_look<'a>(name: &'a str, refusal: &Refusal) -> Option<RefusedFile<'
             Some(RefusedFile::Unread(name))
         }
         _ => None,
+    }
+}
+
+/// The certificate or the trace for which a look at them was refused.
+fn refused_of_vet<'a>(asked: &'a Confirm<'a>, refusal: &Refusal) -> Option<RefusedFile<'a>> {
+    let TraceFiles::One(trace) = &asked.trace else {
+        return None;
+    };
+    match refusal {
+        Refusal::Certificate(CertificateFault::BadCertificate { line }) => {
+            Some(RefusedFile::Certificate(RefusedCertificate {
+                name: asked.certificate,
+                trace: *trace,
+                line: *line,
+            }))
+        }
+        Refusal::Unread(Input::Certificate) => Some(RefusedFile::Unread(asked.certificate)),
+        _ => refused_of_look(*trace, refusal),
     }
 }

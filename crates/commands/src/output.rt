@@ -5,6 +5,7 @@ ghost use Rattle.commands.specs.Answers.{answer_status};
 ghost use Rattle.commands.specs.Refusals.{refusal_status, refusal_text};
 ghost use Rattle.commands.specs.Sinks.{Takes, line, sink_of};
 ghost use Rattle.commands.specs.inner.Performing.{IsUnprinted};
+ghost use Rattle.commands.specs.declared.answer.CommandAnswer.TheVariants.{Done};
 ghost use Rattle.commands.specs.declared.refusal.Refusal.TheVariants.{OutOfMemory};
 
 use super::answer::CommandAnswer;
@@ -25,6 +26,18 @@ pub(crate) fn print_answer<O: ByteSink>(
     let line = format!(in alloc; "{answer}\n")?;
     write_all(out, line.as_bytes())?;
     Ok(answer)
+}
+
+/// Prints that so many operations are done.
+pub(crate) fn print_done<O: ByteSink>(
+    alloc: Global,
+    out: &mut O,
+    operations: u64,
+) -> Result<CommandAnswer, Refusal>
+    ensures ok { IfOk result (λ answer. answer ≡ Done operations) }
+    ensures err { IfErr result IsUnprinted }
+{
+    print_answer(alloc, out, CommandAnswer::Done(operations))
 }
 
 /// Tells on standard error what belongs there of an answer, and answers its exit status.

@@ -3,14 +3,14 @@
 ghost use Rattle.host_files.specs.Files.{IsOnlyRead};
 
 use super::first_operations::first_text;
-use super::refused_again::{log_again, programs_again, test_again, trace_again};
-use super::refused_file::{RefusedFile, RefusedLog};
+use super::refused_again::{certificate_again, log_again, programs_again, test_again, trace_again};
+use super::refused_file::{RefusedCertificate, RefusedFile, RefusedLog};
 use host_files::Folder;
 use litmus_test::LitmusFault;
 use log_file::{ByteSink, FormatFault, write_all};
 use std::alloc::{AllocError, Global};
-use telling::{Kind, Place, Refused, Telling};
-use trace::TraceFault;
+use telling::{CertificateTelling, Kind, Place, Refused, Telling};
+use trace::{Trace, TraceFault};
 use verdict::Count;
 
 /// Tells on standard output more of the refusal of a file: where its fault is, how the line there is written, and what is wrong with it.
@@ -49,6 +49,10 @@ fn refusal_text<F: Folder>(
         RefusedFile::Trace(name, fault) => {
             let bytes = trace_again(alloc, folder, name, fault);
             trace_text(alloc, name, fault, bytes)
+        }
+        RefusedFile::Certificate(refused) => {
+            let read = certificate_again(alloc, folder, refused);
+            certificate_text(alloc, refused, read)
         }
         RefusedFile::Unread(name) => format!(in alloc; "{name}: it can't be opened or read.\n"),
         RefusedFile::Count(count) => count_text(alloc, count),
@@ -114,6 +118,23 @@ fn trace_text(
         TraceFault::OutOfMemory => return Ok(String::new(alloc)),
     };
     fault_text(alloc, Place { file: name, line }, refused, bytes)
+}
+
+/// What is told of a certificate that was refused, beside this trace, and whose bytes these are where both could be read again.
+fn certificate_text(
+    alloc: Global,
+    refused: RefusedCertificate<'_>,
+    read: Option<(Trace, Vec<u8>)>,
+) -> Result<String, AllocError> {
+    let place = Place {
+        file: refused.name,
+        line: refused.line,
+    };
+    let telling = CertificateTelling {
+        place,
+        read: read.as_ref().map(|read| (&read.0, read.1.as_slice())),
+    };
+    telling.print(alloc)
 }
 
 /// What is told of a fault at this place of a file, whose bytes these are where it could be read again.

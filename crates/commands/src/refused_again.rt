@@ -3,13 +3,18 @@
 ghost use Rattle.std.specs.Prelude.{◌≡◌, IsSome};
 ghost use Rattle.host_files.specs.Files.{IsOnlyRead};
 
-use super::refused_file::RefusedLog;
+use super::confirm_files::look_at;
+use super::refusal::Refusal;
+use super::refused_file::{RefusedCertificate, RefusedLog};
 use super::text::read_text;
+use super::trace_file::read_trace;
+use command_line::TraceFiles;
 use core_program::{ProgramFault, ProgramSet};
 use host_files::Folder;
 use litmus_test::{Litmus, LitmusFault};
 use log_file::{LogFault, LogReader};
 use mem_op::CoreId;
+use refutation::CertificateFault;
 use std::alloc::Global;
 use trace::{Trace, TraceFault};
 
@@ -86,4 +91,22 @@ pub(crate) fn trace_again<F: Folder>(
         return Some(bytes);
     }
     None
+}
+
+/// The trace and the bytes of a certificate that are read again, where the certificate has this fault.
+pub(crate) fn certificate_again<F: Folder>(
+    alloc: Global,
+    folder: &mut F,
+    refused: RefusedCertificate<'_>,
+) -> Option<(Trace, Vec<u8>)>
+    ensures { IsOnlyRead (F.files folder.old) (F.files folder.new) }
+{
+    let trace = read_trace(alloc, folder, refused.trace).ok()?;
+    let bytes = read_text(alloc, folder, refused.name).ok()?;
+    let files = TraceFiles::One(refused.trace);
+    match look_at(alloc, &files, &trace, bytes.as_slice()) {
+        Err(Refusal::Certificate(CertificateFault::BadCertificate { line }))
+            if line == refused.line => { Some((trace, bytes)) }
+        _ => None,
+    }
 }

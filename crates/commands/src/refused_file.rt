@@ -17,6 +17,8 @@ pub enum RefusedFile<'a> {
     Programs(&'a str, ProgramFault),
     /// The file of this name, which isn't a trace.
     Trace(&'a str, TraceFault),
+    /// A certificate.
+    Certificate(RefusedCertificate<'a>),
     /// The file of this name, which can't be opened or read.
     Unread(&'a str),
     /// A set of logs, or the programs beside it: their number is wrong.
@@ -36,4 +38,15 @@ pub struct RefusedLog<'a> {
     pub line: u64,
     /// What is wrong there.
     pub fault: FormatFault,
+}
+
+/// A certificate that was refused.
+#[derive(Clone, Copy)]
+pub struct RefusedCertificate<'a> {
+    /// The name of its file.
+    pub name: &'a str,
+    /// The name of the file of its trace.
+    pub trace: &'a str,
+    /// The first line that isn't as it should be, counted from 1.
+    pub line: u64,
 }

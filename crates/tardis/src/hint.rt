@@ -21,6 +21,8 @@ pub(crate) enum Told {
     Programs,
     /// That a trace is refused.
     Trace,
+    /// That a certificate is refused.
+    Certificate,
     /// Something else.
     Other,
 }
@@ -55,6 +57,8 @@ fn told_by(piece: &[u8]) -> Told {
         Told::Programs
     } else if piece.starts_with(b"refused: trace") {
         Told::Trace
+    } else if piece.starts_with(b"refused: certificate") {
+        Told::Certificate
     } else {
         Told::Other
     }
@@ -87,13 +91,14 @@ pub(crate) fn tell_after(rt: &HostRuntime, words: &[&str], status: u8, told: Tol
     if !rt.stderr().is_terminal() {
         return;
     }
-    if let Some(hint) = hint_of(command.unwrap_or(""), status, told) {
+    if let Some(hint) = hint_of(words, status, told) {
         let _ = eprintln!(rt; "{hint}");
     }
 }
 
-/// Where a user reads on after a call of this command.
-fn hint_of(command: &str, status: u8, told: Told) -> Option<&'static str> {
+/// Where a user reads on after a call with these words.
+fn hint_of(words: &[&str], status: u8, told: Told) -> Option<&'static str> {
+    let command = words.get(1).copied().unwrap_or("");
     if command == "litmus" && status == 1 && told == Told::Nothing {
         return Some(
             "a forbidden outcome was seen, and each run got yes: the test forbids what may happen; the machine is right",
@@ -112,6 +117,9 @@ fn hint_of(command: &str, status: u8, told: Told) -> Option<&'static str> {
     let reads_trace = command == "search" || command == "confirm" || command == "replay";
     if reads_trace && told == Told::Trace {
         return Some("tardis explain --trace TRACE tells more");
+    }
+    if command == "confirm" && told == Told::Certificate && !words.contains(&"--logs") {
+        return Some("tardis explain --certificate CERTIFICATE TRACE tells more");
     }
     None
 }

@@ -3,7 +3,7 @@ use Rattle.std.specs.Prelude.{◌≡◌, ⊤, ℕ, List, Result, IfErr, IfOk}
 use Rattle.host_files.specs.Files.{Files, KeepsFiles}
 use Rattle.command_line.specs.Files.{IsApart}
 use Rattle.command_line.specs.declared.request.Request.{Request}
-use Rattle.command_line.specs.declared.request.Request.TheVariants.{Explain, Inspect}
+use Rattle.command_line.specs.declared.request.Request.TheVariants.{Explain, Inspect, Vet}
 use Rattle.commands.specs.Answers.{answer_status}
 use Rattle.commands.specs.Promises.{AreConsistent, AreOrdered, AreUpgraded, AreWrong, IsPutName, IsRefused, LeaveYes, RunFlat}
 use Rattle.commands.specs.Refusals.{refusal_status}
@@ -39,4 +39,5 @@ IsUnprinted other = ⊥
 abbrev pub IsToldMore : Request → Type 0
 IsToldMore (Explain asked) = ⊤
 IsToldMore (Inspect asked) = ⊤
+IsToldMore (Vet asked) = ⊤
 IsToldMore other = ⊥

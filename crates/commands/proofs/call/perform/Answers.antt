@@ -5,9 +5,9 @@ use Rattle.commands.proofs.Checks.{consistent_files, flat_files}
 use Rattle.commands.proofs.Orders.{consistent}
 use Rattle.commands.proofs.Leaving.{run_leaves, sim_leaves}
 use Rattle.commands.proofs.Performed.{answered, anew, check_no, of_table, order_no, printed, refused, replayed_no, right_no, yes_of}
-use Rattle.commands.proofs.Refused.{check_no_table, check_refused, confirm_no_table, confirm_refused, explain_no_table, explain_refused, inspect_refused, litmus_refused, order_no_table, order_refused, replay_no_table, replay_refused, run_refused, search_no_table, search_refused, sim_refused, upgrade_refused}
+use Rattle.commands.proofs.Refused.{check_no_table, check_refused, confirm_no_table, confirm_refused, explain_no_table, explain_refused, inspect_refused, litmus_refused, order_no_table, order_refused, replay_no_table, replay_refused, run_refused, search_no_table, search_refused, sim_refused, upgrade_refused, vet_refused}
 use Rattle.commands.specs.Sinks.{sink_of}
-use Rattle.commands.specs.declared.answer.CommandAnswer.TheVariants.{Judged, Ordered, Explained, Readable, Searched, Replayed, Counted, Done, Version}
+use Rattle.commands.specs.declared.answer.CommandAnswer.TheVariants.{Judged, Ordered, Explained, Readable, Searched, Certified, Replayed, Counted, Done, Version}
 use Rattle.commands.proofs.call.perform.Goals as goal
 
 pub returns-in_err-verdict-in-Check : goal.returns-in_err-verdict-in-Check
@@ -49,23 +49,23 @@ returns-in_err-cores-in-Inspect g c =
     let is : c.from_residual-in_err-cores-in-Inspect.result ≡ Err refusal = search rules in
     rw c.in-Inspect.is (refused _ _ _ _ _ _ refusal _ is (keeps_files _ _ _ c.in_err-cores-in-Inspect.ensures.read) (inspect_refused _ _ _ _ _ c.in-Inspect.asked refusal c.in_err-cores-in-Inspect.ensures.cores c.in_err-cores-in-Inspect.ensures.read) (λ one. tt))
 
-pub returns-in_err-operations-in-Sim : goal.returns-in_err-operations-in-Sim
-returns-in_err-operations-in-Sim g c =
-    let refusal = c.in_err-operations-in-Sim.field-0.0 in
-    let is : c.from_residual-in_err-operations-in-Sim.result ≡ Err refusal = search rules in
-    rw c.in-Sim.is (refused _ _ _ _ _ _ refusal _ is c.in_err-operations-in-Sim.ensures.files (sim_refused _ _ _ _ _ c.in-Sim.asked refusal c.in_err-operations-in-Sim.ensures.exact) (λ one. tt))
+pub returns-in_err-sim-in-Sim : goal.returns-in_err-sim-in-Sim
+returns-in_err-sim-in-Sim g c =
+    let refusal = c.in_err-sim-in-Sim.field-0.0 in
+    let is : c.from_residual-in_err-sim-in-Sim.result ≡ Err refusal = search rules in
+    rw c.in-Sim.is (refused _ _ _ _ _ _ refusal _ is c.in_err-sim-in-Sim.ensures.files (sim_refused _ _ _ _ _ c.in-Sim.asked refusal c.in_err-sim-in-Sim.ensures.exact) (λ one. tt))
 
-pub returns-in_err-operations-in-Run : goal.returns-in_err-operations-in-Run
-returns-in_err-operations-in-Run g c =
-    let refusal = c.in_err-operations-in-Run.field-0.0 in
-    let is : c.from_residual-in_err-operations-in-Run.result ≡ Err refusal = search rules in
-    rw c.in-Run.is (refused _ _ _ _ _ _ refusal _ is c.in_err-operations-in-Run.ensures.files (run_refused _ _ _ _ _ c.in-Run.asked refusal c.in_err-operations-in-Run.ensures.exact) (λ one. tt))
+pub returns-in_err-run-in-Run : goal.returns-in_err-run-in-Run
+returns-in_err-run-in-Run g c =
+    let refusal = c.in_err-run-in-Run.field-0.0 in
+    let is : c.from_residual-in_err-run-in-Run.result ≡ Err refusal = search rules in
+    rw c.in-Run.is (refused _ _ _ _ _ _ refusal _ is c.in_err-run-in-Run.ensures.files (run_refused _ _ _ _ _ c.in-Run.asked refusal c.in_err-run-in-Run.ensures.exact) (λ one. tt))
 
-pub returns-in_err-operations-in-Upgrade : goal.returns-in_err-operations-in-Upgrade
-returns-in_err-operations-in-Upgrade g c =
-    let refusal = c.in_err-operations-in-Upgrade.field-0.0 in
-    let is : c.from_residual-in_err-operations-in-Upgrade.result ≡ Err refusal = search rules in
-    rw c.in-Upgrade.is (refused _ _ _ _ _ _ refusal _ is (λ name none. c.in_err-operations-in-Upgrade.ensures.files name (λ core below same. none (core, below, same))) (upgrade_refused _ _ _ _ _ c.in-Upgrade.asked refusal c.in_err-operations-in-Upgrade.ensures.exact) (λ one. tt))
+pub returns-in_err-upgrade-in-Upgrade : goal.returns-in_err-upgrade-in-Upgrade
+returns-in_err-upgrade-in-Upgrade g c =
+    let refusal = c.in_err-upgrade-in-Upgrade.field-0.0 in
+    let is : c.from_residual-in_err-upgrade-in-Upgrade.result ≡ Err refusal = search rules in
+    rw c.in-Upgrade.is (refused _ _ _ _ _ _ refusal _ is (λ name none. c.in_err-upgrade-in-Upgrade.ensures.files name (λ core below same. none (core, below, same))) (upgrade_refused _ _ _ _ _ c.in-Upgrade.asked refusal c.in_err-upgrade-in-Upgrade.ensures.exact) (λ one. tt))
 
 pub returns-in_err-search-in-Search : goal.returns-in_err-search-in-Search
 returns-in_err-search-in-Search g c =
@@ -78,16 +78,22 @@ returns-in_err-search-in-Search g c =
     let is : c.from_residual-in_err-search-in-Search.result ≡ Err refusal = search rules in
     rw c.in-Search.is (refused _ _ _ _ _ _ refusal _ is c.in_err-search-in-Search.ensures.files (search_refused _ _ _ _ _ c.in-Search.asked refusal c.in_err-search-in-Search.ensures.exact) (λ one. absurd (search_no_table old new unread (sink c.args.out.now) (sink c.search.new.out) c.in-Search.asked refusal c.in_err-search-in-Search.ensures.exact (of_table refusal one))))
 
-pub returns-in_err-confirm-in-Confirm : goal.returns-in_err-confirm-in-Confirm
-returns-in_err-confirm-in-Confirm g c =
+pub returns-in_err-answer-in-Confirm : goal.returns-in_err-answer-in-Confirm
+returns-in_err-answer-in-Confirm g c =
     let files = g.F.Folder.files in
     let old = files c.args.folder.now in
     let new = files c.confirm.new.folder in
     let unread = IsUnread g.F.Source.ByteSource.remaining g.F.Source.ByteSource.failed old new in
     let sink = sink_of g.O.ByteSink.contents g.O.ByteSink.failed in
-    let refusal = c.in_err-confirm-in-Confirm.field-0.0 in
-    let is : c.from_residual-in_err-confirm-in-Confirm.result ≡ Err refusal = search rules in
-    rw c.in-Confirm.is (refused _ _ _ _ _ _ refusal _ is (keeps_files _ _ _ c.in_err-confirm-in-Confirm.ensures.read) (confirm_refused _ _ _ _ _ c.in-Confirm.asked refusal c.in_err-confirm-in-Confirm.ensures.exact c.in_err-confirm-in-Confirm.ensures.read) (λ one. absurd (confirm_no_table old new unread (sink c.args.out.now) (sink c.confirm.new.out) c.in-Confirm.asked refusal c.in_err-confirm-in-Confirm.ensures.exact (of_table refusal one))))
+    let refusal = c.in_err-answer-in-Confirm.field-0.0 in
+    let is : c.from_residual-in_err-answer-in-Confirm.result ≡ Err refusal = search rules in
+    rw c.in-Confirm.is (refused _ _ _ _ _ _ refusal _ is (keeps_files _ _ _ c.in_err-answer-in-Confirm.ensures.read) (confirm_refused _ _ _ _ _ c.in-Confirm.asked refusal c.in_err-answer-in-Confirm.ensures.exact c.in_err-answer-in-Confirm.ensures.read) (λ one. absurd (confirm_no_table old new unread (sink c.args.out.now) (sink c.args.out.now) c.in-Confirm.asked refusal c.in_err-answer-in-Confirm.ensures.exact (of_table refusal one))))
+
+pub returns-in_err-answer-in-Vet : goal.returns-in_err-answer-in-Vet
+returns-in_err-answer-in-Vet g c =
+    let refusal = c.in_err-answer-in-Vet.field-0.0 in
+    let is : c.from_residual-in_err-answer-in-Vet.result ≡ Err refusal = search rules in
+    rw c.in-Vet.is (refused _ _ _ _ _ _ refusal _ is (keeps_files _ _ _ c.in_err-answer-in-Vet.ensures.read) (vet_refused _ _ _ _ _ c.in-Vet.asked refusal c.in_err-answer-in-Vet.ensures.exact c.in_err-answer-in-Vet.ensures.read) (λ one. tt))
 
 pub returns-in_err-count_outcomes-in-Litmus : goal.returns-in_err-count_outcomes-in-Litmus
 returns-in_err-count_outcomes-in-Litmus g c =
@@ -105,20 +111,20 @@ returns-in_ok-cores-in-Inspect g c =
     rw c.in-Inspect.is (printed _ _ _ _ _ _ (Readable c.in-Inspect.asked.kind c.in_ok-cores-in-Inspect.cores) _ c.print_answer-in-Inspect.ensures.ok c.print_answer-in-Inspect.ensures.err (keeps_files _ _ _ c.in_ok-cores-in-Inspect.ensures.read)
     (λ zero. record { sound = tt; flat = tt; order = tt; upgraded = tt; yes = λ apart. tt }) (λ one. tt) tt)
 
-pub returns-in_ok-operations-in-Sim : goal.returns-in_ok-operations-in-Sim
-returns-in_ok-operations-in-Sim g c =
-    rw c.in-Sim.is (printed _ _ _ _ _ _ (Done c.in_ok-operations-in-Sim.operations) _ c.print_answer-in-Sim.ensures.ok c.print_answer-in-Sim.ensures.err c.in_ok-operations-in-Sim.ensures.files
-    (λ zero. record { sound = tt; flat = tt; order = tt; upgraded = tt; yes = sim_leaves (g.F.Folder.files c.args.folder.now) (g.F.Folder.files c.sim.new.folder) (IsUnread g.F.Source.ByteSource.remaining g.F.Source.ByteSource.failed (g.F.Folder.files c.args.folder.now) (g.F.Folder.files c.sim.new.folder)) c.in-Sim.asked c.in_ok-operations-in-Sim.operations c.in_ok-operations-in-Sim.ensures.exact }) (λ one. tt) tt)
+pub returns-in_ok-sim-in-Sim : goal.returns-in_ok-sim-in-Sim
+returns-in_ok-sim-in-Sim g c =
+    rw c.in-Sim.is (printed _ _ _ _ _ _ (Done c.in_ok-sim-in-Sim.field-0) _ c.print_done.ensures.ok c.print_done.ensures.err c.in_ok-sim-in-Sim.ensures.files
+    (λ zero. record { sound = tt; flat = tt; order = tt; upgraded = tt; yes = sim_leaves (g.F.Folder.files c.args.folder.now) (g.F.Folder.files c.sim.new.folder) (IsUnread g.F.Source.ByteSource.remaining g.F.Source.ByteSource.failed (g.F.Folder.files c.args.folder.now) (g.F.Folder.files c.sim.new.folder)) c.in-Sim.asked c.in_ok-sim-in-Sim.field-0 c.in_ok-sim-in-Sim.ensures.exact }) (λ one. tt) tt)
 
-pub returns-in_ok-operations-in-Run : goal.returns-in_ok-operations-in-Run
-returns-in_ok-operations-in-Run g c =
-    rw c.in-Run.is (printed _ _ _ _ _ _ (Done c.in_ok-operations-in-Run.operations) _ c.print_answer-in-Run.ensures.ok c.print_answer-in-Run.ensures.err c.in_ok-operations-in-Run.ensures.files
-    (λ zero. record { sound = tt; flat = tt; order = tt; upgraded = tt; yes = run_leaves (g.F.Folder.files c.args.folder.now) (g.F.Folder.files c.run.new.folder) (IsUnread g.F.Source.ByteSource.remaining g.F.Source.ByteSource.failed (g.F.Folder.files c.args.folder.now) (g.F.Folder.files c.run.new.folder)) c.in-Run.asked c.in_ok-operations-in-Run.operations c.in_ok-operations-in-Run.ensures.exact }) (λ one. tt) tt)
+pub returns-in_ok-run-in-Run : goal.returns-in_ok-run-in-Run
+returns-in_ok-run-in-Run g c =
+    rw c.in-Run.is (printed _ _ _ _ _ _ (Done c.in_ok-run-in-Run.field-0) _ c.print_done-in-Run.ensures.ok c.print_done-in-Run.ensures.err c.in_ok-run-in-Run.ensures.files
+    (λ zero. record { sound = tt; flat = tt; order = tt; upgraded = tt; yes = run_leaves (g.F.Folder.files c.args.folder.now) (g.F.Folder.files c.run.new.folder) (IsUnread g.F.Source.ByteSource.remaining g.F.Source.ByteSource.failed (g.F.Folder.files c.args.folder.now) (g.F.Folder.files c.run.new.folder)) c.in-Run.asked c.in_ok-run-in-Run.field-0 c.in_ok-run-in-Run.ensures.exact }) (λ one. tt) tt)
 
-pub returns-in_ok-operations-in-Upgrade : goal.returns-in_ok-operations-in-Upgrade
-returns-in_ok-operations-in-Upgrade g c =
-    rw c.in-Upgrade.is (printed _ _ _ _ _ _ (Done c.in_ok-operations-in-Upgrade.operations) _ c.print_answer-in-Upgrade.ensures.ok c.print_answer-in-Upgrade.ensures.err (λ name none. c.in_ok-operations-in-Upgrade.ensures.files name (λ core below same. none (core, below, same)))
-    (λ zero. record { sound = tt; flat = tt; order = tt; upgraded = anew (g.F.Folder.files c.args.folder.now) (g.F.Folder.files c.upgrade.new.folder) (IsUnread g.F.Source.ByteSource.remaining g.F.Source.ByteSource.failed (g.F.Folder.files c.args.folder.now) (g.F.Folder.files c.upgrade.new.folder)) c.in-Upgrade.asked c.in_ok-operations-in-Upgrade.operations c.in_ok-operations-in-Upgrade.ensures.exact; yes = λ apart. tt }) (λ one. tt) tt)
+pub returns-in_ok-upgrade-in-Upgrade : goal.returns-in_ok-upgrade-in-Upgrade
+returns-in_ok-upgrade-in-Upgrade g c =
+    rw c.in-Upgrade.is (printed _ _ _ _ _ _ (Done c.in_ok-upgrade-in-Upgrade.field-0) _ c.print_done-in-Upgrade.ensures.ok c.print_done-in-Upgrade.ensures.err (λ name none. c.in_ok-upgrade-in-Upgrade.ensures.files name (λ core below same. none (core, below, same)))
+    (λ zero. record { sound = tt; flat = tt; order = tt; upgraded = anew (g.F.Folder.files c.args.folder.now) (g.F.Folder.files c.upgrade.new.folder) (IsUnread g.F.Source.ByteSource.remaining g.F.Source.ByteSource.failed (g.F.Folder.files c.args.folder.now) (g.F.Folder.files c.upgrade.new.folder)) c.in-Upgrade.asked c.in_ok-upgrade-in-Upgrade.field-0 c.in_ok-upgrade-in-Upgrade.ensures.exact; yes = λ apart. tt }) (λ one. tt) tt)
 
 pub returns-in_ok-order-in-Order : goal.returns-in_ok-order-in-Order
 returns-in_ok-order-in-Order g c =
@@ -136,10 +142,15 @@ returns-in_ok-search-in-Search g c =
     rw c.in-Search.is (answered _ _ _ _ _ _ (Searched c.in_ok-search-in-Search.field-0) c.in_ok-search-in-Search.ensures.files
     (λ zero. record { sound = c.in_ok-search-in-Search.ensures.own zero; flat = tt; order = tt; upgraded = tt; yes = λ apart. tt }) (right_no _ _ _ c.in_ok-search-in-Search.ensures.sound))
 
-pub returns-in_ok-confirm-in-Confirm : goal.returns-in_ok-confirm-in-Confirm
-returns-in_ok-confirm-in-Confirm g c =
-    rw c.in-Confirm.is (answered _ _ _ _ _ _ (Searched c.in_ok-confirm-in-Confirm.field-0) (keeps_files _ _ _ c.in_ok-confirm-in-Confirm.ensures.read)
-    (λ zero. record { sound = c.in_ok-confirm-in-Confirm.ensures.own zero; flat = tt; order = tt; upgraded = tt; yes = λ apart. tt }) (right_no _ _ _ c.in_ok-confirm-in-Confirm.ensures.sound))
+pub returns-in_ok-answer-in-Confirm : goal.returns-in_ok-answer-in-Confirm
+returns-in_ok-answer-in-Confirm g c =
+    rw c.in-Confirm.is (printed _ _ _ _ _ _ (Searched c.in_ok-answer-in-Confirm.answer) _ c.print_answer-in-Confirm.ensures.ok c.print_answer-in-Confirm.ensures.err (keeps_files _ _ _ c.in_ok-answer-in-Confirm.ensures.read)
+    (λ zero. record { sound = c.in_ok-answer-in-Confirm.ensures.own zero; flat = tt; order = tt; upgraded = tt; yes = λ apart. tt }) (right_no _ _ _ c.in_ok-answer-in-Confirm.ensures.sound) tt)
+
+pub returns-in_ok-answer-in-Vet : goal.returns-in_ok-answer-in-Vet
+returns-in_ok-answer-in-Vet g c =
+    rw c.in-Vet.is (printed _ _ _ _ _ _ (Certified c.in_ok-answer-in-Vet.answer) _ c.print_answer-in-Vet.ensures.ok c.print_answer-in-Vet.ensures.err (keeps_files _ _ _ c.in_ok-answer-in-Vet.ensures.read)
+    (λ zero. record { sound = tt; flat = tt; order = tt; upgraded = tt; yes = λ apart. tt }) (λ one. tt) tt)
 
 pub returns-in_ok-count_outcomes-in-Litmus : goal.returns-in_ok-count_outcomes-in-Litmus
 returns-in_ok-count_outcomes-in-Litmus g c =

@@ -1,13 +1,10 @@
-use Rattle.std.proofs.Common.{rules, ◌≡◌, ◌∙◌, ℕ, List, subst, Err, Ok}
+use Rattle.std.proofs.Common.{rules, ◌≡◌, ◌∙◌, ℕ, List, subst, Err}
 use Rattle.host_files.specs.Files.{Files, IsUnread}
 use Rattle.commands.proofs.Files.{only_read_after}
-use Rattle.commands.specs.Confirming.{Certifies}
 use Rattle.log_file.specs.Devices.{Tells}
 use Rattle.commands.specs.inner.Looking.{IsLook, IsNoCertificate}
 use Rattle.commands.proofs.OwnTraces.{own_yes}
-use Rattle.commands.proofs.Confirms.{refused, right, traceless, uncertified}
-use Rattle.commands.specs.declared.place.Output.TheVariants as output
-use Rattle.commands.specs.declared.refusal.Refusal.TheVariants.{OutOfMemory, Unwritten}
+use Rattle.commands.proofs.Confirms.{looked, right, traceless, uncertified}
 use Rattle.commands.proofs.confirm_files.confirm.Goals as goal
 
 pub returns-in_err-read-clause-exact : goal.returns-in_err-read-clause-exact
@@ -34,42 +31,17 @@ returns-in_err-text-clause-exact g c =
 pub returns-in_err-text-clause-read : goal.returns-in_err-text-clause-read
 returns-in_err-text-clause-read g c = only_read_after _ _ _ c.in_ok-read.ensures.quiet c.in_err-text.ensures.read
 
-pub returns-in_err-answer-clause-exact : goal.returns-in_err-answer-clause-exact
-returns-in_err-answer-clause-exact g c =
+pub returns-clause-exact : goal.returns-clause-exact
+returns-clause-exact g c =
     let files = g.F.Folder.files in
     let old = files c.args.folder.now in
-    let now = files c.read_files.new.folder in
     let new = files c.read_certificate.new.folder in
     let unread = IsUnread g.F.Source.ByteSource.remaining g.F.Source.ByteSource.failed old new in
     let asked = c.args.asked.now in
-    let is : c.from_residual-in_err-answer.result ≡ Err c.in_err-answer.field-0.0 = search rules in
     let tells = subst (λ (f : Files). Tells (f.told asked.certificate.now) c.in_ok-text.text.items) c.in_ok-read.ensures.quiet c.in_ok-text.ensures.ok in
-    let look = subst (λ (t : List ℕ). IsLook asked.trace c.in_ok-read.read.trace t (Err c.in_err-answer.field-0.0)) c.as_slice.ensures.value c.in_err-answer.ensures in
-    rw is (refused old new unread asked c.in_ok-read.read.trace c.in_ok-text.text.items c.in_err-answer.field-0.0 c.in_ok-read.ensures.ok tells
-    (c.in_ok-text.ensures.quiet ∙ c.in_ok-read.ensures.quiet) look)
-
-pub returns-in_err-line-clause-exact : goal.returns-in_err-line-clause-exact
-returns-in_err-line-clause-exact g c =
-    let is : c.from_residual-in_err-line.result ≡ Err OutOfMemory = search rules in
-    rw is tt
-
-pub returns-in_err-write_all-clause-exact : goal.returns-in_err-write_all-clause-exact
-returns-in_err-write_all-clause-exact g c =
-    let asked = c.args.asked.now in
-    let tells = subst (λ (f : Files). Tells (f.told asked.certificate.now) c.in_ok-text.text.items) c.in_ok-read.ensures.quiet c.in_ok-text.ensures.ok in
-    let look = subst (λ (t : List ℕ). Certifies asked.trace c.in_ok-read.read.trace t c.in_ok-answer.answer) c.as_slice.ensures.value c.in_ok-answer.ensures in
-    let is : c.from_residual-in_err-write_all.result ≡ Err (Unwritten output.Standard) = search rules in
-    rw is (
-      (c.in_ok-read.read.trace, c.in_ok-read.ensures.ok, (c.in_ok-text.text.items, tells, (c.in_ok-answer.answer, look))),
-      c.in_ok-text.ensures.quiet ∙ c.in_ok-read.ensures.quiet,
-    )
-
-pub returns-clause-exact : goal.returns-clause-exact
-returns-clause-exact g c =
-    let asked = c.args.asked.now in
-    let tells = subst (λ (f : Files). Tells (f.told asked.certificate.now) c.in_ok-text.text.items) c.in_ok-read.ensures.quiet c.in_ok-text.ensures.ok in
-    let look = subst (λ (t : List ℕ). Certifies asked.trace c.in_ok-read.read.trace t c.in_ok-answer.answer) c.as_slice.ensures.value c.in_ok-answer.ensures in
-    ((c.in_ok-read.read.trace, c.in_ok-read.ensures.ok, (c.in_ok-text.text.items, tells, look)), c.in_ok-text.ensures.quiet ∙ c.in_ok-read.ensures.quiet)
+    let look = subst (λ (t : List ℕ). IsLook asked.trace c.in_ok-read.read.trace t c.look_at.result) c.as_slice.ensures.value c.look_at.ensures in
+    looked old new unread asked c.in_ok-read.read.trace c.in_ok-text.text.items c.look_at.result c.in_ok-read.ensures.ok tells
+    (c.in_ok-text.ensures.quiet ∙ c.in_ok-read.ensures.quiet) look
 
 pub returns-clause-sound : goal.returns-clause-sound
 returns-clause-sound g c =
@@ -77,8 +49,8 @@ returns-clause-sound g c =
     let old = files c.args.folder.now in
     let new = files c.read_certificate.new.folder in
     let unread = IsUnread g.F.Source.ByteSource.remaining g.F.Source.ByteSource.failed old new in
-    right old new unread c.args.asked.now (Ok c.in_ok-answer.answer) (returns-clause-exact g c)
+    right old new unread c.args.asked.now c.look_at.result (returns-clause-exact g c)
 
 pub returns-clause-own : goal.returns-clause-own
 returns-clause-own g c =
-    own_yes (g.F.Folder.files c.args.folder.now).told c.args.asked.now.trace (Ok c.in_ok-answer.answer) (returns-clause-sound g c)
+    own_yes (g.F.Folder.files c.args.folder.now).told c.args.asked.now.trace c.look_at.result (returns-clause-sound g c)
