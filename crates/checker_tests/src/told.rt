@@ -70,8 +70,9 @@ fn refutations_are_told_and_drawn(rt: HostRuntime) -> Result<(), Fail> {
     for case in &[BUFFERED, LOST_UPDATE, DEAD_STATE] {
         let trace = Trace::parse(rt.alloc(), case.trace)?;
         let steps = Refutation::parse(rt.alloc(), case.steps)?;
-        assert_eq!(rt; tell(rt.alloc(), &trace, &steps)?.as_str(), case.told);
-        let svg = draw_refutation(rt.alloc(), &trace, &steps)?;
+        let told = tell(rt.alloc(), &trace, &steps)?;
+        assert_eq!(rt; told.as_str(), case.told);
+        let svg = draw_refutation(rt.alloc(), told.as_str(), &trace, &steps)?;
         for part in case.parts.lines() {
             let is_there = match part.strip_prefix('-') {
                 Some(absent) => !svg.as_str().contains(absent),

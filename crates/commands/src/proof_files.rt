@@ -19,6 +19,7 @@ use merge_judge::print_order;
 use pictures::draw_refutation;
 use refutation::{Answer, Refutation};
 use std::alloc::Global;
+use telling::tell;
 use trace::Trace;
 
 /// Puts an order or a refutation where that was asked for, with the picture of one drawn by this trace: 29 where the put fails.
@@ -95,7 +96,8 @@ fn put_picture<F: Folder>(
     let Some(name) = name else {
         return Ok(());
     };
-    let picture = draw_refutation(alloc, trace, refutation)?;
+    let words = tell(alloc, trace, refutation)?;
+    let picture = draw_refutation(alloc, words.as_str(), trace, refutation)?;
     match put_under(folder, Some(name), picture.as_bytes()) {
         Ok(()) => Ok(()),
         Err(_) => Err(Refusal::Unwritten(Output::Picture)),

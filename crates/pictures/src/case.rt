@@ -1,40 +1,53 @@
 //! The operations and the arrows of a case that a cycle closes, or a read that nothing gives its word.
 
-use super::scene::{Arrow, ArrowKind};
-use mem_op::OpId;
+use super::scene::{Arrow, Kind};
+use mem_op::{OpId, Word};
 use refutation::{Point, Step};
+use refuted_cases::{Hop, Link, link_at};
 use std::alloc::{AllocError, Global};
-use telling::{Hop, Known, StepRule, known_at, round};
+use std::fmt;
+
+/// What stands behind an operation in its box.
+#[derive(Clone, Copy)]
+pub(crate) enum Note {
+    Nothing,
+    /// It loaded the initial 0.
+    Initial,
+    /// It waits for another point.
+    Waits,
+    /// It waits for its word, and finds this one.
+    Finds(Word),
+}
+
+impl fmt::Display for Note {
+    fn fmt<W: fmt::Write>(&self, f: &mut fmt::Formatter<W>) -> fmt::Result {
+        match self {
+            Note::Nothing => Ok(()),
+            Note::Initial => f.write_str(" (initial)"),
+            Note::Waits => f.write_str(" (waits)"),
+            Note::Finds(word) => write!(f, " (finds {word})"),
+        }
+    }
+}
+
+/// An operation that is shown.
+pub(crate) type Noted = (OpId, Note);
+
+/// A fact that is shown, and whether it goes round.
+pub(crate) type Reason = (Link, bool);
 
 /// The facts of a case, and the step that closes it.
 #[derive(Clone, Copy)]
 pub(crate) struct Case<'a> {
     pub(crate) alloc: Global,
-    pub(crate) facts: &'a [Known],
+    pub(crate) facts: &'a [Link],
     pub(crate) steps: &'a [Step],
     pub(crate) last: Option<&'a Step>,
 }
 
-/// The place of a point among operations, where it is one of them.
-fn place_of(operations: &[OpId], point: &Point) -> Option<usize> {
-    match point {
-        Point::Init => None,
-        Point::At(id) => operations.iter().position(|other| other == id),
-    }
-}
-
-/// The kind of a fact's arrow.
-fn kind_of(rule: StepRule) -> ArrowKind {
-    match rule {
-        StepRule::Source => ArrowKind::Source,
-        StepRule::FromRead => ArrowKind::FromRead,
-        StepRule::WriteOrder => ArrowKind::WriteOrder,
-    }
-}
-
 impl<'a> Case<'a> {
     /// The path that goes round.
-    fn path(&self) -> &'a [usize] {
+    pub(crate) fn path(&self) -> &'a [usize] {
         match self.last {
             Some(Step::Cycle { path }) => path.as_slice(),
             _ => &[],
@@ -42,15 +55,12 @@ impl<'a> Case<'a> {
     }
 
     /// Of each fact in force whether those of the path rest on it.
-    pub(crate) fn needed(&self) -> Result<Vec<bool>, AllocError> {
-        let mut needed = Vec::new(self.alloc);
-        for _ in self.facts {
-            needed.push(false)?;
-        }
+    fn needed(&self) -> Result<Vec<bool>, AllocError> {
+        let mut needed = vec![in self.alloc; false; self.facts.len()]?;
         mark_all(&mut needed, self.path());
         for number in (0..self.facts.len()).rev() {
-            if is_needed(&needed, number) {
-                self.mark_reasons(&mut needed, known_at(self.facts, number).step);
+            if needed.get(number) == Some(&true) {
+                self.mark_reasons(&mut needed, link_at(self.facts, number).step);
             }
         }
         Ok(needed)
@@ -61,115 +71,112 @@ impl<'a> Case<'a> {
         match self.steps.get(place) {
             Some(Step::FromRead { source, path, .. })
             | Some(Step::WriteOrder { source, path, .. }) => {
-                mark(needed, *source);
+                mark_all(needed, &[*source]);
                 mark_all(needed, path.as_slice());
             }
             _ => {}
         }
     }
 
-    /// The operations of the facts that are needed, or the read that nothing gives its word: core by core, in program order.
-    pub(crate) fn operations(&self, needed: &[bool]) -> Result<Vec<OpId>, AllocError> {
-        let mut operations = Vec::new(self.alloc);
+    /// The facts that are needed. The last of them comes back to where the path began.
+    pub(crate) fn reasons(&self) -> Result<Vec<Reason>, AllocError> {
+        let needed = self.needed()?;
+        let mut reasons = Vec::new(self.alloc);
+        let path = self.path();
         for (number, fact) in self.facts.iter().enumerate() {
-            if is_needed(needed, number) {
-                add(&mut operations, &fact.earlier)?;
-                add(&mut operations, &fact.later)?;
-                add(&mut operations, &fact.last)?;
+            if needed.get(number) == Some(&true) && path.first() != Some(&number) {
+                reasons.push((*fact, path.contains(&number)))?;
             }
+        }
+        if let Some(number) = path.first() {
+            reasons.push((link_at(self.facts, *number), true))?;
+        }
+        Ok(reasons)
+    }
+
+    /// The operations of these facts, or the read that nothing gives its word: core by core, in program order.
+    pub(crate) fn operations(&self, reasons: &[Reason]) -> Result<Vec<Noted>, AllocError> {
+        let mut operations = Vec::new(self.alloc);
+        for reason in reasons {
+            add(&mut operations, &reason.0.earlier)?;
+            add(&mut operations, &reason.0.later)?;
+            add(&mut operations, &reason.0.last)?;
         }
         if let Some(Step::Read { read, .. }) = self.last {
             add(&mut operations, &Point::At(*read))?;
         }
-        operations.sort_unstable();
+        operations.sort_unstable_by_key(|it| it.0);
         Ok(operations)
     }
 
-    /// The arrows between the operations, without the one that comes back to where the path began.
-    pub(crate) fn arrows(
-        &self,
-        needed: &[bool],
-        operations: &[OpId],
-    ) -> Result<Vec<Arrow>, AllocError> {
-        let round = round(self.alloc, self.facts, self.path())?;
-        let mut arrows = program_arrows(self.alloc, operations, &round)?;
-        for number in 0..self.facts.len() {
-            if is_needed(needed, number) && self.path().first() != Some(&number) {
-                self.push_fact(&mut arrows, operations, number)?;
-            }
-        }
-        Ok(arrows)
-    }
-
-    /// Adds the arrow that comes back to where the path began.
-    pub(crate) fn push_back(
+    /// Adds the arrow of a fact, where it is of two operations: red, where it goes round.
+    pub(crate) fn push_arrow(
         &self,
         arrows: &mut Vec<Arrow>,
-        operations: &[OpId],
+        operations: &[Noted],
+        reason: &Reason,
     ) -> Result<(), AllocError> {
-        match self.path().first() {
-            Some(number) => self.push_fact(arrows, operations, *number),
-            None => Ok(()),
+        let fact = &reason.0;
+        let from = place_of(operations, &fact.earlier);
+        let to = place_of(operations, &fact.later);
+        if let (Some(from), Some(to)) = (from, to) {
+            arrows.push(Arrow {
+                kind: self.kind_of(fact),
+                from,
+                to,
+                is_red: reason.1,
+            })?;
         }
-    }
-
-    /// Adds the arrow of a fact, where it is of two operations: red, where it is one of the path.
-    fn push_fact(
-        &self,
-        arrows: &mut Vec<Arrow>,
-        operations: &[OpId],
-        number: usize,
-    ) -> Result<(), AllocError> {
-        let fact = known_at(self.facts, number);
-        let (Some(from), Some(to)) = (
-            place_of(operations, &fact.earlier),
-            place_of(operations, &fact.later),
-        ) else {
-            return Ok(());
-        };
-        arrows.push(Arrow {
-            kind: kind_of(fact.rule),
-            from,
-            to,
-            is_red: self.path().iter().any(|other| *other == number),
-        })?;
         Ok(())
     }
 
+    /// The kind of a fact's arrow.
+    fn kind_of(&self, fact: &Link) -> Kind {
+        match self.steps.get(fact.step) {
+            Some(Step::FromRead { .. }) => Kind::FromRead,
+            Some(Step::WriteOrder { .. }) => Kind::WriteOrder,
+            _ => Kind::Source,
+        }
+    }
+
     /// Whether a fact is what a case takes for granted: where the source of a read lies, of several ranges.
-    pub(crate) fn is_assumed(&self, fact: &Known) -> bool {
+    pub(crate) fn is_assumed(&self, fact: &Link) -> bool {
         match self.steps.get(fact.step) {
             Some(Step::Read { ranges, .. }) => ranges.as_slice().len() > 1,
             _ => false,
         }
     }
+}
 
-    /// Whether a read's source is known to be the initial 0.
-    pub(crate) fn loads_initial(&self, needed: &[bool], read: OpId) -> bool {
-        for (number, fact) in self.facts.iter().enumerate() {
-            if is_needed(needed, number)
-                && fact.later == Point::At(read)
-                && fact.last == Point::Init
-            {
-                return true;
-            }
+/// Notes the reads whose source is known to be the initial 0.
+pub(crate) fn note_initial(operations: &mut Vec<Noted>, reasons: &[Reason]) {
+    for operation in operations.iter_mut() {
+        let read = Point::At(operation.0);
+        let is_initial = reasons.iter().any(|reason| reason.0.later == read
+            && reason.0.last == Point::Init);
+        if is_initial {
+            operation.1 = Note::Initial;
         }
-        false
     }
+}
+
+/// The place of a point among operations, where it is one of them.
+fn place_of(operations: &[Noted], point: &Point) -> Option<usize> {
+    operations.iter().position(|it| Point::At(it.0) == *point)
 }
 
 /// The arrows of program order between these operations, of which those of the way round are red.
 pub(crate) fn program_arrows(
     alloc: Global,
-    operations: &[OpId],
+    operations: &[Noted],
     round: &[Hop],
 ) -> Result<Vec<Arrow>, AllocError> {
     let mut arrows = Vec::new(alloc);
     for to in 1..operations.len() {
-        let (earlier, later) = (&operations[to - 1], &operations[to]);
+        let (earlier, later) = (&operations[to - 1].0, &operations[to].0);
         if earlier.core == later.core {
             arrows.push(Arrow {
-                kind: ArrowKind::Program,
+                kind: Kind::Program,
                 from: to - 1,
                 to,
                 is_red: goes_by(round, earlier, later),
@@ -202,29 +209,21 @@ fn is_down_to(point: &Point, id: &OpId) -> bool {
     }
 }
 
-/// Whether a fact is needed.
-fn is_needed(needed: &[bool], number: usize) -> bool {
-    needed.get(number).copied().unwrap_or(false)
-}
-
-/// Needs the fact of a number.
-fn mark(needed: &mut Vec<bool>, number: usize) {
-    if let Some(there) = needed.get_mut(number) {
-        *there = true;
-    }
-}
-
 /// Needs the facts of a path.
 fn mark_all(needed: &mut Vec<bool>, path: &[usize]) {
     for number in path {
-        mark(needed, *number);
+        if let Some(there) = needed.get_mut(*number) {
+            *there = true;
+        }
     }
 }
 
 /// Adds an operation that isn't there.
-fn add(operations: &mut Vec<OpId>, point: &Point) -> Result<(), AllocError> {
+fn add(operations: &mut Vec<Noted>, point: &Point) -> Result<(), AllocError> {
     match point {
-        Point::At(id) if place_of(operations, point).is_none() => operations.push(*id)?,
+        Point::At(id) if place_of(operations, point).is_none() => {
+            operations.push((*id, Note::Nothing))?
+        }
         _ => (),
     }
     Ok(())

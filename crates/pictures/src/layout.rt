@@ -3,7 +3,6 @@
 
 use super::scene::{Arrow, Card, Scene};
 use super::svg::Spot;
-use mem_op::CoreId;
 use std::alloc::{AllocError, Global};
 
 /// From the sides of the picture to what is drawn.
@@ -45,26 +44,18 @@ const MOST_LANES: usize = 16;
 /// How wide a picture is at most, where its boxes and notes leave room for the names of the columns.
 const MOST_WIDTH: usize = 1600;
 
-/// The column of a core.
-#[derive(Clone, Copy)]
-pub(crate) struct Column {
-    pub(crate) core: CoreId,
-    /// Its left side, where its boxes begin.
-    pub(crate) left: usize,
-    /// How wide its widest box is.
-    wide: usize,
-}
-
-/// The sizes of a picture.
+/// A scene, and where its parts stand.
 #[derive(Drop)]
-pub(crate) struct Layout {
-    /// The columns, from the lowest core.
-    pub(crate) columns: Vec<Column>,
+pub(crate) struct Layout<'a> {
+    pub(crate) alloc: Global,
+    pub(crate) scene: &'a Scene<'a>,
+    /// How wide the column of each core is, as its widest box; 0 where it has none.
+    pub(crate) widths: [usize; 64],
+    /// The left side of each column, where its boxes begin.
+    pub(crate) lefts: [usize; 64],
     /// The lane of each arrow, from the left.
     pub(crate) lanes: Vec<usize>,
-    /// The upper side of the first box.
-    pub(crate) top: usize,
-    /// How wide the boxes and arrows are.
+    /// How wide the boxes, the arrows and the lines above them are.
     width: usize,
 }
 
@@ -73,57 +64,54 @@ fn wide_of(card: &Card) -> usize {
     card.text.len().saturating_mul(LETTER).saturating_add(20)
 }
 
-/// How wide the widest box of a core is; 0 where it has none.
-fn widest(scene: &Scene, core: CoreId) -> usize {
-    let mut widest = 0;
-    for card in scene.cards.iter() {
-        if card.core == core {
-            widest = wide_of(card).max(widest);
+/// How wide the widest box of each core is; 0 where it has none.
+fn widths_of(scene: &Scene<'_>) -> [usize; 64] {
+    let mut widths = [0; 64];
+    for card in &scene.cards {
+        let core = card.core.get() as usize;
+        if core < widths.len() {
+            widths[core] = wide_of(card).max(widths[core]);
         }
     }
-    widest
+    widths
 }
 
-/// The columns of the cores that have boxes, not yet placed.
-fn columns_of(alloc: Global, scene: &Scene) -> Result<Vec<Column>, AllocError> {
-    let mut columns = Vec::new(alloc);
-    for number in 0..64usize {
-        let core = CoreId::at(number);
-        let wide = widest(scene, core);
-        if wide > 0 {
-            columns.push(Column {
-                core,
-                left: 0,
-                wide,
-            })?;
+/// The left side of each column, of these widths. The first is here, and none is further from the next than so.
+fn lefts_of(widths: &[usize; 64], left: usize, share: usize) -> [usize; 64] {
+    let mut lefts = [0; 64];
+    let mut next = left;
+    for core in 0..64usize {
+        lefts[core] = next;
+        if widths[core] > 0 {
+            let step = widths[core].saturating_add(GAP).min(share);
+            next = next.saturating_add(step);
         }
     }
-    Ok(columns)
+    lefts
 }
 
-/// How far a column may be from the next at most, so that a picture whose first column begins here isn't too wide: its boxes then run over
-/// the columns beside them.
-fn share(columns: &[Column], left: usize, lanes: usize) -> usize {
-    let (mut all, mut widest) = (0usize, 0usize);
-    for column in columns {
-        all = all.saturating_add(column.wide.saturating_add(GAP));
-        widest = column.wide.max(widest);
+/// How far a column may be from the next at most, so that a picture with so much around its columns isn't too wide: its boxes then run
+/// over the columns beside them.
+fn share(widths: &[usize; 64], around: usize) -> usize {
+    let (mut all, mut widest, mut steps) = (0usize, 0usize, 0usize);
+    for core in 0..64usize {
+        if widths[core] > 0 {
+            all = all.saturating_add(widths[core].saturating_add(GAP));
+            widest = widths[core].max(widest);
+            steps = steps.saturating_add(1);
+        }
     }
-    let around = left
-        .saturating_add(lanes.saturating_mul(LANE))
-        .saturating_add(2 * MARGIN);
     if around.saturating_add(all) <= MOST_WIDTH {
         return MOST_WIDTH;
     }
-    let steps = columns.len().saturating_sub(1).max(1);
     let room = MOST_WIDTH.saturating_sub(around.saturating_add(widest));
-    (room / steps).max(LEAST_STEP)
+    (room / steps.saturating_sub(1).max(1)).max(LEAST_STEP)
 }
 
 /// How wide the longest note is, with the gap beside it; 0 where there is none.
-fn note_width(scene: &Scene) -> usize {
+fn note_width(scene: &Scene<'_>) -> usize {
     let mut longest = 0;
-    for card in scene.cards.iter() {
+    for card in &scene.cards {
         longest = card.note.len().max(longest);
     }
     if longest == 0 {
@@ -132,13 +120,50 @@ fn note_width(scene: &Scene) -> usize {
     longest.saturating_mul(NOTE_LETTER).saturating_add(GAP)
 }
 
-/// How many letters the longest line above the boxes has.
-fn longest_line(scene: &Scene) -> usize {
+/// How wide the longest line above the boxes is.
+fn line_width(scene: &Scene<'_>) -> usize {
     let mut longest = scene.title.len();
-    for line in scene.caption.iter() {
+    for line in &scene.caption {
         longest = line.len().max(longest);
     }
-    longest
+    longest.saturating_mul(NOTE_LETTER).saturating_add(MARGIN)
+}
+
+/// The left side of a box.
+fn left_of(card: &Card, lefts: &[usize; 64]) -> usize {
+    let left = lefts.get(card.core.get() as usize);
+    left.copied().unwrap_or(MARGIN)
+}
+
+/// The right side of each box.
+fn ends_of(
+    alloc: Global,
+    scene: &Scene<'_>,
+    lefts: &[usize; 64],
+) -> Result<Vec<usize>, AllocError> {
+    let mut ends = Vec::new(alloc);
+    for card in &scene.cards {
+        ends.push(left_of(card, lefts).saturating_add(wide_of(card)))?;
+    }
+    Ok(ends)
+}
+
+/// The lanes of the arrows, which come by their lengths: right of all that stands in the rows over which an arrow leads, which ends here.
+fn lanes_of(
+    alloc: Global,
+    arrows: &[Arrow],
+    ends: &mut Vec<usize>,
+) -> Result<Vec<usize>, AllocError> {
+    let mut lanes = Vec::new(alloc);
+    for arrow in arrows {
+        let mut lane = 0;
+        if arrow.is_bent() {
+            lane = greatest(ends.as_slice(), arrow.span()).saturating_add(LANE);
+            set_all(ends, arrow.span(), lane);
+        }
+        lanes.push(lane)?;
+    }
+    Ok(lanes)
 }
 
 /// The greatest of the numbers from a place up to another.
@@ -161,135 +186,74 @@ fn set_all(numbers: &mut Vec<usize>, span: (usize, usize), number: usize) {
     }
 }
 
-impl Layout {
+impl<'a> Layout<'a> {
     /// The sizes for what is shown.
-    pub(crate) fn new(alloc: Global, scene: &Scene) -> Result<Layout, AllocError> {
-        let lines = scene.caption.len().saturating_mul(LINE);
-        let mut layout = Layout {
-            columns: columns_of(alloc, scene)?,
-            lanes: Vec::new(alloc),
-            top: lines.saturating_add(CAPTION + LINE),
-            width: 0,
-        };
+    pub(crate) fn new(alloc: Global, scene: &'a Scene<'a>) -> Result<Layout<'a>, AllocError> {
         let bent = scene.arrows.iter().filter(|arrow| arrow.is_bent()).count();
-        layout.place_columns(
-            note_width(scene).saturating_add(MARGIN),
-            bent.min(MOST_LANES),
-        );
-        layout.place_lanes(alloc, scene)?;
-        let words = longest_line(scene).saturating_mul(NOTE_LETTER);
-        layout.width = layout.width.max(words.saturating_add(MARGIN));
-        Ok(layout)
-    }
-
-    /// Places the columns, the first of them here.
-    fn place_columns(&mut self, left: usize, lanes: usize) {
-        let share = share(&self.columns, left, lanes);
-        let mut next = left;
-        for column in self.columns.iter_mut() {
-            column.left = next;
-            next = next.saturating_add(column.wide.saturating_add(GAP).min(share));
-        }
-    }
-
-    /// Places the lanes of the arrows, which come by their lengths: right of all that stands in the rows over which an arrow leads.
-    fn place_lanes(&mut self, alloc: Global, scene: &Scene) -> Result<(), AllocError> {
-        let mut ends = self.right_ends(alloc, scene)?;
-        for arrow in scene.arrows.iter() {
-            let mut lane = 0;
-            if arrow.is_bent() {
-                lane = greatest(&ends, arrow.span()).saturating_add(LANE);
-                set_all(&mut ends, arrow.span(), lane);
-            }
-            self.lanes.push(lane)?;
-        }
-        self.width = greatest(&ends, (0, ends.len()));
-        Ok(())
-    }
-
-    /// The right side of each box.
-    fn right_ends(&self, alloc: Global, scene: &Scene) -> Result<Vec<usize>, AllocError> {
-        let mut ends = Vec::new(alloc);
-        for card in scene.cards.iter() {
-            ends.push(self.left_of(card).saturating_add(wide_of(card)))?;
-        }
-        Ok(ends)
-    }
-
-    /// The left side of a box.
-    fn left_of(&self, card: &Card) -> usize {
-        for column in self.columns.iter() {
-            if column.core == card.core {
-                return column.left;
-            }
-        }
-        MARGIN
+        let left = note_width(scene).saturating_add(MARGIN);
+        let around = left
+            .saturating_add(bent.min(MOST_LANES).saturating_mul(LANE))
+            .saturating_add(2 * MARGIN);
+        let widths = widths_of(scene);
+        let lefts = lefts_of(&widths, left, share(&widths, around));
+        let mut ends = ends_of(alloc, scene, &lefts)?;
+        let lanes = lanes_of(alloc, &scene.arrows, &mut ends)?;
+        Ok(Layout {
+            alloc,
+            scene,
+            widths,
+            lefts,
+            lanes,
+            width: line_width(scene).max(greatest(&ends, (0, ends.len()))),
+        })
     }
 
     /// The size of the picture, with so many lines below the boxes.
-    pub(crate) fn size(&self, scene: &Scene, lines: usize) -> Spot {
-        Spot {
-            x: self.width.saturating_add(MARGIN),
-            y: self.legend(scene, lines).y,
-        }
+    pub(crate) fn size(&self, lines: usize) -> Spot {
+        Spot(self.width.saturating_add(MARGIN), self.legend(lines).1)
     }
 
     /// Where the title begins.
     pub(crate) fn title(&self) -> Spot {
-        Spot { x: MARGIN, y: 26 }
+        Spot(MARGIN, 26)
     }
 
     /// Where a line of the caption begins.
     pub(crate) fn caption(&self, line: usize) -> Spot {
-        Spot {
-            x: MARGIN,
-            y: CAPTION,
-        }
-        .plus(0, line.saturating_mul(LINE))
+        Spot(MARGIN, CAPTION).plus(0, line.saturating_mul(LINE))
+    }
+
+    /// The upper side of a row's box.
+    pub(crate) fn row(&self, row: usize) -> usize {
+        let top = self.caption(self.scene.caption.len()).1;
+        top.saturating_add(LINE)
+            .saturating_add(row.saturating_mul(STEP))
     }
 
     /// Where the note of a row begins.
     pub(crate) fn note(&self, row: usize) -> Spot {
-        Spot {
-            x: MARGIN,
-            y: self.row(row),
-        }
-        .plus(0, 19)
-    }
-
-    /// The upper side of a row's box.
-    fn row(&self, row: usize) -> usize {
-        self.top.saturating_add(row.saturating_mul(STEP))
+        Spot(MARGIN, self.row(row)).plus(0, 19)
     }
 
     /// Where a line of the legend begins.
-    pub(crate) fn legend(&self, scene: &Scene, line: usize) -> Spot {
-        Spot {
-            x: MARGIN,
-            y: self.row(scene.cards.len()),
-        }
-        .plus(0, line.saturating_mul(LEGEND_STEP))
+    pub(crate) fn legend(&self, line: usize) -> Spot {
+        let top = self.row(self.scene.cards.len());
+        Spot(MARGIN, top).plus(0, line.saturating_mul(LEGEND_STEP))
     }
 
     /// The upper left corner of a box.
     pub(crate) fn corner(&self, card: &Card, row: usize) -> Spot {
-        Spot {
-            x: self.left_of(card),
-            y: self.row(row),
-        }
+        Spot(left_of(card, &self.lefts), self.row(row))
     }
 
     /// The size of a box.
     pub(crate) fn box_size(&self, card: &Card) -> Spot {
-        Spot {
-            x: wide_of(card),
-            y: HIGH,
-        }
+        Spot(wide_of(card), HIGH)
     }
 
     /// Where arrows down a column touch the upper or the lower side of a box.
-    pub(crate) fn foot(&self, scene: &Scene, row: usize, is_lower: bool) -> Spot {
-        match scene.cards.get(row) {
+    pub(crate) fn foot(&self, row: usize, is_lower: bool) -> Spot {
+        match self.scene.cards.get(row) {
             Some(card) => self
                 .corner(card, row)
                 .plus(2 * LANE, if is_lower { HIGH } else { 0 }),
@@ -298,11 +262,12 @@ impl Layout {
     }
 
     /// Where an arrow touches the right side of the box at one of its ends.
-    pub(crate) fn port(&self, scene: &Scene, row: usize, number: usize) -> Spot {
-        match scene.cards.get(row) {
-            Some(card) => self
-                .corner(card, row)
-                .plus(wide_of(card), height_of(&scene.arrows, row, number)),
+    pub(crate) fn port(&self, row: usize, number: usize) -> Spot {
+        match self.scene.cards.get(row) {
+            Some(card) => {
+                let height = height_of(&self.scene.arrows, row, number);
+                self.corner(card, row).plus(wide_of(card), height)
+            }
             None => self.title(),
         }
     }
@@ -313,30 +278,22 @@ fn height_of(arrows: &[Arrow], row: usize, number: usize) -> usize {
     let Some(own) = arrows.get(number) else {
         return 0;
     };
-    let (mut above, mut count) = (0usize, 1usize);
+    let (mut above, mut count) = (1usize, 1usize);
     for (other, arrow) in arrows.iter().enumerate() {
-        if arrow.is_bent() && touches(arrow, row) {
+        if arrow.is_bent() && (arrow.from == row || arrow.to == row) {
             count = count.saturating_add(1);
             if (order_at(arrow, row), other) < (order_at(own, row), number) {
                 above = above.saturating_add(1);
             }
         }
     }
-    HIGH.saturating_mul(above.saturating_add(1)) / count.max(1)
-}
-
-/// Whether an arrow has an end in a row.
-fn touches(arrow: &Arrow, row: usize) -> bool {
-    arrow.from == row || arrow.to == row
+    HIGH.saturating_mul(above) / count.max(1)
 }
 
 /// What decides which ends at the side of a row's box stand above others: those of arrows that go up do, and of these the shorter ones, and
 /// of those that go down the longer ones.
 fn order_at(arrow: &Arrow, row: usize) -> (bool, usize) {
     let (upper, lower) = arrow.span();
-    if upper == row {
-        (true, usize::MAX.saturating_sub(lower))
-    } else {
-        (false, usize::MAX.saturating_sub(upper))
-    }
+    let other = if upper == row { lower } else { upper };
+    (upper == row, usize::MAX.saturating_sub(other))
 }

@@ -9,73 +9,51 @@ pub(crate) fn rows_of(
     count: usize,
     arrows: &[Arrow],
 ) -> Result<Vec<usize>, AllocError> {
-    let mut placing = Placing {
-        rows: Vec::new(alloc),
-        waits: Vec::new(alloc),
-    };
-    for _ in 0..count {
-        placing.rows.push(None)?;
-        placing.waits.push(0)?;
-    }
-    placing.count_all(arrows);
+    // One without a row has the number behind the last.
+    let mut rows = vec![in alloc; count; count]?;
+    let mut waits = waits_of(alloc, count, arrows)?;
     for row in 0..count {
-        placing.place_next(row, arrows);
+        let next = next(&rows, &waits);
+        if let Some(there) = rows.get_mut(next) {
+            *there = row;
+        }
+        release(&mut waits, next, arrows);
     }
-    placing.into_rows(alloc)
+    Ok(rows)
 }
 
-/// Rows that are given, one after the other.
-#[derive(Drop)]
-struct Placing {
-    /// The row of each operation that has one.
-    rows: Vec<Option<usize>>,
-    /// Of each operation how many arrows come from operations that have no row yet.
-    waits: Vec<usize>,
+/// How many arrows come to each operation.
+fn waits_of(alloc: Global, count: usize, arrows: &[Arrow]) -> Result<Vec<usize>, AllocError> {
+    let mut waits = vec![in alloc; 0usize; count]?;
+    for arrow in arrows {
+        if let Some(count) = waits.get_mut(arrow.to) {
+            *count = count.saturating_add(1);
+        }
+    }
+    Ok(waits)
 }
 
-impl Placing {
-    /// Counts the arrows to each operation.
-    fn count_all(&mut self, arrows: &[Arrow]) {
-        for arrow in arrows {
-            if let Some(count) = self.waits.get_mut(arrow.to) {
-                *count = count.saturating_add(1);
-            }
+/// No longer counts the arrows that come from an operation.
+fn release(waits: &mut Vec<usize>, from: usize, arrows: &[Arrow]) {
+    for arrow in arrows {
+        if arrow.from == from
+            && let Some(count) = waits.get_mut(arrow.to)
+        {
+            *count = count.saturating_sub(1);
         }
     }
+}
 
-    /// Gives the next operation a row.
-    fn place_next(&mut self, row: usize, arrows: &[Arrow]) {
-        let next = self.next();
-        if let Some(there) = self.rows.get_mut(next) {
-            *there = Some(row);
-        }
-        for arrow in arrows {
-            if arrow.from == next && arrow.to < self.waits.len() {
-                self.waits[arrow.to] = self.waits[arrow.to].saturating_sub(1);
+/// The first operation without a row to which no arrow comes from others; where none is, the first without a row.
+fn next(rows: &[usize], waits: &[usize]) -> usize {
+    let mut first = rows.len();
+    for (place, row) in rows.iter().enumerate() {
+        if *row == rows.len() {
+            if waits.get(place) == Some(&0) {
+                return place;
             }
+            first = first.min(place);
         }
     }
-
-    /// The first operation without a row to which no arrow comes from others; where none is, the first without a row.
-    fn next(&self) -> usize {
-        let mut first = self.rows.len();
-        for (place, row) in self.rows.iter().enumerate() {
-            if row.is_none() {
-                if self.waits.get(place) == Some(&0) {
-                    return place;
-                }
-                first = first.min(place);
-            }
-        }
-        first
-    }
-
-    /// The row of each.
-    fn into_rows(self, alloc: Global) -> Result<Vec<usize>, AllocError> {
-        let mut rows = Vec::new(alloc);
-        for row in self.rows.iter() {
-            rows.push(row.unwrap_or(0))?;
-        }
-        Ok(rows)
-    }
+    first
 }

@@ -4,70 +4,55 @@ ghost use Rattle.std.specs.Prelude.{IfOk, string_bytes};
 ghost use Rattle.pictures.specs.Pictures.{IsPicture};
 
 use super::layout::Layout;
-use super::scene::{Arrow, Card, Mark, Scene, Sign};
-use super::svg::{Spot, Stroke, Svg};
+use super::scene::{Arrow, Card, Scene, Sign};
+use super::svg::{Spot, Svg};
 use std::alloc::{AllocError, Global};
 
 /// What stands for operations that are left out.
 const LEFT_OUT: char = '\u{22ee}';
 
 /// The picture of a scene, whose arrows come by their lengths.
-pub(crate) fn paint(alloc: Global, scene: &Scene) -> Result<String, AllocError>
+pub(crate) fn paint(alloc: Global, scene: &Scene<'_>) -> Result<String, AllocError>
     ensures { IfOk result (λ svg. IsPicture (string_bytes svg)) }
 {
     let legend = scene.legend(alloc)?;
     let layout = Layout::new(alloc, scene)?;
-    let canvas = Canvas {
-        alloc,
-        scene,
-        layout: &layout,
-    };
-    let size = layout.size(scene, legend.len());
-    let mut svg = Svg::new(alloc, size, scene.title.as_str(), scene.words.as_str())?;
-    canvas.parts(&mut svg)?;
-    canvas.legend(&mut svg, &legend)?;
-    svg.finish()
+    let size = layout.size(legend.len());
+    let mut svg = Svg::new(alloc, size, scene.title, scene.words)?;
+    layout.parts(&mut svg, &legend)?;
+    svg.finish(alloc)
 }
 
-/// A picture that is painted.
-#[derive(Clone, Copy)]
-struct Canvas<'a> {
-    alloc: Global,
-    scene: &'a Scene,
-    layout: &'a Layout,
-}
-
-impl<'a> Canvas<'a> {
+impl<'a> Layout<'a> {
     /// The parts of the picture, those in front last.
-    fn parts(&self, svg: &mut Svg) -> Result<(), AllocError> {
-        self.caption(svg)?;
+    fn parts(&self, svg: &mut Svg, legend: &[Sign]) -> Result<(), AllocError> {
+        self.lines(svg)?;
         self.columns(svg)?;
         self.arrows(svg, false)?;
         self.arrows(svg, true)?;
-        self.cards(svg)
+        self.cards(svg)?;
+        self.signs(svg, legend)
     }
 
     /// The title and the lines below it.
-    fn caption(&self, svg: &mut Svg) -> Result<(), AllocError> {
-        svg.text("title", self.layout.title(), self.scene.title.as_str())?;
+    fn lines(&self, svg: &mut Svg) -> Result<(), AllocError> {
+        svg.text("title", self.title(), self.scene.title)?;
         for (line, text) in self.scene.caption.iter().enumerate() {
-            svg.text("note", self.layout.caption(line), text.as_str())?;
+            svg.text("note", self.caption(line), text.as_str())?;
         }
         Ok(())
     }
 
     /// The names of the columns, and a line down each.
     fn columns(&self, svg: &mut Svg) -> Result<(), AllocError> {
-        let bottom = self.layout.legend(self.scene, 0).y;
-        for column in self.layout.columns.iter() {
-            let at = Spot {
-                x: column.left,
-                y: self.layout.top,
-            };
-            svg.core_line(at, bottom.saturating_sub(16))?;
-            let name = format!(in self.alloc; "core {}", column.core.get())?;
-            let y = at.y.saturating_sub(12);
-            svg.text("note", Spot { x: at.x, y }, name.as_str())?;
+        let (top, bottom) = (self.row(0), self.legend(0).1.saturating_sub(16));
+        for core in 0..64usize {
+            if self.widths[core] > 0 {
+                svg.core_line(Spot(self.lefts[core], top), bottom)?;
+                let name = format!(in self.alloc; "core {core}")?;
+                let at = Spot(self.lefts[core], top.saturating_sub(12));
+                svg.text("note", at, name.as_str())?;
+            }
         }
         Ok(())
     }
@@ -84,27 +69,20 @@ impl<'a> Canvas<'a> {
 
     /// An arrow: straight down where a core did one after the other, and else in its lane.
     fn arrow(&self, svg: &mut Svg, number: usize, arrow: &Arrow) -> Result<(), AllocError> {
-        let stroke = Stroke {
-            class: arrow.kind.class(),
-            is_red: arrow.is_red,
-        };
-        let (scene, layout) = (self.scene, self.layout);
         if !arrow.is_bent() {
-            let from = layout.foot(scene, arrow.from, true);
-            return svg.straight(stroke, from, layout.foot(scene, arrow.to, false));
+            let (from, to) = (self.foot(arrow.from, true), self.foot(arrow.to, false));
+            return svg.straight(arrow.kind, arrow.is_red, from, to);
         }
-        let lane = layout.lanes.get(number).copied().unwrap_or(0);
-        let from = layout.port(scene, arrow.from, number);
-        svg.bent(stroke, from, lane, layout.port(scene, arrow.to, number))
+        let lane = self.lanes.get(number).copied().unwrap_or(0);
+        let (from, to) = (self.port(arrow.from, number), self.port(arrow.to, number));
+        svg.bent(arrow, from, lane, to)
     }
 
     /// The boxes, with what stands beside them.
     fn cards(&self, svg: &mut Svg) -> Result<(), AllocError> {
         for (row, card) in self.scene.cards.iter().enumerate() {
-            let corner = self.layout.corner(card, row);
-            let (class, size) = (card.kind.class(), self.layout.box_size(card));
-            let is_red = card.kind.is_red() || card.mark != Mark::Plain;
-            svg.frame(class, is_red, corner, size)?;
+            let corner = self.corner(card, row);
+            svg.frame(card.kind, card.is_red, corner, self.box_size(card))?;
             svg.text("act", corner.plus(10, 19), card.text.as_str())?;
             self.around(svg, card, row)?;
         }
@@ -114,15 +92,11 @@ impl<'a> Canvas<'a> {
     /// The note at the side of a box, and how many operations are left out above it and below it.
     fn around(&self, svg: &mut Svg, card: &Card, row: usize) -> Result<(), AllocError> {
         if !card.note.is_empty() {
-            svg.text("note", self.layout.note(row), card.note.as_str())?;
+            svg.text("note", self.note(row), card.note.as_str())?;
         }
-        let corner = self.layout.corner(card, row);
-        let above = Spot {
-            x: corner.x.saturating_add(40),
-            y: corner.y.saturating_sub(7),
-        };
-        self.left_out(svg, above, card.left_out_before)?;
-        self.left_out(svg, corner.plus(40, 43), card.left_out_after)
+        let Spot(x, y) = self.corner(card, row).plus(40, 0);
+        self.left_out(svg, Spot(x, y.saturating_sub(7)), card.left_out.0)?;
+        self.left_out(svg, Spot(x, y.saturating_add(43)), card.left_out.1)
     }
 
     /// A mark that so many operations are left out, where some are.
@@ -134,29 +108,18 @@ impl<'a> Canvas<'a> {
         svg.text("note", at, mark.as_str())
     }
 
-    /// What is shown, each kind once.
-    fn legend(&self, svg: &mut Svg, legend: &[Sign]) -> Result<(), AllocError> {
+    /// The legend: what is shown, each kind once.
+    fn signs(&self, svg: &mut Svg, legend: &[Sign]) -> Result<(), AllocError> {
         for (line, sign) in legend.iter().enumerate() {
-            let at = self.layout.legend(self.scene, line);
-            self.sign(svg, *sign, at)?;
-            svg.text("note", at.plus(58, 11), sign.label())?;
+            let (kind, label) = *sign;
+            let (at, is_red) = (self.legend(line), kind.is_red());
+            if kind.is_box() {
+                svg.frame(kind, is_red, at, Spot(36, 14))
+            } else {
+                svg.straight(kind, is_red, at.plus(0, 7), at.plus(48, 7))
+            }?;
+            svg.text("note", at.plus(58, 11), label)?;
         }
         Ok(())
-    }
-
-    /// A sign of the legend.
-    fn sign(&self, svg: &mut Svg, sign: Sign, at: Spot) -> Result<(), AllocError> {
-        let size = Spot { x: 36, y: 14 };
-        match sign {
-            Sign::Card(kind) => svg.frame(kind.class(), kind.is_red(), at, size),
-            Sign::Wrong => svg.frame("load", true, at, size),
-            Sign::Arrow(kind) => {
-                let stroke = Stroke {
-                    class: kind.class(),
-                    is_red: kind.is_red(),
-                };
-                svg.straight(stroke, at.plus(0, 7), at.plus(48, 7))
-            }
-        }
     }
 }

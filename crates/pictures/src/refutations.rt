@@ -3,292 +3,237 @@
 ghost use Rattle.std.specs.Prelude.{IfOk, string_bytes};
 ghost use Rattle.pictures.specs.Pictures.{IsPicture};
 
-use super::case::{Case, program_arrows};
+use super::case::{Case, Note, Noted, Reason, note_initial, program_arrows};
 use super::ordering::rows_of;
 use super::painting::paint;
-use super::scene::{Arrow, Card, CardKind, Mark, Scene};
-use mem_op::{OpId, Word};
-use refutation::{Point, Refutation, State, Step};
+use super::scene::{Arrow, Card, Kind, Scene};
+use mem_op::{CoreId, OpId};
+use refutation::{Point, Refutation, Step};
+use refuted_cases::{Course, Link, Stand, Walk, closes, round, stands};
 use std::alloc::{AllocError, Global};
 use std::fmt;
-use telling::{Cases, Course, Known, Stand, Standing, closes, furthest, tell};
-use trace::{Access, Address, Trace};
+use trace::{Access, Trace};
 
-/// The picture of a refutation of a trace, in SVG: a column for each core, downward its operations that the first case
-/// rests on, with an arrow for each reason why one comes before another. Those that go round are red.
+/// The picture of a refutation of a trace, which is told in these words, in SVG: a column for each core, downward its operations that the
+/// first case rests on, with an arrow for each reason why one comes before another. Those that go round are red.
 pub fn draw_refutation(
     alloc: Global,
+    words: &str,
     trace: &Trace,
     refutation: &Refutation,
 ) -> Result<String, AllocError>
     ensures picture { IfOk result (λ svg. IsPicture (string_bytes svg)) }
 {
     let steps = refutation.steps();
-    let place = steps
-        .iter()
-        .position(|step| closes(step))
-        .unwrap_or(steps.len());
-    let mut cases = Cases::new(alloc);
-    for step in steps.iter().take(place) {
-        cases.follow(step)?;
+    let mut walk = Walk::new(alloc);
+    let mut last = None;
+    for step in steps {
+        if closes(step) {
+            last = Some(step);
+            break;
+        }
+        walk.follow(step)?;
     }
     let case = Case {
         alloc,
-        facts: cases.facts(),
+        facts: walk.facts(),
         steps,
-        last: steps.get(place),
+        last,
     };
-    let mut scene = scene_of(trace, &case)?;
-    let words = tell(alloc, trace, refutation)?;
-    scene.title.push_str(words.lines().next().unwrap_or(""))?;
-    scene.words.push_str(words.as_str())?;
-    paint(alloc, &scene)
+    draw(words, trace, &case)
 }
 
-/// What is shown of a case, without words.
-fn scene_of(trace: &Trace, case: &Case<'_>) -> Result<Scene, AllocError> {
+/// The picture of a case.
+fn draw(words: &str, trace: &Trace, case: &Case<'_>) -> Result<String, AllocError>
+    ensures { IfOk result (λ svg. IsPicture (string_bytes svg)) }
+{
     let shown = match case.last {
-        Some(Step::States { addresses, set }) => {
-            states(trace, case, addresses.as_slice(), set.as_slice())
-        }
-        _ => round(case),
+        Some(Step::States { .. }) => states(trace, case),
+        _ => cycle(case),
     }?;
-    let mut scene = Scene {
-        title: String::new(case.alloc),
-        words: String::new(case.alloc),
+    let scene = Scene {
+        title: words.lines().next().unwrap_or(""),
+        words,
         caption: caption(case, &shown.arrows)?,
-        cards: shown.cards(trace, case.alloc)?,
-        arrows: shown.arrows_by_row(case.alloc)?,
+        cards: shown.cards(case.alloc, trace)?,
+        arrows: shown.arrows,
     };
-    scene.arrows.sort_unstable_by_key(|arrow| arrow.length());
-    Ok(scene)
+    paint(case.alloc, &scene)
 }
 
 /// The lines below the title: what is shown, and which case it is.
 fn caption(case: &Case<'_>, arrows: &[Arrow]) -> Result<Vec<String>, AllocError> {
-    let mut caption = Vec::new(case.alloc);
+    let alloc = case.alloc;
+    let mut caption = Vec::new(alloc);
     caption.push(match case.last {
-        Some(Step::States { set, .. }) => format!(in case.alloc;
+        Some(Step::States { set, .. }) => format!(in alloc;
             "In the furthest of {} states. The red operations wait.",
             set.as_slice().len()
-        )?,
-        _ if arrows.iter().any(|arrow| arrow.is_red) => String::from_str(
-            case.alloc,
-            "Each arrow leads to what comes later. The red ones go round.",
-        )?,
-        _ => String::from_str(case.alloc, "Nothing gives the word that was loaded.")?,
-    })?;
+        ),
+        _ if arrows.iter().any(|arrow| arrow.is_red) => {
+            String::from_str(
+                alloc,
+                "Each arrow leads to what comes later. The red ones go round.",
+            )
+        }
+        _ => String::from_str(alloc, "Nothing gives the word that was loaded."),
+    }?)?;
     let count = case.steps.iter().filter(|step| closes(step)).count();
     if count > 1 {
-        caption.push(format!(in case.alloc;
-            "This is the first of {count} cases{}.",
-            Assumed(case)
-        )?)?;
+        let assumed = Assumed(case);
+        caption.push(format!(in alloc; "This is the first of {count} cases{assumed}.")?)?;
     }
     Ok(caption)
 }
 
-/// What stands behind an operation in its box.
-#[derive(Clone, Copy, PartialEq, Eq)]
-enum Note {
-    /// Nothing.
-    Nothing,
-    /// It loaded the initial 0.
-    Initial,
-    /// It waits for another point.
-    Waits,
-    /// It waits for its word, and finds this one.
-    Finds(Word),
-}
-
-impl fmt::Display for Note {
-    fn fmt<W: fmt::Write>(&self, f: &mut fmt::Formatter<W>) -> fmt::Result {
-        match self {
-            Note::Nothing => Ok(()),
-            Note::Initial => f.write_str(" (initial)"),
-            Note::Waits => f.write_str(" (waits)"),
-            Note::Finds(word) => write!(f, " (finds {word})"),
-        }
-    }
-}
-
-/// The operations that are shown, core by core, with their rows, and the arrows between them.
+/// The operations that are shown, core by core, their rows, and the arrows from row to row, which come by their lengths.
 #[derive(Drop)]
 struct Shown {
-    operations: Vec<OpId>,
-    notes: Vec<Note>,
+    operations: Vec<Noted>,
     rows: Vec<usize>,
     arrows: Vec<Arrow>,
 }
 
 /// What is shown of a case that a cycle closes, or a read that nothing gives its word.
-fn round(case: &Case<'_>) -> Result<Shown, AllocError> {
-    let needed = case.needed()?;
-    let operations = case.operations(&needed)?;
-    let mut notes = Vec::new(case.alloc);
-    for operation in &operations {
-        notes.push(if case.loads_initial(&needed, *operation) {
-            Note::Initial
-        } else {
-            Note::Nothing
-        })?;
-    }
-    let mut arrows = case.arrows(&needed, &operations)?;
+fn cycle(case: &Case<'_>) -> Result<Shown, AllocError> {
+    let reasons = case.reasons()?;
+    let mut operations = case.operations(&reasons)?;
+    note_initial(&mut operations, &reasons);
+    let mut arrows = arrows(case, &operations, &reasons)?;
     let rows = rows_of(case.alloc, operations.len(), &arrows)?;
-    case.push_back(&mut arrows, &operations)?;
+    if let Some(back) = reasons.last() {
+        case.push_arrow(&mut arrows, &operations, back)?;
+    }
+    put_in_rows(&mut arrows, &rows);
     Ok(Shown {
         operations,
-        notes,
         rows,
         arrows,
     })
 }
 
-/// What is shown of a set of states: in the furthest of them what each core did last, and below it where it waits.
-fn states(
-    trace: &Trace,
+/// The arrows between these operations, without that of the last of these facts.
+fn arrows(
     case: &Case<'_>,
-    addresses: &[Address],
-    states: &[State],
-) -> Result<Shown, AllocError> {
-    let mut shown = Shown {
-        operations: Vec::new(case.alloc),
-        notes: Vec::new(case.alloc),
-        rows: Vec::new(case.alloc),
-        arrows: Vec::new(case.alloc),
-    };
-    let Some(state) = states.get(furthest(states)) else {
-        return Ok(shown);
-    };
-    let standing = Standing {
-        trace,
-        addresses,
-        state,
-        facts: case.facts,
-    };
-    let stands = standing.stands(case.alloc)?;
-    for stand in &stands {
-        shown.stand(stand)?;
+    operations: &[Noted],
+    reasons: &[Reason],
+) -> Result<Vec<Arrow>, AllocError> {
+    let round = round(case.alloc, case.facts, case.path())?;
+    let mut arrows = program_arrows(case.alloc, operations, &round)?;
+    let others = reasons.len().saturating_sub(1);
+    for reason in reasons.iter().take(others) {
+        case.push_arrow(&mut arrows, operations, reason)?;
     }
-    shown.arrows = program_arrows(case.alloc, &shown.operations, &[])?;
-    Ok(shown)
+    Ok(arrows)
+}
+
+/// Has arrows lead from row to row, and puts them by their lengths.
+fn put_in_rows(arrows: &mut Vec<Arrow>, rows: &[usize]) {
+    for arrow in arrows.iter_mut() {
+        arrow.from = rows.get(arrow.from).copied().unwrap_or(0);
+        arrow.to = rows.get(arrow.to).copied().unwrap_or(0);
+    }
+    arrows.sort_unstable_by_key(|arrow| arrow.length());
+}
+
+/// What is shown of a set of states: in the furthest of them what each core did last, and below it where it waits.
+fn states(trace: &Trace, case: &Case<'_>) -> Result<Shown, AllocError> {
+    let mut operations = Vec::new(case.alloc);
+    if let Some(Step::States { addresses, set }) = case.last {
+        for stand in &stands(case.alloc, trace, case.facts, addresses.as_slice(), set)? {
+            push_stand(&mut operations, stand)?;
+        }
+    }
+    let mut arrows = program_arrows(case.alloc, &operations, &[])?;
+    let rows = rows_of(case.alloc, operations.len(), &[])?;
+    put_in_rows(&mut arrows, &rows);
+    Ok(Shown {
+        operations,
+        rows,
+        arrows,
+    })
+}
+
+/// Shows what a core did last, and where it waits.
+fn push_stand(operations: &mut Vec<Noted>, stand: &Stand) -> Result<(), AllocError> {
+    if let Point::At(id) = stand.last {
+        operations.push((id, Note::Nothing))?;
+    }
+    match &stand.course {
+        Course::Seeks(id, there) => operations.push((*id, Note::Finds(*there)))?,
+        Course::Awaits(id, _) => operations.push((*id, Note::Waits))?,
+        _ => (),
+    }
+    Ok(())
 }
 
 impl Shown {
-    /// Shows what a core did last, and where it waits.
-    fn stand(&mut self, stand: &Stand) -> Result<(), AllocError> {
-        if let Point::At(id) = stand.last {
-            self.show(id, Note::Nothing)?;
-        }
-        match &stand.course {
-            Course::Seeks(id, there) => self.show(*id, Note::Finds(*there)),
-            Course::Awaits(id, _) => self.show(*id, Note::Waits),
-            _ => Ok(()),
-        }
-    }
-
-    /// Shows one more operation, below the others.
-    fn show(&mut self, id: OpId, note: Note) -> Result<(), AllocError> {
-        self.rows.push(self.operations.len())?;
-        self.operations.push(id)?;
-        self.notes.push(note)?;
-        Ok(())
-    }
-
-    /// The place of the operation of a row.
-    fn in_row(&self, row: usize) -> usize {
-        self.rows
-            .iter()
-            .position(|other| *other == row)
-            .unwrap_or(row)
-    }
-
-    /// The row of a place.
-    fn row(&self, place: usize) -> usize {
-        self.rows.get(place).copied().unwrap_or(0)
-    }
-
     /// The boxes, from above.
-    fn cards(&self, trace: &Trace, alloc: Global) -> Result<Vec<Card>, AllocError> {
+    fn cards(&self, alloc: Global, trace: &Trace) -> Result<Vec<Card>, AllocError> {
         let mut cards = Vec::new(alloc);
         for row in 0..self.rows.len() {
-            let place = self.in_row(row);
-            if let Some(id) = self.operations.get(place) {
-                cards.push(self.card(trace, alloc, *id, place)?)?;
+            if let Some(place) = self.rows.iter().position(|other| *other == row)
+                && let Some(noted) = self.operations.get(place)
+            {
+                cards.push(self.card(alloc, trace, place, noted)?)?;
             }
         }
         Ok(cards)
     }
 
-    /// The arrows, from row to row.
-    fn arrows_by_row(&self, alloc: Global) -> Result<Vec<Arrow>, AllocError> {
-        let mut arrows = Vec::new(alloc);
-        for arrow in &self.arrows {
-            arrows.push(Arrow {
-                kind: arrow.kind,
-                from: self.row(arrow.from),
-                to: self.row(arrow.to),
-                is_red: arrow.is_red,
-            })?;
-        }
-        Ok(arrows)
-    }
-
     /// The box of the operation at a place.
     fn card(
         &self,
-        trace: &Trace,
         alloc: Global,
-        id: OpId,
+        trace: &Trace,
         place: usize,
+        noted: &Noted,
     ) -> Result<Card, AllocError> {
-        let note = self.notes.get(place).copied().unwrap_or(Note::Nothing);
+        let (id, note) = *noted;
         let access = trace.operation(&id);
         Ok(Card {
             core: id.core,
             kind: kind_of(&access),
-            mark: match note {
-                Note::Nothing | Note::Initial => Mark::Plain,
-                Note::Waits | Note::Finds(_) => Mark::Waits,
-            },
+            is_red: matches!(note, Note::Waits | Note::Finds(_)),
+            is_wrong: false,
             text: format!(in alloc; "{id}  {}{note}", Act(&access))?,
             note: String::new(alloc),
-            left_out_before: self.left_out_before(id, place),
-            left_out_after: self.left_out_after(trace, id, place),
+            left_out: self.left_out(trace, place, id),
         })
     }
 
-    /// How many operations of a core stand between the one at a place and the one shown before it, or before the first one.
-    fn left_out_before(&self, id: OpId, place: usize) -> usize {
+    /// How many operations of a core come before the one at a place, and after the one shown before it; and how many come after it, where
+    /// it is the last that is shown of the core.
+    fn left_out(&self, trace: &Trace, place: usize, id: OpId) -> (usize, usize) {
         let index = id.index.get() as usize;
-        match self.operations.get(place.wrapping_sub(1)) {
-            Some(other) if other.core == id.core => index
-                .saturating_sub(other.index.get() as usize)
-                .saturating_sub(1),
-            _ => index,
-        }
+        let first = match self.index_at(place.wrapping_sub(1), id.core) {
+            Some(other) => other.saturating_add(1),
+            None => 0,
+        };
+        let own = trace.cores().get(id.core.get() as usize);
+        let end = match self.index_at(place.wrapping_add(1), id.core) {
+            Some(_) => 0,
+            None => own.map_or(0, |own| own.len()),
+        };
+        (
+            index.saturating_sub(first),
+            end.saturating_sub(index).saturating_sub(1),
+        )
     }
 
-    /// How many operations of a core come after the one at a place, where that is the last that is shown of it.
-    fn left_out_after(&self, trace: &Trace, id: OpId, place: usize) -> usize {
-        match self.operations.get(place.wrapping_add(1)) {
-            Some(other) if other.core == id.core => 0,
-            _ => trace
-                .cores()
-                .get(id.core.get() as usize)
-                .map_or(0, |own| own.len())
-                .saturating_sub(id.index.get() as usize)
-                .saturating_sub(1),
-        }
+    /// The index of the operation at a place, where it is of a core.
+    fn index_at(&self, place: usize, core: CoreId) -> Option<usize> {
+        let id = self.operations.get(place)?.0;
+        (id.core == core).then_some(id.index.get() as usize)
     }
 }
 
 /// What kind of operation it is.
-fn kind_of(access: &Option<Access>) -> CardKind {
+fn kind_of(access: &Option<Access>) -> Kind {
     match access {
-        Some(access) if access.read().is_none() => CardKind::Store,
-        Some(access) if access.is_store_to(access.addr()) => CardKind::Swap,
-        _ => CardKind::Load,
+        Some(access) if access.read().is_none() => Kind::Store,
+        Some(access) if access.is_store_to(access.addr()) => Kind::Swap,
+        _ => Kind::Load,
     }
 }
 
@@ -302,19 +247,20 @@ impl<'a> fmt::Display for Act<'a> {
             return f.write_str("nothing");
         };
         let (addr, left) = (access.addr(), access.word_left());
-        match access.read() {
-            None => write!(f, "M[{addr}] := {left}"),
-            Some(read) if access.is_store_to(addr) => {
-                write!(f, "M[{addr}] == {read}; M[{addr}] := {left}")
-            }
-            Some(read) => write!(f, "M[{addr}] == {read}"),
+        let Some(read) = access.read() else {
+            return write!(f, "M[{addr}] := {left}");
+        };
+        write!(f, "M[{addr}] == {read}")?;
+        match access.is_store_to(addr) {
+            true => write!(f, "; M[{addr}] := {left}"),
+            false => Ok(()),
         }
     }
 }
 
 /// Which operation gave a read its word, or which ones may have.
 #[derive(Clone, Copy)]
-struct Givers<'a>(&'a Known);
+struct Givers<'a>(&'a Link);
 
 impl<'a> fmt::Display for Givers<'a> {
     fn fmt<W: fmt::Write>(&self, f: &mut fmt::Formatter<W>) -> fmt::Result {

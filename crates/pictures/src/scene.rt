@@ -3,55 +3,86 @@
 use mem_op::CoreId;
 use std::alloc::{AllocError, Global};
 
-/// What a box is of.
-#[derive(Clone, Copy, PartialEq, Eq)]
-pub(crate) enum CardKind {
-    /// A store.
+/// What a box is of, or an arrow says, as the legend has it.
+#[derive(Clone, Copy, PartialEq)]
+pub(crate) enum Kind {
     Store,
-    /// A load.
     Load,
-    /// A swap.
     Swap,
-    /// What was due.
+    Wrong,
     Due,
+    Program,
+    Source,
+    FromRead,
+    WriteOrder,
+    Named,
+    Overwritten,
+    SameWord,
+    Right,
+    Before,
 }
 
-impl CardKind {
+/// A line of the legend: a kind, and what is said of it.
+pub(crate) type Sign = (Kind, &'static str);
+
+/// The lines of the legend, in their order.
+const LEGEND: [Sign; 14] = [
+    (Kind::Store, "a store"),
+    (Kind::Load, "a load"),
+    (Kind::Swap, "a swap"),
+    (Kind::Wrong, "the operation that breaks a rule"),
+    (Kind::Due, "what was due"),
+    (Kind::Program, "program order"),
+    (
+        Kind::Source,
+        "reads-from: from a store to a load of its word",
+    ),
+    (
+        Kind::FromRead,
+        "from-read: from a load of an older word to a store",
+    ),
+    (Kind::WriteOrder, "write order: from a store to a later one"),
+    (Kind::Named, "from a store to what names it as its source"),
+    (Kind::Overwritten, "to the first store that wrote over it"),
+    (
+        Kind::SameWord,
+        "from the last store of the word that it read",
+    ),
+    (Kind::Right, "to what it should read"),
+    (
+        Kind::Before,
+        "to the one before it in its log, which has a greater key",
+    ),
+];
+
+impl Kind {
     /// The name of its style.
     pub(crate) fn class(self) -> &'static str {
         match self {
-            CardKind::Store => "store",
-            CardKind::Load => "load",
-            CardKind::Swap => "swap",
-            CardKind::Due => "due",
+            Kind::Store => "store",
+            Kind::Load | Kind::Wrong => "load",
+            Kind::Swap => "swap",
+            Kind::Due => "due",
+            Kind::Program => "program",
+            Kind::Source | Kind::Named => "source",
+            Kind::WriteOrder | Kind::Overwritten => "writes",
+            Kind::FromRead | Kind::SameWord => "fromread",
+            Kind::Right | Kind::Before => "wanted",
         }
+    }
+
+    /// Whether it is of boxes.
+    pub(crate) fn is_box(self) -> bool {
+        matches!(
+            self,
+            Kind::Store | Kind::Load | Kind::Swap | Kind::Wrong | Kind::Due
+        )
     }
 
     /// Whether it is red wherever it stands.
     pub(crate) fn is_red(self) -> bool {
-        self == CardKind::Due
+        matches!(self, Kind::Wrong | Kind::Due | Kind::Right | Kind::Before)
     }
-
-    /// What it is.
-    fn label(self) -> &'static str {
-        match self {
-            CardKind::Store => "a store",
-            CardKind::Load => "a load",
-            CardKind::Swap => "a swap",
-            CardKind::Due => "what was due",
-        }
-    }
-}
-
-/// Why a box is red, if it is.
-#[derive(Clone, Copy, PartialEq, Eq)]
-pub(crate) enum Mark {
-    /// It isn't.
-    Plain,
-    /// The operation breaks a rule.
-    Wrong,
-    /// The operation waits.
-    Waits,
 }
 
 /// A box.
@@ -59,77 +90,21 @@ pub(crate) enum Mark {
 pub(crate) struct Card {
     /// The core in whose column it stands.
     pub(crate) core: CoreId,
-    pub(crate) kind: CardKind,
-    pub(crate) mark: Mark,
+    pub(crate) kind: Kind,
+    pub(crate) is_red: bool,
+    /// Whether it is of the operation that breaks a rule.
+    pub(crate) is_wrong: bool,
     pub(crate) text: String,
     /// What stands at the side of its row.
     pub(crate) note: String,
-    /// How many operations of the core are left out before it.
-    pub(crate) left_out_before: usize,
-    /// How many are left out after it, where it is the last one of its core.
-    pub(crate) left_out_after: usize,
-}
-
-/// What an arrow says.
-#[derive(Clone, Copy, PartialEq, Eq)]
-pub(crate) enum ArrowKind {
-    /// A core did one before the other.
-    Program,
-    /// The one stored what the other loaded.
-    Source,
-    /// The one loaded an older word than the other stored.
-    FromRead,
-    /// The one stored an older word than the other.
-    WriteOrder,
-    /// The other one names it as its source.
-    Named,
-    /// The other one was the first to write over its word.
-    Overwritten,
-    /// The one is the last store of the word that the other read.
-    SameWord,
-    /// It should read the other.
-    Right,
-    /// The other is before it in its log, and has a greater key.
-    Before,
-}
-
-impl ArrowKind {
-    /// The name of its style.
-    pub(crate) fn class(self) -> &'static str {
-        match self {
-            ArrowKind::Program => "program",
-            ArrowKind::Source | ArrowKind::Named => "source",
-            ArrowKind::WriteOrder | ArrowKind::Overwritten => "writes",
-            ArrowKind::FromRead | ArrowKind::SameWord => "fromread",
-            ArrowKind::Right | ArrowKind::Before => "wanted",
-        }
-    }
-
-    /// What it says.
-    fn label(self) -> &'static str {
-        match self {
-            ArrowKind::Program => "program order",
-            ArrowKind::Source => "reads-from: from a store to a load of its word",
-            ArrowKind::FromRead => "from-read: from a load of an older word to a store",
-            ArrowKind::WriteOrder => "write order: from a store to a later one",
-            ArrowKind::Named => "from a store to what names it as its source",
-            ArrowKind::Overwritten => "to the first store that wrote over it",
-            ArrowKind::SameWord => "from the last store of the word that it read",
-            ArrowKind::Right => "to what it should read",
-            ArrowKind::Before => "to the one before it in its log, which has a greater key",
-        }
-    }
-
-    /// Whether it is red wherever it stands.
-    pub(crate) fn is_red(self) -> bool {
-        matches!(self, ArrowKind::Right | ArrowKind::Before)
-    }
+    /// How many operations of the core are left out before it; and after it, where it is the last one of its core.
+    pub(crate) left_out: (usize, usize),
 }
 
 /// An arrow from a box to another, each by its place.
 #[derive(Clone, Copy)]
 pub(crate) struct Arrow {
-    pub(crate) kind: ArrowKind,
+    pub(crate) kind: Kind,
     pub(crate) from: usize,
     pub(crate) to: usize,
     pub(crate) is_red: bool,
@@ -148,16 +123,16 @@ impl Arrow {
 
     /// Whether it goes aside: all do, except those of program order.
     pub(crate) fn is_bent(&self) -> bool {
-        self.kind != ArrowKind::Program
+        self.kind != Kind::Program
     }
 }
 
 /// What a picture shows.
 #[derive(Drop)]
-pub(crate) struct Scene {
-    pub(crate) title: String,
+pub(crate) struct Scene<'a> {
+    pub(crate) title: &'a str,
     /// What it tells, in words.
-    pub(crate) words: String,
+    pub(crate) words: &'a str,
     /// The lines below the title.
     pub(crate) caption: Vec<String>,
     /// The boxes, one a row.
@@ -165,64 +140,24 @@ pub(crate) struct Scene {
     pub(crate) arrows: Vec<Arrow>,
 }
 
-/// What a line of the legend is of.
-#[derive(Clone, Copy, PartialEq, Eq)]
-pub(crate) enum Sign {
-    /// A box.
-    Card(CardKind),
-    /// A red box of an operation that breaks a rule.
-    Wrong,
-    /// An arrow.
-    Arrow(ArrowKind),
-}
-
-/// The signs, in the order of the legend.
-const SIGNS: [Sign; 14] = [
-    Sign::Card(CardKind::Store),
-    Sign::Card(CardKind::Load),
-    Sign::Card(CardKind::Swap),
-    Sign::Wrong,
-    Sign::Card(CardKind::Due),
-    Sign::Arrow(ArrowKind::Program),
-    Sign::Arrow(ArrowKind::Source),
-    Sign::Arrow(ArrowKind::FromRead),
-    Sign::Arrow(ArrowKind::WriteOrder),
-    Sign::Arrow(ArrowKind::Named),
-    Sign::Arrow(ArrowKind::Overwritten),
-    Sign::Arrow(ArrowKind::SameWord),
-    Sign::Arrow(ArrowKind::Right),
-    Sign::Arrow(ArrowKind::Before),
-];
-
-impl Sign {
-    /// What it is.
-    pub(crate) fn label(self) -> &'static str {
-        match self {
-            Sign::Card(kind) => kind.label(),
-            Sign::Wrong => "the operation that breaks a rule",
-            Sign::Arrow(kind) => kind.label(),
-        }
-    }
-}
-
-impl Scene {
+impl<'a> Scene<'a> {
     /// The legend: what is shown, each kind once.
     pub(crate) fn legend(&self, alloc: Global) -> Result<Vec<Sign>, AllocError> {
         let mut legend = Vec::new(alloc);
-        for sign in &SIGNS {
-            if self.shows(*sign) {
+        for sign in &LEGEND {
+            if self.shows(sign.0) {
                 legend.push(*sign)?;
             }
         }
         Ok(legend)
     }
 
-    /// Whether a sign is shown.
-    fn shows(&self, sign: Sign) -> bool {
-        match sign {
-            Sign::Card(kind) => self.cards.iter().any(|card| card.kind == kind),
-            Sign::Wrong => self.cards.iter().any(|card| card.mark == Mark::Wrong),
-            Sign::Arrow(kind) => self.arrows.iter().any(|arrow| arrow.kind == kind),
+    /// Whether something of a kind is shown.
+    fn shows(&self, kind: Kind) -> bool {
+        match kind {
+            Kind::Wrong => self.cards.iter().any(|card| card.is_wrong),
+            _ if kind.is_box() => self.cards.iter().any(|card| card.kind == kind),
+            _ => self.arrows.iter().any(|arrow| arrow.kind == kind),
         }
     }
 }

@@ -3,6 +3,7 @@
 ghost use Rattle.std.specs.Prelude.{IfOk, string_bytes};
 ghost use Rattle.pictures.specs.Pictures.{IsPicture};
 
+use super::scene::{Arrow, Kind};
 use std::alloc::{AllocError, Global};
 use std::fmt;
 
@@ -52,26 +53,20 @@ const TIPS: [&str; 5] = ["program", "source", "fromread", "writes", "red"];
 /// How round the corners of arrows are.
 const CORNER: usize = 8;
 
-/// A place of a picture, or a size.
+/// A place of a picture, or a size: how far to the right, and how far down.
 #[derive(Clone, Copy)]
-pub(crate) struct Spot {
-    pub(crate) x: usize,
-    pub(crate) y: usize,
-}
+pub(crate) struct Spot(pub(crate) usize, pub(crate) usize);
 
 impl Spot {
     /// The spot so far to the right and below.
     pub(crate) fn plus(self, right: usize, below: usize) -> Spot {
-        Spot {
-            x: self.x.saturating_add(right),
-            y: self.y.saturating_add(below),
-        }
+        Spot(self.0.saturating_add(right), self.1.saturating_add(below))
     }
 }
 
 impl fmt::Display for Spot {
     fn fmt<W: fmt::Write>(&self, f: &mut fmt::Formatter<W>) -> fmt::Result {
-        write!(f, "{},{}", self.x, self.y)
+        write!(f, "{},{}", self.0, self.1)
     }
 }
 
@@ -94,17 +89,14 @@ impl<'a> fmt::Display for Escaped<'a> {
     }
 }
 
-/// How a line is drawn: by the style of its kind, or red.
+/// How an arrow is drawn: by the style of its kind, or red.
 #[derive(Clone, Copy)]
-pub(crate) struct Stroke {
-    pub(crate) class: &'static str,
-    pub(crate) is_red: bool,
-}
+struct Stroke(Kind, bool);
 
 impl fmt::Display for Stroke {
     fn fmt<W: fmt::Write>(&self, f: &mut fmt::Formatter<W>) -> fmt::Result {
-        let (class, red) = (self.class, if self.is_red { " red" } else { "" });
-        let tip = if self.is_red { "red" } else { class };
+        let class = self.0.class();
+        let (red, tip) = if self.1 { (" red", "red") } else { ("", class) };
         write!(f, "class=\"arrow {class}{red}\" marker-end=\"url(#{tip})\"")
     }
 }
@@ -112,7 +104,6 @@ impl fmt::Display for Stroke {
 /// A picture that is written.
 #[derive(Drop)]
 pub(crate) struct Svg {
-    alloc: Global,
     text: String,
 }
 
@@ -125,7 +116,6 @@ impl Svg {
         words: &str,
     ) -> Result<Svg, AllocError> {
         let mut svg = Svg {
-            alloc,
             text: String::new(alloc),
         };
         svg.begin(size, title, words)?;
@@ -135,21 +125,13 @@ impl Svg {
 
     /// Adds what comes before the parts.
     fn begin(&mut self, size: Spot, title: &str, words: &str) -> Result<(), AllocError> {
-        let Spot { x, y } = size;
+        let Spot(x, y) = size;
         write!(
             self.text,
-            "xmlns=\"http://www.w3.org/2000/svg\" role=\"img\" viewBox=\"0 0 {x} {y}\" width=\"{x}\" height=\"{y}\">\n"
-        )?;
-        write!(
-            self.text,
-            "<title>{}</title>\n<desc>{}</desc>\n",
+            "xmlns=\"http://www.w3.org/2000/svg\" role=\"img\" viewBox=\"0 0 {x} {y}\" width=\"{x}\" height=\"{y}\">\n<title>{}</title>\n<desc>{}</desc>\n{}<rect class=\"ground\" width=\"{x}\" height=\"{y}\"/>\n",
             Escaped(title),
-            Escaped(words)
-        )?;
-        self.text.push_str(STYLE)?;
-        write!(
-            self.text,
-            "<rect class=\"ground\" width=\"{x}\" height=\"{y}\"/>\n"
+            Escaped(words),
+            STYLE
         )
     }
 
@@ -167,27 +149,26 @@ impl Svg {
 
     /// A text, which begins at a spot.
     pub(crate) fn text(&mut self, class: &str, at: Spot, text: &str) -> Result<(), AllocError> {
-        let Spot { x, y } = at;
+        let (Spot(x, y), text) = (at, Escaped(text));
         write!(
             self.text,
-            "<text class=\"{class}\" x=\"{x}\" y=\"{y}\">{}</text>\n",
-            Escaped(text)
+            "<text class=\"{class}\" x=\"{x}\" y=\"{y}\">{text}</text>\n"
         )
     }
 
-    /// A box of a class, red or not, whose upper left corner is at a spot.
+    /// A box of a kind, red or not, whose upper left corner is at a spot.
     pub(crate) fn frame(
         &mut self,
-        class: &str,
+        kind: Kind,
         is_red: bool,
         at: Spot,
         size: Spot,
     ) -> Result<(), AllocError> {
-        let (red, Spot { x, y }) = (if is_red { " red" } else { "" }, at);
+        let (class, red) = (kind.class(), if is_red { " red" } else { "" });
+        let (Spot(x, y), Spot(width, height)) = (at, size);
         write!(
             self.text,
-            "<rect class=\"box {class}{red}\" x=\"{x}\" y=\"{y}\" width=\"{}\" height=\"{}\" rx=\"5\"/>\n",
-            size.x, size.y
+            "<rect class=\"box {class}{red}\" x=\"{x}\" y=\"{y}\" width=\"{width}\" height=\"{height}\" rx=\"5\"/>\n"
         )
     }
 
@@ -199,40 +180,42 @@ impl Svg {
     /// A straight arrow.
     pub(crate) fn straight(
         &mut self,
-        stroke: Stroke,
+        kind: Kind,
+        is_red: bool,
         from: Spot,
         to: Spot,
     ) -> Result<(), AllocError> {
+        let stroke = Stroke(kind, is_red);
         write!(self.text, "<path {stroke} d=\"M{from} L{to}\"/>\n")
     }
 
     /// An arrow that goes to the right up to a lane, along it, and back to the left.
     pub(crate) fn bent(
         &mut self,
-        stroke: Stroke,
+        arrow: &Arrow,
         from: Spot,
         lane: usize,
         to: Spot,
     ) -> Result<(), AllocError> {
-        let (before, first, last) = (
+        let (stroke, before) = (
+            Stroke(arrow.kind, arrow.is_red),
             lane.saturating_sub(CORNER),
-            towards(from.y, to.y),
-            towards(to.y, from.y),
         );
-        write!(self.text, "<path {stroke} d=\"M{from} H{before} ")?;
-        write!(self.text, "Q{lane},{} {lane},{first} V{last} ", from.y)?;
+        let (out, back) = (Spot(lane, from.1), Spot(lane, to.1));
+        let (first, last) = (towards(from.1, to.1), towards(to.1, from.1));
+        let (first, end) = (Spot(lane, first), Spot(before, to.1));
         write!(
             self.text,
-            "Q{lane},{} {before},{} H{}\"/>\n",
-            to.y, to.y, to.x
-        )
+            "<path {stroke} d=\"M{from} H{before} Q{out} {first} V{last} "
+        )?;
+        write!(self.text, "Q{back} {end} H{}\"/>\n", to.0)
     }
 
     /// The text of the picture, with what each begins with and ends with.
-    pub(crate) fn finish(self) -> Result<String, AllocError>
+    pub(crate) fn finish(self, alloc: Global) -> Result<String, AllocError>
         ensures { IfOk result (λ svg. IsPicture (string_bytes svg)) }
     {
-        let mut picture = String::new(self.alloc);
+        let mut picture = String::new(alloc);
         picture.push_str("<svg ")?;
         picture.push_str(self.text.as_str())?;
         picture.push_str("</svg>\n")?;

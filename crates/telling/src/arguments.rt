@@ -5,11 +5,9 @@ ghost use Rattle.decimal_text.specs.Numbers.{numeral};
 ghost use Rattle.telling.specs.FirstLines.{first_line, operation_count, IsGrown, SaysNo};
 
 use super::shown::{Counted, Deed, Joined, Number, Shown, Stored, Within, Written, between};
-use super::steps::{
-    Cases, Course, Known, Stand, Standing, closes, furthest, hops, known_at, round,
-};
 use mem_op::{OpId, Word};
-use refutation::{Point, Range, Refutation, State, Step};
+use refutation::{Point, Range, Refutation, StateSet, Step};
+use refuted_cases::{Course, Hop, Link, Stand, Walk, closes, hops, link_at, round, stands};
 use std::alloc::{AllocError, Global};
 use trace::{Access, Address, Trace};
 
@@ -101,13 +99,10 @@ fn argue(alloc: Global, trace: &Trace, refutation: &Refutation) -> Result<String
         alloc,
         trace,
         text: String::new(alloc),
-        cases: Cases::new(alloc),
+        walk: Walk::new(alloc),
         open: None,
     };
-    for step in refutation.steps() {
-        argument.step(step)?;
-    }
-    argument.text.push('\n')?;
+    argument.steps(refutation.steps())?;
     Ok(argument.text)
 }
 
@@ -117,13 +112,21 @@ struct Argument<'a> {
     alloc: Global,
     trace: &'a Trace,
     text: String,
-    cases: Cases,
+    walk: Walk,
     /// Of a line that tells where a read has its word from, and can go on with what follows: the number of that fact, and what comes
     /// between.
     open: Option<(usize, &'static str)>,
 }
 
 impl<'a> Argument<'a> {
+    /// Adds what steps say, and the end of the last line.
+    fn steps(&mut self, steps: &[Step]) -> Written {
+        for step in steps {
+            self.step(step)?;
+        }
+        self.text.push('\n')
+    }
+
     /// Adds what a step says, and the case that is taken up after it.
     fn step(&mut self, step: &Step) -> Written {
         match step {
@@ -139,9 +142,9 @@ impl<'a> Argument<'a> {
                 path,
             } => self.write_order(*source, write, path.as_slice()),
             Step::Cycle { path } => self.cycle(path.as_slice()),
-            Step::States { addresses, set } => self.states(addresses.as_slice(), set.as_slice()),
+            Step::States { addresses, set } => self.states(addresses.as_slice(), set),
         }?;
-        if self.cases.follow(step)? {
+        if self.walk.follow(step)? {
             self.case(if closes(step) { "or" } else { "either" })?;
         }
         Ok(())
@@ -149,7 +152,7 @@ impl<'a> Argument<'a> {
 
     /// Begins a line of the case.
     fn new_line(&mut self) -> Written {
-        let depth = self.cases.depth();
+        let depth = self.walk.depth();
         self.indent(depth)
     }
 
@@ -167,13 +170,11 @@ impl<'a> Argument<'a> {
 
     /// Adds the line of the case that is taken up.
     fn case(&mut self, word: &str) -> Written {
-        let depth = self.cases.depth().saturating_sub(1);
+        let depth = self.walk.depth().saturating_sub(1);
         self.indent(depth)?;
-        let Some(fact) = self.cases.facts().last() else {
-            return write!(self.text, "{word} ");
-        };
-        let later = Shown(fact.later);
-        let given = Within(range_of(fact));
+        let facts = self.walk.facts();
+        let fact = link_at(facts, facts.len().saturating_sub(1));
+        let (given, later) = (Within(fact.earlier, fact.last), Shown(fact.later));
         write!(self.text, "{word} {given} gave {later} its word")?;
         match fact.earlier {
             Point::Init => self.text.push_str(":"),
@@ -188,8 +189,8 @@ impl<'a> Argument<'a> {
         let [range] = ranges else {
             return self.sources(ranges);
         };
-        write!(self.text, "only {} gives", Within(*range))?;
-        let source = self.cases.facts().len();
+        write!(self.text, "only {} gives", Within(range.first, range.last))?;
+        let source = self.walk.facts().len();
         self.open = Some((source, "; so "));
         match range.first {
             Point::Init => Ok(()),
@@ -207,28 +208,33 @@ impl<'a> Argument<'a> {
         }
         for (place, range) in ranges.iter().enumerate() {
             let before = between(place, ranges.len(), " or ");
-            write!(self.text, "{before}{}", Within(*range))?;
+            write!(self.text, "{before}{}", Within(range.first, range.last))?;
         }
         self.text.push_str(" gives")
     }
 
+    /// Adds a read, and what gave it its word.
+    fn gave(&mut self, read: &OpId, link: &Link) -> Written {
+        write!(self.text, "{}, which ", Deed(self.trace, *read))?;
+        write!(self.text, "{} gave", Within(link.earlier, link.last))
+    }
+
     /// Goes on with what follows from the source of a read, on the same line where that is open; and that source.
-    fn follows(&mut self, source: usize) -> Result<Known, AllocError> {
-        let known = known_at(self.cases.facts(), source);
-        let word = match (self.open, known.later) {
+    fn follows(&mut self, source: usize) -> Result<Link, AllocError> {
+        let link = link_at(self.walk.facts(), source);
+        let word = match (self.open, link.later) {
             (Some((open, word)), _) if open == source => word,
             (_, later) => {
                 self.new_line()?;
                 if let Point::At(read) = later {
-                    let deed = Deed(self.trace, read);
-                    write!(self.text, "{deed}, which {} gave", Within(range_of(&known)))?;
+                    self.gave(&read, &link)?;
                 }
                 "; so "
             }
         };
         self.open = Some((source, ", and "));
         self.text.push_str(word)?;
-        Ok(known)
+        Ok(link)
     }
 
     /// Adds that a read comes before a write, to which the path leads from the last point of the read's source.
@@ -245,16 +251,16 @@ impl<'a> Argument<'a> {
 
     /// Adds that a write, from which the path leads to the read, comes before the last point of the read's source.
     fn write_order(&mut self, source: usize, write: &OpId, path: &[usize]) -> Written {
-        let known = self.follows(source)?;
+        let link = self.follows(source)?;
         let (stored, write) = (Stored(self.trace.operation(write)), Point::At(*write));
         write!(self.text, "{write}, which {stored} before it")?;
-        self.way(&write, path, &known.later)?;
-        write!(self.text, ", comes before {}", Shown(known.last))
+        self.way(&write, path, &link.later)?;
+        write!(self.text, ", comes before {}", Shown(link.last))
     }
 
     /// Adds how a path leads on, where that isn't told before: by program order alone, or by which points.
     fn way(&mut self, from: &Point, path: &[usize], to: &Point) -> Written {
-        let way = hops(self.alloc, self.cases.facts(), from, path, to)?;
+        let way = hops(self.alloc, self.walk.facts(), from, path, to)?;
         match way.as_slice() {
             [only] if only.by_program => self.text.push_str(" by program order"),
             [] | [_] => Ok(()),
@@ -264,44 +270,51 @@ impl<'a> Argument<'a> {
 
     /// Adds the cycle that closes a case: the points that go round, and which of them follow each other by program order.
     fn cycle(&mut self, path: &[usize]) -> Written {
+        let round = round(self.alloc, self.walk.facts(), path)?;
         self.new_line()?;
-        let mut round = round(self.alloc, self.cases.facts(), path)?;
-        write!(self.text, "but {} would go round", Joined(&round, ", "))?;
-        round.retain(|hop| hop.by_program && hop.from != Point::Init);
-        if round.is_empty() {
+        self.round(&round)
+    }
+
+    /// Adds the points that go round.
+    fn round(&mut self, round: &[Hop]) -> Written {
+        write!(self.text, "but {} would go round", Joined(round, ", "))?;
+        let count = round.iter().filter(|hop| is_told(hop)).count();
+        if count == 0 {
             return Ok(());
         }
-        self.text.push_str(": ")?;
-        for (place, hop) in round.iter().enumerate() {
-            let before = between(place, round.len(), " and ");
-            write!(self.text, "{before}{} before {}", hop.from, hop.to)?;
+        let (mut before, mut place) = (": ", 0usize);
+        for hop in round {
+            if is_told(hop) {
+                write!(self.text, "{before}{} before {}", hop.from, hop.to)?;
+                place = place.saturating_add(1);
+                before = between(place, count, " and ");
+            }
         }
         self.text.push_str(" by program order")
     }
 
     /// Adds the set of states that closes a case, and where the cores stand in the furthest of them.
-    fn states<'x>(&mut self, addresses: &'x [Address], states: &'x [State]) -> Written {
+    fn states(&mut self, addresses: &[Address], set: &StateSet) -> Written {
         self.new_line()?;
         self.text.push_str("but no order of the operations at ")?;
         self.addresses(addresses)?;
-        let (count, s) = (states.len(), if states.len() == 1 { "s" } else { "" });
-        let count = Counted(count as u64, "state");
+        let count = set.as_slice().len();
+        let (count, s) = (
+            Counted(count as u64, "state"),
+            if count == 1 { "s" } else { "" },
+        );
         write!(
             self.text,
             " comes to its end, as {count} show{s}; in the furthest one"
         )?;
-        let Some(state) = states.get(furthest(states)) else {
-            return Ok(());
-        };
-        let standing = Standing {
-            trace: self.trace,
-            addresses,
-            state,
-            facts: self.cases.facts(),
-        };
-        let stands = standing.stands(self.alloc)?;
-        let depth = self.cases.depth().saturating_add(1);
-        for stand in &stands {
+        let stands = stands(self.alloc, self.trace, self.walk.facts(), addresses, set)?;
+        self.stands(&stands)
+    }
+
+    /// Adds where the cores stand, each on a line.
+    fn stands(&mut self, stands: &[Stand]) -> Written {
+        let depth = self.walk.depth().saturating_add(1);
+        for stand in stands {
             self.indent(depth)?;
             self.stand(stand)?;
         }
@@ -362,10 +375,7 @@ impl<'a> Argument<'a> {
     }
 }
 
-/// Where the source of a read lies.
-fn range_of(source: &Known) -> Range {
-    Range {
-        first: source.earlier,
-        last: source.last,
-    }
+/// Whether a piece of the way round goes from an operation to one after it in its core, which is told.
+fn is_told(hop: &Hop) -> bool {
+    hop.by_program && hop.from != Point::Init
 }

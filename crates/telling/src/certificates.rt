@@ -9,9 +9,9 @@ use super::refusals::{Place, joined};
 use super::shown::{Bytes, Written};
 use super::slips::{RefusedLine, number_in};
 use super::step_lines::push_bad_step;
-use super::steps::Cases;
 use log_file::line_of;
 use refutation::{CertificateFault, Refutation, first_wrong_step};
+use refuted_cases::Walk;
 use std::alloc::{AllocError, Global};
 use std::str;
 use trace::Trace;
@@ -166,13 +166,17 @@ fn push_wrong_step(
     before: &Refutation,
     with: &Refutation,
 ) -> Written {
-    let mut cases = Cases::new(alloc);
+    let mut cases = Walk::new(alloc);
     for step in before.steps() {
         cases.follow(step)?;
     }
-    let facts = cases.facts();
+    let asked = Asked {
+        trace,
+        steps: before.steps(),
+        facts: cases.facts(),
+    };
     match with.steps().last() {
-        Some(step) => Asked { trace, facts }.push_failure(told, alloc, step),
+        Some(step) => asked.push_failure(told, alloc, step),
         None => Ok(()),
     }
 }

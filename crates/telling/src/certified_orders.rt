@@ -3,7 +3,7 @@
 use super::arguments::count_of;
 use super::certificates::push_end;
 use super::shown::{Deed, Stored, Written};
-use super::slips::{RefusedLine, field_of, number_in, push_trouble};
+use super::slips::{RefusedLine, number_in, push_trouble, trouble_of};
 use super::step_lines::begins_step;
 use mem_op::{CoreId, OpId, OpIndex};
 use refutation::Point;
@@ -73,7 +73,7 @@ fn push_slip(told: &mut String, at: &RefusedLine<'_>) -> Written {
     if let Some(slip) = at.slip() {
         return write!(told, "{slip}\n");
     }
-    match field_of("source", first).1 {
+    match trouble_of("source", first) {
         Some(trouble) if first.contains('.') => push_trouble(told, "id", first, trouble),
         _ => Ok(()),
     }

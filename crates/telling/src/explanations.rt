@@ -1,6 +1,6 @@
 //! An explanation of a verdict as text: a sentence, the facts behind it, and a table of what stands around.
 
-use super::findings::{first_sentence, push_culprit, push_times};
+use super::findings::{push_culprit, push_sentence, push_times};
 use super::shown::{Bytes, Number, Plain, Written};
 use core_program::print_instruction;
 use explain::{
@@ -20,14 +20,23 @@ pub fn print(
     names: &[&str],
     explanation: &Explanation,
 ) -> Result<String, AllocError> {
-    let mut text = first_sentence(alloc, explanation)?;
-    match explanation {
-        Explanation::Load(found) => push_wrong_read(alloc, names, &mut text, found),
-        Explanation::CoreOrder(fall) => push_fall(names, &mut text, fall),
-        Explanation::Program(departure) => push_departure(alloc, names, &mut text, departure),
-        Explanation::Summed(summary) => return print_summary(alloc, summary),
-    }?;
+    let mut text = String::new(alloc);
+    push(alloc, names, &mut text, explanation)?;
     Ok(text)
+}
+
+/// Adds the text of an explanation.
+fn push(alloc: Global, names: &[&str], text: &mut String, explanation: &Explanation) -> Written {
+    if let Explanation::Summed(summary) = explanation {
+        return push_summary(text, summary);
+    }
+    push_sentence(text, explanation)?;
+    match explanation {
+        Explanation::Load(found) => push_wrong_read(alloc, names, text, found),
+        Explanation::CoreOrder(fall) => push_fall(names, text, fall),
+        Explanation::Program(departure) => push_departure(alloc, names, text, departure),
+        Explanation::Summed(_) => Ok(()),
+    }
 }
 
 /// A record's line, and where it stands, in these files: the first record of a file is its second line. Where there is none, other words.
@@ -53,12 +62,19 @@ impl<'n, 'e, 'w> Display for Line<'n, 'e, 'w> {
 
 /// Adds the text of a load or a swap that breaks a rule.
 fn push_wrong_read(alloc: Global, names: &[&str], text: &mut String, found: &WrongRead) -> Written {
+    push_culprit(text, found)?;
+    push_times(text, found)?;
+    push_lines(alloc, names, text, found)?;
+    push_counts(text, &found.faults)?;
+    push_tables(text, alloc, found)
+}
+
+/// Adds the lines of a load, of what it should read, and of what it names.
+fn push_lines(alloc: Global, names: &[&str], text: &mut String, found: &WrongRead) -> Written {
     let unknown = match named_id(&found.load) {
         None => String::from_str(alloc, "the initial 0"),
         Some(id) => format!(in alloc; "{id}, which isn't in the logs"),
     }?;
-    push_culprit(text, found)?;
-    push_times(text, found)?;
     write!(
         text,
         "\n\nthe {}        {}\nit should read  {}\nit names        {}\nits last there  {}\n",
@@ -67,9 +83,7 @@ fn push_wrong_read(alloc: Global, names: &[&str], text: &mut String, found: &Wro
         Line(names, found.right.as_ref(), "the initial 0"),
         Line(names, found.named.as_ref(), unknown.as_str()),
         Line(names, found.own_last.as_ref(), "none")
-    )?;
-    push_counts(text, &found.faults)?;
-    push_tables(alloc, text, found)
+    )
 }
 
 /// Adds how many operations break SOURCE or VALUE.
@@ -89,13 +103,13 @@ fn push_counts(text: &mut String, faults: &FaultCounts) -> Written {
 }
 
 /// Adds the tables of what stands around a load.
-fn push_tables(alloc: Global, text: &mut String, found: &WrongRead) -> Written {
+fn push_tables(text: &mut String, alloc: Global, found: &WrongRead) -> Written {
     let own = found.own_rows.as_slice();
-    Table(found.rows.as_slice(), &found.load, false).push(alloc, text)?;
-    Table(own, &found.load, true).push(alloc, text)?;
+    push_table(text, alloc, found.rows.as_slice(), &found.load, false)?;
+    push_table(text, alloc, own, &found.load, true)?;
     match &found.right {
         Some(right) if place_of(own, right.id()).is_none() => {
-            Table(found.right_rows.as_slice(), right, true).push(alloc, text)
+            push_table(text, alloc, found.right_rows.as_slice(), right, true)
         }
         _ => Ok(()),
     }
@@ -172,27 +186,27 @@ impl<'a> Display for Registers<'a> {
     }
 }
 
-/// The text of what a set has that gets Yes.
-fn print_summary(alloc: Global, summary: &Summary) -> Result<String, AllocError> {
-    let mut text = format!(in alloc;
+/// Adds what a set has that gets Yes.
+fn push_summary(text: &mut String, summary: &Summary) -> Written {
+    write!(
+        text,
         "\ncores          {}\nloads          {}\nstores         {}\n",
         summary.cores, summary.loads, summary.stores
     )?;
     if summary.swaps > 0 {
         write!(text, "swaps          {}\n", summary.swaps)?;
     }
+    let uses = Uses(summary.most_used.as_slice());
     write!(
         text,
-        "addresses      {}\nmost used      {}\nstamps         ",
-        summary.addresses,
-        Uses(summary.most_used.as_slice())
+        "addresses      {}\nmost used      {uses}\nstamps         ",
+        summary.addresses
     )?;
     match &summary.stamps {
         Some((least, greatest)) => write!(text, "{} to {}", least.get(), greatest.get()),
         None => text.push_str("none"),
     }?;
-    write!(text, "\nshared stamps  {} operations\n", summary.sharing)?;
-    Ok(text)
+    write!(text, "\nshared stamps  {} operations\n", summary.sharing)
 }
 
 /// The most used addresses, each with the number of its operations.
@@ -212,115 +226,127 @@ impl<'a> Display for Uses<'a> {
     }
 }
 
-/// The names of the columns, with tabs between.
-const HEADS: &str = "op\tstamp\trank\tact\taddress\tvalue\tsource";
+/// The names of the columns of a table, with tabs between.
+const HEADS: &str = "  op\tstamp\trank\tact\taddress\tvalue\tsource";
+
+/// How wide these are.
+const WIDTHS: [usize; 7] = [4, 5, 4, 3, 7, 5, 6];
+
+/// The same in a table of one address, which has no column of addresses.
+const NARROW: [usize; 7] = [4, 5, 4, 3, 0, 5, 6];
 
 /// Which columns are of numbers, which stand at their right.
 const ARE_NUMBERS: [bool; 7] = [false, true, true, false, true, true, false];
 
-/// The column of addresses, which a table of one address leaves out.
-const ADDRESS: usize = 4;
-
-/// The cells of a record, with tabs between: its id, its key, what it did, its address, its word, or those that a swap read and stored,
-/// and where it says that the word which it read came from.
+/// The cells of a record, with tabs between: its mark and id, its key, what it did, its address, its word, or those that a swap read and
+/// stored, and where it says that the word which it read came from.
 #[derive(Clone, Copy)]
-struct Row<'a>(&'a Entry);
+struct Row<'a>(char, &'a Entry);
 
 impl<'a> Display for Row<'a> {
     fn fmt<W: fmt::Write>(&self, f: &mut fmt::Formatter<W>) -> fmt::Result {
-        let entry = self.0;
-        let (id, key, addr) = (entry.id(), entry.key(), entry.addr().get());
-        let (kind, stamp, rank) = (kind_name(entry), key.ts.get(), key.rank.get());
-        write!(f, "{id}\t{stamp}\t{rank}\t{kind}\t{addr}\t")?;
+        let (mark, entry) = (self.0, self.1);
+        let (id, key, kind) = (entry.id(), entry.key(), kind_name(entry));
+        let (stamp, rank, addr) = (key.ts.get(), key.rank.get(), entry.addr().get());
+        write!(f, "{mark} {id}\t{stamp}\t{rank}\t{kind}\t{addr}\t")?;
         if let Act::Swap(_, read) = &entry.act() {
             write!(f, "{read} -> ")?;
         }
-        let value = entry.value();
+        write!(f, "{}\t", entry.value())?;
         match (named_id(entry), &entry.act()) {
-            (Some(source), _) => write!(f, "{value}\t{source}"),
-            (None, Act::Store) => write!(f, "{value}\t"),
-            (None, _) => write!(f, "{value}\tinit"),
+            (Some(source), _) => source.fmt(f),
+            (None, Act::Store) => Ok(()),
+            (None, _) => f.write_str("init"),
         }
     }
+}
+
+/// Adds a table of records with a line before it: of those of one core, or of one address. `>` marks a record, and `*` the others at its
+/// address, where the table is of a core.
+fn push_table(
+    text: &mut String,
+    alloc: Global,
+    entries: &[Entry],
+    marked: &Entry,
+    is_of_core: bool,
+) -> Written {
+    let (core, addr) = (marked.id().core.get(), marked.addr().get());
+    match is_of_core {
+        true => write!(text, "\ncore {core} in program order:\n"),
+        false => write!(text, "\naddress {addr} by key:\n"),
+    }?;
+    let rows = rows(alloc, entries, marked, is_of_core)?;
+    push_rows(
+        text,
+        rows.as_str(),
+        if is_of_core { WIDTHS } else { NARROW },
+    )
+}
+
+/// The lines of a table, in which tabs stand between the cells.
+fn rows(
+    alloc: Global,
+    entries: &[Entry],
+    marked: &Entry,
+    is_of_core: bool,
+) -> Result<String, AllocError> {
+    let mut rows = String::from_str(alloc, HEADS)?;
+    for entry in entries {
+        let mark = match entry {
+            entry if entry.id() == marked.id() => '>',
+            entry if is_of_core && entry.addr() == marked.addr() => '*',
+            _ => ' ',
+        };
+        write!(rows, "\n{}", Row(mark, entry))?;
+    }
+    Ok(rows)
+}
+
+/// Adds these lines with their cells below each other, in columns of at least these widths; a column without a width is left out.
+fn push_rows(text: &mut String, rows: &str, least: [usize; 7]) -> Written {
+    let widths = widened(least, rows);
+    for row in rows.lines() {
+        push_row(text, row, &widths)?;
+    }
+    Ok(())
+}
+
+/// These widths, widened for the cells of lines.
+fn widened(least: [usize; 7], rows: &str) -> [usize; 7] {
+    let mut widths = least;
+    for row in rows.lines() {
+        widen(&mut widths, row);
+    }
+    widths
 }
 
 /// Widens columns for the cells of a row.
 fn widen(widths: &mut [usize; 7], row: &str) {
     for (column, cell) in row.split('\t').enumerate() {
-        if column < widths.len() {
+        if column < widths.len() && widths[column] > 0 {
             widths[column] = widths[column].max(cell.len());
         }
     }
 }
 
-/// A table of records, those of one core or those of one address; the record that `>` marks; and whether they are those of a core, with
-/// their addresses, where `*` marks the others at the address of that record.
-#[derive(Clone, Copy)]
-struct Table<'a>(&'a [Entry], &'a Entry, bool);
-
-impl<'a> Table<'a> {
-    /// Adds the table to a text, with a line before it.
-    fn push(&self, alloc: Global, text: &mut String) -> Written {
-        let (core, addr) = (self.1.id().core.get(), self.1.addr().get());
-        match self.2 {
-            true => write!(text, "\ncore {core} in program order:\n"),
-            false => write!(text, "\naddress {addr} by key:\n"),
-        }?;
-        let widths = self.widths(alloc)?;
-        self.push_row(alloc, text, ' ', HEADS, &widths)?;
-        for entry in self.0 {
-            let row = format!(in alloc; "{}", Row(entry))?;
-            self.push_row(alloc, text, self.mark(entry), row.as_str(), &widths)?;
-        }
-        Ok(())
-    }
-
-    /// How wide the columns are.
-    fn widths(&self, alloc: Global) -> Result<[usize; 7], AllocError> {
-        let mut widths = [0; 7];
-        widen(&mut widths, HEADS);
-        for entry in self.0 {
-            let row = format!(in alloc; "{}", Row(entry))?;
-            widen(&mut widths, row.as_str());
-        }
-        Ok(widths)
-    }
-
-    /// What stands before a record.
-    fn mark(&self, entry: &Entry) -> char {
-        match self.1 {
-            marked if entry.id() == marked.id() => '>',
-            marked if self.2 && entry.addr() == marked.addr() => '*',
-            _ => ' ',
-        }
-    }
-
-    /// Adds the line of a row, without spaces at its end.
-    fn push_row(
-        &self,
-        alloc: Global,
-        text: &mut String,
-        mark: char,
-        row: &str,
-        widths: &[usize; 7],
-    ) -> Written {
-        let mut line = String::new(alloc);
-        line.push(mark)?;
-        for (column, cell) in row.split('\t').enumerate() {
-            if column < widths.len() && (column != ADDRESS || self.2) {
-                line.push_str(if column == 0 { " " } else { "  " })?;
-                push_cell(&mut line, cell, widths[column], ARE_NUMBERS[column])?;
+/// Adds the line of a row, without spaces at its end.
+fn push_row(text: &mut String, row: &str, widths: &[usize; 7]) -> Written {
+    let (pad, mut gap) = ("", 0usize);
+    for (column, cell) in row.split('\t').enumerate() {
+        if column < widths.len() && widths[column] > 0 {
+            let rest = widths[column].saturating_sub(cell.len());
+            let (before, after) = if ARE_NUMBERS[column] {
+                (rest, 2)
+            } else {
+                (0, rest.saturating_add(2))
+            };
+            gap = gap.saturating_add(before);
+            if !cell.is_empty() {
+                write!(text, "{pad:gap$}{cell}")?;
+                gap = 0;
             }
+            gap = gap.saturating_add(after);
         }
-        write!(text, "{}\n", line.as_str().trim_end())
     }
-}
-
-/// Adds a cell of a column: numbers stand at its right, texts at its left.
-fn push_cell(text: &mut String, cell: &str, width: usize, is_number: bool) -> Written {
-    if is_number {
-        write!(text, "{cell:>width$}")
-    } else {
-        write!(text, "{cell:<width$}")
-    }
+    text.push('\n')
 }

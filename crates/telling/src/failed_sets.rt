@@ -2,7 +2,6 @@
 
 use super::failed_steps::Asked;
 use super::shown::Written;
-use super::steps::Standing;
 use mem_op::{CoreId, OpId, OpIndex, Word};
 use refutation::{Point, State};
 use std::alloc::{AllocError, Global};
@@ -185,15 +184,19 @@ impl<'a> Walk<'a> {
 
     /// Whether a core may perform its next operation in a state.
     fn may_go(&self, state: &State, id: &OpId, access: &Access) -> bool {
-        let standing = Standing {
-            trace: self.asked.trace,
-            addresses: self.addresses,
-            state,
-            facts: self.asked.facts,
-        };
         let word = self.word_at(state.words(), access.addr());
         let fits = word.is_some() && (access.read().is_none() || access.read() == word);
-        fits && standing.earlier(id).is_none()
+        fits && !self.is_held_back(state, id)
+    }
+
+    /// Whether a fact puts a point that isn't performed before an operation.
+    fn is_held_back(&self, state: &State, id: &OpId) -> bool {
+        for fact in self.asked.facts {
+            if fact.later == Point::At(*id) && !was_performed(state, &fact.earlier) {
+                return true;
+            }
+        }
+        false
     }
 
     /// Whether the set lacks the state behind an operation; adds that, too.
@@ -323,6 +326,14 @@ fn store_from(operations: &[Access], from: usize, addr: Address, word: Word) -> 
         }
     }
     None
+}
+
+/// Whether a point is performed in a state.
+fn was_performed(state: &State, point: &Point) -> bool {
+    match point {
+        Point::Init => true,
+        Point::At(id) => id.index.get() < number_of(state.next(), id.core.get() as usize),
+    }
 }
 
 /// The number of a core: 0, where there is none.

@@ -2,17 +2,18 @@
 
 use super::failed_sets::push_failed_set;
 use super::shown::{Deed, Number, Shown, Written};
-use super::steps::{Known, StepRule};
 use mem_op::{CoreId, OpId, OpIndex, Word};
 use refutation::{Point, Range, Step};
+use refuted_cases::Link;
 use std::alloc::{AllocError, Global};
 use trace::{Access, Address, Trace};
 
-/// What a rule is asked about: a trace, and the facts in force.
+/// What a rule is asked about: a trace, the steps before, and the facts in force.
 #[derive(Clone, Copy)]
 pub(crate) struct Asked<'a> {
     pub(crate) trace: &'a Trace,
-    pub(crate) facts: &'a [Known],
+    pub(crate) steps: &'a [Step],
+    pub(crate) facts: &'a [Link],
 }
 
 /// A read at an address, of this word there.
@@ -108,17 +109,17 @@ impl<'a> Asked<'a> {
         told: &mut String,
         number: usize,
         write: &OpId,
-    ) -> Result<Option<Known>, AllocError> {
+    ) -> Result<Option<Link>, AllocError> {
         let Some(known) = self.facts.get(number) else {
             self.push_no_fact(told, number)?;
             return Ok(None);
         };
-        match (known.rule, known.later) {
-            (StepRule::Source, Point::At(read)) => {
+        match known.later {
+            Point::At(read) if self.is_source(known) => {
                 let is_right = self.push_other(told, &read, &known.last, write)?;
                 Ok(is_right.then_some(*known))
             }
-            (_, later) => {
+            later => {
                 write!(
                     told,
                     "Fact {number} says that {} comes before {}; the step names one that a read gave.\n",
@@ -128,6 +129,11 @@ impl<'a> Asked<'a> {
                 Ok(None)
             }
         }
+    }
+
+    /// Whether a fact tells the source of a read.
+    fn is_source(&self, known: &Link) -> bool {
+        matches!(self.steps.get(known.step), Some(Step::Read { .. }))
     }
 
     /// Whether a write is one at the address of a read, and neither that read nor the last point of its source; else adds why it isn't.

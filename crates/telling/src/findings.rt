@@ -2,7 +2,7 @@
 
 use super::shown::{Number, Written};
 use address_check::is_store;
-use explain::{Departure, Explanation, Fall, WrongRead, kind_name, named_id, ties};
+use explain::{Departure, Explanation, Fall, WrongRead, named_id, ties};
 use log_record::{Act, Entry};
 use mem_op::Op;
 use std::alloc::{AllocError, Global};
@@ -13,32 +13,30 @@ use verdict::Rule;
 /// The sentence that an explanation begins with: what is wrong, or that nothing is.
 pub fn first_sentence(alloc: Global, explanation: &Explanation) -> Result<String, AllocError> {
     let mut text = String::new(alloc);
-    match explanation {
-        Explanation::Load(found) => push_wrong_read(&mut text, found),
-        Explanation::CoreOrder(fall) => push_fall(&mut text, fall),
-        Explanation::Program(departure) => push_departure(&mut text, departure),
-        Explanation::Summed(_) => text.push_str("No operation breaks a rule."),
-    }?;
+    push_sentence(&mut text, explanation)?;
     Ok(text)
+}
+
+/// Adds that sentence.
+pub(crate) fn push_sentence(text: &mut String, explanation: &Explanation) -> Written {
+    match explanation {
+        Explanation::Load(found) => push_wrong_read(text, found),
+        Explanation::CoreOrder(fall) => push_fall(text, fall),
+        Explanation::Program(departure) => push_departure(text, departure),
+        Explanation::Summed(_) => text.push_str("No operation breaks a rule."),
+    }
 }
 
 /// Adds what is wrong with a load, or with what a swap reads.
 fn push_wrong_read(text: &mut String, found: &WrongRead) -> Written {
-    let (load, addr) = (found.load.id(), found.load.addr().get());
     match (found.rule, &found.right, named_id(&found.load)) {
-        (Rule::Value, Some(right), _) => {
-            let read = Number(found.load.logged().word_answered());
-            let (store, stored) = (right.id(), Number(right.value()));
-            write!(
-                text,
-                "{load} read {read} from {store} at address {addr}, but {store} stored {stored} there."
-            )
-        }
+        (Rule::Value, Some(right), _) => push_wrong_value(text, &found.load, right),
         (Rule::Value, None, _) => {
             push_initial_read(text, &found.load)?;
             text.push_str(", but that is 0.")
         }
         (_, _, Some(named)) => {
+            let (load, addr) = (found.load.id(), found.load.addr().get());
             write!(text, "{load} read address {addr} from {named}")?;
             push_wrong_source(text, found)
         }
@@ -47,6 +45,17 @@ fn push_wrong_read(text: &mut String, found: &WrongRead) -> Written {
             push_last_store(text, &found.right, "before it")
         }
     }
+}
+
+/// Adds that a load read another word than the store left which it should read.
+fn push_wrong_value(text: &mut String, load: &Entry, right: &Entry) -> Written {
+    let read = Number(load.logged().word_answered());
+    let (load, addr) = (load.id(), load.addr().get());
+    let (store, stored) = (right.id(), Number(right.value()));
+    write!(
+        text,
+        "{load} read {read} from {store} at address {addr}, but {store} stored {stored} there."
+    )
 }
 
 /// Adds what a load or a swap read whose source is the initial word. That word is 0, but a log may have another.
@@ -63,27 +72,37 @@ fn push_initial_read(text: &mut String, read: &Entry) -> Written {
 
 /// Adds what is wrong with the record that a source names.
 fn push_wrong_source(text: &mut String, found: &WrongRead) -> Written {
-    let load = &found.load;
-    match &found.named {
-        None => text.push_str(", which isn't in the logs"),
-        Some(named) if !is_store(named) => write!(text, ", which is a {}", kind_name(named)),
-        Some(named) if named.id() == load.id() => text.push_str(", which is its own store"),
-        Some(named) if named.addr() != load.addr() => {
-            write!(text, ", which stores at address {}", named.addr().get())
-        }
-        Some(named) if named.key() > load.key() => text.push_str(", which comes after it"),
-        Some(_) => return push_last_store(text, &found.right, "after that"),
+    match (wrong_source(found), &found.named) {
+        (None, _) => return push_last_store(text, &found.right, "after that"),
+        (Some(""), Some(named)) => write!(text, ", which stores at address {}", named.addr().get()),
+        (Some(wrong), _) => text.push_str(wrong),
     }?;
-    let addr = load.addr().get();
+    let addr = found.load.addr().get();
     match &found.right {
         None => write!(text, "; no store to address {addr} comes before it."),
-        Some(right) => {
-            let (store, stored) = (right.id(), Number(right.value()));
-            write!(
-                text,
-                "; the last store to address {addr} before it is {store}, of {stored}."
-            )
-        }
+        Some(right) => push_right(text, addr, right),
+    }
+}
+
+/// Adds the store that should have been read at an address.
+fn push_right(text: &mut String, addr: u64, right: &Entry) -> Written {
+    let (store, stored) = (right.id(), Number(right.value()));
+    write!(
+        text,
+        "; the last store to address {addr} before it is {store}, of {stored}."
+    )
+}
+
+/// What is wrong with the record that a source names, no words where it is at another address; none of a store at the load's before it.
+fn wrong_source(found: &WrongRead) -> Option<&'static str> {
+    let load = &found.load;
+    match &found.named {
+        None => Some(", which isn't in the logs"),
+        Some(named) if !is_store(named) => Some(", which is a load"),
+        Some(named) if named.id() == load.id() => Some(", which is its own store"),
+        Some(named) if named.addr() != load.addr() => Some(""),
+        Some(named) if named.key() > load.key() => Some(", which comes after it"),
+        Some(_) => None,
     }
 }
 
@@ -119,10 +138,14 @@ fn push_departure(text: &mut String, departure: &Departure) -> Written {
         None => write!(text, "The log of core {core} ends before {id}, where"),
         Some(found) => write!(text, "{} {}, but", found.id(), Deed(&op_of(found))),
     }?;
-    match (&departure.due, &departure.found) {
-        (None, _) => text.push_str(" its program had ended."),
-        (Some(due), None) => write!(text, " its program {}.", Deed(&due.op)),
-        (Some(due), Some(_)) => write!(text, " its program {} there.", Deed(&due.op)),
+    let there = if departure.found.is_some() {
+        " there"
+    } else {
+        ""
+    };
+    match &departure.due {
+        None => text.push_str(" its program had ended."),
+        Some(due) => write!(text, " its program {}{there}.", Deed(&due.op)),
     }
 }
 
@@ -142,15 +165,12 @@ struct Deed<'a>(&'a Op);
 
 impl<'a> Display for Deed<'a> {
     fn fmt<W: fmt::Write>(&self, f: &mut fmt::Formatter<W>) -> fmt::Result {
-        match self.0 {
-            Op::Store(addr, value) => {
-                write!(f, "stores {} at address {}", Number(*value), addr.get())
-            }
-            Op::Load(addr) => write!(f, "loads address {}", addr.get()),
-            Op::Swap(addr, value) => {
-                write!(f, "swaps {} into address {}", Number(*value), addr.get())
-            }
-        }
+        let (addr, value, does, to) = match self.0 {
+            Op::Load(addr) => return write!(f, "loads address {}", addr.get()),
+            Op::Store(addr, value) => (addr, value, "stores", "at"),
+            Op::Swap(addr, value) => (addr, value, "swaps", "into"),
+        };
+        write!(f, "{does} {} {to} address {}", Number(*value), addr.get())
     }
 }
 
@@ -185,22 +205,22 @@ pub(crate) fn push_times(text: &mut String, found: &WrongRead) -> Written {
     if let Some((first, second)) = tie(found) {
         return push_tie(text, &first, &second);
     }
-    match (&found.next, &found.right) {
-        (Some(next), _) if found.is_right_later => push_moved(text, found, next, "after", true),
-        (_, Some(right)) if found.is_right_earlier => {
-            push_moved(text, found, right, "before", true)
-        }
-        (next, right) => {
-            if let Some(right) = right {
-                push_moved(text, found, right, "before", false)?;
-            }
-            match next {
-                Some(next) => push_moved(text, found, next, "after", false),
-                None => Ok(()),
-            }
-        }
+    let (right, next) = (&found.right, &found.next);
+    if found.is_right_later {
+        return push_moved(text, found, next, "after", RIGHT);
     }
+    if found.is_right_earlier {
+        return push_moved(text, found, right, "before", RIGHT);
+    }
+    push_moved(text, found, right, "before", WRONG)?;
+    push_moved(text, found, next, "after", WRONG)
 }
+
+/// What is told of a load that would be right at another time.
+const RIGHT: &str = "right: the times may be at fault, and not the machine.";
+
+/// What is told of one that wouldn't.
+const WRONG: &str = "wrong too.";
 
 /// The load and the store that it names, or the one that it should read, where the numbers of their cores decide which
 /// comes first; the one that does before the other.
@@ -226,29 +246,27 @@ fn push_tie(text: &mut String, first: &Entry, second: &Entry) -> Written {
     )
 }
 
-/// Adds how far the stamp of a load is from that of a store, and whether it would be right just before or just after that store, or no
-/// times can put it there.
+/// Adds how far the stamp of a load is from that of a store, where there is one, and whether it would be right just before or just after
+/// that store, or no times can put it there.
 fn push_moved(
     text: &mut String,
     found: &WrongRead,
-    store: &Entry,
+    store: &Option<Entry>,
     side: &str,
-    is_right: bool,
+    then: &str,
 ) -> Written {
-    let (load, other) = (found.load.id(), store.id());
+    let Some(store) = store else {
+        return Ok(());
+    };
     push_stamps(text, &found.load, store)?;
-    if is_right {
-        write!(
-            text,
-            " Just {side} {other} it would be right: the times may be at fault, and not the machine."
-        )
-    } else if other.core == load.core {
+    let other = store.id();
+    if other.core == found.load.id().core {
         write!(
             text,
             " Its own core made {other} {side} it, whatever the times."
         )
     } else {
-        write!(text, " Just {side} {other} it would be wrong too.")
+        write!(text, " Just {side} {other} it would be {then}")
     }
 }
 

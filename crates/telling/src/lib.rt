@@ -1,4 +1,4 @@
-//! The words of an explanation, of a refutation, and of a file that was refused; and what is known at each step of a refutation.
+//! The words of an explanation, of a refutation, and of a file that was refused.
 #![tactic(auto)]
 
 mod arguments;
@@ -14,7 +14,6 @@ mod refusals;
 mod shown;
 mod slips;
 mod step_lines;
-mod steps;
 mod traces;
 
 pub use arguments::{count_of, push_argument, tell};
@@ -22,6 +21,3 @@ pub use certificates::CertificateTelling;
 pub use explanations::print;
 pub use findings::first_sentence;
 pub use refusals::{Kind, Place, Refused, Telling};
-pub use steps::{
-    Cases, Course, Hop, Known, Stand, Standing, StepRule, closes, furthest, known_at, round,
-};

@@ -5,34 +5,41 @@ use super::slips::{RECORDS, RefusedLine, begun_by, number_in, push_departure, sh
 use log_file::FormatFault;
 use log_record::Format;
 
-/// A log that was refused: which of how many files it is, counted from 0, and its fault.
-#[derive(Clone, Copy)]
-pub(crate) struct RefusedLog(pub(crate) usize, pub(crate) usize, pub(crate) FormatFault);
-
-/// Adds what is told of the fault of a log at this line.
-pub(crate) fn push_log(text: &mut String, log: &RefusedLog, at: &RefusedLine<'_>) -> Written {
-    if let Some(told) = sentence(log.2, at) {
+/// Adds what is told of the fault of a log at this line: of the file of this number, counted from 0, of so many.
+pub(crate) fn push_log(
+    text: &mut String,
+    file: (usize, usize),
+    fault: FormatFault,
+    at: &RefusedLine<'_>,
+) -> Written {
+    if let Some(told) = sentence(fault, at) {
         return write!(text, "{told}\n");
     }
     let before = at.place.line.saturating_sub(2);
-    match log.2 {
+    match fault {
         FormatFault::BadHeader => push_header(text, at),
         FormatFault::CountDiffers => write!(
             text,
             "It has to say how many operations stand before it, which is {before}.\n"
         ),
-        FormatFault::Truncated if at.line.is_empty() => write!(
-            text,
-            "The file ends before its end line: it is cut off, or end N was left out, with the number N of operations.\nWhole operations before it: {before}.\n"
-        ),
-        FormatFault::Truncated => write!(
-            text,
-            "The file ends in the middle of a line: it is cut off.\nWhole operations before it: {before}.\n"
-        ),
-        FormatFault::WrongCore => push_wrong_core(text, log, at),
+        FormatFault::Truncated => {
+            let how = if at.line.is_empty() { NO_END } else { CUT_OFF };
+            write!(
+                text,
+                "The file ends {how}.\nWhole operations before it: {before}.\n"
+            )
+        }
+        FormatFault::WrongCore => push_wrong_core(text, file, at),
         _ => push_record(text, at.words),
     }
 }
+
+/// How a file ends that has no last line.
+const NO_END: &str =
+    "before its end line: it is cut off, or end N was left out, with the number N of operations";
+
+/// How a file ends whose last line isn't whole.
+const CUT_OFF: &str = "in the middle of a line: it is cut off";
 
 /// What is told of a fault at this line, where that is one sentence.
 fn sentence(fault: FormatFault, at: &RefusedLine<'_>) -> Option<&'static str> {
@@ -100,8 +107,8 @@ fn push_record(text: &mut String, words: &[&str]) -> Written {
 }
 
 /// Adds what is told of a header of another core or of another number of cores.
-fn push_wrong_core(text: &mut String, log: &RefusedLog, at: &RefusedLine<'_>) -> Written {
-    let RefusedLog(core, cores, _) = *log;
+fn push_wrong_core(text: &mut String, file: (usize, usize), at: &RefusedLine<'_>) -> Written {
+    let (core, cores) = file;
     write!(
         text,
         "It was given as file {core} of {cores}, counted from 0, so it has to say core {core} of {cores}.\n"

@@ -4,7 +4,7 @@ use super::refusals::Kind;
 use super::shown::{Counted, Written};
 use super::slips::{
     INSTRUCTIONS, RefusedLine, SET_HEADER, TEST_HEADER, Trouble, begins_with, begun_by, count_of,
-    field_of, number_in, push_departure, push_shape, push_trouble, shape_of,
+    is_feed, number_in, push_departure, push_shape, push_trouble, shape_of, trouble_of,
 };
 use log_file::line_of;
 use std::str;
@@ -82,14 +82,11 @@ fn push_instruction(
     first: &str,
     fields: &[&str],
 ) -> Written {
-    let bare = first.strip_suffix(':').unwrap_or(first);
-    for word in ["core", "show", "forbid", "end"] {
-        if word.eq_ignore_ascii_case(bare) {
-            return write!(
-                text,
-                "A line that begins with {word} seems to be meant: write that word in small letters and without a colon.\n"
-            );
-        }
+    if let Some(word) = meant_by(first) {
+        return write!(
+            text,
+            "A line that begins with {word} seems to be meant: write that word in small letters and without a colon.\n"
+        );
     }
     text.push_str(match shape_of(&INSTRUCTIONS, first) {
         _ if at.begun_before(b"core ") == 0 => {
@@ -104,6 +101,17 @@ fn push_instruction(
         }
         Some(shape) => return push_departure(text, shape, fields),
     })
+}
+
+/// The first word of another line that a word seems to be, in other letters or with a colon.
+fn meant_by(first: &str) -> Option<&'static str> {
+    let bare = first.strip_suffix(':').unwrap_or(first);
+    for word in ["core", "show", "forbid", "end"] {
+        if word.eq_ignore_ascii_case(bare) {
+            return Some(word);
+        }
+    }
+    None
 }
 
 fn says_format_one(line: &[u8]) -> bool {
@@ -130,7 +138,7 @@ fn push_show(text: &mut String, at: &RefusedLine<'_>, registers: &[&str]) -> Wri
         return write!(text, "It has {} registers.\n", registers.len());
     }
     for word in registers {
-        if let Some(trouble) = field_of("C.rN", word).1.or(core_trouble(word, cores)) {
+        if let Some(trouble) = trouble_of("C.rN", word).or(core_trouble(word, cores)) {
             return push_trouble(text, "register", word, trouble);
         }
     }
@@ -140,10 +148,10 @@ fn push_show(text: &mut String, at: &RefusedLine<'_>, registers: &[&str]) -> Wri
 /// The number of cores that a first line says, its last word.
 fn cores_of(line: &[u8]) -> u64 {
     let text = str::from_utf8(line).unwrap_or("");
-    text.rsplit(' ')
-        .next()
-        .and_then(|word| number_in(word))
-        .unwrap_or(0)
+    match text.rsplit(' ').next() {
+        Some(word) => number_in(word).unwrap_or(0),
+        None => 0,
+    }
 }
 
 /// What is wrong with a register of a core where there are so many cores.
@@ -170,8 +178,8 @@ fn push_forbid(text: &mut String, at: &RefusedLine<'_>, values: &[&str]) -> Writ
         return text.push_str("At most 16 lines say forbid, and as many stand before it.\n");
     }
     for word in values {
-        if let (name, Some(trouble)) = field_of("K", word) {
-            return push_trouble(text, name, word, trouble);
+        if let Some(trouble) = trouble_of("K", word) {
+            return push_trouble(text, "value", word, trouble);
         }
     }
     Ok(())
@@ -179,8 +187,10 @@ fn push_forbid(text: &mut String, at: &RefusedLine<'_>, values: &[&str]) -> Writ
 
 /// How many registers the line `show` has; 0 where there is none.
 fn shown_count(text: &[u8]) -> u64 {
-    let mut lines = text.split(|byte| *byte == b'\n');
-    lines
-        .find(|line| line.starts_with(b"show "))
-        .map_or(0, |line| count_of(line, b' '))
+    for line in text.split(is_feed) {
+        if line.starts_with(b"show ") {
+            return count_of(line, b' ');
+        }
+    }
+    0
 }

@@ -3,7 +3,7 @@
 ghost use Rattle.std.specs.Prelude.{◌≡◌, ◌++◌, ℕ, List, IfOk, string_bytes};
 ghost use Rattle.telling.specs.Places.{place_text};
 
-use super::logs::{RefusedLog, push_log};
+use super::logs::push_log;
 use super::programs::push_bad_line;
 use super::shown::{Bytes, Written};
 use super::slips::RefusedLine;
@@ -14,7 +14,7 @@ use std::fmt::Display;
 use std::{fmt, str};
 
 /// Where a fault is: a line of a file.
-#[derive(Clone, Copy, Debug)]
+#[derive(Clone, Copy)]
 pub struct Place<'a> {
     /// The name of the file.
     pub file: &'a str,
@@ -63,25 +63,19 @@ pub enum Refused {
     TooMany,
 }
 
-/// What is told of a trace with too many operations.
-const TOO_MANY: &str =
-    "A core of a trace has at most 1048576 operations; replay takes any number.\n";
-
 impl Refused {
     /// Adds what is told of a line that was refused.
     fn push(self, text: &mut String, at: &RefusedLine<'_>) -> Written {
-        match self {
-            Refused::Log { file, files, fault } => {
-                push_log(text, &RefusedLog(file, files, fault), at)
+        text.push_str(match self {
+            Refused::Log { file, files, fault } => return push_log(text, (file, files), fault, at),
+            Refused::BadLine(kind) => return push_bad_line(text, kind, at),
+            Refused::BadTraceLine => return push_trace_line(text, at.line),
+            Refused::TooLong => "A program has at most 4096 instructions.\n",
+            Refused::SkipPastEnd => "It skips further than to just past the last instruction.\n",
+            Refused::TooMany => {
+                "A core of a trace has at most 1048576 operations; replay takes any number.\n"
             }
-            Refused::BadLine(kind) => push_bad_line(text, kind, at),
-            Refused::TooLong => text.push_str("A program has at most 4096 instructions.\n"),
-            Refused::BadTraceLine => push_trace_line(text, at.line),
-            Refused::TooMany => text.push_str(TOO_MANY),
-            Refused::SkipPastEnd => {
-                text.push_str("It skips further than to just past the last instruction.\n")
-            }
-        }
+        })
     }
 }
 

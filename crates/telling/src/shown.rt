@@ -1,8 +1,8 @@
 //! How numbers, bytes, texts, points and operations are shown.
 
-use super::steps::Hop;
 use mem_op::OpId;
-use refutation::{Point, Range};
+use refutation::Point;
+use refuted_cases::Hop;
 use std::alloc::AllocError;
 use std::fmt;
 use std::fmt::Display;
@@ -66,11 +66,12 @@ pub(crate) struct Plain<'a>(pub(crate) &'a str);
 
 impl<'a> Display for Plain<'a> {
     fn fmt<W: fmt::Write>(&self, f: &mut fmt::Formatter<W>) -> fmt::Result {
-        let end = self.0.char_indices().nth(MOST_SHOWN);
-        match end.and_then(|(end, _)| self.0.get(..end)) {
-            Some(shown) => write!(f, "{}..", shown.escape_debug()),
-            None => write!(f, "{}", self.0.escape_debug()),
+        if let Some((end, _)) = self.0.char_indices().nth(MOST_SHOWN)
+            && let Some(shown) = self.0.get(..end)
+        {
+            return write!(f, "{}..", shown.escape_debug());
         }
+        write!(f, "{}", self.0.escape_debug())
     }
 }
 
@@ -87,13 +88,13 @@ impl Display for Shown {
     }
 }
 
-/// What lies in a range.
+/// What lies from a point to another in program order.
 #[derive(Clone, Copy)]
-pub(crate) struct Within(pub(crate) Range);
+pub(crate) struct Within(pub(crate) Point, pub(crate) Point);
 
 impl Display for Within {
     fn fmt<W: fmt::Write>(&self, f: &mut fmt::Formatter<W>) -> fmt::Result {
-        let (first, last) = (self.0.first, self.0.last);
+        let (first, last) = (self.0, self.1);
         match first {
             _ if first == last => Shown(first).fmt(f),
             Point::Init => write!(f, "the initial 0 or one up to {last}"),
@@ -130,16 +131,18 @@ impl<'a> Display for Deed<'a> {
         let Some(access) = self.0.operation(&self.1) else {
             return write!(f, "{point} did nothing");
         };
-        let (addr, left) = (Number(access.addr()), Number(access.word_left()));
-        match access.read().map(|read| Number(read)) {
-            None => write!(f, "{point} stored {left} to address {addr}"),
-            Some(read) if access.is_store_to(access.addr()) => {
-                write!(
-                    f,
-                    "{point} swapped {left} into address {addr} and loaded {read}"
-                )
-            }
-            Some(read) => write!(f, "{point} loaded {read} from address {addr}"),
+        let (addr, left, read) = (access.addr(), access.word_left(), access.read());
+        let is_swap = read.is_some() && access.is_store_to(addr);
+        let (did, word, to) = match read {
+            Some(read) if !is_swap => ("loaded", read, "from"),
+            Some(_) => ("swapped", left, "into"),
+            None => ("stored", left, "to"),
+        };
+        let (word, addr) = (Number(word), Number(addr));
+        write!(f, "{point} {did} {word} {to} address {addr}")?;
+        match read {
+            Some(read) if is_swap => write!(f, " and loaded {}", Number(read)),
+            _ => Ok(()),
         }
     }
 }

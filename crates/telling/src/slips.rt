@@ -2,7 +2,6 @@
 
 use super::refusals::Place;
 use super::shown::{Bytes, Written};
-use core_program::Register;
 use decimal_text::read_last;
 use log_file::line_of;
 
@@ -45,7 +44,12 @@ pub(crate) fn begins_with(shape: &Shape, first: &str) -> bool {
 
 /// The shape that begins with this word.
 pub(crate) fn shape_of(shapes: &'static [Shape], first: &str) -> Option<&'static Shape> {
-    shapes.iter().find(|shape| begins_with(shape, first))
+    for shape in shapes {
+        if begins_with(shape, first) {
+            return Some(shape);
+        }
+    }
+    None
 }
 
 /// Adds how a line of this shape is written.
@@ -64,25 +68,38 @@ pub(crate) fn push_departure(text: &mut String, shape: &Shape, words: &[&str]) -
     if words.len() < fields {
         return push_missing(text, line, words);
     }
-    for (field, word) in line.split(' ').skip(1).zip(words) {
-        if let (name, Some(trouble)) = field_of(field, word) {
-            return push_trouble(text, name, word, trouble);
-        }
+    push_first_trouble(text, line, words)
+}
+
+/// Adds which fields of a line are missing after these words.
+fn push_missing(text: &mut String, line: &str, words: &[&str]) -> Written {
+    if let Some(told) = left_out(line, words) {
+        return text.push_str(told);
+    }
+    for field in line.split(' ').skip(words.len().saturating_add(1)) {
+        write!(text, "Its {} is missing.\n", name_of(field))?;
     }
     Ok(())
 }
 
-/// Adds which fields of a line are missing after these words. Where the last of four is a source, it is the rank that was left out,
-/// and where the number of cores of a test has its word before it, it is the name.
-fn push_missing(text: &mut String, line: &str, words: &[&str]) -> Written {
-    if matches!(words, [_, _, _, last] if *last == "init" || last.contains('.')) {
-        return text.push_str("Its rank is missing, 0 where all times differ.\n");
+/// What is told where a field before the last was left out. Where the last of four words is a source, it is the rank, and where the number
+/// of cores of a test has its word before it, it is the name.
+fn left_out(line: &str, words: &[&str]) -> Option<&'static str> {
+    match words {
+        [_, _, _, last] if *last == "init" || last.contains('.') => {
+            Some("Its rank is missing, 0 where all times differ.\n")
+        }
+        [_, "cores", _] if line.contains(" NAME ") => Some("Its name is missing.\n"),
+        _ => None,
     }
-    if matches!(words, [_, "cores", _]) && line.contains(" NAME ") {
-        return text.push_str("Its name is missing.\n");
-    }
-    for field in line.split(' ').skip(1).skip(words.len()) {
-        write!(text, "Its {} is missing.\n", field_of(field, "").0)?;
+}
+
+/// Adds what is wrong with the first of these words that isn't right in the place of its field.
+fn push_first_trouble(text: &mut String, line: &str, words: &[&str]) -> Written {
+    for (field, word) in line.split(' ').skip(1).zip(words) {
+        if let Some(trouble) = trouble_of(field, word) {
+            return push_trouble(text, name_of(field), word, trouble);
+        }
     }
     Ok(())
 }
@@ -99,26 +116,44 @@ pub(crate) fn push_trouble(text: &mut String, name: &str, word: &str, it: Troubl
 /// What is told of a word in the place of a field, and the number after that, where there is one.
 pub(crate) type Trouble = (&'static str, Option<u64>);
 
-/// What the field is called that a shape has so, and what is wrong with this word in its place.
-pub(crate) fn field_of<'a>(field: &'a str, word: &str) -> (&'a str, Option<Trouble>) {
-    let unlike = "isn't a number in digits alone";
-    let register = unless(is_register(word), "is none of r0 to r15");
-    let format = unless(matches!(word, "1" | "2"), "is neither 1 nor 2");
-    let name = unless(is_name(word), "isn't 1 to 32 letters, digits, + and -");
+/// What the field is called that a shape has so.
+fn name_of(field: &str) -> &str {
     match field {
-        "addr" => ("address", number_trouble(word, 0, 65_535, unlike)),
-        "ts" => (field, number_trouble(word, 0, 281_474_976_710_656, unlike)),
-        "rank" => (field, number_trouble(word, 0, 4_294_967_295, unlike)),
-        "skip" => (field, number_trouble(word, 1, 4_095, unlike)),
-        "N" => ("number of cores", number_trouble(word, 1, 64, unlike)),
-        "K" => ("value", number_trouble(word, 0, u64::MAX, unlike)),
-        "source" => (field, source_trouble(word)),
-        "rN" | "rM" => ("register", register),
-        "C.rN" => ("register", unless(is_shown(word), NO_SHOWN)),
-        "1" => ("format", format),
-        "cores" => ("word before N", unless(word == "cores", "isn't cores")),
-        "NAME" => ("name", name),
-        _ => (field, number_trouble(word, 0, u64::MAX, unlike)),
+        "addr" => "address",
+        "N" => "number of cores",
+        "rN" | "rM" | "C.rN" => "register",
+        "1" => "format",
+        "cores" => "word before N",
+        "NAME" => "name",
+        _ => field,
+    }
+}
+
+/// What is wrong with a word in the place of the field that a shape has so.
+pub(crate) fn trouble_of(field: &str, word: &str) -> Option<Trouble> {
+    match field {
+        "source" => source_trouble(word),
+        "rN" | "rM" => unless(is_register(word), "is none of r0 to r15"),
+        "C.rN" => unless(is_shown(word), NO_SHOWN),
+        "1" => unless(matches!(word, "1" | "2"), "is neither 1 nor 2"),
+        "cores" => unless(word == "cores", "isn't cores"),
+        "NAME" => unless(is_name(word), "isn't 1 to 32 letters, digits, + and -"),
+        _ => {
+            let (least, greatest) = limits_of(field);
+            number_trouble(word, least, greatest, "isn't a number in digits alone")
+        }
+    }
+}
+
+/// The least and the greatest number of a field.
+fn limits_of(field: &str) -> (u64, u64) {
+    match field {
+        "addr" => (0, 65_535),
+        "ts" => (0, 281_474_976_710_656),
+        "rank" => (0, 4_294_967_295),
+        "skip" => (1, 4_095),
+        "N" => (1, 64),
+        _ => (0, u64::MAX),
     }
 }
 
@@ -170,21 +205,30 @@ fn source_trouble(word: &str) -> Option<Trouble> {
 }
 
 fn is_register(word: &str) -> bool {
-    let number = word.strip_prefix('r').and_then(|it| number_in(it));
-    number.is_some_and(|it| Register::new(it).is_some())
+    matches!(word.strip_prefix('r'), Some(number) if is_below(number, 16))
+}
+
+/// Whether a word is a number below this one.
+fn is_below(word: &str, limit: u64) -> bool {
+    matches!(number_in(word), Some(number) if number < limit)
 }
 
 /// Whether a word is a register of a core.
 fn is_shown(word: &str) -> bool {
-    word.split_once('.').is_some_and(|(core, register)| {
-        number_in(core).is_some_and(|it| it < 64) && is_register(register)
-    })
+    match word.split_once('.') {
+        Some((core, register)) => is_below(core, 64) && is_register(register),
+        None => false,
+    }
 }
 
 /// Whether a word may be the name of a test.
 fn is_name(word: &str) -> bool {
     let is_short = !word.is_empty() && word.len() <= 32;
-    is_short && word.bytes().all(|byte| byte.is_ascii_alphanumeric() || matches!(byte, b'+' | b'-'))
+    is_short && word.bytes().all(is_of_name)
+}
+
+fn is_of_name(byte: u8) -> bool {
+    byte.is_ascii_alphanumeric() || matches!(byte, b'+' | b'-')
 }
 
 /// A line that was refused, the text in which it stands, and its words, between its spaces; none where it isn't text.
@@ -209,11 +253,14 @@ impl<'a> RefusedLine<'a> {
 
     /// How many lines before it begin so.
     pub(crate) fn begun_before(&self, beginning: &[u8]) -> usize {
-        self.text
-            .split(|byte| *byte == b'\n')
-            .take(self.place.line.saturating_sub(1) as usize)
-            .filter(|line| line.starts_with(beginning))
-            .count()
+        let mut count = 0usize;
+        let before = self.place.line.saturating_sub(1) as usize;
+        for line in self.text.split(is_feed).take(before) {
+            if line.starts_with(beginning) {
+                count = count.saturating_add(1);
+            }
+        }
+        count
     }
 
     /// What is told of the first slip that it has.
@@ -230,7 +277,7 @@ impl<'a> RefusedLine<'a> {
             [.., b'\r'] => "It ends with CR LF, \\r\\n; write a line feed alone, \\n.",
             _ if !line.is_ascii() => "It has bytes that aren't ASCII.",
             _ if line.contains(&b'\t') => "It has a tab, \\t; write one space between two fields.",
-            _ if words.iter().any(|word| begins_comment(word)) => "It has a comment; write none.",
+            _ if words.iter().any(begins_comment) => "It has a comment; write none.",
             _ if line.contains(&b',') => {
                 "It has a comma; write one space between two fields, and numbers in digits alone."
             }
@@ -249,14 +296,25 @@ pub(crate) fn count_of(bytes: &[u8], wanted: u8) -> u64 {
 
 /// Whether a line of a text is that of an operation of a trace, which begins with a digit and has `M[`.
 fn is_trace(text: &[u8]) -> bool {
-    text.split(|byte| *byte == b'\n').any(|line| {
-        line.first().is_some_and(u8::is_ascii_digit)
-            && line.windows(2).any(|pair| pair == b"M[".as_slice())
-    })
+    for line in text.split(is_feed) {
+        if line.first().is_some_and(u8::is_ascii_digit) && line.windows(2).any(is_memory) {
+            return true;
+        }
+    }
+    false
+}
+
+/// Whether a byte ends a line.
+pub(crate) fn is_feed(byte: &u8) -> bool {
+    *byte == b'\n'
+}
+
+fn is_memory(pair: &[u8]) -> bool {
+    pair == b"M[".as_slice()
 }
 
 /// Whether a word begins a comment, as other formats have it.
-fn begins_comment(word: &str) -> bool {
+fn begins_comment(word: &&str) -> bool {
     word.starts_with("#") || word.starts_with("//") || word.starts_with(";")
 }
 

@@ -1,7 +1,7 @@
 //! How the steps of a refutation are written, and the slips that the line of one may have.
 
 use super::shown::{Bytes, Written};
-use super::slips::{RefusedLine, Shape, Trouble, field_of, push_shape, push_trouble, shape_of};
+use super::slips::{RefusedLine, Shape, Trouble, push_shape, push_trouble, shape_of, trouble_of};
 
 /// The shapes of steps.
 const STEPS: [Shape; 5] = [
@@ -65,7 +65,7 @@ fn push_words(told: &mut String, words: &[&str]) -> Written {
                 "A range of one point is written as that alone, {point}.\n"
             );
         }
-        if let Some(found) = trouble_of(first).or(trouble_of(last)) {
+        if let Some(found) = part_trouble(first).or(part_trouble(last)) {
             return push_trouble(told, found.0, found.1, found.2);
         }
     }
@@ -73,7 +73,7 @@ fn push_words(told: &mut String, words: &[&str]) -> Written {
 }
 
 /// What a part of a word is called, the part, and what is wrong with it, if something is.
-fn trouble_of(part: &str) -> Option<(&'static str, &str, Trouble)> {
+fn part_trouble(part: &str) -> Option<(&'static str, &str, Trouble)> {
     if matches!(part, "" | ":" | "|" | "!") {
         return None;
     }
@@ -82,5 +82,5 @@ fn trouble_of(part: &str) -> Option<(&'static str, &str, Trouble)> {
     } else {
         ("number", "value")
     };
-    Some((name, part, field_of(field, part).1?))
+    Some((name, part, trouble_of(field, part)?))
 }

@@ -14,7 +14,10 @@ const LAST_CORE: u64 = 63;
 /// Adds how the lines of a trace are written, and what has usually gone wrong in one like this.
 pub(crate) fn push_trace_line(text: &mut String, line: &[u8]) -> Written {
     text.push_str(LINES)?;
-    match str::from_utf8(line).ok().and_then(|line| slip(line)) {
+    let Ok(line) = str::from_utf8(line) else {
+        return Ok(());
+    };
+    match slip(line) {
         Some(slip) => write!(text, "{slip}\n"),
         None => Ok(()),
     }
@@ -37,11 +40,13 @@ fn slip(line: &str) -> Option<&'static str> {
 
 /// What is wrong with the word in the place of a core.
 fn slip_of_core(core: &str) -> Option<&'static str> {
-    if !core.starts_with(|first: char| first.is_ascii_digit()) {
+    if !core.as_bytes().first().is_some_and(u8::is_ascii_digit) {
         return Some("Its core isn't a number alone, as in 0: M[1] := 2.");
     }
-    let is_above = number_in(core).is_some_and(|number| number > LAST_CORE);
-    is_above.then_some("Its core is above 63.")
+    match number_in(core) {
+        Some(number) if number > LAST_CORE => Some("Its core is above 63."),
+        _ => None,
+    }
 }
 
 /// What has usually gone wrong after the core and its colon.
@@ -61,9 +66,16 @@ fn slip_of_act(act: &str) -> Option<&'static str> {
     if act.starts_with('{') && are_apart(addresses(act)) {
         return Some("A swap reads and stores at one address.");
     }
-    act.split(|letter: char| !letter.is_ascii_digit())
-        .any(|digits| is_too_great(digits))
-        .then_some("A number is above 18446744073709551615.")
+    for digits in act.split(is_no_digit) {
+        if is_too_great(digits) {
+            return Some("A number is above 18446744073709551615.");
+        }
+    }
+    None
+}
+
+fn is_no_digit(letter: char) -> bool {
+    !letter.is_ascii_digit()
 }
 
 /// Whether an act goes on with another one: it names more addresses than its own, or another core.
@@ -74,7 +86,7 @@ fn are_two(act: &str) -> bool {
 
 /// The first address of a line, and the second.
 fn addresses(act: &str) -> (Option<u64>, Option<u64>) {
-    let mut parts = act.split("M[").skip(1).map(|part| address_in(part));
+    let mut parts = act.split("M[").skip(1).map(address_in);
     (parts.next().flatten(), parts.next().flatten())
 }
 
