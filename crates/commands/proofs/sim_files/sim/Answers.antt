@@ -1,4 +1,4 @@
-use Rattle.std.proofs.Common.{◌≡◌, ◌∙◌, ℕ, List, length, map, Option, None, Err, refl, subst, rules}
+use Rattle.std.proofs.Common.{◌≡◌, ◌∙◌, ℕ, List, length, map, Option, None, Some, Err, refl, subst, rules}
 use Rattle.std.specs.Prelude.{IfErr, OnOk}
 use Rattle.lease_rule.specs.Ranges.{first_bad}
 use Rattle.simulation.specs.Simulating.{IsSimulated, IsSimulationFault}
@@ -13,8 +13,16 @@ use Rattle.commands.proofs.Runs.{came, faulted, tried, unprogrammed, unscheduled
 use Rattle.commands.specs.Numbers.{AreLeft, AreLeftAsFar, IsUnleft, numbers_of}
 use Rattle.commands.specs.Programmed.{config_of, log_format}
 use Rattle.commands.specs.Simulating.{AreCommandsOf}
-use Rattle.commands.specs.declared.refusal.Refusal.TheVariants.{OutOfMemory, Simulation}
+use Rattle.commands.specs.declared.refusal.Refusal.TheVariants.{Config, OutOfMemory, Simulation}
 use Rattle.commands.proofs.sim_files.sim.Goals as goal
+
+pub returns-in_err-config-clause-exact : goal.returns-in_err-config-clause-exact
+returns-in_err-config-clause-exact g c =
+    let old = g.F.Folder.files c.args.folder.now in
+    let unread = IsUnread g.F.Source.ByteSource.remaining g.F.Source.ByteSource.failed old old in
+    let bad : first_bad (config_of c.args.asked.now.limits) ≡ Some c.in_err-config.field-0.0 = search rules in
+    let is : c.from_residual.result ≡ Err (Config c.in_err-config.field-0.0) = search rules in
+    rw is (untraced old old unread c.args.asked.now (Config c.in_err-config.field-0.0) (search rules))
 
 pub returns-in_err-programs-clause-exact : goal.returns-in_err-programs-clause-exact
 returns-in_err-programs-clause-exact g c =
@@ -48,7 +56,12 @@ pub returns-in_err-commands-clause-files : goal.returns-in_err-commands-clause-f
 returns-in_err-commands-clause-files g c = keeps_files _ _ _ (only_read_after _ _ _ c.in_ok-programs.ensures.quiet c.in_err-commands.ensures.read)
 
 pub returns-in_default-clause-exact : goal.returns-in_default-clause-exact
-returns-in_default-clause-exact g c = untraced _ _ _ _ OutOfMemory tt
+returns-in_default-clause-exact g c =
+    let files = g.F.Folder.files in
+    let old = files c.args.folder.now in
+    let new = files c.read_schedule.new.folder in
+    let unread = IsUnread g.F.Source.ByteSource.remaining g.F.Source.ByteSource.failed old new in
+    untraced old new unread c.args.asked.now OutOfMemory tt
 
 pub returns-in_default-clause-files : goal.returns-in_default-clause-files
 returns-in_default-clause-files g c = keeps_files _ _ _ (only_read_after _ _ _ c.in_ok-programs.ensures.quiet c.in_ok-commands.ensures.read)
@@ -81,8 +94,7 @@ returns-in_err-ended-clause-exact g c =
       mid,
       Err (Simulation c.in_err-ended.field-0.0),
       faulted old mid unread asked set commands q sound read parsed c.in_err-ended.field-0.0 fault (rw (← many, ← same, ← parts) far),
-      refl,
-      tried mid new asked.events _ _ c.leave_events-traced.ensures.traced,
+      (refl, tried mid new asked.events _ _ c.leave_events-traced.ensures.traced),
     )
 
 pub returns-clause-exact : goal.returns-clause-exact
