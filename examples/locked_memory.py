@@ -59,4 +59,6 @@ def main(out, stale):
             file.write(f"end {len(log)}\n")
 
 
+if len(sys.argv) < 2:
+    sys.exit(__doc__)
 main(sys.argv[1], "stale" in sys.argv[2:])
