@@ -196,7 +196,7 @@ impl Shown {
             kind: kind_of(&access),
             is_red: matches!(note, Note::Waits | Note::Finds(_)),
             is_wrong: false,
-            text: format!(in alloc; "{id}  {}{note}", Act(&access))?,
+            text: format!(in alloc; "{id}  {}{note}", ShownAccess(&access))?,
             note: String::new(alloc),
             left_out: self.left_out(trace, place, id),
         })
@@ -239,9 +239,9 @@ fn kind_of(access: &Option<Access>) -> Kind {
 
 /// An operation as a line of a trace has it.
 #[derive(Clone, Copy)]
-struct Act<'a>(&'a Option<Access>);
+struct ShownAccess<'a>(&'a Option<Access>);
 
-impl<'a> fmt::Display for Act<'a> {
+impl<'a> fmt::Display for ShownAccess<'a> {
     fn fmt<W: fmt::Write>(&self, f: &mut fmt::Formatter<W>) -> fmt::Result {
         let Some(access) = self.0 else {
             return f.write_str("nothing");

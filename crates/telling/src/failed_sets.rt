@@ -51,7 +51,7 @@ type Key = (Vec<u64>, Vec<Word>);
 
 /// The states of a set, at some addresses.
 #[derive(Drop)]
-struct Walk<'a> {
+struct SetCheck<'a> {
     alloc: Global,
     asked: &'a Asked<'a>,
     addresses: &'a [Address],
@@ -67,17 +67,17 @@ pub(crate) fn push_failed_set(
     states: &[State],
 ) -> Written {
     let seen = seen_of(alloc, states)?;
-    let walk = Walk {
+    let check = SetCheck {
         alloc,
         asked,
         addresses,
         seen,
     };
-    if walk.push_first(told)? {
+    if check.push_first(told)? {
         return Ok(());
     }
     for state in states {
-        if walk.push_state(told, state)? {
+        if check.push_state(told, state)? {
             return Ok(());
         }
     }
@@ -95,7 +95,7 @@ fn seen_of(alloc: Global, states: &[State]) -> Result<BTreeSet<Key>, AllocError>
     Ok(seen)
 }
 
-impl<'a> Walk<'a> {
+impl<'a> SetCheck<'a> {
     /// Whether the set lacks the first state; adds that, too.
     fn push_first(&self, told: &mut String) -> Result<bool, AllocError> {
         let next = vec![in self.alloc; 0; self.asked.trace.cores().len()]?;
