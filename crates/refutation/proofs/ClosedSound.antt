@@ -3,9 +3,8 @@
 use Rattle.std.specs.Prelude.{◌≡◌, ◌≢◌, ℕ, zero, suc, ◌+◌, ◌<◌, ◌≤◌, true, List, refl, Some, length, slice_index, slice_set}
 use Rattle.std.specs.List.{list_all}
 use Rattle.std.proofs.Common.{sym, ◌∙◌, ap, subst, inl, inr, arith, get_or}
-use Rattle.std.proofs.lemmas.Bool.{cases_lt, cases_eq, cases_Bool, cond-true, cond-false, lt-ltb}
-use Rattle.std.proofs.lemmas.Grind.{get_or-set_at}
-use Rattle.std.proofs.lemmas.List.{get_or-set_other, length-set, length-map}
+use Rattle.std.proofs.lemmas.Bool.{cases_lt, cases_Bool, cond-true, cond-false, lt-ltb}
+use Rattle.std.proofs.lemmas.List.{length-set, length-map}
 use Rattle.std.proofs.lemmas.List.Sums.{list_all-from_AllPass}
 use Rattle.std.proofs.lemmas.Option.{same_Some, slice_get-get_or}
 use Rattle.log_record.proofs.EntryFacts.{same_id}
@@ -23,10 +22,10 @@ use Rattle.refutation.specs.Facts.{earlier_of, later_of}
 use Rattle.refutation.specs.Grammar.{is_same_point}
 use Rattle.refutation.specs.States.{word_of, put_word, fits, passes, settled, next_of, words_of, Has, next_id, was_performed, allows, LeadsBack, IsDead, IsRightState, IsClosedSet}
 use Rattle.refutation.proofs.Parts.{same_point}
-use Rattle.refutation.proofs.Runs.{le-set, set-le, zeros, fits-read, reads, after-is, after-here, after-idle}
+use Rattle.refutation.proofs.Runs.{le-set, set-le, set-both, both-set, zeros, fits-read, reads, after-is, after-here, after-idle}
 use Rattle.refutation.proofs.Settled.{word-put, word-zero, passes-is, length-settled, passed, stopped, looked-at, settled-later}
 use Rattle.refutation.proofs.Timings.{Holds, AllHold, order-of}
-use Rattle.refutation.proofs.Times.{there_before, time_in, memory, Run, Turn, run-none, run-more, before, placed, turn, place-is}
+use Rattle.refutation.proofs.Times.{there_before, time_in, memory, Run, Turn, run-none, run-more, before, none-left, turn, place-is}
 
 module _ (cores : List (List Operation)) (order : List OpId) (sequential : IsSequentialOrder cores order) (addresses : List ℕ) where
   -- A state follows a run of the order up to a place: it has its words; and each core is as far as in the run, or further
@@ -70,9 +69,6 @@ module _ (cores : List (List Operation)) (order : List OpId) (sequential : IsSeq
     within : (xs : List ℕ) → length xs ≡ length cores → now.id.core < length xs
     within xs many = let l = within_cores cores now.id now.y (sym now.there) in omega arith
 
-    raised : (core : ℕ) → slice_index run.next core ≤ slice_index (slice_set run.next now.id.core (now.id.index + 1)) core
-    raised core = let own = now.own in le-set run.next now.id.core (now.id.index + 1) core (within run.next run.many) (omega arith)
-
     -- the state stays, where it is performed already
     stay : now.id.index < slice_index next now.id.core → Follows (suc t) (slice_set run.next now.id.core (now.id.index + 1)) next words
     stay done = record {
@@ -80,7 +76,10 @@ module _ (cores : List (List Operation)) (order : List OpId) (sequential : IsSeq
       right = λ a w looked. follows.right a w looked ∙ sym (now.left a ∙ after-idle (memory cores order t) now.y a now.answers (λ here.
           follows.early now.id now.y w now.there (ap (word_of addresses words) here ∙ looked) (let own = now.own in omega arith) done));
       ahead = λ core. set-le run.next next now.id.core (now.id.index + 1) core (within run.next run.many) (omega arith) (follows.ahead core);
-      early = λ id z w there looked high low. follows.early id z w there looked (let l = raised id.core in omega arith) low;
+      early = λ id z w there looked high low. follows.early id z w there looked (
+          let own = now.own in
+          let l = le-set run.next now.id.core (now.id.index + 1) id.core (within run.next run.many) (omega arith) in
+          omega arith) low;
     }
 
     -- the state moves, where it is its core's next there, too
@@ -92,26 +91,15 @@ module _ (cores : List (List Operation)) (order : List OpId) (sequential : IsSeq
         | inl here ↦ here.1 ∙ sym (now.left a ∙ after-here (memory cores order t) now.y a now.answers here.0)
         | inr other ↦ follows.right a u other.1 ∙ sym (now.left a ∙ after-idle (memory cores order t) now.y a now.answers (λ here. absurd (other.0 here)))
       ];
-      ahead = λ core. elim (cases_eq core now.id.core) [
-        | inl same ↦ (let e = here run.next run.many core (now.id.index + 1) same in let f = here next follows.many core (slice_index next now.id.core + 1) same in omega arith)
-        | inr apart ↦ (let e = there run.next core (now.id.index + 1) apart in let f = there next core (slice_index next now.id.core + 1) apart in let l = follows.ahead core in omega arith)
-      ];
-      early = λ id z u at seen high low. elim (cases_eq id.core now.id.core) [
-        | inl same ↦ absurd (let e = here run.next run.many id.core (now.id.index + 1) same in let f = here next follows.many id.core (slice_index next now.id.core + 1) same in omega arith)
-        | inr apart ↦ (
-            let e = there run.next id.core (now.id.index + 1) apart in
-            let f = there next id.core (slice_index next now.id.core + 1) apart in
-            let old = was_seen z u seen in
-            follows.early id z old.0 at old.1 (omega arith) (omega arith))
-      ];
+      ahead = λ core. set-both run.next next now.id.core (now.id.index + 1) (slice_index next now.id.core + 1) core
+          (within run.next run.many) (within next follows.many) (omega arith) (follows.ahead core);
+      early = λ id z u at seen high low. (
+          let old = was_seen z u seen in
+          let both = both-set run.next next now.id.core (now.id.index + 1) (slice_index next now.id.core + 1) id.core id.index
+          (within run.next run.many) (within next follows.many) (omega arith) high low in
+          follows.early id z old.0 at old.1 both.0 both.1);
     }
       where
-        here : (xs : List ℕ) → length xs ≡ length cores → (core m : ℕ) → core ≡ now.id.core → slice_index (slice_set xs now.id.core m) core ≡ m
-        here xs many core m same = get_or-set_at xs now.id.core core m 0 same (within xs many)
-
-        there : (xs : List ℕ) (core m : ℕ) → core ≢ now.id.core → slice_index (slice_set xs now.id.core m) core ≡ slice_index xs core
-        there xs core m apart = get_or-set_other xs now.id.core core m 0 apart
-
         was_seen : (z : Operation) (u : ℕ) → word_of addresses (put_word addresses words (address_of now.y) (word_left now.y)) (address_of z) ≡ Some u → (v : ℕ) × (word_of addresses words (address_of z) ≡ Some v)
         was_seen z u seen = elim (word-put addresses words (address_of now.y) (address_of z) (word_left now.y) u seen) [
           | inl here ↦ (w, ap (word_of addresses words) (sym here.0) ∙ looked)
@@ -194,10 +182,8 @@ module _ (cores : List (List Operation)) (order : List OpId) (sequential : IsSeq
 
     no-end : (fuel s : ℕ) → s + fuel ≡ length order → (later : Run cores order s) → Starved s later.next → ⊥
     no-end zero s e later starved =
-        let limit = next_id limits dead.some.0 in
         let l = starved.reach dead.some.0 dead.some.1 dead.some.2 in
-        let within = placed cores order sequential limit dead.some.1 dead.some.2 in
-        let m = before cores order s (omega arith) later limit (omega arith) in
+        let m = none-left cores order sequential s (omega arith) later (next_id limits dead.some.0) dead.some.1 dead.some.2 in
         omega arith
     no-end (suc fuel) s e later starved =
         let now = turn cores order sequential s later (omega arith) in
@@ -248,9 +234,7 @@ module _ (cores : List (List Operation)) (order : List OpId) (sequential : IsSeq
     through : (fuel t : ℕ) → t + fuel ≡ length order → Again t
     through zero t e run next words follows looks has =
         let lead = leads t 0 e run next words follows has.state (closed.each has.number has.state has.there) has.next_is has.words_is in
-        let id = next_id next lead.left.0 in
-        let within = placed cores order sequential id lead.left.1 lead.left.2 in
-        let l = before cores order t (omega arith) run id (omega arith) in
+        let l = none-left cores order sequential t (omega arith) run (next_id next lead.left.0) lead.left.1 lead.left.2 in
         let m = follows.ahead lead.left.0 in
         omega arith
     through (suc fuel) t e run next words follows looks has =

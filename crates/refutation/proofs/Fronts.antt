@@ -4,17 +4,18 @@ use Rattle.std.specs.Prelude.{MatchOption}
 use Rattle.mem_op.specs.Consistency.{Operation}
 use Rattle.refutation.specs.declared.step.Step.{Step}
 use Rattle.refutation.specs.declared.text.Front.{Front}
-use Rattle.refutation.specs.Grammar.{header_line, steps_text}
+use Rattle.refutation.specs.Grammar.{header_line, step_text, steps_text, Fits}
 use Rattle.refutation.specs.Refuting.{IsRefutation}
 use Rattle.refutation.specs.Texts.{Begins, NoStepInFront, Spells, SpellsRefutation, IsFirstBad}
 use Rattle.refutation.specs.inner.Lines.{TellsEnd, TellsText}
-use Rattle.refutation.proofs.Lines.{SoFar}
+use Rattle.text_lines.proofs.Items.{SoFar}
 
 -- the steps and the bytes after them, where no more steps come
-pub front-told : (text rest : List ℕ) (old new : List Step) (count : ℕ) (bad : Option ℕ) → SoFar text old rest → NoStepInFront rest → new ≡ old → count ≡ length new → TellsEnd rest count bad
+pub front-told : (text body rest : List ℕ) (old new : List Step) (count : ℕ) (bad : Option ℕ)
+    → text ≡ header_line ++ body → SoFar step_text Fits body old rest → NoStepInFront rest → new ≡ old → count ≡ length new → TellsEnd rest count bad
     → (r : List ℕ) × Begins text new r × TellsEnd r (length new) bad
-front-told text rest old new count bad far none same counted told =
-    (rest, rw same (record { each_fits = far.each_fits; text = far.text_is; none_in_front = none }), rw (← counted) told)
+front-told text body rest old new count bad is far none same counted told =
+    (rest, rw same (record { each_fits = far.each_fits; text = is ∙ ap (λ xs. header_line ++ xs) far.text_is; none_in_front = none }), rw (← counted) told)
 
 -- the text has the shape
 pub shaped : (text : List ℕ) (front : Front) → TellsText text front → front.bad_line ≡ None → Spells text front.steps.items

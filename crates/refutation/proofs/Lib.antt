@@ -4,7 +4,6 @@ pub mod DeadStates
 pub mod Firsts
 pub mod Fronts
 pub mod LastStores
-pub mod Leading
 pub mod Leaving
 pub mod Lines
 pub mod NextOnes

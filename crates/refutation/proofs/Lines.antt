@@ -13,7 +13,7 @@ use Rattle.refutation.specs.declared.step.Point.TheVariants.{Init, At}
 use Rattle.refutation.specs.declared.step.Range.{Range}
 use Rattle.refutation.specs.declared.step.Step.{Step}
 use Rattle.refutation.specs.declared.step.Step.TheVariants.{Read, FromRead, WriteOrder, Cycle, States}
-use Rattle.refutation.specs.Grammar.{state_text, id_text, point_text, is_same_point, range_text, reason_text, fields_text, step_text, steps_text, header_line, end_line, EachFits}
+use Rattle.refutation.specs.Grammar.{state_text, id_text, point_text, is_same_point, range_text, reason_text, fields_text, step_text, end_line}
 use Rattle.refutation.specs.Texts.{NoStepInFront}
 use Rattle.refutation.specs.inner.Telling.{TellsLine}
 use Rattle.refutation.proofs.StateTexts.{states_no_lf}
@@ -62,13 +62,6 @@ step_no_lf (States addresses set) = NoLf-append (codes "states") (fields_text (S
 pub none_of_other : (text line behind : List ℕ) → TellsLine line None → IsOneLine line → text ≡ line ++ 10 ∷ behind → NoStepInFront text
 none_of_other text line behind none one is = λ step rest there.
     none step there.0 (first_line text line behind (step_text step) rest one (step_no_lf step) is there.1)
-
--- ---- steps read so far
-
--- the steps so far, and the bytes after their lines
-pub record SoFar (text : List ℕ) (steps : List Step) (rest : List ℕ) : Type 0 where
-  pub each_fits : EachFits steps
-  pub text_is : text ≡ header_line ++ (steps_text steps ++ rest)
 
 -- ---- the last line
 

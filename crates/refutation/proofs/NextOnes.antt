@@ -1,9 +1,16 @@
--- The next operations of cores, one core after the other.
-use Rattle.std.specs.Prelude.{◌≡◌, ℕ, ◌+◌, ◌≤◌, Bool, true, false, MatchBool, List, refl, Option, Some, None, length}
+-- The next operations of cores, one core after the other, and where they lead.
+use Rattle.std.specs.Prelude.{◌≡◌, ℕ, ◌+◌, ◌≤◌, Bool, true, false, MatchBool, List, refl, Option, Some, None, length, ◌&&◌, IsTrue, slice_get, slice_index, slice_set}
+use Rattle.std.specs.List.{list_all}
 use Rattle.std.proofs.Common.{sym, arith}
-use Rattle.mem_op.specs.Consistency.{Operation, operation_at}
+use Rattle.std.proofs.lemmas.Bool.{and_from}
+use Rattle.mem_op.specs.Consistency.{Operation, operation_at, word_left}
+use Rattle.mem_op.specs.declared.id.OpId.{OpId}
 use Rattle.flat_replay.proofs.Turns.{within_cores}
-use Rattle.refutation.specs.States.{next_id}
+use Rattle.flat_replay.specs.Accesses.{address_of}
+use Rattle.refutation.specs.States.{next_id, word_of, put_word, fits, allows, next_of, words_of, IsIn, Waits, IsRightState}
+use Rattle.refutation.specs.declared.fact.Fact.{Fact}
+use Rattle.refutation.specs.declared.state.State.{State}
+use Rattle.refutation.specs.declared.state.State.TheVariants.{Open, Dead}
 use Rattle.refutation.proofs.Firsts.{First, first-more, first-skip}
 
 module _ (cores : List (List Operation)) (numbers : List ℕ) (P : ℕ → Operation → Type 0) where
@@ -42,3 +49,38 @@ module _ (cores : List (List Operation)) (numbers : List ℕ) (P : ℕ → Opera
   ones-told false n l first make has = λ r. (
       let one = has r in
       first.none refl one.0 one.1 (let m = within_cores cores (next_id numbers one.0) one.1 (sym one.2) in omega arith) one.2)
+
+-- ---- dead states, and moves that lead back
+
+-- the limit of a core that has an operation there
+abbrev pub StopsAt : List (List Operation) → List ℕ → List ℕ → List ℕ → List ℕ → ℕ → Operation → Type 0
+StopsAt cores addresses next words limits core y = (slice_index next core ≤ slice_index limits core) × Waits cores addresses next words limits y
+
+module _ (cores : List (List Operation)) (facts : List Fact) (addresses : List ℕ) where
+  -- the move of a core leads into a set, where it may be performed
+  abbrev pub LeadsInto : (List ℕ → List ℕ → Type 0) → State → ℕ → Operation → Type 0
+  LeadsInto InSet state core y =
+      IsTrue (fits (word_of addresses (words_of state) (address_of y)) y) → IsTrue (list_all (allows (next_of state) (next_id (next_of state) core)) facts)
+      → IsIn cores addresses InSet (slice_set (next_of state) core (slice_index (next_of state) core + 1)) (put_word addresses (words_of state) (address_of y) (word_left y))
+
+  -- one core more, whose move does
+  pub leads-more : (InSet : List ℕ → List ℕ → Type 0) (state : State) {is_left : Bool} {n : ℕ} (id : OpId) (y : Operation)
+      → FirstOnes cores (next_of state) (LeadsInto InSet state) is_left n → id ≡ next_id (next_of state) n → operation_at cores (next_id (next_of state) n) ≡ Some y
+      → ((fits (word_of addresses (words_of state) (address_of y)) y && list_all (allows (next_of state) id) facts) ≡ true
+      → IsIn cores addresses InSet (slice_set (next_of state) id.core (id.index + 1)) (put_word addresses (words_of state) (address_of y) (word_left y)))
+      → FirstOnes cores (next_of state) (LeadsInto InSet state) true (n + 1)
+  leads-more InSet state id y first is there leads =
+      let into = rw is at leads in
+      ones-more cores (next_of state) (LeadsInto InSet state) y first there (λ fit allowed. into (and_from _ _ fit allowed))
+
+  -- ---- whole sets
+
+  -- the states of the first places are right
+  abbrev pub FirstRight : (List ℕ → List ℕ → Type 0) → List State → ℕ → Type 0
+  FirstRight InSet states n = First (λ number state. IsRightState cores facts addresses InSet state) (slice_get states) n
+
+  -- a state is right in a larger set
+  pub right-in-other : (One Other : List ℕ → List ℕ → Type 0) → ((next words : List ℕ) → One next words → Other next words) → (state : State)
+      → IsRightState cores facts addresses One state → IsRightState cores facts addresses Other state
+  right-in-other One Other same (Open next words) leads = record { left = leads.left; back = λ core y there fit allowed. same _ _ (leads.back core y there fit allowed) }
+  right-in-other One Other same (Dead next words limits) dead = dead

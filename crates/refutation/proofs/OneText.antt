@@ -15,7 +15,7 @@ use Rattle.refutation.specs.TextLaws.{SpelledIsRead, AtMostOneFault}
 use Rattle.refutation.specs.inner.Reading.{named_at, source_at}
 use Rattle.refutation.proofs.Lines.{step_no_lf}
 use Rattle.refutation.proofs.Parts.{named_again, ranges_are_words}
-use Rattle.refutation.proofs.StateTexts.{set-once}
+use Rattle.refutation.proofs.StateTexts.{sets-once}
 use Rattle.refutation.proofs.StepLines.{first_of, name_of, name_first}
 use Rattle.text_lines.specs.Words.{spaced}
 use Rattle.text_lines.proofs.Fields.{field_below_again}
@@ -50,7 +50,7 @@ fields-once (WriteOrder source write path) (WriteOrder source2 write2 path2) p q
     λ i. WriteOrder (same.0 i) (same.1 i) (same.2 i)
 fields-once (Cycle path) (Cycle path2) p q name e = ap (λ xs. Cycle xs) (spaced_once numbers_are_words path path2 p q e)
 fields-once (States addresses set) (States addresses2 set2) p q name e =
-    let same = set-once addresses addresses2 set set2 p q e in
+    let same = sets-once addresses addresses2 set set2 p q e in
     λ i. States (same.0 i) (same.1 i)
 fields-once a b p q name e = absurd (let w = ap first_of name in omega (arith, w))
 

@@ -1,10 +1,11 @@
 -- The parts of a step's line: what is read is the text that stands there, and that text is read again.
 use Rattle.std.proofs.Common.{◌≡◌, ℕ, Bool, true, false, if◌then◌else◌, List, [], ◌∷◌, ◌++◌, Option, Some, None, is_some, refl, sym, ap, subst, ◌∙◌, inl, inr, append_assoc, append-nil}
 use Rattle.std.specs.Prelude.{codes}
-use Rattle.std.proofs.lemmas.Bool.{cases_Bool, cases_eq, cond-true, cond-false, ne_eqb, eqb-true}
+use Rattle.std.proofs.lemmas.Bool.{cases_Bool, cond-true, cond-false, eqb-true}
+use Rattle.std.proofs.lemmas.Option.{none-some}
 use Rattle.decimal_text.specs.Numbers.{numeral}
-use Rattle.decimal_text.specs.Reading.{◌>>=◌, after, field_at, number_at, is_digit}
-use Rattle.decimal_text.proofs.Numbers.{AreDigits, NoDigit, after_takes, after_again, number_takes, number_again, numeral_digits, numeral_some}
+use Rattle.decimal_text.specs.Reading.{◌>>=◌, after, field_at, number_at}
+use Rattle.decimal_text.proofs.Numbers.{NoDigit, after_takes, after_again, number_takes, number_again}
 use Rattle.decimal_text.proofs.Reading.{bind_some, some_is, field_takes, field_again}
 use Rattle.log_record.proofs.EntryFacts.{same_id-true, same_id-refl}
 use Rattle.mem_op.specs.declared.id.OpId.{OpId}
@@ -62,20 +63,16 @@ point_takes bytes x e =
           subst (λ (y : Point × List ℕ). PointFits y.0 × (bytes ≡ point_text y.0 ++ y.1)) {x = (At b.0.0, b.0.1)} (some_is (At b.0.0, b.0.1) x b.2) (t.0, t.1)
     ]
 
--- digits don't begin the word
-not_init : (ds rest : List ℕ) → AreDigits ds → (ds ≡ [] → ⊥) → after (codes "init") (ds ++ rest) ≡ None
-unfolding after
-not_init [] rest all some = absurd (some refl)
-not_init (d ∷ ds) rest all some =
-    elim (cases_eq d 105) [
-      | inl same ↦ let wrong : is_digit 105 ≡ true = subst (λ (b : ℕ). is_digit b ≡ true) same all.0 in absurd cc
-      | inr other ↦ rw (ne_eqb d 105 other) refl
-    ]
-
+-- no id begins with the word
 id_not_init : (id : OpId) (rest : List ℕ) → after (codes "init") (id_text id ++ rest) ≡ None
-unfolding id_text
-id_not_init id rest =
-    rw (append_assoc (numeral id.core) (46 ∷ numeral id.index) rest) (not_init (numeral id.core) (46 ∷ (numeral id.index ++ rest)) (numeral_digits id.core) (numeral_some id.core))
+unfolding id_text number_at
+id_not_init id rest = go (after (codes "init") (id_text id ++ rest)) refl
+  where
+    go : (o : Option (List ℕ)) → after (codes "init") (id_text id ++ rest) ≡ o → after (codes "init") (id_text id ++ rest) ≡ None
+    go None e = e
+    go (Some r) e =
+        let text = sym (after_takes (codes "init") (id_text id ++ rest) r e) ∙ append_assoc (numeral id.core) (46 ∷ numeral id.index) rest in
+        absurd (none-some _ (ap number_at text ∙ number_again id.core (46 ∷ (numeral id.index ++ rest)) refl))
 
 pub point_again : (p : Point) (rest : List ℕ) → PointFits p → NoDigit rest → point_at (point_text p ++ rest) ≡ Some (p, rest)
 unfolding point_at
@@ -156,33 +153,31 @@ unfolding after
 ends_no_dots [] e = refl
 ends_no_dots (b ∷ bs) e = let is : b ≡ 32 = eqb-true b 32 e in rw is refl
 
-alone_again : (p : Point) (rest : List ℕ) → PointFits p → ends_word rest ≡ true → range_at (32 ∷ (point_text p ++ rest)) ≡ Some (record { first = p; last = p }, rest)
-unfolding range_at
-alone_again p rest fits ends =
-    rw (after_again (codes " ") (point_text p ++ rest), point_again p rest fits (ends_no_digit rest ends), ends_no_dots rest ends, ends) refl
-
-two_again : (range : Range) (rest : List ℕ) → RangeFits range → is_same_point range.first range.last ≡ false → ends_word rest ≡ true
-    → range_at (32 ∷ (point_text range.first ++ (codes ".." ++ (point_text range.last ++ rest)))) ≡ Some (range, rest)
-unfolding range_at last_at
-two_again range rest fits apart ends =
-    rw (
-      after_again (codes " ") (point_text range.first ++ (codes ".." ++ (point_text range.last ++ rest))),
-      point_again range.first (codes ".." ++ (point_text range.last ++ rest)) fits.0 refl,
-      after_again (codes "..") (point_text range.last ++ rest),
-      point_again range.last rest fits.1 (ends_no_digit rest ends),
-      apart,
-      ends,
-    ) refl
-
 range_again : (range : Range) (rest : List ℕ) → RangeFits range → ends_word rest ≡ true → range_at (32 ∷ (range_text range ++ rest)) ≡ Some (range, rest)
-unfolding range_text
+unfolding range_at last_at range_text
 range_again range rest fits ends = go (is_same_point range.first range.last) refl
   where
     go : (b : Bool) → is_same_point range.first range.last ≡ b → range_at (32 ∷ (range_text range ++ rest)) ≡ Some (range, rest)
     go true same =
-        let whole : record { first = range.first; last = range.first } ≡ range = ap (λ (p : Point). record { first = range.first; last = p }) (same_point range.first range.last same) in
-        rw (same, append-nil (point_text range.first)) (alone_again range.first rest fits.0 ends ∙ ap (λ (r : Range). Some (r, rest)) whole)
-    go false apart = rw (apart, append_assoc (point_text range.first) (codes ".." ++ point_text range.last) rest) (two_again range rest fits apart ends)
+        rw (
+          same,
+          append-nil (point_text range.first),
+          after_again (codes " ") (point_text range.first ++ rest),
+          point_again range.first rest fits.0 (ends_no_digit rest ends),
+          ends_no_dots rest ends,
+          ends,
+        ) (ap (λ (p : Point). Some (record { first = range.first; last = p }, rest)) (same_point range.first range.last same))
+    go false apart =
+        rw (
+          apart,
+          append_assoc (point_text range.first) (codes ".." ++ point_text range.last) rest,
+          after_again (codes " ") (point_text range.first ++ (codes ".." ++ (point_text range.last ++ rest))),
+          point_again range.first (codes ".." ++ (point_text range.last ++ rest)) fits.0 refl,
+          after_again (codes "..") (point_text range.last ++ rest),
+          point_again range.last rest fits.1 (ends_no_digit rest ends),
+          apart,
+          ends,
+        ) refl
 
 pub ranges_are_words : HasWords range_text RangeFits range_at
 ranges_are_words = record { takes = λ bytes x rest e. range_takes bytes (x, rest) e; again = range_again }

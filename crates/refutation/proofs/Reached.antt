@@ -7,12 +7,13 @@ use Rattle.std.proofs.lemmas.Bool.Decides.{nat_tests}
 use Rattle.std.proofs.lemmas.List.{get_or-set_same, length-set, length-map, length-drop, take_all, set-get_or, set-set, get_or-map, get_or-drop}
 use Rattle.std.proofs.lemmas.Grind.{same_number_lists}
 use Rattle.std.proofs.lemmas.List.Sums.{prefix_len-le-length, prefix_len_passes}
-use Rattle.std.proofs.lemmas.Option.{none-some, same_Some, slice_get-get_or, slice_get_within, get_or_from_slice_get}
+use Rattle.std.proofs.lemmas.Option.{same_Some, slice_get-get_or, slice_get_within, get_or_from_slice_get}
 use Rattle.mem_op.specs.declared.id.OpId.{OpId}
 use Rattle.mem_op.specs.Consistency.{Operation, Stored, operation_at, word_left, last_value, IsSequentialOrder}
 use Rattle.flat_replay.specs.Accesses.{address_of}
 use Rattle.flat_replay.proofs.Replaying.{done, replayed-all}
 use Rattle.refutation.specs.States.{word_of, put_word, fits, passes, settled, next_id}
+use Rattle.refutation.proofs.Firsts.{First, first-skip}
 use Rattle.refutation.proofs.Runs.{set-le, zeros, zeros-at, Ran, ran-none, ran-more, fits-read, fits-answered, after-here, after-idle}
 use Rattle.refutation.proofs.Settled.{word-put, word-zero, passes-is, passing, core-of, at-core, more-settled}
 
@@ -28,11 +29,9 @@ length-put (a ∷ addresses) (v ∷ words) addr w e = let later = length-put add
 
 -- the indices at which settling some of the cores leaves the others
 unsettled : (addresses words : List ℕ) (some : List (List Operation)) (next : List ℕ) (k : ℕ) → slice_index (settled addresses words (take k some) next) k ≡ slice_index next k
-unsettled addresses words [] next zero = refl
+unsettled addresses words some next zero = refl
 unsettled addresses words [] next (suc k) = refl
-unsettled addresses words (zs ∷ some) [] zero = refl
 unsettled addresses words (zs ∷ some) [] (suc k) = refl
-unsettled addresses words (zs ∷ some) (n ∷ next) zero = refl
 unsettled addresses words (zs ∷ some) (n ∷ next) (suc k) = unsettled addresses words some next k
 
 pub lengths-at : (cores : List (List Operation)) (core : ℕ) (ys : List Operation) → slice_get cores core ≡ Some ys → slice_index (map length cores) core ≡ length ys
@@ -133,21 +132,24 @@ module _ (cores : List (List Operation)) (addresses : List ℕ) where
 
   -- ---- the last states
 
-  pub some-left : (next : List ℕ) (k : ℕ) → ((core : ℕ) × (y : Operation) × (operation_at cores (next_id next core) ≡ Some y)) ⊎ ((core : ℕ) → core < k → operation_at cores (next_id next core) ≡ None)
-  some-left next zero = inr (λ core l. absurd (omega arith))
-  some-left next (suc k) = look (some-left next k) (operation_at cores (next_id next k)) refl
+  -- one of the first cores has an operation left, or none has
+  abbrev pub NoneLeft : List ℕ → ℕ → Type 0
+  NoneLeft next k = First (λ core y. ⊥) (λ core. operation_at cores (next_id next core)) k
+
+  abbrev SomeLeft : List ℕ → ℕ → Type 0
+  SomeLeft next k = ((core : ℕ) × (y : Operation) × (operation_at cores (next_id next core) ≡ Some y)) ⊎ NoneLeft next k
+
+  pub some-left : (next : List ℕ) (k : ℕ) → SomeLeft next k
+  some-left next zero = inr (λ core y l. absurd (omega arith))
+  some-left next (suc k) = look (operation_at cores (next_id next k)) refl (some-left next k)
     where
-      look : ((core : ℕ) × (y : Operation) × (operation_at cores (next_id next core) ≡ Some y)) ⊎ ((core : ℕ) → core < k → operation_at cores (next_id next core) ≡ None) → (o : Option Operation) → operation_at cores (next_id next k) ≡ o
-          → ((core : ℕ) × (y : Operation) × (operation_at cores (next_id next core) ≡ Some y)) ⊎ ((core : ℕ) → core < suc k → operation_at cores (next_id next core) ≡ None)
-      look (inl found) o e = inl found
-      look (inr none) (Some y) e = inl (k, y, e)
-      look (inr none) None e = inr (λ core l. elim (cases_lt core k) [
-        | inl below ↦ none core below
-        | inr above ↦ (let same : k ≡ core = omega arith in subst (λ j. operation_at cores (next_id next j) ≡ None) same e)
-      ])
+      look : (o : Option Operation) → operation_at cores (next_id next k) ≡ o → SomeLeft next k → SomeLeft next (suc k)
+      look o e (inl found) = inl found
+      look (Some y) e (inr none) = inl (k, y, e)
+      look None e (inr none) = inr (λ core y l. first-skip _ _ e none core y (omega arith))
 
   -- where no core has an operation left, the order is whole
-  pub whole-order : (next words : List ℕ) → (reached : Reached next words) → ((core : ℕ) → core < length cores → operation_at cores (next_id next core) ≡ None) → IsSequentialOrder cores reached.ids
+  pub whole-order : (next words : List ℕ) → (reached : Reached next words) → NoneLeft next (length cores) → IsSequentialOrder cores reached.ids
   whole-order next words reached none =
       (replayed-all cores reached.ids next (λ a. last_value a (done cores reached.ids)) reached.ran reached.many).0
       (same_number_lists next (map length cores) (reached.many ∙ sym (length-map cores length)) (λ core l. each core (let m = reached.many in omega arith)))
@@ -160,5 +162,5 @@ module _ (cores : List (List Operation)) (addresses : List ℕ) where
           let size = lengths-at cores core ys own in
           elim (cases_lt (slice_index next core) (length ys)) [
             | inr above ↦ omega arith
-            | inl below ↦ absurd (none-some _ (sym (none core l) ∙ at-core cores core (slice_index next core) ys own ∙ slice_get-get_or ys (slice_index next core) (Stored 0 0) below))
+            | inl below ↦ absurd (none core _ l (at-core cores core (slice_index next core) ys own ∙ slice_get-get_or ys _ (Stored 0 0) below))
           ]

@@ -1,12 +1,10 @@
 -- Of a trace that isn't consistent the states that can be reached are a closed set.
-use Rattle.std.specs.Prelude.{◌≡◌, ℕ, zero, suc, ◌+◌, ◌-◌, ◌<◌, ◌≤◌, true, if◌then◌else◌, List, [], ◌∷◌, refl, Option, None, Some, map, length, slice_get, slice_index, slice_set, flat_map}
-use Rattle.std.specs.List.{range_with_len}
+use Rattle.std.specs.Prelude.{◌≡◌, ℕ, zero, suc, ◌+◌, ◌-◌, ◌<◌, ◌≤◌, true, List, [], ◌∷◌, ◌++◌, refl, Option, None, Some, map, length, slice_get, slice_index, slice_set, flat_map}
 use Rattle.std.proofs.Common.{sym, ◌∙◌, ap, subst, inl, inr, arith}
 use Rattle.std.proofs.lemmas.Bool.{cases_eq, cases_Bool, eq-eqb, ne_eqb, cond-true, cond-false}
-use Rattle.std.proofs.lemmas.List.FromFn.{get_or-range_with_len, length-range_with_len}
 use Rattle.std.proofs.lemmas.Option.{slice_get_within, same_Some}
 use Rattle.line_stamps.specs.Ordered.{In}
-use Rattle.line_stamps.proofs.Ordered.{In-slice_get, In-get_or, In-mapped, In-flat_map, flat_map-In}
+use Rattle.line_stamps.proofs.Ordered.{In-append, In-append_left, In-append_right, In-slice_get, In-mapped, In-flat_map}
 use Rattle.mem_op.specs.Consistency.{Operation, operation_at, word_left, IsConsistent}
 use Rattle.mem_op.specs.declared.id.OpId.{OpId}
 use Rattle.flat_replay.specs.Accesses.{address_of}
@@ -15,6 +13,8 @@ use Rattle.refutation.specs.declared.state.State.TheVariants.{Open}
 use Rattle.refutation.specs.declared.step.Step.TheVariants.{States}
 use Rattle.refutation.specs.States.{word_of, put_word, fits, settled, Has, next_id, IsRightState, IsClosedSet}
 use Rattle.refutation.specs.Laws.{Complete}
+use Rattle.flat_replay.proofs.Turns.{within_cores}
+use Rattle.refutation.proofs.Firsts.{First, first-more, first-skip}
 use Rattle.refutation.proofs.Runs.{zeros}
 use Rattle.refutation.proofs.Settled.{core-of}
 use Rattle.refutation.proofs.Reached.{Reached, reach-first, reach-more, reach-settled, some-left, whole-order}
@@ -30,9 +30,6 @@ word-there (a ∷ addresses) (w ∷ words) addr same p = elim (cases_eq a addr) 
       let later = word-there addresses words addr (omega arith) (elim p [ inl e ↦ absurd (other e) | inr q ↦ q ]) in
       (later.0, cond-false _ _ _ (ne_eqb a addr other) ∙ later.1))
 ]
-
-abbrev all_addresses : List (List Operation) → List ℕ
-all_addresses cores = flat_map (map address_of) cores
 
 -- ---- how much is left
 
@@ -59,14 +56,11 @@ in-list [] n v p = absurd p
 in-list (s ∷ states) n v (inl e) = record { number = 0; state = Open n v; there = ap Some e; next_is = refl; words_is = refl }
 in-list (s ∷ states) n v (inr p) = (let has = in-list states n v p in record { number = suc has.number; state = has.state; there = has.there; next_is = has.next_is; words_is = has.words_is })
 
-in-below : (k core : ℕ) → core < k → In core (range_with_len 0 k)
-in-below k core l = subst (λ n. In n (range_with_len 0 k)) (get_or-range_with_len 0 k core 0 l ∙ (let e : 0 + core ≡ core = omega arith in e)) (In-get_or (range_with_len 0 k) core 0 (omega (arith, length-range_with_len 0 k)))
-
 -- ---- all that can be reached
 
 module _ (cores : List (List Operation)) (none : IsConsistent cores → ⊥) where
   abbrev addresses : List ℕ
-  addresses = all_addresses cores
+  addresses = flat_map (map address_of) cores
 
   looked : (words : List ℕ) → length addresses ≡ length words → (id : OpId) (y : Operation) → operation_at cores id ≡ Some y → (w : ℕ) × (word_of addresses words (address_of y) ≡ Some w)
   looked words size id y there =
@@ -74,47 +68,12 @@ module _ (cores : List (List Operation)) (none : IsConsistent cores → ⊥) whe
       word-there addresses words (address_of y) size
       (In-flat_map (map address_of) cores own.0 (address_of y) (In-slice_get own.0 cores id.core own.1) (In-mapped address_of y own.0 (In-slice_get y own.0 id.index own.2)))
 
-  abbrev Tree : Type 0
-  Tree = List ℕ → List ℕ → List State
-
   -- the indices and the words behind an operation
   abbrev next-behind : List ℕ → List ℕ → ℕ → Operation → List ℕ
   next-behind next words core y = settled addresses (put_word addresses words (address_of y) (word_left y)) cores (slice_set next core (slice_index next core + 1))
 
   abbrev words-behind : List ℕ → Operation → List ℕ
   words-behind words y = put_word addresses words (address_of y) (word_left y)
-
-  abbrev by-operation : Tree → List ℕ → List ℕ → ℕ → Option Operation → List State
-  by-operation tree next words core None = []
-  by-operation tree next words core (Some y) = if fits (word_of addresses words (address_of y)) y then tree (next-behind next words core y) (words-behind words y) else []
-
-  abbrev by-core : Tree → List ℕ → List ℕ → ℕ → List State
-  by-core tree next words core = by-operation tree next words core (operation_at cores (next_id next core))
-
-  abbrev tree-of : ℕ → Tree
-  tree-of zero next words = Open next words ∷ []
-  tree-of (suc fuel) next words = Open next words ∷ flat_map (by-core (tree-of fuel) next words) (range_with_len 0 (length cores))
-
-  root : (fuel : ℕ) (next words : List ℕ) → In (Open next words) (tree-of fuel next words)
-  root zero next words = inl refl
-  root (suc fuel) next words = inl refl
-
-  -- behind an operation that fits are states of the tree
-  behind-in : (fuel : ℕ) (next words : List ℕ) (core : ℕ) (y : Operation) → operation_at cores (next_id next core) ≡ Some y → fits (word_of addresses words (address_of y)) y ≡ true
-      → (s : State) → In s (tree-of fuel (next-behind next words core y) (words-behind words y)) → In s (tree-of (suc fuel) next words)
-  behind-in fuel next words core y there fit s p =
-      let own = core-of cores (next_id next core) y there in
-      let here : by-core (tree-of fuel) next words core ≡ tree-of fuel (next-behind next words core y) (words-behind words y) = ap (by-operation (tree-of fuel) next words core) there ∙ cond-true _ _ _ fit in
-      inr (In-flat_map (by-core (tree-of fuel) next words) (range_with_len 0 (length cores)) core s (in-below (length cores) core (slice_get_within cores core own.0 own.1)) (subst (In s) (sym here) p))
-
-  -- and all but the first are such
-  behind-of : (tree : Tree) (next words : List ℕ) (core : ℕ) (s : State) (o : Option Operation) → In s (by-operation tree next words core o)
-      → (y : Operation) × (o ≡ Some y) × (fits (word_of addresses words (address_of y)) y ≡ true) × In s (tree (next-behind next words core y) (words-behind words y))
-  behind-of tree next words core s None p = absurd p
-  behind-of tree next words core s (Some y) p = elim (cases_Bool (fits (word_of addresses words (address_of y)) y)) [
-    | inl fit ↦ (y, refl, fit, subst (In s) (cond-true _ _ _ fit) p)
-    | inr isnt ↦ absurd (subst (In s) (cond-false _ _ _ isnt) p)
-  ]
 
   -- where an operation is left, the state behind it has less left
   less-left : (next words : List ℕ) → Reached cores addresses next words → (core : ℕ) (y : Operation) → operation_at cores (next_id next core) ≡ Some y → left-of cores (slice_set next core (slice_index next core + 1)) < left-of cores next
@@ -138,25 +97,65 @@ module _ (cores : List (List Operation)) (none : IsConsistent cores → ⊥) whe
     | inr ended ↦ absurd (none (reached.ids, whole-order cores addresses next words reached ended))
   ]
 
-  module _ (set : List State) where
-    well-of : (fuel : ℕ) (next words : List ℕ) → Reached cores addresses next words → left-of cores next ≤ fuel → ((s : State) → In s (tree-of fuel next words) → In s set)
-        → (s : State) → In s (tree-of fuel next words) → IsRightState cores [] addresses (Has set) s
-    well-of zero next words reached l sub s p = absurd (
-        let found = one-left next words reached in
-        let less = less-left next words reached found.0 found.1 found.2 in
-        omega arith)
-    well-of (suc fuel) next words reached l sub s (inl same) =
-        subst (IsRightState cores [] addresses (Has set)) same (record {
-          left = one-left next words reached;
-          back = λ core y there fit allowed. in-list set (next-behind next words core y) (words-behind words y) (sub _ (behind-in fuel next words core y there fit _ (root fuel (next-behind next words core y) (words-behind words y))));
-        })
-    well-of (suc fuel) next words reached l sub s (inr later) =
-        let found = flat_map-In (by-core (tree-of fuel) next words) (range_with_len 0 (length cores)) s later in
-        let behind = behind-of (tree-of fuel) next words found.0 s (operation_at cores (next_id next found.0)) found.2 in
-        let less = less-left next words reached found.0 behind.0 behind.1 in
-        let most = left-settled addresses (words-behind words behind.0) cores (slice_set next found.0 (slice_index next found.0 + 1)) in
-        well-of fuel (next-behind next words found.0 behind.0) (words-behind words behind.0) (reach-behind next words reached found.0 behind.0 behind.1 behind.2) (omega arith)
-        (λ r p. sub r (behind-in fuel next words found.0 behind.0 behind.1 behind.2 r p)) s behind.3
+  -- these states are right in each set that has them
+  abbrev AreRight : List State → Type 0
+  AreRight states = (set : List State) → ((s : State) → In s states → In s set) → (s : State) → In s states → IsRightState cores [] addresses (Has set) s
+
+  -- such states, with that of these indices and words
+  abbrev Grown : List ℕ → List ℕ → Type 0
+  Grown next words = (states : List State) × In (Open next words) states × AreRight states
+
+  -- such states, with those behind the next operations of the first cores
+  abbrev Behind : List ℕ → List ℕ → ℕ → Type 0
+  Behind next words n =
+      (states : List State)
+      × First (λ core y. fits (word_of addresses words (address_of y)) y ≡ true → In (Open (next-behind next words core y) (words-behind words y)) states)
+      (λ core. operation_at cores (next_id next core)) n
+      × AreRight states
+
+  all-behind : (next words : List ℕ)
+      → ((core : ℕ) (y : Operation) → operation_at cores (next_id next core) ≡ Some y → fits (word_of addresses words (address_of y)) y ≡ true
+      → Grown (next-behind next words core y) (words-behind words y)) → (n : ℕ) → Behind next words n
+  all-behind next words grown zero = ([], λ core y l. absurd (omega arith), λ set sub s p. absurd p)
+  all-behind next words grown (suc n) =
+      subst (Behind next words) (let e : n + 1 ≡ suc n = omega arith in e) (go (operation_at cores (next_id next n)) refl (all-behind next words grown n))
+    where
+      go : (o : Option Operation) → operation_at cores (next_id next n) ≡ o → Behind next words n → Behind next words (n + 1)
+      go None e old = (old.0, first-skip _ _ e old.1, old.2)
+      go (Some y) e old = elim (cases_Bool (fits (word_of addresses words (address_of y)) y)) [
+        | inr isnt ↦ (old.0, first-more _ _ y e old.1 (λ fit. absurd cc), old.2)
+        | inl fit ↦ (
+            let new = grown n y e fit in (
+              new.0 ++ old.0,
+              first-more _ _ y e (λ core x l there fit. In-append_right _ new.0 old.0 (old.1 core x l there fit)) (λ fit. In-append_left _ new.0 old.0 new.1),
+              λ set sub s p. elim (In-append s new.0 old.0 p) [
+                | inl q ↦ new.2 set (λ r m. sub r (In-append_left r new.0 old.0 m)) s q
+                | inr q ↦ old.2 set (λ r m. sub r (In-append_right r new.0 old.0 m)) s q
+              ],
+            ))
+      ]
+
+  grow : (fuel : ℕ) (next words : List ℕ) → Reached cores addresses next words → left-of cores next ≤ fuel → Grown next words
+  grow zero next words reached l = absurd (
+      let found = one-left next words reached in
+      let less = less-left next words reached found.0 found.1 found.2 in
+      omega arith)
+  grow (suc fuel) next words reached l =
+      let all = all-behind next words (λ core y there fit.
+      let less = less-left next words reached core y there in
+      let most = left-settled addresses (words-behind words y) cores (slice_set next core (slice_index next core + 1)) in
+      grow fuel (next-behind next words core y) (words-behind words y) (reach-behind next words reached core y there fit) (omega arith)) (length cores) in
+      let within = λ (core : ℕ) (y : Operation) (there : operation_at cores (next_id next core) ≡ Some y). within_cores cores (next_id next core) y (sym there) in (
+        Open next words ∷ all.0,
+        inl refl,
+        λ set sub s p. elim p [
+          | inl same ↦ subst (IsRightState cores [] addresses (Has set)) same (record {
+            left = one-left next words reached;
+            back = λ core y there fit allowed. in-list set _ _ (sub _ (inr (all.1 core y (within core y there) there fit)));
+          })
+          | inr later ↦ all.2 set (λ r q. sub r (inr q)) s later
+        ],
+      )
 
   reached-closed : (states : List State) × IsClosedSet cores [] addresses states
   reached-closed =
@@ -164,15 +163,10 @@ module _ (cores : List (List Operation)) (none : IsConsistent cores → ⊥) whe
       let next : List ℕ = settled addresses words cores (zeros cores) in
       let first = reach-first cores addresses in
       let reached = reach-settled cores addresses (zeros cores) words first (looked words first.size) in
-      let states = tree-of (left-of cores next) next words in (
-        states,
-        record {
-          first = in-list states next words (root (left-of cores next) next words);
-          each = λ number s at. well-of states (left-of cores next) next words reached (omega arith) (λ r p. p) s (In-slice_get s states number at);
-        },
-      )
+      let all = grow (left-of cores next) next words reached (omega arith) in
+      (all.0, record { first = in-list all.0 next words all.1; each = λ number s at. all.2 all.0 (λ r p. p) s (In-slice_get s all.0 number at) })
 
-pub is-complete : Complete
-is-complete cores none =
+pub is_complete : Complete
+is_complete cores none =
     let closed = reached-closed cores none in
-    (States (all_addresses cores) closed.0 ∷ [], ([], (closed.1, refl), refl))
+    (States (addresses cores none) closed.0 ∷ [], ([], (closed.1, refl), refl))

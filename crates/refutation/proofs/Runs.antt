@@ -21,6 +21,15 @@ le-set xs k m j l up = grind (arith, common_steps)
 pub set-le : (xs ys : List ℕ) (k m j : ℕ) → k < length xs → m ≤ slice_index ys k → slice_index xs j ≤ slice_index ys j → slice_index (slice_set xs k m) j ≤ slice_index ys j
 set-le xs ys k m j l most le = grind (arith, common_steps)
 
+-- where two lists have the same number put at a place, an index between their numbers was between the old ones
+pub both-set : (xs ys : List ℕ) (k m n j i : ℕ) → k < length xs → k < length ys → n ≡ m
+    → slice_index (slice_set xs k m) j ≤ i → i < slice_index (slice_set ys k n) j → (slice_index xs j ≤ i) × (i < slice_index ys j)
+both-set xs ys k m n j i l o same low high = (grind (arith, common_steps), grind (arith, common_steps))
+
+pub set-both : (xs ys : List ℕ) (k m n j : ℕ) → k < length xs → k < length ys → m ≤ n
+    → slice_index xs j ≤ slice_index ys j → slice_index (slice_set xs k m) j ≤ slice_index (slice_set ys k n) j
+set-both xs ys k m n j l o most le = grind (arith, common_steps)
+
 -- ---- one operation
 
 pub store-address : (a : ℕ) (y : Operation) → is_store_to a y ≡ true → address_of y ≡ a

@@ -1,5 +1,5 @@
 -- The states of a set, looked up.
-use Rattle.std.specs.Prelude.{◌≡◌, ℕ, suc, ◌+◌, ◌<◌, Bool, true, false, ◌||◌, List, [], ◌∷◌, refl, IsTrue, length, take}
+use Rattle.std.specs.Prelude.{◌≡◌, ℕ, ◌+◌, ◌<◌, Bool, true, ◌||◌, List, [], ◌∷◌, refl, IsTrue, length, take}
 use Rattle.std.specs.List.{list_any}
 use Rattle.std.specs.Global.{Vec}
 use Rattle.std.specs.BTreeSet.{BTreeSet, insert_key}
@@ -7,12 +7,14 @@ use Rattle.std.specs.Cmp.Lexicographic.{nat_list_cmp_total, slice_cmp}
 use Rattle.std.specs.Ordering.{is_eq, match_ordering, nat_cmp, ordering_then}
 use Rattle.std.specs.declared.cmp.Ordering.{Ordering}
 use Rattle.std.specs.declared.cmp.Ordering.TheVariants.{Less, Equal, Greater}
-use Rattle.std.proofs.Common.{sym, ◌∙◌, ap, inl, inr, get_or}
-use Rattle.std.proofs.lemmas.Bool.{or_cases, or_right}
+use Rattle.std.proofs.Common.{sym, ◌∙◌, ap, get_or}
+use Rattle.std.proofs.Math.Bool.{or_assoc, or_comm, or_self_left}
 use Rattle.std.proofs.lemmas.Cmp.{tied_itself}
-use Rattle.std.proofs.lemmas.List.Folds.{list_any_at, list_any_more}
+use Rattle.std.proofs.lemmas.List.Folds.{Any-from_list_any, list_any_more}
+use Rattle.std.proofs.lemmas.Map.Keys.{any_passes_from_place}
 use Rattle.std.proofs.lemmas.Map.Lookups.{exact_bytes, exact_pairs}
-use Rattle.std.proofs.lemmas.Option.{get_or_from_slice_get, slice_get_within}
+use Rattle.std.proofs.lemmas.Map.Views.{tells_apart}
+use Rattle.std.proofs.lemmas.Option.{slice_get_read}
 use Rattle.refutation.specs.declared.state.State.{State}
 use Rattle.refutation.specs.States.{next_of, words_of, Has}
 use Rattle.refutation.specs.inner.Seen.{is_among}
@@ -25,14 +27,9 @@ by_lists = slice_cmp nat_cmp
 abbrev pub same_as : List ℕ → List ℕ → List ℕ → List ℕ → Bool
 same_as next words n v = is_eq (ordering_then (by_lists next n) (by_lists words v))
 
-is-equal : (o : Ordering) → is_eq o ≡ true → o ≡ Equal
-is-equal Less e = absurd cc
-is-equal Equal e = refl
-is-equal Greater e = absurd cc
-
 same-is : (next words n v : List ℕ) → same_as next words n v ≡ true → (next ≡ n) × (words ≡ v)
 same-is next words n v e =
-    let same = exact_pairs by_lists by_lists exact_bytes exact_bytes (next, words) (n, v) (is-equal (ordering_then (by_lists next n) (by_lists words v)) e) in
+    let same = tells_apart (exact_pairs by_lists by_lists exact_bytes exact_bytes) (next, words) (n, v) e in
     (ap (λ (p : List ℕ × List ℕ). p.0) same, ap (λ (p : List ℕ × List ℕ). p.1) same)
 
 same-self : (next words : List ℕ) → same_as next words next words ≡ true
@@ -56,19 +53,13 @@ any-insert : (test : Key → Bool) → ((j k : Key) → by_keys j k ≡ Equal �
 any-insert test tie key [] = refl
 any-insert test tie key (k ∷ keys) = go (by_keys key k) refl (any-insert test tie key keys)
   where
-    swapped : (a b c : Bool) → (a || (b || c)) ≡ (b || (a || c))
-    swapped true b c = sym (or_right b true refl)
-    swapped false b c = refl
-
-    twice : (a b : Bool) → (a || b) ≡ (a || (a || b))
-    twice true b = refl
-    twice false b = refl
-
     go : (o : Ordering) → by_keys key k ≡ o → list_any test (insert_key by_keys keys key) ≡ (test key || list_any test keys)
         → list_any test (match_ordering o (key ∷ k ∷ keys) (k ∷ keys) (k ∷ insert_key by_keys keys key)) ≡ (test key || (test k || list_any test keys))
     go Less e later = refl
-    go Equal e later = twice (test k) (list_any test keys) ∙ ap (λ b. b || (test k || list_any test keys)) (sym (tie key k e))
-    go Greater e later = ap (λ b. test k || b) later ∙ swapped (test k) (test key) (list_any test keys)
+    go Equal e later = sym (or_self_left (test k) (list_any test keys)) ∙ ap (λ b. b || (test k || list_any test keys)) (sym (tie key k e))
+    go Greater e later =
+        ap (λ b. test k || b) later ∙ sym (or_assoc (test k) (test key) _) ∙ ap (λ b. b || list_any test keys) (or_comm (test k) (test key))
+        ∙ or_assoc (test key) (test k) _
 
 -- the states so far
 abbrev pub is_state : List ℕ → List ℕ → State → Bool
@@ -79,29 +70,21 @@ pub among-more : (keys more : BTreeSet Key) (key : Key) (states : List State) (k
     → ((next words : List ℕ) → is_among keys next words ≡ list_any (is_state next words) (take k states)) → (next words : List ℕ) → is_among more next words ≡ list_any (is_state next words) (take (k + 1) states)
 among-more keys more key states k state inserted l is next_is words_is so_far next words =
     let turned : (is_key next words key || is_among keys next words) ≡ (list_any (is_state next words) (take k states) || is_state next words state) =
-    rw (so_far next words, next_is, words_is) (either (is_state next words state) (list_any (is_state next words) (take k states))) in
+    rw (so_far next words, next_is, words_is) (or_comm (is_state next words state) (list_any (is_state next words) (take k states))) in
     ap (list_any (is_key next words)) inserted ∙ any-insert (is_key next words) (tied next words) key keys.keys ∙ turned
     ∙ ap (λ s. list_any (is_state next words) (take k states) || is_state next words s) is ∙ sym (list_any_more (is_state next words) states k state l)
-  where
-    either : (a b : Bool) → (a || b) ≡ (b || a)
-    either true b = sym (or_right b true refl)
-    either false true = refl
-    either false false = refl
 
 -- ---- all states
 
 any-has : (next words : List ℕ) (states : List State) → list_any (is_state next words) states ≡ true → Has states next words
-any-has next words [] e = absurd cc
-any-has next words (state ∷ states) e = elim (or_cases (is_state next words state) (list_any (is_state next words) states) e) [
-  | inl here ↦ (let same = same-is next words (next_of state) (words_of state) here in record { number = 0; state = state; there = refl; next_is = sym same.0; words_is = sym same.1 })
-  | inr later ↦ (let has = any-has next words states later in record { number = suc has.number; state = has.state; there = has.there; next_is = has.next_is; words_is = has.words_is })
-]
-
-has-any : (next words : List ℕ) (states : List State) → Has states next words → list_any (is_state next words) states ≡ true
-has-any next words states has =
-    list_any_at (is_state next words) states has.number has.state (slice_get_within states has.number has.state has.there)
-    (rw (get_or_from_slice_get states has.number has.state has.state has.there, has.next_is, has.words_is) (same-self next words))
+any-has next words states e =
+    let any = Any-from_list_any (is_state next words) states e in
+    let same = same-is next words (next_of any.1) (words_of any.1) any.4 in
+    record { number = any.0; state = any.1; there = slice_get_read states (length states) any.0 any.1 refl any.2 (sym any.3); next_is = sym same.0; words_is = sym same.1 }
 
 pub all-among : (keys : BTreeSet Key) (states : List State) → ((next words : List ℕ) → is_among keys next words ≡ list_any (is_state next words) states)
     → (next words : List ℕ) → (IsTrue (is_among keys next words) → Has states next words) × (Has states next words → IsTrue (is_among keys next words))
-all-among keys states all next words = (λ t. any-has next words states (sym (all next words) ∙ t), λ has. all next words ∙ has-any next words states has)
+all-among keys states all next words = (
+  λ t. any-has next words states (sym (all next words) ∙ t),
+  λ has. all next words ∙ any_passes_from_place (is_state next words) states has.number has.state has.there (rw (has.next_is, has.words_is) (same-self next words)),
+)

@@ -1,6 +1,6 @@
 -- States: words put, and how far cores come by operations that pass.
 use Rattle.std.specs.Prelude.{◌≡◌, ◌≢◌, ℕ, zero, suc, ◌+◌, ◌-◌, ◌<◌, ◌≤◌, ◌⊎◌, Bool, true, false, ◌==◌, List, [], ◌∷◌, refl, Option, None, Some, map, length, take, drop, slice_get, slice_index, slice_set, option_and_then}
-use Rattle.std.specs.List.{prefix_len}
+use Rattle.std.specs.List.{position_from, prefix_len}
 use Rattle.std.specs.Option.{option_map}
 use Rattle.std.proofs.Common.{sym, ◌∙◌, ap, subst, arith, get_or}
 use Rattle.std.proofs.lemmas.Bool.{and_parts, eqb-true}
@@ -12,7 +12,6 @@ use Rattle.mem_op.specs.declared.id.OpId.{OpId}
 use Rattle.mem_op.specs.Consistency.{Operation, Loaded, Stored, Swapped, operation_at, word_left}
 use Rattle.flat_replay.specs.Accesses.{address_of, word_read}
 use Rattle.refutation.specs.States.{word_of, put_word, passes, settled, next_id}
-use Rattle.refutation.specs.inner.Slots.{slot_of}
 
 -- ---- words
 
@@ -96,6 +95,10 @@ settled-later addresses words (ys ∷ cores) (n ∷ next) zero = omega arith
 settled-later addresses words (ys ∷ cores) (n ∷ next) (suc core) = settled-later addresses words cores next core
 
 -- ---- what the code keeps
+
+-- where an address stands among those that are looked at, counted from a number
+abbrev slot_of : ℕ → List ℕ → ℕ → Option ℕ
+slot_of k addresses addr = position_from (λ a. a == addr) k addresses
 
 slot-next : (addresses : List ℕ) (k addr : ℕ) → slot_of (k + 1) addresses addr ≡ option_map suc (slot_of k addresses addr)
 slot-next [] k addr = refl

@@ -1,5 +1,5 @@
 -- What is a refutation refutes: in a consistent order all facts of some open case hold.
-use Rattle.std.specs.Prelude.{◌≡◌, ◌≢◌, ℕ, ◌<◌, ◌≤◌, ◌⊎◌, true, List, [], ◌∷◌, ◌++◌, refl, Some, map, slice_get}
+use Rattle.std.specs.Prelude.{◌≡◌, ◌≢◌, ℕ, ◌+◌, ◌<◌, ◌≤◌, ◌⊎◌, true, List, [], ◌∷◌, ◌++◌, refl, Some, length, map, slice_get}
 use Rattle.std.specs.List.{list_any}
 use Rattle.std.proofs.Common.{sym, ap, subst, inl, inr, arith}
 use Rattle.std.proofs.lemmas.Grind.{common_steps}
@@ -57,9 +57,9 @@ some-other cores time (facts ∷ cases) others some = inr (some-other cores time
 
 module _ (cores : List (List Operation)) (time : Point → ℕ) (timing : IsTiming cores time)
     (none-closed : (facts : List Fact) → AllHold cores time facts → (addresses : List ℕ) (states : List State) → IsClosedSet cores facts addresses states → ⊥) where
-  -- where a path leads is not before where it starts
-  leads-later : (facts : List Fact) → AllHold cores time facts → (from : Point) (path : List ℕ) (to : Point) → Leads facts from path to → time from ≤ time to
-  leads-later facts all from [] to leads = timing.program from to leads
+  -- each fact of a path leads to a later time
+  leads-later : (facts : List Fact) → AllHold cores time facts → (from : Point) (path : List ℕ) (to : Point) → Leads facts from path to → time from + length path ≤ time to
+  leads-later facts all from [] to leads = let l = timing.program from to leads in omega arith
   leads-later facts all from (number ∷ path) to leads =
       let parts = leads-parts facts from to number path leads in
       let first = timing.program from (earlier_of parts.0) parts.2 in
@@ -67,15 +67,9 @@ module _ (cores : List (List Operation)) (time : Point → ℕ) (timing : IsTimi
       let more = leads-later facts all (later_of parts.0) path to parts.3 in
       omega arith
 
-  -- a cycle leads back by a fact
   no-cycle : (facts : List Fact) → AllHold cores time facts → (path : List ℕ) → IsCycle facts path → ⊥
   no-cycle facts all [] cycle = cycle.some refl
-  no-cycle facts all (number ∷ path) cycle =
-      let parts = leads-parts facts cycle.start cycle.start number path cycle.back in
-      let first = timing.program cycle.start (earlier_of parts.0) parts.2 in
-      let step = order-of cores time parts.0 (all number parts.0 parts.1) in
-      let more = leads-later facts all (later_of parts.0) path cycle.start parts.3 in
-      omega arith
+  no-cycle facts all (number ∷ path) cycle = let later = leads-later facts all cycle.start (number ∷ path) cycle.start cycle.back in omega arith
 
   -- ---- the rules
 
@@ -139,11 +133,11 @@ module _ (cores : List (List Operation)) (time : Point → ℕ) (timing : IsTimi
   gives-one facts all (FromRead source write path) given gives =
       let known = all source (Source gives.read gives.range) gives.known in
       let after = leads-later facts all gives.range.last path (At write) gives.leads in
-      subst (OneHolds cores time) (sym gives.gives) (inl (read-first gives.read gives.range.last write gives.other known.1 after))
+      subst (OneHolds cores time) (sym gives.gives) (inl (read-first gives.read gives.range.last write gives.other known.1 (omega arith)))
   gives-one facts all (WriteOrder source write path) given gives =
       let known = all source (Source gives.read gives.range) gives.known in
       let before = leads-later facts all (At write) path (At gives.read) gives.leads in
-      subst (OneHolds cores time) (sym gives.gives) (inl (write-first gives.read gives.range.last write gives.other known.1 before))
+      subst (OneHolds cores time) (sym gives.gives) (inl (write-first gives.read gives.range.last write gives.other known.1 (omega arith)))
   gives-one facts all (Cycle path) given gives = absurd (no-cycle facts all path gives.0)
   gives-one facts all (States addresses set) given gives = absurd (none-closed facts all addresses set gives.0)
 

@@ -1,7 +1,8 @@
 -- The text of a set of states is that of no other.
-use Rattle.std.proofs.Common.{◌≡◌, ◌≢◌, ℕ, ◌<◌, true, List, [], ◌∷◌, ◌++◌, length, None, refl, sym, ap, subst, ◌∙◌, arith, append_assoc, append-nil, length-append}
+use Rattle.std.proofs.Common.{◌≡◌, ℕ, ◌<◌, ◌^◌, true, List, [], ◌∷◌, ◌++◌, length, None, refl, sym, ap, subst, ◌∙◌, arith, rules, append_assoc, append-nil, length-append}
 use Rattle.std.specs.Prelude.{codes, flat_map}
 use Rattle.std.specs.List.{AllByRecursion}
+use Rattle.std.proofs.lemmas.Grind.{flat_map-append}
 use Rattle.std.proofs.lemmas.List.{append_cancel_left}
 use Rattle.decimal_text.specs.Numbers.{numeral}
 use Rattle.decimal_text.specs.Reading.{after, number_at}
@@ -9,14 +10,14 @@ use Rattle.decimal_text.proofs.Lines.{NoLf, NoLf-append, numeral_no_lf}
 use Rattle.refutation.specs.declared.state.State.{State}
 use Rattle.refutation.specs.declared.state.State.TheVariants.{Open, Dead}
 use Rattle.refutation.specs.Grammar.{state_text, PathFits, StateFits}
-use Rattle.refutation.specs.inner.StateLines.{NumbersInFront, BothInFront, NoneInFront, StateInFront, NoStateInFront}
+use Rattle.refutation.specs.inner.StateLines.{PartInFront, NoPartInFront, StateInFront, NoStateInFront}
 use Rattle.text_lines.specs.Words.{ends_word, spaced, spaced_number}
-use Rattle.text_lines.proofs.SpacedWords.{numbers_are_words, spaced_no_lf, words_once}
+use Rattle.text_lines.proofs.Items.{each_push}
+use Rattle.text_lines.proofs.SpacedWords.{WordsSoFar, numbers_are_words, spaced_no_lf, words_once}
 
--- ---- numbers in front
+-- ---- where no number is read, and no word goes on
 
--- no number is read there, and no word goes on
-abbrev pub Stops : List ℕ → Type 0
+abbrev Stops : List ℕ → Type 0
 Stops rest = (spaced_number rest ≡ None) × (ends_word rest ≡ true)
 
 stops-colon : (rest : List ℕ) → Stops (codes " :" ++ rest)
@@ -36,133 +37,89 @@ stops-states (Dead next words limits ∷ states) rest stops = (refl, refl)
 set-stops : (set : List State) → Stops (flat_map state_text set)
 set-stops set = subst Stops (append-nil (flat_map state_text set)) (stops-states set [] stops-nil)
 
-numbers-once : {bytes xs ys rest more : List ℕ} → NumbersInFront bytes xs rest → NumbersInFront bytes ys more → (xs ≡ ys) × (rest ≡ more)
-numbers-once {bytes} {xs} {ys} {rest} {more} a b = words_once numbers_are_words xs ys rest more a.each b.each a.ends b.ends a.none b.none (sym a.text ∙ b.text)
+-- ---- a sign and numbers in front
 
-numbers-front : {bytes numbers rest : List ℕ} → PathFits numbers → Stops rest → bytes ≡ spaced numeral numbers ++ rest → NumbersInFront bytes numbers rest
-numbers-front each stops text = record { each = each; text = text; none = stops.0; ends = λ some. stops.1 }
+part : {sign bytes numbers rest : List ℕ} → PathFits numbers → Stops rest
+    → bytes ≡ sign ++ (spaced numeral numbers ++ rest) → PartInFront sign bytes numbers rest
+part each stops text = record { each = each; text = text; none = stops.0; ends = stops.1 }
 
--- ---- indices and words in front
+pub part-once : {sign bytes other xs ys rest more : List ℕ} → bytes ≡ other → PartInFront sign bytes xs rest → PartInFront sign other ys more
+    → (xs ≡ ys) × (rest ≡ more)
+part-once {sign} {bytes} {other} {xs} {ys} {rest} {more} same a b =
+    words_once numbers_are_words xs ys rest more a.each b.each (λ some. a.ends) (λ some. b.ends) a.none b.none
+    (append_cancel_left sign (spaced numeral xs ++ rest) (spaced numeral ys ++ more) (sym a.text ∙ same ∙ b.text))
 
-next-front : {bytes n v rest : List ℕ} → BothInFront bytes n v rest → NumbersInFront bytes n (codes " :" ++ (spaced numeral v ++ rest))
-next-front {bytes} {n} {v} {rest} a = numbers-front a.each_next (stops-colon (spaced numeral v ++ rest)) a.text
-
-words-front : {bytes n v rest fields : List ℕ} → BothInFront bytes n v rest → codes " :" ++ fields ≡ codes " :" ++ (spaced numeral v ++ rest) → NumbersInFront fields v rest
-words-front {bytes} {n} {v} {rest} {fields} a is = numbers-front a.each_word (a.none, a.ends) (append_cancel_left (codes " :") fields (spaced numeral v ++ rest) is)
-
-both-once : {bytes n m v w rest more : List ℕ} → BothInFront bytes n v rest → BothInFront bytes m w more → (n ≡ m) × (v ≡ w) × (rest ≡ more)
-both-once a b =
-    let first = numbers-once (next-front a) (next-front b) in
-    let second = numbers-once (words-front a refl) (words-front b first.1) in
-    (first.0, second.0, second.1)
-
-pub both-in-front : {bytes n fields v rest : List ℕ} → NumbersInFront bytes n (codes " :" ++ fields) → NumbersInFront fields v rest → ends_word rest ≡ true → BothInFront bytes n v rest
-both-in-front a b ends = record { each_next = a.each; each_word = b.each; text = rw b.text at a.text; none = b.none; ends = ends }
-
--- none, where no ` :` comes after the indices, or a word goes on after the words
-pub none-without-colon : {bytes n rest : List ℕ} → NumbersInFront bytes n rest → ((fields : List ℕ) → rest ≢ codes " :" ++ fields) → NoneInFront bytes
-none-without-colon front none m w more b = none (spaced numeral w ++ more) (numbers-once front (next-front b)).1
-
-pub none-where-a-word-goes-on : {bytes n fields v rest : List ℕ} → NumbersInFront bytes n (codes " :" ++ fields) → NumbersInFront fields v rest → (ends_word rest ≡ true → ⊥) → NoneInFront bytes
-none-where-a-word-goes-on a c stop m w more b = (
-    let after = (numbers-once c (words-front b (numbers-once a (next-front b)).1)).1 in
-    stop (ap ends_word after ∙ b.ends))
+-- none, where a word goes on after the numbers
+pub part-goes-on : {sign bytes fields xs rest : List ℕ} → bytes ≡ sign ++ fields → WordsSoFar numeral (λ number. number < 2 ^ 64) fields xs rest
+    → spaced_number rest ≡ None → (ends_word rest ≡ true → ⊥) → NoPartInFront sign bytes
+part-goes-on {sign} {bytes} {fields} {xs} {rest} is far none stop ys more b =
+    let same = append_cancel_left sign fields (spaced numeral ys ++ more) (sym is ∙ b.text) in
+    let once = words_once numbers_are_words xs ys rest more far.each b.each far.ends (λ some. b.ends) none b.none (sym far.text_is ∙ same) in
+    stop (ap ends_word once.1 ∙ b.ends)
 
 -- ---- a state in front
 
-open-text : (next words rest : List ℕ) → state_text (Open next words) ++ rest ≡ codes " |" ++ (spaced numeral next ++ (codes " :" ++ (spaced numeral words ++ rest)))
-unfolding state_text
-open-text next words rest = simp append_assoc
-
-dead-text : (next words limits rest : List ℕ) → state_text (Dead next words limits) ++ rest ≡ codes " !" ++ (spaced numeral next ++ (codes " :" ++ (spaced numeral words ++ (codes " :" ++ (spaced numeral limits ++ rest)))))
-unfolding state_text
-dead-text next words limits rest = simp append_assoc
-
-open-both : {fields next words rest : List ℕ} → StateInFront (Open next words) (codes " |" ++ fields) rest → BothInFront fields next words rest
-open-both {fields} {next} {words} {rest} there = record {
-  each_next = there.fits.0;
-  each_word = there.fits.1;
-  text = append_cancel_left (codes " |") fields (spaced numeral next ++ (codes " :" ++ (spaced numeral words ++ rest))) (there.text ∙ open-text next words rest);
-  none = there.none;
-  ends = there.ends;
-}
-
-dead-both : {fields next words limits rest : List ℕ} → StateInFront (Dead next words limits) (codes " !" ++ fields) rest → BothInFront fields next words (codes " :" ++ (spaced numeral limits ++ rest))
-dead-both {fields} {next} {words} {limits} {rest} there =
-    let last = codes " :" ++ (spaced numeral limits ++ rest) in
-    let stops = stops-colon (spaced numeral limits ++ rest) in
-    record {
-      each_next = there.fits.0;
-      each_word = there.fits.1;
-      text = append_cancel_left (codes " !") fields (spaced numeral next ++ (codes " :" ++ (spaced numeral words ++ last))) (there.text ∙ dead-text next words limits rest);
-      none = stops.0;
-      ends = stops.1;
-    }
-
--- the first sign tells which
 abbrev sign_of : List ℕ → ℕ
 sign_of [] = 0
 sign_of (b ∷ []) = 0
 sign_of (b ∷ c ∷ bs) = c
 
-pub no-open : {fields : List ℕ} → NoneInFront fields → NoStateInFront (codes " |" ++ fields)
-no-open none (Open next words) rest there = none next words rest (open-both there)
-no-open none (Dead next words limits) rest there = let e = ap sign_of (there.text ∙ dead-text next words limits rest) in omega (arith, e)
+-- the signs of two states differ
+signs-differ : {bytes n m r s : List ℕ} → PartInFront (codes " |") bytes n r → PartInFront (codes " !") bytes m s → ⊥
+signs-differ a b = let e = ap sign_of (sym a.text ∙ b.text) in omega (arith, e)
 
-dead-only : {fields : List ℕ} → ((n v l rest : List ℕ) → StateInFront (Dead n v l) (codes " !" ++ fields) rest → ⊥) → NoStateInFront (codes " !" ++ fields)
-dead-only none (Open next words) rest there = let e = ap sign_of (there.text ∙ open-text next words rest) in omega (arith, e)
-dead-only none (Dead next words limits) rest there = none next words limits rest there
+pub no-words : {bytes n r : List ℕ} → PartInFront (codes " |") bytes n r → NoPartInFront (codes " :") r → NoStateInFront bytes
+no-words a none (Open m w) rest there = none w rest (rw (← (part-once refl a there.1).1) at there.2)
+no-words a none (Dead m w l) rest there = signs-differ a there.2
 
-pub no-dead : {fields : List ℕ} → NoneInFront fields → NoStateInFront (codes " !" ++ fields)
-no-dead none = dead-only (λ n v l rest there. none n v (codes " :" ++ (spaced numeral l ++ rest)) (dead-both there))
-
-pub no-dead-without-colon : {fields n v behind : List ℕ} → BothInFront fields n v behind → ((limits : List ℕ) → behind ≢ codes " :" ++ limits) → NoStateInFront (codes " !" ++ fields)
-no-dead-without-colon both none = dead-only (λ n v l rest there. none (spaced numeral l ++ rest) (both-once both (dead-both there)).2)
-
-limits-front : {fields n v limits rest behind : List ℕ} → StateInFront (Dead n v limits) (codes " !" ++ fields) rest → codes " :" ++ behind ≡ codes " :" ++ (spaced numeral limits ++ rest) → NumbersInFront behind limits rest
-limits-front {fields} {n} {v} {limits} {rest} {behind} there is = numbers-front there.fits.2 (there.none, there.ends) (append_cancel_left (codes " :") behind (spaced numeral limits ++ rest) is)
-
-pub no-dead-where-a-word-goes-on : {fields n v behind l last : List ℕ} → BothInFront fields n v (codes " :" ++ behind) → NumbersInFront behind l last → (ends_word last ≡ true → ⊥) → NoStateInFront (codes " !" ++ fields)
-no-dead-where-a-word-goes-on both front stop = dead-only (λ m w limits rest there.
-    stop (ap ends_word (numbers-once front (limits-front there (both-once both (dead-both there)).2)).1 ∙ there.ends))
-
-pub open-in-front : {fields next words rest : List ℕ} → BothInFront fields next words rest → StateInFront (Open next words) (codes " |" ++ fields) rest
-open-in-front {fields} {next} {words} {rest} both = record {
-  fits = (both.each_next, both.each_word);
-  text = ap (λ xs. codes " |" ++ xs) both.text ∙ sym (open-text next words rest);
-  none = both.none;
-  ends = both.ends;
-}
-
-pub dead-in-front : {fields n v behind l rest : List ℕ} → BothInFront fields n v (codes " :" ++ behind) → NumbersInFront behind l rest → ends_word rest ≡ true → StateInFront (Dead n v l) (codes " !" ++ fields) rest
-dead-in-front {fields} {n} {v} {behind} {l} {rest} both front ends = record {
-  fits = (both.each_next, both.each_word, front.each);
-  text = ap (λ xs. codes " !" ++ xs) (rw front.text at both.text) ∙ sym (dead-text n v l rest);
-  none = front.none;
-  ends = ends;
-}
-
-pub no-sign : (bytes : List ℕ) → ((rest : List ℕ) → bytes ≢ codes " |" ++ rest) → ((rest : List ℕ) → bytes ≢ codes " !" ++ rest) → NoStateInFront bytes
-no-sign bytes a b (Open next words) rest there = a _ (there.text ∙ open-text next words rest)
-no-sign bytes a b (Dead next words limits) rest there = b _ (there.text ∙ dead-text next words limits rest)
+-- none of the first sign is there, and none of the second with these parts
+pub no-dead : {bytes : List ℕ} → NoPartInFront (codes " |") bytes
+    → ((n v l rest : List ℕ) → StateInFront (Dead n v l) bytes rest → ⊥) → NoStateInFront bytes
+no-dead first second (Open n w) rest there = first n there.0 there.1
+no-dead first second (Dead n w l) rest there = second n w l rest there
 
 -- a state in front is one
 state-once : (bytes : List ℕ) (s t : State) (rest more : List ℕ) → StateInFront s bytes rest → StateInFront t bytes more → (s ≡ t) × (rest ≡ more)
 state-once bytes (Open n v) (Open m w) rest more a b =
-    let is = a.text ∙ open-text n v rest in
-    let same = both-once (open-both (rw is at a)) (open-both (rw is at b)) in
-    (λ i. Open (same.0 i) (same.1 i), same.2)
-state-once bytes (Open n v) (Dead m w l) rest more a b =
-    absurd (let e = ap sign_of (sym (open-text n v rest) ∙ sym a.text ∙ b.text ∙ dead-text m w l more) in omega (arith, e))
-state-once bytes (Dead n v l) (Open m w) rest more a b =
-    absurd (let e = ap sign_of (sym (dead-text n v l rest) ∙ sym a.text ∙ b.text ∙ open-text m w more) in omega (arith, e))
+    let first = part-once refl a.1 b.1 in
+    let last = part-once first.1 a.2 b.2 in
+    (λ i. Open (first.0 i) (last.0 i), last.1)
+state-once bytes (Open n v) (Dead m w l) rest more a b = absurd (signs-differ a.1 b.2)
+state-once bytes (Dead n v l) (Open m w) rest more a b = absurd (signs-differ b.1 a.2)
 state-once bytes (Dead n v l) (Dead m w k) rest more a b =
-    let is = a.text ∙ dead-text n v l rest in
-    let one = rw is at a in
-    let other = rw is at b in
-    let same = both-once (dead-both one) (dead-both other) in
-    let last = numbers-once (limits-front one refl) (limits-front other same.2) in
-    (λ i. Dead (same.0 i) (same.1 i) (last.0 i), last.1)
+    let first = part-once refl a.2 b.2 in
+    let second = part-once first.1 a.3 b.3 in
+    let last = part-once second.1 a.4 b.4 in
+    (λ i. Dead (first.0 i) (second.0 i) (last.0 i), last.1)
+
+-- it is its text
+state-is : (state : State) (bytes rest : List ℕ) → StateInFront state bytes rest → StateFits state × (bytes ≡ state_text state ++ rest) × Stops rest
+unfolding state_text
+state-is (Open n w) bytes rest there =
+    ((there.1.each, there.2.each), simp append_assoc (rw there.2.text at there.1.text), (there.2.none, there.2.ends))
+state-is (Dead n w l) bytes rest there =
+    ((there.2.each, there.3.each, there.4.each), simp append_assoc (rw (there.3.text, there.4.text) at there.2.text), (there.4.none, there.4.ends))
+
+state-front : (state : State) (bytes rest : List ℕ) → StateFits state → Stops rest → bytes ≡ state_text state ++ rest → StateInFront state bytes rest
+unfolding state_text
+state-front (Open n w) bytes rest fits stops is =
+    let behind = codes " :" ++ (spaced numeral w ++ rest) in
+    (behind, part fits.0 (stops-colon (spaced numeral w ++ rest)) (simp append_assoc at is), part fits.1 stops refl)
+state-front (Dead n w l) bytes rest fits stops is =
+    let last = codes " :" ++ (spaced numeral l ++ rest) in
+    let behind = codes " :" ++ (spaced numeral w ++ last) in
+    let first = part fits.0 (stops-colon (spaced numeral w ++ last)) (simp append_assoc at is) in
+    (behind, last, first, part fits.1 (stops-colon (spaced numeral l ++ rest)) refl, part fits.2 stops refl)
+
+pub state_shorter : (state : State) (rest behind : List ℕ) → StateInFront state rest behind → length behind < length rest
+unfolding state_text
+state_shorter (Open n w) rest behind there =
+    omega (arith, ap length (state-is (Open n w) rest behind there).1, length-append (state_text (Open n w)) behind)
+state_shorter (Dead n w l) rest behind there =
+    omega (arith, ap length (state-is (Dead n w l) rest behind there).1, length-append (state_text (Dead n w l)) behind)
+
+nil-no-state : NoStateInFront []
+nil-no-state state rest there = omega (arith, state_shorter state [] rest there)
 
 -- ---- states so far
 
@@ -170,52 +127,57 @@ pub record StatesSoFar (text : List ℕ) (states : List State) (rest : List ℕ)
   pub each : AllByRecursion StateFits states
   pub text_is : text ≡ flat_map state_text states ++ rest
   pub none : spaced_number rest ≡ None
-  pub ends : states ≢ [] → ends_word rest ≡ true
+  pub ends : ends_word rest ≡ true
 
-state-bytes : (state : State) → 0 < length (state_text state)
-unfolding state_text
-state-bytes (Open next words) = omega arith
-state-bytes (Dead next words limits) = omega arith
-
-pub state_shorter : (state : State) (rest behind : List ℕ) → StateInFront state rest behind → length behind < length rest
-state_shorter state rest behind there = omega (arith, ap length there.text, length-append (state_text state) behind, state-bytes state)
+pub states-more : (text rest behind : List ℕ) (states : List State) (state : State) → StatesSoFar text states rest → StateInFront state rest behind
+    → StatesSoFar text (states ++ state ∷ []) behind
+states-more text rest behind states state far there =
+    let is = state-is state rest behind there in
+    record {
+      each = each_push StateFits states state far.each is.0;
+      text_is = rw is.1 at far.text_is ∙ sym (simp (flat_map-append, append_assoc, append-nil));
+      none = is.2.0;
+      ends = is.2.1;
+    }
 
 -- where no state is in front, the states so far are those of a text of states, and the bytes are at their end
-states-once : (xs ys : List State) (rest : List ℕ) → AllByRecursion StateFits xs → AllByRecursion StateFits ys → (xs ≢ [] → ends_word rest ≡ true) → spaced_number rest ≡ None → NoStateInFront rest
+states-once : (xs ys : List State) (rest : List ℕ) → AllByRecursion StateFits xs → AllByRecursion StateFits ys → Stops rest → NoStateInFront rest
     → flat_map state_text xs ++ rest ≡ flat_map state_text ys → (xs ≡ ys) × (rest ≡ [])
-states-once [] [] rest p q ends none last e = (refl, e)
-states-once [] (y ∷ ys) rest p q ends none last e =
-    let stops = set-stops ys in
-    absurd (last y (flat_map state_text ys) (record { fits = q.0; text = e; none = stops.0; ends = stops.1 }))
-states-once (x ∷ xs) [] rest p q ends none last e =
-    absurd (let l = state-bytes x in let f = ap length e in omega (arith, l, f, length-append (state_text x ++ flat_map state_text xs) rest, length-append (state_text x) (flat_map state_text xs)))
-states-once (x ∷ xs) (y ∷ ys) rest p q ends none last e =
-    let stops-x = stops-states xs rest (none, ends (λ wrong. cc)) in
-    let stops-y = set-stops ys in
-    let text = sym (append_assoc (state_text x) (flat_map state_text xs) rest) ∙ e in
-    let same = state-once (state_text x ++ (flat_map state_text xs ++ rest)) x y _ _ (record { fits = p.0; text = refl; none = stops-x.0; ends = stops-x.1 }) (record { fits = q.0; text = text; none = stops-y.0; ends = stops-y.1 }) in
-    let later = states-once xs ys rest p.1 q.1 (λ some. ends (λ wrong. cc)) none last same.1 in
+states-once [] [] rest p q stops last e = (refl, e)
+states-once [] (y ∷ ys) rest p q stops last e =
+    absurd (last y (flat_map state_text ys) (state-front y rest (flat_map state_text ys) q.0 (set-stops ys) e))
+states-once (x ∷ xs) [] rest p q stops last e =
+    let text = sym e ∙ append_assoc (state_text x) (flat_map state_text xs) rest in
+    absurd (nil-no-state x _ (state-front x [] (flat_map state_text xs ++ rest) p.0 (stops-states xs rest stops) text))
+states-once (x ∷ xs) (y ∷ ys) rest p q stops last e =
+    let text = sym e ∙ append_assoc (state_text x) (flat_map state_text xs) rest in
+    let one = state-front x (flat_map state_text (y ∷ ys)) (flat_map state_text xs ++ rest) p.0 (stops-states xs rest stops) text in
+    let same = state-once _ x y _ _ one (state-front y _ (flat_map state_text ys) q.0 (set-stops ys) refl) in
+    let later = states-once xs ys rest p.1 q.1 stops last same.1 in
     (λ i. same.0 i ∷ later.0 i, later.1)
 
 -- ---- the fields of a set
 
-nil-no-state : NoStateInFront []
-nil-no-state state rest there = let f = ap length there.text in let l = state-bytes state in omega (arith, f, l, length-append (state_text state) rest)
+-- the addresses and the states were all read, where such fields are there
+pub set-once : (a b text rest : List ℕ) (s t : List State) {fields : List ℕ} → PartInFront [] fields a text → StatesSoFar text s rest
+    → NoStateInFront rest → PathFits b × AllByRecursion StateFits t → fields ≡ spaced numeral b ++ flat_map state_text t → (a ≡ b) × (s ≡ t) × (rest ≡ [])
+set-once a b text rest s t front far last fits is =
+    let first = part-once is front (part fits.0 (set-stops t) refl) in
+    let later = states-once s t rest far.each fits.1 (far.none, far.ends) last (sym far.text_is ∙ first.1) in
+    (first.0, later.0, later.1)
 
--- what stands after the addresses of a set whose fields these are
-set-behind : {fields a rest b : List ℕ} (t : List State) → NumbersInFront fields a rest → PathFits b → fields ≡ spaced numeral b ++ flat_map state_text t → (a ≡ b) × (rest ≡ flat_map state_text t)
-set-behind {fields} {a} {rest} {b} t front each is = numbers-once front (numbers-front {numbers = b} each (set-stops t) is)
+pub sets-once : (a b : List ℕ) (s t : List State) → PathFits a × AllByRecursion StateFits s → PathFits b × AllByRecursion StateFits t
+    → spaced numeral a ++ flat_map state_text s ≡ spaced numeral b ++ flat_map state_text t → (a ≡ b) × (s ≡ t)
+sets-once a b s t p q e =
+    let text = sym (append-nil (flat_map state_text s)) in
+    let all : StatesSoFar (flat_map state_text s) s [] = record { each = p.1; text_is = text; none = stops-nil.0; ends = stops-nil.1 } in
+    let same = set-once a b (flat_map state_text s) [] s t (part p.0 (set-stops s) refl) all nil-no-state q e in
+    (same.0, same.1)
 
-pub set-once : (a b : List ℕ) (s t : List State) → PathFits a × AllByRecursion StateFits s → PathFits b × AllByRecursion StateFits t → spaced numeral a ++ flat_map state_text s ≡ spaced numeral b ++ flat_map state_text t → (a ≡ b) × (s ≡ t)
-set-once a b s t p q e =
-    let first = set-behind t (numbers-front {numbers = a} p.0 (set-stops s) refl) q.0 e in
-    (first.0, (states-once s t [] p.1 q.1 (λ some. refl) stops-nil.0 nil-no-state (append-nil (flat_map state_text s) ∙ first.1)).0)
-
--- the states were all read, where such fields are there
-pub set-whole : {fields a text rest : List ℕ} (b : List ℕ) (s t : List State) → NumbersInFront fields a text → StatesSoFar text s rest → NoStateInFront rest
-    → PathFits b → AllByRecursion StateFits t → fields ≡ spaced numeral b ++ flat_map state_text t → rest ≡ []
-set-whole {fields} {a} {text} {rest} b s t front far last each fits is =
-    (states-once s t rest far.each fits far.ends far.none last (sym far.text_is ∙ (set-behind t front each is).1)).1
+-- no addresses are read
+pub no-addresses : (fields b : List ℕ) (t : List State) → NoPartInFront [] fields → PathFits b
+    → fields ≡ spaced numeral b ++ flat_map state_text t → ⊥
+no-addresses fields b t none each is = none b (flat_map state_text t) (part each (set-stops t) is)
 
 -- ---- no line feed
 
@@ -224,10 +186,8 @@ numbers_no_lf numbers = spaced_no_lf numeral numeral_no_lf numbers
 
 state_no_lf : (state : State) → NoLf (state_text state)
 unfolding state_text
-state_no_lf (Open next words) = (refl, (refl, NoLf-append (spaced numeral next) (codes " :" ++ spaced numeral words) (numbers_no_lf next) (refl, (refl, numbers_no_lf words))))
-state_no_lf (Dead next words limits) =
-    let last = NoLf-append (spaced numeral words) (codes " :" ++ spaced numeral limits) (numbers_no_lf words) (refl, (refl, numbers_no_lf limits)) in
-    (refl, (refl, NoLf-append (spaced numeral next) (codes " :" ++ (spaced numeral words ++ (codes " :" ++ spaced numeral limits))) (numbers_no_lf next) (refl, (refl, last))))
+state_no_lf (Open next words) = search (rules, NoLf-append, numbers_no_lf) depth 12
+state_no_lf (Dead next words limits) = search (rules, NoLf-append, numbers_no_lf) depth 12
 
 pub states_no_lf : (states : List State) → NoLf (flat_map state_text states)
 states_no_lf [] = tt

@@ -4,17 +4,16 @@ use Rattle.std.specs.Prelude.{codes, flat_map, option_map, if◌then◌else◌}
 use Rattle.decimal_text.specs.Numbers.{numeral}
 use Rattle.std.proofs.lemmas.Option.{none-some, some_pair_parts}
 use Rattle.mem_op.specs.declared.id.OpId.{OpId}
-use Rattle.refutation.specs.declared.line.Reason.{Reason}
 use Rattle.refutation.specs.declared.step.Range.{Range}
 use Rattle.refutation.specs.declared.state.State.{State}
 use Rattle.refutation.specs.declared.step.Step.{Step}
 use Rattle.refutation.specs.declared.step.Step.TheVariants.{Read, FromRead, WriteOrder, Cycle, States}
 use Rattle.refutation.specs.Grammar.{state_text, id_text, range_text, reason_text, name_text, fields_text, IdFits, RangeFits, Fits}
 use Rattle.refutation.specs.inner.Reading.{named_at, source_at}
-use Rattle.refutation.specs.inner.StateLines.{NumbersInFront, NoStateInFront}
+use Rattle.refutation.specs.inner.StateLines.{PartInFront}
 use Rattle.refutation.specs.inner.Telling.{TellsWords, TellsReason, TellsStep, TellsLine}
 use Rattle.refutation.proofs.Parts.{named_takes, named_again}
-use Rattle.refutation.proofs.StateTexts.{StatesSoFar, set-whole}
+use Rattle.refutation.proofs.StateTexts.{StatesSoFar}
 use Rattle.text_lines.specs.Words.{spaced}
 use Rattle.text_lines.proofs.Fields.{field_below_again, field_below_takes}
 
@@ -44,34 +43,22 @@ line-none line a b c d e (WriteOrder source write path) fits is = c (fields_text
 line-none line a b c d e (Cycle path) fits is = d (fields_text (Cycle path)) is
 line-none line a b c d e (States addresses set) fits is = e (fields_text (States addresses set)) is
 
--- ---- the steps of each name
+-- ---- no step of a name
 
-pub from_read-told : (bytes : List ℕ) (found : Option Reason) → TellsReason bytes found → TellsStep (codes "from-read ") bytes (option_map (λ x. FromRead x.source x.write x.path) found)
+pub from_read-none : (bytes : List ℕ) → TellsReason bytes None → TellsStep (codes "from-read ") bytes None
 unfolding fields_text
-from_read-told bytes (Some x) told = ((told.0, told.1, told.2), refl, told.3)
-from_read-told bytes None told = none
-  where
-    none : TellsStep (codes "from-read ") bytes None
-    none (FromRead source write path) fits name is = told source write path fits.0 fits.1 fits.2 is
-    none step fits name is = absurd (let e = ap first_of name in omega (arith, e))
+from_read-none bytes none (FromRead source write path) fits name is = none source write path fits.0 fits.1 fits.2 is
+from_read-none bytes none step fits name is = absurd (let e = ap first_of name in omega (arith, e))
 
-pub write_order-told : (bytes : List ℕ) (found : Option Reason) → TellsReason bytes found → TellsStep (codes "write-order ") bytes (option_map (λ x. WriteOrder x.source x.write x.path) found)
+pub write_order-none : (bytes : List ℕ) → TellsReason bytes None → TellsStep (codes "write-order ") bytes None
 unfolding fields_text
-write_order-told bytes (Some x) told = ((told.0, told.1, told.2), refl, told.3)
-write_order-told bytes None told = none
-  where
-    none : TellsStep (codes "write-order ") bytes None
-    none (WriteOrder source write path) fits name is = told source write path fits.0 fits.1 fits.2 is
-    none step fits name is = absurd (let e = ap first_of name in omega (arith, e))
+write_order-none bytes none (WriteOrder source write path) fits name is = none source write path fits.0 fits.1 fits.2 is
+write_order-none bytes none step fits name is = absurd (let e = ap first_of name in omega (arith, e))
 
-pub cycle-told : (bytes : List ℕ) (found : Option (List ℕ)) → TellsWords numeral (λ n. n < 2 ^ 64) bytes found → TellsStep (codes "cycle :") bytes (option_map (λ path. Cycle path) found)
+pub cycle-none : (bytes : List ℕ) → TellsWords numeral (λ n. n < 2 ^ 64) bytes None → TellsStep (codes "cycle :") bytes None
 unfolding fields_text
-cycle-told bytes (Some path) told = (told.0, refl, told.1)
-cycle-told bytes None told = none
-  where
-    none : TellsStep (codes "cycle :") bytes None
-    none (Cycle path) fits name is = told path fits is
-    none step fits name is = absurd (let e = ap first_of name in omega (arith, e))
+cycle-none bytes none (Cycle path) fits name is = none path fits is
+cycle-none bytes none step fits name is = absurd (let e = ap first_of name in omega (arith, e))
 
 -- ---- a number, a write and a path
 
@@ -123,12 +110,15 @@ read-told bytes words read None told e = read-none bytes (λ id ranges fits ther
 
 -- ---- a set of states
 
-pub states-told : (fields a text rest : List ℕ) (s : List State) → NumbersInFront fields a text → StatesSoFar text s rest → rest ≡ [] → TellsStep (codes "states") fields (Some (States a s))
+pub states-told : (fields a text rest : List ℕ) (s : List State) → PartInFront [] fields a text → StatesSoFar text s rest → rest ≡ []
+    → TellsStep (codes "states") fields (Some (States a s))
 unfolding fields_text
 states-told fields a text rest s front far none =
     ((front.each, far.each), refl, front.text ∙ ap (λ xs. spaced numeral a ++ xs) (far.text_is ∙ ap (λ xs. flat_map state_text s ++ xs) none ∙ append-nil (flat_map state_text s)))
 
-pub states-none : (fields a text rest : List ℕ) (s : List State) → NumbersInFront fields a text → StatesSoFar text s rest → NoStateInFront rest → rest ≢ [] → TellsStep (codes "states") fields None
+-- none, where no fields of the kind are there
+pub states-none : (fields : List ℕ) → ((b : List ℕ) (t : List State) → Fits (States b t) → fields ≡ spaced numeral b ++ flat_map state_text t → ⊥)
+    → TellsStep (codes "states") fields None
 unfolding fields_text
-states-none fields a text rest s front far last some (States b t) fits name is = some (set-whole b s t front far last fits.0 fits.1 is)
-states-none fields a text rest s front far last some step fits name is = absurd (let e = ap first_of name in omega (arith, e))
+states-none fields none (States b t) fits name is = none b t fits is
+states-none fields none step fits name is = absurd (let e = ap first_of name in omega (arith, e))

@@ -112,6 +112,11 @@ module _ (cores : List (List Operation)) (order : List OpId) (sequential : IsSeq
   pub placed : (id : OpId) (y : Operation) → operation_at cores id ≡ Some y → place order id < length order
   placed id y there = place-counted order id (sequential.serial id ∙ ap (λ o. if is_some o then 1 else 0) there)
 
+  -- at the end of the order each operation was performed
+  pub none-left : (t : ℕ) → t ≡ length order → (run : Run cores order t) → (id : OpId) (y : Operation) → operation_at cores id ≡ Some y
+      → id.index < slice_index run.next id.core
+  none-left t end run id y there = (let within = placed id y there in before cores order t (omega arith) run id (omega arith))
+
   -- ---- program order
 
   -- of two ids of one core the one that stands first has the lower index

@@ -6,7 +6,6 @@ pub mod Lasts
 pub mod Lines
 pub mod Reading
 pub mod Seen
-pub mod Slots
 pub mod StateLines
 pub mod Telling
 pub mod Waiting

@@ -89,6 +89,7 @@ fn read_read(alloc: Global, fields: &[u8]) -> Result<Option<Step>, AllocError>
 }
 
 /// The step whose fields these are, of those of from-read.
+#[tactic(auto, unfolding(crate::specs::Grammar::fields_text))]
 fn read_from_read(alloc: Global, fields: &[u8]) -> Result<Option<Step>, AllocError>
     ensures { IfOk result (TellsStep (codes "from-read ") fields.now) }
 {
@@ -103,6 +104,7 @@ fn read_from_read(alloc: Global, fields: &[u8]) -> Result<Option<Step>, AllocErr
 }
 
 /// The step whose fields these are, of those of write-order.
+#[tactic(auto, unfolding(crate::specs::Grammar::fields_text))]
 fn read_write_order(alloc: Global, fields: &[u8]) -> Result<Option<Step>, AllocError>
     ensures { IfOk result (TellsStep (codes "write-order ") fields.now) }
 {
@@ -117,6 +119,7 @@ fn read_write_order(alloc: Global, fields: &[u8]) -> Result<Option<Step>, AllocE
 }
 
 /// The step whose fields these are, of those that close a case by a cycle.
+#[tactic(auto, unfolding(crate::specs::Grammar::fields_text))]
 fn read_cycle(alloc: Global, fields: &[u8]) -> Result<Option<Step>, AllocError>
     ensures { IfOk result (TellsStep (codes "cycle :") fields.now) }
 {

@@ -1,11 +1,10 @@
 //! What cores may do in a state.
 
-ghost use Rattle.std.specs.Prelude.{◌≡◌, ◌+◌, ◌<◌, ◌&&◌, ◌^◌, ℕ, IfOk, MatchOption, None, Some, drop, slice_get, slice_index, slice_set};
-ghost use Rattle.std.specs.List.{list_all, prefix_len};
+ghost use Rattle.std.specs.Prelude.{◌≡◌, ◌==◌, ◌+◌, ◌<◌, ◌&&◌, ◌^◌, ℕ, IfOk, MatchOption, None, Some, drop, slice_get, slice_index, slice_set};
+ghost use Rattle.std.specs.List.{list_all, position_from, prefix_len};
 ghost use Rattle.mem_op.specs.Consistency.{operation_at};
 ghost use Rattle.flat_replay.specs.Accesses.{address_of};
 ghost use Rattle.refutation.specs.States.{allows, fits, next_id, next_of, passes, put_word, settled, was_performed, word_of, words_of};
-ghost use Rattle.refutation.specs.inner.Slots.{slot_of};
 
 use super::fact::Known;
 use super::reading::is_same;
@@ -17,14 +16,9 @@ use trace::{Access, Address, Trace};
 
 /// Where an address stands among those that are looked at.
 fn slot_of(addresses: &[Address], addr: Address) -> Option<usize>
-    ensures { result ≡ slot_of 0 addresses.now addr }
+    ensures { result ≡ position_from (λ a. a == addr) 0 addresses.now }
 {
-    for (slot, looked_at) in addresses.iter().enumerate() {
-        if *looked_at == addr {
-            return Some(slot);
-        }
-    }
-    None
+    addresses.iter().position(|looked_at| *looked_at == addr)
 }
 
 /// The number at a place.

@@ -1,34 +1,26 @@
 -- What is read of the line of a set of states.
-use Rattle.std.specs.Prelude.{◌≡◌, ◌≢◌, ℕ, true, List, [], ◌++◌, None, codes}
+use Rattle.std.specs.Prelude.{◌≡◌, ℕ, true, List, ◌++◌, None, codes}
 use Rattle.decimal_text.specs.Numbers.{numeral}
 use Rattle.refutation.specs.declared.state.State.{State}
-use Rattle.refutation.specs.Grammar.{state_text, PathFits, StateFits}
+use Rattle.refutation.specs.declared.state.State.TheVariants.{Open, Dead}
+use Rattle.refutation.specs.Grammar.{PathFits}
 use Rattle.text_lines.specs.Words.{ends_word, spaced, spaced_number}
 
--- the bytes begin with these numbers, and these come after them, with no other number first
-pub record NumbersInFront (bytes : List ℕ) (numbers : List ℕ) (rest : List ℕ) : Type 0 where
+-- the bytes begin with this sign and these numbers, and these come after them, with no other number first
+pub record PartInFront (sign bytes numbers rest : List ℕ) : Type 0 where
   pub each : PathFits numbers
-  pub text : bytes ≡ spaced numeral numbers ++ rest
-  pub none : spaced_number rest ≡ None
-  pub ends : numbers ≢ [] → ends_word rest ≡ true
-
--- the bytes begin with these indices and words, and these come after them
-pub record BothInFront (bytes next words rest : List ℕ) : Type 0 where
-  pub each_next : PathFits next
-  pub each_word : PathFits words
-  pub text : bytes ≡ spaced numeral next ++ (codes " :" ++ (spaced numeral words ++ rest))
+  pub text : bytes ≡ sign ++ (spaced numeral numbers ++ rest)
   pub none : spaced_number rest ≡ None
   pub ends : ends_word rest ≡ true
 
-abbrev pub NoneInFront : List ℕ → Type 0
-NoneInFront bytes = (next words rest : List ℕ) → BothInFront bytes next words rest → ⊥
+abbrev pub NoPartInFront : List ℕ → List ℕ → Type 0
+NoPartInFront sign bytes = (numbers rest : List ℕ) → PartInFront sign bytes numbers rest → ⊥
 
--- the bytes begin with a state, and these come after it
-pub record StateInFront (state : State) (bytes rest : List ℕ) : Type 0 where
-  pub fits : StateFits state
-  pub text : bytes ≡ state_text state ++ rest
-  pub none : spaced_number rest ≡ None
-  pub ends : ends_word rest ≡ true
+-- the bytes begin with the parts of a state, and these come after them
+abbrev pub StateInFront : State → List ℕ → List ℕ → Type 0
+StateInFront (Open next words) bytes rest = (r : List ℕ) × PartInFront (codes " |") bytes next r × PartInFront (codes " :") r words rest
+StateInFront (Dead next words limits) bytes rest =
+    (r s : List ℕ) × PartInFront (codes " !") bytes next r × PartInFront (codes " :") r words s × PartInFront (codes " :") s limits rest
 
 abbrev pub NoStateInFront : List ℕ → Type 0
 NoStateInFront bytes = (state : State) (rest : List ℕ) → StateInFront state bytes rest → ⊥

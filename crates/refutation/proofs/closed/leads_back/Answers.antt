@@ -2,8 +2,7 @@ use Rattle.std.proofs.Common.{◌≡◌, true, false, arith, ◌∙◌, sym}
 use Rattle.refutation.specs.States.{next_of}
 use Rattle.refutation.specs.inner.Seen.{IsAmong}
 use Rattle.refutation.proofs.Firsts.{cores-all}
-use Rattle.refutation.proofs.Leading.{LeadsInto, leads-more}
-use Rattle.refutation.proofs.NextOnes.{ones-skip, ones-told}
+use Rattle.refutation.proofs.NextOnes.{ones-skip, ones-told, LeadsInto, leads-more}
 use Rattle.refutation.proofs.closed.leads_back.Goals as goal
 use Rattle.refutation.proofs.closed.leads_back.Goals.{in-Some+else-may_go, else-may_go-via-then-may_go+in_ok-leads_into+else-not-branch, else-may_go-via-else-may_go, in_default}
 

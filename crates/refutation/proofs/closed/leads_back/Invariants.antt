@@ -1,7 +1,6 @@
 use Rattle.refutation.specs.States.{next_of}
 use Rattle.refutation.specs.inner.Seen.{IsAmong}
-use Rattle.refutation.proofs.Leading.{LeadsInto}
-use Rattle.refutation.proofs.NextOnes.{FirstOnes}
+use Rattle.refutation.proofs.NextOnes.{FirstOnes, LeadsInto}
 use Rattle.refutation.proofs.closed.leads_back.Given as goal
 
 abbrev pub invariant-loop-core : goal.invariant-loop-core

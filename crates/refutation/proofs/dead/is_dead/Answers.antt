@@ -1,7 +1,6 @@
 use Rattle.std.proofs.Common.{arith, ◌∙◌}
 use Rattle.refutation.proofs.Firsts.{cores-all}
-use Rattle.refutation.proofs.Leading.{StopsAt}
-use Rattle.refutation.proofs.NextOnes.{ones-told}
+use Rattle.refutation.proofs.NextOnes.{ones-told, StopsAt}
 use Rattle.refutation.proofs.dead.is_dead.Goals as goal
 
 pub returns : goal.returns

@@ -1,5 +1,4 @@
-use Rattle.refutation.proofs.Leading.{StopsAt}
-use Rattle.refutation.proofs.NextOnes.{FirstOnes}
+use Rattle.refutation.proofs.NextOnes.{FirstOnes, StopsAt}
 use Rattle.refutation.proofs.dead.is_dead.Given as goal
 
 abbrev pub invariant-loop-core : goal.invariant-loop-core

@@ -1,9 +1,5 @@
-use Rattle.std.proofs.Common.{Some, None}
-use Rattle.refutation.proofs.StepLines.{from_read-told}
+use Rattle.refutation.proofs.StepLines.{from_read-none}
 use Rattle.refutation.proofs.line.read_from_read.Goals as goal
 
-pub returns-in-Some : goal.returns-in-Some
-returns-in-Some c = from_read-told c.args.fields.now (Some c.in-Some.reason) (rw c.in-Some.is at c.in_ok-reason.ensures)
-
 pub returns-in-None : goal.returns-in-None
-returns-in-None c = from_read-told c.args.fields.now None (rw c.in-None.is at c.in_ok-reason.ensures)
+returns-in-None c = from_read-none c.args.fields.now (rw c.in-None.is at c.in_ok-reason.ensures)

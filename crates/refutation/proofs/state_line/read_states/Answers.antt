@@ -1,24 +1,35 @@
-use Rattle.std.proofs.Common.{◌≡◌, sym, ◌∙◌, ap, ◌==◌, true, false, length}
+use Rattle.std.proofs.Common.{◌≡◌, sym, ◌∙◌, ap, ◌==◌, true, length}
 use Rattle.std.proofs.lemmas.Bool.{eqb-true, eq-eqb}
 use Rattle.std.proofs.lemmas.List.{nil_from_length}
-use Rattle.refutation.proofs.StateTexts.{state_shorter}
+use Rattle.refutation.proofs.StateTexts.{state_shorter, states-more, set-once, no-addresses}
 use Rattle.refutation.proofs.StepLines.{states-told, states-none}
 use Rattle.refutation.proofs.state_line.read_states.Goals as goal
 
 pub loop-states-smaller : goal.loop-states-smaller
-loop-states-smaller c = (let pushed = rw c.in-Some.is at c.in_ok-behind.ensures in state_shorter pushed.0 c.loop-states.rest.now c.in-Some.behind.now pushed.1)
+loop-states-smaller c = state_shorter c.in-Some-2.state c.loop-states.rest.now c.in-Some-2.behind.now (rw c.in-Some-2.is at c.in_ok-state.ensures)
 
-pub returns-then-is_empty : goal.returns-then-is_empty
-returns-then-is_empty c =
-    let last = rw c.in_default.is at c.in_ok-behind.ensures in
-    let none = nil_from_length c.loop-states.rest.now (eqb-true (length c.loop-states.rest.now) 0 (sym c.is_empty.ensures ∙ c.if-is_empty.true)) in
-    rw (c.new.ensures, c.new-then-is_empty.ensures, last.1) (states-told c.args.fields.now c.read_numbers.new.numbers.items c.in_ok-rest.rest.now c.loop-states.rest.now c.loop-states.states.items c.in_ok-rest.ensures c.loop-states.invariant none)
+pub loop-states-preserved : goal.loop-states-preserved
+loop-states-preserved c =
+    let there = rw c.in-Some-2.is at c.in_ok-state.ensures in
+    rw c.in_ok-push.ensures.items (states-more _ _ c.in-Some-2.behind.now _ c.in-Some-2.state c.loop-states.invariant there)
 
-pub returns-else-is_empty : goal.returns-else-is_empty
-returns-else-is_empty c =
-    let last = rw c.in_default.is at c.in_ok-behind.ensures in
-    states-none c.args.fields.now c.read_numbers.new.numbers.items c.in_ok-rest.rest.now c.loop-states.rest.now c.loop-states.states.items c.in_ok-rest.ensures c.loop-states.invariant last.0
-    (λ e. (
-    let f : (length c.loop-states.rest.now == 0) ≡ true = eq-eqb (length c.loop-states.rest.now) 0 (ap length e) in
-    let wrong : true ≡ false = sym f ∙ sym c.is_empty.ensures ∙ c.if-is_empty.false in
-    cc))
+pub returns-in_default : goal.returns-in_default
+returns-in_default c =
+    let none = rw c.in_default.is at c.in_ok-addresses.ensures in
+    states-none c.args.fields.now (λ b t fits is. no-addresses c.args.fields.now b t none fits.0 is)
+
+pub returns-then-not-is_empty : goal.returns-then-not-is_empty
+returns-then-not-is_empty c = states-none c.args.fields.now (λ b t fits is.
+    let rest = c.loop-states.rest.now in
+    let last = rw c.in_default-2.is at c.in_ok-state.ensures in
+    let all = set-once _ b _ rest _ t (rw c.in-Some.is at c.in_ok-addresses.ensures) c.loop-states.invariant last fits is in
+    let empty : (length rest == 0) ≡ true = eq-eqb (length rest) 0 (ap length all.2) in
+    let a = c.if-not-is_empty.true in
+    let b = c.is_empty.ensures in
+    absurd cc)
+
+pub returns : goal.returns
+returns c =
+    let rest = c.loop-states.rest.now in
+    let none = nil_from_length rest (eqb-true (length rest) 0 (sym c.is_empty.ensures ∙ c.if-not-is_empty.false)) in
+    rw c.new-set.ensures (states-told c.args.fields.now _ _ rest _ (rw c.in-Some.is at c.in_ok-addresses.ensures) c.loop-states.invariant none)

@@ -10,4 +10,4 @@ pub returns : goal.returns
 returns c =
     let none = rw c.in_default-2.is at c.in_ok-behind.ensures in
     let counted : c.len.result ≡ length c.push_step.new.steps.items = grind (arith, common_steps) in
-    inr (front-told c.args.text.now c.loop-steps.rest.now c.loop-steps.steps.items c.push_step.new.steps.items c.len.result c.bad_end-bad_line.result c.loop-steps.invariant none.0 none.1 counted c.bad_end-bad_line.ensures)
+    inr (front-told c.args.text.now _ c.loop-steps.rest.now c.loop-steps.steps.items c.push_step.new.steps.items c.len.result c.bad_end-bad_line.result c.in-Some.ensures.found c.loop-steps.invariant none.0 none.1 counted c.bad_end-bad_line.ensures)

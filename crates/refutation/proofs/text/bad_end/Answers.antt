@@ -1,5 +1,0 @@
-use Rattle.std.proofs.Common.{inl, refl}
-use Rattle.refutation.proofs.text.bad_end.Goals as goal
-
-pub returns-in-None : goal.returns-in-None
-returns-in-None c = inl (refl, c.in-None.ensures.none refl)
