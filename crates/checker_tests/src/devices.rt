@@ -7,7 +7,6 @@ use std::alloc::Global;
 use std::io;
 use std::io::{ErrorKind, Read, Write};
 use std::test::Fail;
-use std::thread::Threads;
 
 /// A reader and writer of std that always fails.
 #[derive(Drop)]
@@ -78,7 +77,7 @@ fn each_write_fails_in_turn(rt: HostRuntime) -> Result<(), Fail> {
     Ok(())
 }
 
-/// How many records the long log has: enough for pieces of it that several workers share.
+/// How many records the long log has: enough for several pieces.
 const RECORDS: usize = 16_384;
 
 /// More reads than the long log needs.
@@ -95,33 +94,28 @@ fn long_log(alloc: Global) -> Result<String, Fail> {
 }
 
 /// How many records a log is read as where a read fails after so many others, and how many reads have failed then.
-fn length_where_one_fails<R: Threads + Sync>(
-    rt: &R,
+fn length_where_one_fails(
     alloc: Global,
     text: &str,
-    workers: usize,
     read: usize,
 ) -> Result<(Result<usize, LogFault>, u64), Fail> {
     let mut steps = vec![in alloc; Step::Move(usize::MAX); read]?;
     steps.push(Step::Fail)?;
     let mut source = MemSource::new(text.as_bytes(), &steps);
-    let log = read_log(rt, alloc, &mut source, CoreId::at(0), 1, workers);
+    let log = read_log(alloc, &mut source, CoreId::at(0), 1);
     Ok((log.map(|log| log.len()), source.failures()))
 }
 
-// A read that fails while workers have the pieces before is told as any other.
 #[test]
 fn each_read_of_a_long_log_fails_in_turn(rt: HostRuntime) -> Result<(), Fail> {
     let text = long_log(rt.alloc())?;
-    for workers in [1, 2, 4] {
-        for read in 0..=READS {
-            let (answer, failures) = length_where_one_fails(&rt, rt.alloc(), &text, workers, read)?;
-            let is_due = match answer {
-                Err(fault) => read < READS && fault == LogFault::Read && failures == 1,
-                Ok(count) => read > 0 && count == RECORDS && failures == 0,
-            };
-            assert!(rt; is_due, "{workers} workers, read {read}");
-        }
+    for read in 0..=READS {
+        let (answer, failures) = length_where_one_fails(rt.alloc(), &text, read)?;
+        let is_due = match answer {
+            Err(fault) => read < READS && fault == LogFault::Read && failures == 1,
+            Ok(count) => read > 0 && count == RECORDS && failures == 0,
+        };
+        assert!(rt; is_due, "read {read}");
     }
     Ok(())
 }

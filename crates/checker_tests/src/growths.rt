@@ -39,7 +39,7 @@ fn a_set_of_logs(rt: HostRuntime) -> Result<(), Fail> {
         MemSource::new(LOGS[0].as_bytes(), &[]),
         MemSource::new(LOGS[1].as_bytes(), &[]),
     ];
-    let logs = LogSet::read(&rt, alloc, &mut readers, 2)?.logs(alloc)?;
+    let logs = LogSet::read(alloc, &mut readers)?.logs(alloc)?;
     let index = AddressIndex::build(&rt, alloc, &logs)?;
     let group = index.group(Addr::new(1)?);
     assert_eq!(rt;

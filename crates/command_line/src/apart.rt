@@ -8,7 +8,7 @@ use super::log_names::{has_log_name, is_among};
 use super::request::{Request, TraceFiles};
 use std::alloc::{AllocError, Global};
 
-/// Whether the names that a request puts are apart from each other and from those that it reads. Err where memory was refused.
+/// Whether the names that a request puts are apart from each other and from those that it reads. Err if memory was refused.
 pub(crate) fn are_apart(alloc: Global, request: &Request<'_>) -> Result<bool, AllocError>
     ensures { IfOk result (λ are. IsTrue are ↔ files.IsApart request.now) }
 {
@@ -34,7 +34,7 @@ fn are_new(put: &[&str], read: &[&str]) -> bool
     }
 }
 
-/// The names of the files that a request reads. Err where memory was refused.
+/// The names of the files that a request reads. Err if memory was refused.
 fn files_read<'a>(alloc: Global, request: &Request<'a>) -> Result<Vec<&'a str>, AllocError>
     ensures { IfOk result (λ names. texts names.items ≡ files.files_read request.now) }
 {
@@ -58,7 +58,7 @@ fn files_read<'a>(alloc: Global, request: &Request<'a>) -> Result<Vec<&'a str>, 
     }
 }
 
-/// The names of the files that a request puts, but for logs. Err where memory was refused.
+/// The names of the files that a request puts, but for logs. Err if memory was refused.
 fn files_put<'a>(alloc: Global, request: &Request<'a>) -> Result<Vec<&'a str>, AllocError>
     ensures { IfOk result (λ names. texts names.items ≡ files.files_put request.now) }
 {
@@ -86,7 +86,7 @@ fn logs_put<'a>(request: &Request<'a>) -> Option<&'a str>
     }
 }
 
-/// The names of the files of a trace, behind that of its certificate, where one is given. Err where memory was refused.
+/// The names of the files of a trace, behind that of its certificate, if one is given. Err if memory was refused.
 fn names_of_trace<'a>(
     alloc: Global,
     certificate: Option<&'a str>,
@@ -102,7 +102,7 @@ fn names_of_trace<'a>(
     }
 }
 
-/// The names of the files that were given, and behind them these. Err where memory was refused.
+/// The names of the files that were given, and behind them these. Err if memory was refused.
 fn names_of<'a>(
     alloc: Global,
     given: &[Option<&'a str>],

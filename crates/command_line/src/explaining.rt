@@ -83,7 +83,7 @@ fn has_log_option(matches: &ArgMatches<'_>) -> bool
     flag_of(matches, "no-search")
 }
 
-/// What the user is told where a file that isn't a log isn't the only one, or options stand beside it that are of logs.
+/// What the user reads if a file that isn't a log isn't the only one, or options stand beside it that are of logs.
 const NOT_ALONE: &str =
     "error: with '--litmus', '--programs', '--trace' or '--certificate' one FILE is given, and no other option\n\nFor more information, try '--help'.\n";
 

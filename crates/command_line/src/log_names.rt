@@ -10,7 +10,7 @@ use std::alloc::{AllocError, Global};
 /// The most cores.
 const CORE_LIMIT: u64 = 64;
 
-/// Whether one of these names is that of a log: that of the logs, a dot and a core's number. Err where memory was refused.
+/// Whether one of these names is that of a log: that of the logs, a dot and a core's number. Err if memory was refused.
 pub(crate) fn has_log_name(alloc: Global, out: &str, names: &[&str]) -> Result<bool, AllocError>
     ensures { IfOk result (λ has. IsTrue has ↔ ((name : Text) × Contains (texts names.now) name × IsLogName out.now name)) }
 {

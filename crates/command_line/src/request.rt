@@ -36,7 +36,7 @@ pub enum Request<'a> {
 pub struct Check<'a> {
     /// How many workers judge it.
     pub workers: u64,
-    /// The name of the file of the programs that the cores ran, where one is given.
+    /// The name of the file of the programs that the cores ran, if one is given.
     pub program: Option<&'a str>,
     /// The names of its files, that of core 0 first.
     pub files: Vec<&'a str>,
@@ -54,9 +54,9 @@ pub struct Order<'a> {
 pub struct Explain<'a> {
     /// What is judged, by one worker.
     pub check: Check<'a>,
-    /// The name of the file that a picture goes to, where one is given.
+    /// The name of the file that a picture goes to, if one is given.
     pub picture: Option<&'a str>,
-    /// Whether no other order of a set that gets No is searched.
+    /// Whether to leave out the search for another order of a set that gets No.
     pub no_search: bool,
 }
 
@@ -71,7 +71,7 @@ pub enum FileKind {
     Trace,
 }
 
-/// Asks whether a file can be read as what it has to be.
+/// Asks whether a file is what it has to be.
 #[derive(Debug, Drop)]
 pub struct Inspect<'a> {
     /// What it has to be.
@@ -94,13 +94,13 @@ pub struct Upgrade<'a> {
 pub struct Sim<'a> {
     /// The numbers of the machine.
     pub limits: Limits,
-    /// The name of the file of the schedule that is followed first, where one is given.
+    /// The name of the file of the schedule that is followed first, if one is given.
     pub schedule: Option<&'a str>,
-    /// What the rounds after the schedule are drawn from, where it is given.
+    /// The seed that draws the rounds after the schedule, if one is given.
     pub seed: Option<u64>,
-    /// The name of the file that the numbers of the run go to, where one is given.
+    /// The name of the file that the numbers of the run go to, if one is given.
     pub statistics: Option<&'a str>,
-    /// The name of the file that the events of the run go to, where one is given.
+    /// The name of the file that the events of the run go to, if one is given.
     pub events: Option<&'a str>,
     /// The name of the file of the programs.
     pub programs: &'a str,
@@ -113,7 +113,7 @@ pub struct Sim<'a> {
 pub struct Run<'a> {
     /// The numbers of the machine.
     pub limits: Limits,
-    /// The name of the file that the numbers of the run go to, where one is given.
+    /// The name of the file that the numbers of the run go to, if one is given.
     pub statistics: Option<&'a str>,
     /// The name of the file of the programs.
     pub programs: &'a str,
@@ -128,11 +128,11 @@ pub struct LitmusRuns<'a> {
     pub limits: Limits,
     /// How many runs there are.
     pub runs: u64,
-    /// What the rounds of the first run are drawn from.
+    /// The seed that draws the rounds of the first run.
     pub seed: u64,
     /// Whether each core runs in a thread of its own; nothing is drawn then.
     pub threads: bool,
-    /// The name of the file that the numbers of all runs go to, where one is given.
+    /// The name of the file that the numbers of all runs go to, if one is given.
     pub statistics: Option<&'a str>,
     /// The name of the file of the test.
     pub test: &'a str,
@@ -145,26 +145,26 @@ pub enum TraceFiles<'a> {
     One(&'a str),
     /// The logs of a set, whose trace it is, in the files of these names, that of core 0 first.
     Logs(Vec<&'a str>),
-    /// The same, whose sources are taken as given.
+    /// The same, with sources that the search takes as given.
     Sourced(Vec<&'a str>),
 }
 
 /// Asks whether a trace is consistent, by a search for an order or a refutation.
 #[derive(Debug, Drop)]
 pub struct Search<'a> {
-    /// How many steps the search may make, where that is given.
+    /// How many steps the search may make, if a number is given.
     pub budget: Option<u64>,
-    /// The name of the file that an order goes to, where one is given.
+    /// The name of the file that an order goes to, if one is given.
     pub order: Option<&'a str>,
-    /// The name of the file that a refutation goes to, where one is given.
+    /// The name of the file that a refutation goes to, if one is given.
     pub refutation: Option<&'a str>,
-    /// The name of the file that a picture of a refutation goes to, where one is given.
+    /// The name of the file that a picture of a refutation goes to, if one is given.
     pub picture: Option<&'a str>,
     /// Where the trace is.
     pub trace: TraceFiles<'a>,
 }
 
-/// Asks whether a trace is consistent, by a certificate alone; or whether that holds of the trace.
+/// Asks whether a trace is consistent, by a certificate alone; or whether the certificate is one of the trace.
 #[derive(Debug, Drop)]
 pub struct Confirm<'a> {
     /// The name of the file of the certificate: an order or a refutation.
@@ -176,7 +176,7 @@ pub struct Confirm<'a> {
 /// Asks whether a trace is right in the order of its lines.
 #[derive(Debug, Drop)]
 pub struct Replay<'a> {
-    /// Whether it is told after a no what should have been read.
+    /// Whether to tell, after a no, what should have been read.
     pub why: bool,
     /// The name of the file of the trace.
     pub trace: &'a str,
@@ -187,7 +187,7 @@ pub struct Replay<'a> {
 pub struct Limits {
     /// How many slices there are.
     pub slices: u64,
-    /// The lease of a read.
+    /// How many stamps a lease lasts.
     pub lease: u64,
     /// How many operations a core performs between two self-increments.
     pub period: u64,

@@ -10,7 +10,7 @@ pub(crate) struct Subcommand<'a> {
     pub(crate) about: &'a str,
     /// What a call of it looks like, and what its answer doesn't say.
     pub(crate) example: &'a str,
-    /// The options that give the numbers of the machine, where it runs one; they come first.
+    /// The options that give the numbers of the machine, if it runs one; they come first.
     pub(crate) limits: &'a [Argument<'a>],
     /// Its own arguments.
     pub(crate) arguments: &'a [Argument<'a>],

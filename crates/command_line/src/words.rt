@@ -35,7 +35,7 @@ pub fn read<'a>(alloc: Global, words: &'a [&'a str]) -> Result<Request<'a>, Misu
     Ok(request)
 }
 
-/// What the user is told of an output that would take the place of another file.
+/// What the user reads about an output that would take the place of another file.
 const NOT_APART: &str =
     "error: an output would take the place of a file that is read, of a log or of another output\n\nFor more information, try '--help'.\n";
 
@@ -112,7 +112,7 @@ fn order_of<'a>(alloc: Global, matches: &ArgMatches<'a>) -> Result<Request<'a>, 
     Ok(Request::Order(Order { files }))
 }
 
-/// The refusal of what isn't done, with what the user is told of it.
+/// The refusal of what isn't done, with what the user reads about it.
 pub(crate) fn misuse(alloc: Global, text: &str) -> Misuse {
     match String::from_str(alloc, text) {
         Ok(text) => Misuse::Usage(text),
@@ -202,7 +202,7 @@ fn trace_of<'a>(
     }
 }
 
-/// The name of the only file, or the refusal of others, with what the user is told of them.
+/// The name of the only file, or the refusal of others, with what the user reads about them.
 pub(crate) fn only<'a>(alloc: Global, files: &[&'a str], text: &str) -> Result<&'a str, Misuse>
     ensures one { IfOk result (λ name. asking.texts files.now ≡ name.now ∷ []) }
     ensures usage { IfErr result (asking.IsNotOneOf (asking.texts files.now)) }
@@ -213,11 +213,11 @@ pub(crate) fn only<'a>(alloc: Global, files: &[&'a str], text: &str) -> Result<&
     }
 }
 
-/// What the user is told of several files where one is read.
+/// What the user reads if there are several files and one is due.
 const STRAY_FILE: &str =
     "error: more files than one are read as logs only, with '--logs'\n\nFor more information, try '--help'.\n";
 
-/// What the user is told of sources that aren't those of logs.
+/// What the user reads about sources that aren't those of logs.
 const STRAY_SOURCES: &str =
     "error: sources are those of logs, with '--logs'\n\nFor more information, try '--help'.\n";
 
@@ -289,7 +289,7 @@ fn count_of(matches: &ArgMatches<'_>, name: &str, default: u64) -> u64
     number_of(matches, name).unwrap_or(default)
 }
 
-/// The number that an option gives, or none where the option isn't there.
+/// The number that an option gives, or none if the option isn't there.
 fn number_of(matches: &ArgMatches<'_>, name: &str) -> Option<u64>
     requires named { IsTrue (takes_number name.now) }
     requires numbers { HasNumbers (rows_of (found_of matches.now)) }
@@ -305,7 +305,7 @@ pub(crate) fn flag_of(matches: &ArgMatches<'_>, name: &str) -> bool
     matches.get_flag(name)
 }
 
-/// The name of the file that an option gives, or none where the option isn't there.
+/// The name of the file that an option gives, or none if the option isn't there.
 pub(crate) fn name_of<'a>(matches: &ArgMatches<'a>, option: &str) -> Option<&'a str>
     ensures { asking.text_of result ≡ first_of option.now (rows_of (found_of matches.now)) }
 {

@@ -15,7 +15,7 @@ use verdict::Verdict;
 pub enum CommandAnswer {
     /// The verdict on a set of logs.
     Judged(Verdict),
-    /// The verdict on a set of logs whose order was written, where it is Yes.
+    /// The verdict on a set of logs whose order was written, if it is Yes.
     Ordered(Verdict),
     /// The verdict on a set of logs, with what there is to tell of it.
     Explained(Verdict),

@@ -33,12 +33,14 @@ use std::thread::Threads;
 /// The exit status of a call whose words aren't a command line of the program.
 const USAGE: u8 = 3;
 
-/// Does what the words of a command line ask for; the first is the program's own name, and
-/// answers the exit status: 0 for Yes or done, 1 for No or a forbidden outcome, 2 where a log, the
-/// programs, the schedule, the test, the trace or the certificate are refused, 3 where the words are or a number is out of range, else 4. An answer goes to standard
-/// output, all else to standard error; where an order goes to standard output, its verdict goes to
-/// standard error. Of a refused explanation, or a refused look at a file, more is told on standard output. In the folder nothing is put but the logs of a run or of an
-/// upgrade, a run's numbers, the totals of a litmus test's runs, the picture of an explanation, and what a search finds.
+/// Does what the words of a command line ask for; the first word is the program's own name. It answers the exit status: 0 for Yes or
+/// done; 1 for No or a forbidden outcome; 2 if a log, the programs, the schedule, the test, the trace or the certificate is refused; 3 if
+/// the words are, or a number is out of range; else 4.
+///
+/// An answer goes to standard output, and a refusal to standard error; so does the verdict of an order, which itself goes to standard
+/// output. If an explanation, or a look at a file, is refused, standard output tells more. The only files that it puts into the folder are
+/// the logs of a run or of an upgrade, a run's numbers and events, the totals of a litmus test's runs, the picture of an explanation, and
+/// what a search finds.
 pub fn command<
     R: Threads + Wait + Sync,
     W: Watch + SearchWatch + ReplayWatch + Sync,
@@ -128,16 +130,16 @@ fn perform<
         }
         Request::Sim(asked) => print_done(alloc, out, sim(alloc, folder, asked)?),
         Request::Run(asked) => print_done(alloc, out, run(rt, alloc, watch, folder, asked)?),
-        Request::Upgrade(asked) => print_done(alloc, out, upgrade(rt, alloc, folder, asked)?),
+        Request::Upgrade(asked) => print_done(alloc, out, upgrade(alloc, folder, asked)?),
         Request::Search(asked) => Ok(CommandAnswer::Searched(search(
-            rt, alloc, watch, folder, asked, out,
+            alloc, watch, folder, asked, out,
         )?)),
         Request::Confirm(asked) => {
-            let answer = confirm(rt, alloc, folder, asked)?;
+            let answer = confirm(alloc, folder, asked)?;
             print_answer(alloc, out, CommandAnswer::Searched(answer))
         }
         Request::Vet(asked) => {
-            let answer = confirm(rt, alloc, folder, asked)?;
+            let answer = confirm(alloc, folder, asked)?;
             print_answer(alloc, out, CommandAnswer::Certified(answer))
         }
         Request::Replay(asked) => Ok(CommandAnswer::Replayed(replay(

@@ -17,7 +17,7 @@ use std::alloc::Global;
 use std::thread::Threads;
 use verdict::{Examined, JudgeFault, OpenGate, Verdict, check_counts, examine};
 
-/// The verdict on the logs of a set with what it stands on, and the programs against which it was judged, where there are any.
+/// The verdict on the logs of a set with what it stands on, and the programs against which it was judged, if there are any.
 #[derive(Drop)]
 pub(crate) struct Found {
     pub(crate) examined: Examined,
@@ -72,7 +72,7 @@ pub(crate) fn examine_asked<R: Threads + Sync, F: Folder>(
     Ok(Found { examined, programs })
 }
 
-/// The programs in a file of the folder, where its name is given.
+/// The programs in a file of the folder, if its name is given.
 fn read_given<F: Folder>(
     alloc: Global,
     folder: &mut F,
@@ -95,7 +95,7 @@ fn read_given<F: Folder>(
     }
 }
 
-/// The verdict on the logs in files of the folder, against these programs where they are given, with what it stands on.
+/// The verdict on the logs in files of the folder, against these programs if they are given, with what it stands on.
 fn examine_files<R: Threads + Sync, F: Folder>(
     rt: &R,
     alloc: Global,

@@ -7,11 +7,11 @@ ghost use Rattle.commands.specs.Programmed as programmed;
 use command_line::Limits;
 use lease_rule::{BadConfig, Config};
 
-/// How many turns a core has for an operation, where it runs as a thread; a simulation has no use
+/// How many turns a core has for an operation, if it runs as a thread; a simulation has no use
 /// for them.
 const TURNS: u64 = 10_000_000;
 
-/// The configuration of these numbers: 6 where one is out of its range.
+/// The configuration of these numbers: 6 if one is out of its range.
 pub(crate) fn config_of(limits: &Limits) -> Result<Config, BadConfig>
     ensures { MatchResult result
         (λ config. (config ≡ programmed.config_of limits.now)

@@ -25,7 +25,6 @@ use host_files::Folder;
 use log_file::ReadFault;
 use refutation::{CertificateFault, first_bad_line};
 use std::alloc::Global;
-use std::thread::Threads;
 use telling::count_of;
 use trace::Trace;
 
@@ -34,8 +33,7 @@ const HEADER: &[u8] = b"tardis-refutation 1\n";
 
 /// Looks whether the certificate in a file of the folder holds of the trace in others. The answer that it gives, or why there is none: the
 /// trace is read first, and 43 comes with the first line of the certificate that isn't as it should be.
-pub fn confirm<R: Threads + Sync, F: Folder>(
-    rt: &R,
+pub fn confirm<F: Folder>(
     alloc: Global,
     folder: &mut F,
     asked: &Confirm<'_>,
@@ -49,12 +47,12 @@ pub fn confirm<R: Threads + Sync, F: Folder>(
         → TellsTrace (F.files folder.old).told (own_files asked.now.trace) IsConsistent) }
     ensures read { IsOnlyRead (F.files folder.old) (F.files folder.new) }
 {
-    let read = read_files(rt, alloc, folder, &asked.trace)?;
+    let read = read_files(alloc, folder, &asked.trace)?;
     let text = read_certificate(alloc, folder, asked.certificate)?;
     look_at(alloc, &asked.trace, &read.trace, text.as_slice())
 }
 
-/// The text of a certificate: 28 where its file can't be opened or read, and 10 where a growth was refused.
+/// The text of a certificate: 28 if its file can't be opened or read, and 10 if a growth was refused.
 fn read_certificate<F: Folder>(
     alloc: Global,
     folder: &mut F,

@@ -32,11 +32,11 @@ use std::thread::Threads;
 use telling::{first_sentence, print};
 use verdict::{Examined, Verdict};
 
-/// What is told where a picture is asked for and the set is too large for one.
+/// The words if a picture is asked for and the set is too large for one.
 const NO_PICTURE: &str =
     "picture        none, of more than 200 operations; where there is a file of its name, that is an older one\n";
 
-/// What is told of a verdict.
+/// The words about a verdict.
 #[derive(Drop)]
 struct Told {
     verdict: Verdict,
@@ -69,7 +69,7 @@ pub fn explain<R: Threads + Sync, W: SearchWatch, F: Folder, O: ByteSink>(
     Ok(told.verdict)
 }
 
-/// Puts a picture under a name, where there is a name and a picture.
+/// Puts a picture under a name, if there is a name and a picture.
 fn put_picture<F: Folder>(folder: &mut F, name: Option<&str>, told: &Told) -> Result<(), Refusal>
     requires picture { IfSome told.now.picture (λ svg. IsPicture (string_bytes svg)) }
     requires drawn { IsSome name → IsSome told.now.picture ↔ HasPicture told.now.verdict }
@@ -126,7 +126,7 @@ fn tell<R: Threads + Sync, W: SearchWatch, F: Folder>(
     Ok(told)
 }
 
-/// The last lines of what is told: whether another order explains all values, where that is asked for.
+/// The last lines of what is told: whether another order explains all values, if that is asked for.
 fn last_lines<W: SearchWatch>(
     alloc: Global,
     watch: &W,
@@ -189,7 +189,7 @@ fn reason(
     }
 }
 
-/// The picture of why a verdict of this line is so, where it is to be drawn and can be.
+/// The picture of why a verdict of this line is so, if it is to be drawn and can be.
 fn picture_of(
     alloc: Global,
     line: &str,

@@ -23,7 +23,7 @@ fn budget(given: Option<u64>) -> u64
     given.unwrap_or(STEPS)
 }
 
-/// An order of a trace, or a refutation: 44 where the search gives up, and 10 where a growth was refused. A watch is told how far the
+/// An order of a trace, or a refutation: 44 if the search gives up, and 10 if a growth was refused. A watch is told how far the
 /// search is.
 pub(crate) fn find<W: SearchWatch>(
     alloc: Global,

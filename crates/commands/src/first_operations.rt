@@ -26,7 +26,7 @@ struct Begun {
     is_cut: bool,
 }
 
-/// What the operations get, judged alone, that took effect up to where the first of the logs that are cut off ends. Nothing where that log has
+/// What the operations get, judged alone, that took effect up to where the first of the logs that are cut off ends. Nothing if that log has
 /// no whole operation, or a file can't be read again.
 pub(crate) fn first_text<F: Folder>(
     alloc: Global,
@@ -41,7 +41,7 @@ pub(crate) fn first_text<F: Folder>(
     }
 }
 
-/// The texts of all logs, read again; None where one can't be opened or read.
+/// The texts of all logs, read again; None if one can't be opened or read.
 fn all_again<F: Folder>(
     alloc: Global,
     folder: &mut F,
@@ -60,7 +60,7 @@ fn all_again<F: Folder>(
     Ok(Some(texts))
 }
 
-/// What is told of these texts of logs.
+/// The words about these texts of logs.
 fn told_of(alloc: Global, texts: &[Vec<u8>]) -> Result<String, AllocError> {
     let logs = all_begun(alloc, texts)?;
     match last_key(logs.as_slice()) {
@@ -105,7 +105,7 @@ fn whole_of(alloc: Global, core: CoreId, cores: u64, text: &[u8]) -> Result<Begu
     Ok(Begun { whole, is_cut })
 }
 
-/// The last key of that of the logs that are cut off which ends first; None where it has no whole operation.
+/// The last key of that of the logs that are cut off which ends first; None if it has no whole operation.
 fn last_key(logs: &[Begun]) -> Option<Key> {
     let mut least: Option<Key> = None;
     for log in logs.iter().filter(|log| log.is_cut) {

@@ -20,7 +20,7 @@ use std::alloc::{AllocError, Global};
 pub(crate) struct Leaving<'a> {
     /// What the names of the logs begin with.
     pub(crate) out: &'a str,
-    /// The name of the file that the numbers go to, where one is given.
+    /// The name of the file that the numbers go to, if one is given.
     pub(crate) statistics: Option<&'a str>,
     /// The format of the logs.
     pub(crate) format: Format,
@@ -46,7 +46,7 @@ fn numbers_of<R: RunParts>(
     print_statistics(alloc, of_cores.as_slice(), of_slices.as_slice())
 }
 
-/// Puts the numbers of a run under the name that is given for them, if one is: 29 where that fails, 10.
+/// Puts the numbers of a run under the name that is given for them, if one is: 29 if that fails, 10.
 fn put_numbers<F: Folder, R: RunParts>(
     alloc: Global,
     folder: &mut F,
@@ -72,8 +72,8 @@ fn put_numbers<F: Folder, R: RunParts>(
     }
 }
 
-/// Writes the log of each core, and then the numbers of the run where a file is given for them. How many operations were performed.
-/// What can't be written ends it: 29 where a put fails, and 10 where a growth was refused.
+/// Writes the log of each core, and then the numbers of the run if a file is given for them. How many operations were performed.
+/// What can't be written ends it: 29 if a put fails, and 10 if a growth was refused.
 pub(crate) fn leave<F: Folder, R: RunParts + LogsOfCores>(
     alloc: Global,
     folder: &mut F,

@@ -39,7 +39,7 @@ fn has_forbidden(table: &Table) -> bool
     false
 }
 
-/// The test in a file of the folder: 28 where it can't be opened or read.
+/// The test in a file of the folder: 28 if it can't be opened or read.
 pub(crate) fn read_test<F: Folder>(
     alloc: Global,
     folder: &mut F,
@@ -103,7 +103,7 @@ fn collected_of<R: Threads + Wait + Sync, F: Folder>(
     Ok(collect(rt, alloc, &test, &config, asked)?)
 }
 
-/// The text of the totals, where a file is given for it; else none.
+/// The text of the totals, if a file is given for it; else none.
 fn text_of(
     alloc: Global,
     statistics: Option<&str>,
@@ -118,7 +118,7 @@ fn text_of(
     }
 }
 
-/// Puts a text under the name that is given for it, if one is: 29 where that fails.
+/// Puts a text under the name that is given for it, if one is: 29 if that fails.
 fn put_text<F: Folder>(folder: &mut F, statistics: Option<&str>, text: &[u8]) -> Result<(), Refusal>
     ensures ok { OnOk result (PutsAt (F.files folder.old) (F.files folder.new) statistics.entry text.now) }
     ensures err { IfErr result (λ fault. (fault ≡ Refusal.Unwritten Output.Statistics)
@@ -132,8 +132,8 @@ fn put_text<F: Folder>(folder: &mut F, statistics: Option<&str>, text: &[u8]) ->
     }
 }
 
-/// Writes the table of the runs that are asked for, then puts their totals where a file is given for them, and answers whether an outcome
-/// is forbidden, or why there is no table: 29 where standard output failed, and then it took a beginning of it, or where the totals can't
+/// Writes the table of the runs that are asked for, then puts their totals if a file is given for them, and answers whether an outcome
+/// is forbidden, or why there is no table: 29 if standard output failed, and then it took a beginning of it, or if the totals can't
 /// be put.
 pub fn count_outcomes<R: Threads + Wait + Sync, F: Folder, O: ByteSink>(
     rt: &R,

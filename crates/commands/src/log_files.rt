@@ -10,7 +10,6 @@ use host_files::Folder;
 use log_file::{LogSet, ReadFault};
 use log_record::Record;
 use std::alloc::{AllocError, Global};
-use std::thread::Threads;
 use trace::{Trace, TraceFull};
 use verdict::JudgeFault;
 
@@ -40,10 +39,9 @@ pub fn open_all<F: Folder>(
     Ok(sources)
 }
 
-/// The logs in the files of these names, a core each, or why there are none: 28 of a file that can't be opened comes before one is
-/// read.
-pub fn read_log_files<R: Threads + Sync, F: Folder>(
-    rt: &R,
+/// The logs in the files of these names, one of each core, or why there are none. All files are opened before one is read, so 28 of a file
+/// that can't be opened comes first.
+pub fn read_log_files<F: Folder>(
     alloc: Global,
     folder: &mut F,
     names: &[&str],
@@ -60,11 +58,11 @@ pub fn read_log_files<R: Threads + Sync, F: Folder>(
         (F.files folder.old) (F.files folder.new)) names.now) }
 {
     let mut sources = open_all(alloc, folder, names)?;
-    let set = LogSet::read(rt, alloc, sources.as_mut_slice(), 1)?;
+    let set = LogSet::read(alloc, sources.as_mut_slice())?;
     Ok(set.logs(alloc)?)
 }
 
-/// The trace of logs. Err where memory was refused.
+/// The trace of logs. Err if memory was refused.
 pub fn trace_of(alloc: Global, logs: &[Vec<Record>]) -> Result<Trace, AllocError>
     requires few { length logs.now ≤ 64 }
     requires short { All (λ log. vec_len log ≤ operation_limit) logs.now }

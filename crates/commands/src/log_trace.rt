@@ -12,14 +12,12 @@ use super::sources::sourced_trace;
 use super::trace_files::AskedTrace;
 use host_files::Folder;
 use std::alloc::Global;
-use std::thread::Threads;
 use trace::Trace;
 use verdict::check_counts;
 
 /// The trace of the logs in files of the folder, or why there is none: 6 of files comes before a file is opened, and 28 of one that
 /// can't be opened before one is read.
-pub(crate) fn read_logs<R: Threads + Sync, F: Folder>(
-    rt: &R,
+pub(crate) fn read_logs<F: Folder>(
     alloc: Global,
     folder: &mut F,
     names: &[&str],
@@ -33,13 +31,12 @@ pub(crate) fn read_logs<R: Threads + Sync, F: Folder>(
     ensures read { IsOnlyRead (F.files folder.old) (F.files folder.new) }
 {
     check_counts(names.len(), 1)?;
-    let logs = read_log_files(rt, alloc, folder, names)?;
+    let logs = read_log_files(alloc, folder, names)?;
     Ok(trace_of(alloc, logs.as_slice())?)
 }
 
 /// The same with the sources that the logs name in place of their words.
-pub(crate) fn read_sourced<R: Threads + Sync, F: Folder>(
-    rt: &R,
+pub(crate) fn read_sourced<F: Folder>(
     alloc: Global,
     folder: &mut F,
     names: &[&str],
@@ -53,7 +50,7 @@ pub(crate) fn read_sourced<R: Threads + Sync, F: Folder>(
     ensures read { IsOnlyRead (F.files folder.old) (F.files folder.new) }
 {
     check_counts(names.len(), 1)?;
-    let logs = read_log_files(rt, alloc, folder, names)?;
+    let logs = read_log_files(alloc, folder, names)?;
     let trace = sourced_trace(alloc, logs.as_slice())?;
     Ok(AskedTrace::sourced(trace, trace_of(alloc, logs.as_slice())?))
 }

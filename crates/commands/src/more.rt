@@ -34,7 +34,7 @@ pub(crate) fn tell_more<F: Folder, O: ByteSink>(
     }
 }
 
-/// The file that was refused, where more is told of it: of an explanation, and of a look at a file.
+/// The file that was refused, if standard output tells more of it: of an explanation, and of a look at a file.
 fn refused_file<'a>(request: &'a Request<'a>, refusal: &Refusal) -> Option<RefusedFile<'a>>
     ensures { IsSome result → IsToldMore request.now }
 {

@@ -50,7 +50,7 @@ struct Front<'a> {
     rest: &'a [u8],
 }
 
-/// Adds the id whose line is the first, where it is an id's, and answers the bytes after it.
+/// Adds the id whose line is the first, if it is an id's, and answers the bytes after it.
 fn push_id<'a>(ids: &mut Vec<OpId>, bytes: &'a [u8]) -> Result<Option<&'a [u8]>, AllocError>
     ensures { IfOk result (λ found. MatchOption found
         (orders.NoIdInFront bytes.now × (ids.new.items ≡ ids.old.items))
@@ -76,7 +76,7 @@ fn read_ids(alloc: Global, text: &[u8]) -> Result<Front<'_>, AllocError>
     Ok(Front { ids, rest })
 }
 
-/// The bytes after the `end` line of so many ids; None where they don't begin with it.
+/// The bytes after the `end` line of so many ids; None if they don't begin with it.
 fn after_end(rest: &[u8], count: u64) -> Option<&[u8]>
     ensures found { IfSome result (λ more. rest.now ≡ end_line count ++ more.now) }
     ensures none { IsNone result → (more : List ℕ) → rest.now ≢ end_line count ++ more }
@@ -101,8 +101,8 @@ fn bad_end(rest: &[u8], count: u64) -> Option<u64>
     }
 }
 
-/// The first line of a text that isn't as it should be in the text of an order of the trace's operations; None where it is
-/// that of a sequential order. Whoever made it isn't trusted. Err where memory was refused.
+/// The first line of a text that isn't as it should be in the text of an order of the trace's operations; None if it is
+/// that of a sequential order. Whoever made it isn't trusted. Err if memory was refused.
 pub(crate) fn first_bad_line_of_order(
     alloc: Global,
     trace: &Trace,

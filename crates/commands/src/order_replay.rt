@@ -9,8 +9,8 @@ use mem_op::OpId;
 use std::alloc::{AllocError, Global};
 use trace::Trace;
 
-/// The place of the first id whose operation doesn't come next, or that after the last id, where operations are left; None where the ids are a
-/// sequential order. Err where memory was refused.
+/// The place of the first id whose operation doesn't come next, or that after the last id, if operations are left; None if the ids are a
+/// sequential order. Err if memory was refused.
 pub(crate) fn first_wrong_place(
     alloc: Global,
     trace: &Trace,

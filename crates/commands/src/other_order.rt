@@ -24,30 +24,30 @@ const MOST_SEARCHED: usize = 1_000_000;
 /// How many steps each of the two searches may make, which takes some seconds at most.
 const STEPS: u64 = 10_000_000;
 
-/// What is told where there is one that explains the sources, too.
+/// The words if there is one that explains the sources, too.
 const BY_SOURCES: &str =
     "\nanother order explains all values with these sources, so this run is sequentially consistent; a time was logged wrong, or the machine broke its own order and no value of this run shows it\n";
 
-/// What is told where there is one, and none explains the sources, too.
+/// The words if there is one, and none explains the sources, too.
 const BY_OTHERS: &str =
     "\nanother order explains all values, though none with these sources, so this run is sequentially consistent; a source was logged wrong, or the machine broke its own order and no value of this run shows it\n";
 
-/// What is told where there is one, and it isn't known whether one explains the sources, too.
+/// The words if there is one, and it isn't known whether one explains the sources, too.
 const ANOTHER: &str =
     "\nanother order explains all values, so this run is sequentially consistent; a time or a source was logged wrong, or the machine broke its own order and no value of this run shows it\n";
 
-/// What is told where there is none, before the argument.
+/// The words if there is none, before the argument.
 const NONE: &str = "\nno order explains all values:\n";
 
-/// What is told where the search gave up.
+/// The words if the search gave up.
 const UNDECIDED: &str =
     "\nwhether another order explains all values isn't decided within 10,000,000 steps; search --logs looks longer\n";
 
-/// What is told of a set that is too large for the search.
+/// The words about a set that is too large for the search.
 const UNSEARCHED: &str =
     "\nwhether another order explains all values wasn't searched, for more than 1,000,000 operations; search --logs searches\n";
 
-/// The last lines of what is told of a set: whether another order explains all values, or that this wasn't searched, for more than 1,000,000
+/// The last lines of the words about a set: whether another order explains all values, or that this wasn't searched, for more than 1,000,000
 /// operations. Nothing of a Yes, and of a log that isn't its program's. A watch is told how far the search is.
 pub(crate) fn other_order<W: SearchWatch>(
     alloc: Global,

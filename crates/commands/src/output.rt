@@ -14,7 +14,7 @@ use super::verdict_line::verdict_line;
 use log_file::{ByteSink, write_all};
 use std::alloc::Global;
 
-/// Prints the line of an answer, and gives it back: 29 where standard output fails.
+/// Prints the line of an answer, and gives it back: 29 if standard output fails.
 pub(crate) fn print_answer<O: ByteSink>(
     alloc: Global,
     out: &mut O,

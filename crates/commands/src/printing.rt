@@ -6,7 +6,7 @@ use std::alloc::{AllocError, Global};
 use telling::push_argument;
 use trace::Trace;
 
-/// What is told of a trace with the proof of its answer: the line of the answer, and after a no why it is so.
+/// The words about a trace with the proof of its answer: the line of the answer, and after a no why it is so.
 pub(crate) fn print_proof(
     alloc: Global,
     trace: &Trace,

@@ -22,7 +22,7 @@ use std::alloc::Global;
 use telling::tell;
 use trace::Trace;
 
-/// Puts an order or a refutation where that was asked for, with the picture of one drawn by this trace: 29 where the put fails.
+/// Puts an order or a refutation where that was asked for, with the picture of one drawn by this trace: 29 if the put fails.
 pub(crate) fn put_proof<F: Folder>(
     alloc: Global,
     folder: &mut F,
@@ -41,7 +41,7 @@ pub(crate) fn put_proof<F: Folder>(
     }
 }
 
-/// Puts the text of an order under a name, where one is given.
+/// Puts the text of an order under a name, if one is given.
 fn put_order<F: Folder>(
     alloc: Global,
     folder: &mut F,
@@ -81,7 +81,7 @@ fn put_both<F: Folder>(
     }
 }
 
-/// Puts a picture of a refutation under a name, where one is given.
+/// Puts a picture of a refutation under a name, if one is given.
 fn put_picture<F: Folder>(
     alloc: Global,
     folder: &mut F,
@@ -104,7 +104,7 @@ fn put_picture<F: Folder>(
     }
 }
 
-/// Puts the text of a refutation under a name, where one is given.
+/// Puts the text of a refutation under a name, if one is given.
 fn put_refutation<F: Folder>(
     alloc: Global,
     folder: &mut F,

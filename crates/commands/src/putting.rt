@@ -7,7 +7,7 @@ ghost use Rattle.commands.specs.Outputs.{FailsPutAt, IsNameOf, PutsAt};
 use host_files::Folder;
 use log_file::WriteFailed;
 
-/// Puts a file of these bytes under a name, where one is given: 29 where that fails.
+/// Puts a file of these bytes under a name, if one is given: 29 if that fails.
 pub fn put_under<F: Folder>(
     folder: &mut F,
     name: Option<&str>,

@@ -23,7 +23,7 @@ use thiserror::Error;
 use trace::TraceFault;
 use verdict::JudgeFault;
 
-/// Why a call was refused: where, with which number and name. Lack of memory is told of the call, wherever it came.
+/// Why a call was refused: where, with which number and name. Lack of memory counts for the whole call, wherever it came.
 #[derive(Clone, Copy, Debug, PartialEq, Eq, Error)]
 pub enum Refusal {
     /// There are no logs, or no verdict on them.
@@ -59,7 +59,7 @@ pub enum Refusal {
 }
 
 impl Refusal {
-    /// The exit status: 1 where a run of a litmus test got No, 2 where a file was refused for what it says, 3 where a number is out of its
+    /// The exit status: 1 if a run of a litmus test got No, 2 if a file was refused for what it says, 3 if a number is out of its
     /// range, else 4.
     pub fn status(&self) -> u8
         ensures { result ≡ refusals.refusal_status self.now }

@@ -1,4 +1,4 @@
-//! What is told of a file that was refused.
+//! The words about a file that was refused.
 
 ghost use Rattle.host_files.specs.Files.{IsOnlyRead};
 
@@ -14,7 +14,7 @@ use trace::{Trace, TraceFault};
 use verdict::Count;
 
 /// Tells on standard output more of the refusal of a file: where its fault is, how the line there is written, and what is wrong with it.
-/// A file that could be read is read again for that. A write that fails is passed over. Err where there is no memory, and then nothing is told.
+/// A file that could be read is read again for that. A write that fails is passed over. Err if there is no memory, and then nothing is told.
 pub fn tell_refusal<F: Folder, O: ByteSink>(
     alloc: Global,
     folder: &mut F,
@@ -28,7 +28,7 @@ pub fn tell_refusal<F: Folder, O: ByteSink>(
     Ok(())
 }
 
-/// What is told of it.
+/// The words about it.
 fn refusal_text<F: Folder>(
     alloc: Global,
     folder: &mut F,
@@ -59,7 +59,7 @@ fn refusal_text<F: Folder>(
     }
 }
 
-/// What is told of a log that was refused.
+/// The words about a log that was refused.
 fn log_text<F: Folder>(
     alloc: Global,
     folder: &mut F,
@@ -86,7 +86,7 @@ fn log_text<F: Folder>(
     with_more(text, first.as_str())
 }
 
-/// What is told of a text of this kind that was refused. A fault of a set of programs is told as that of a test with these programs.
+/// The words about a text of this kind that was refused. A fault of a set of programs is told as that of a test with these programs.
 fn test_text(
     alloc: Global,
     name: &str,
@@ -105,7 +105,7 @@ fn test_text(
     fault_text(alloc, Place { file: name, line }, refused, bytes)
 }
 
-/// What is told of a trace that was refused.
+/// The words about a trace that was refused.
 fn trace_text(
     alloc: Global,
     name: &str,
@@ -120,7 +120,7 @@ fn trace_text(
     fault_text(alloc, Place { file: name, line }, refused, bytes)
 }
 
-/// What is told of a certificate that was refused, beside this trace, and whose bytes these are where both could be read again.
+/// The words about a certificate that was refused, beside this trace, and whose bytes these are if both could be read again.
 fn certificate_text(
     alloc: Global,
     refused: RefusedCertificate<'_>,
@@ -137,7 +137,7 @@ fn certificate_text(
     telling.print(alloc)
 }
 
-/// What is told of a fault at this place of a file, whose bytes these are where it could be read again.
+/// The words about a fault at this place of a file, whose bytes these are if it could be read again.
 fn fault_text(
     alloc: Global,
     place: Place<'_>,
@@ -158,7 +158,7 @@ fn with_more(mut text: String, more: &str) -> Result<String, AllocError> {
     Ok(text)
 }
 
-/// What is told of a number of files or programs that is wrong.
+/// The words about a number of files or programs that is wrong.
 fn count_text(alloc: Global, count: Count) -> Result<String, AllocError> {
     let words = match count {
         Count::Programs => {

@@ -18,7 +18,7 @@ use refutation::CertificateFault;
 use std::alloc::Global;
 use trace::{Trace, TraceFault};
 
-/// The bytes of a log that is read again, where they have this fault; none of a file that can be read once.
+/// The bytes of a log that is read again, if they have this fault; none of a file that can be read once.
 pub(crate) fn log_again<F: Folder>(
     alloc: Global,
     folder: &mut F,
@@ -45,7 +45,7 @@ fn fault_of_log(alloc: Global, core: CoreId, cores: u64, text: &[u8]) -> Option<
     reader.finish().err()
 }
 
-/// The bytes of a litmus test that is read again, where they have this fault.
+/// The bytes of a litmus test that is read again, if they have this fault.
 pub(crate) fn test_again<F: Folder>(
     alloc: Global,
     folder: &mut F,
@@ -61,7 +61,7 @@ pub(crate) fn test_again<F: Folder>(
     None
 }
 
-/// The bytes of a set of programs that is read again, where they have this fault.
+/// The bytes of a set of programs that is read again, if they have this fault.
 pub(crate) fn programs_again<F: Folder>(
     alloc: Global,
     folder: &mut F,
@@ -77,7 +77,7 @@ pub(crate) fn programs_again<F: Folder>(
     None
 }
 
-/// The bytes of a trace that is read again, where they have this fault.
+/// The bytes of a trace that is read again, if they have this fault.
 pub(crate) fn trace_again<F: Folder>(
     alloc: Global,
     folder: &mut F,

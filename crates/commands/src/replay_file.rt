@@ -17,15 +17,16 @@ use std::alloc::{AllocError, Global};
 use trace::TraceFault;
 use trace_replay::{ReplayFault, ReplayVerdict, StepId, StoresByWord, WrongLoad};
 
-/// Is told what a replay finds.
+/// Hears what a replay finds.
 pub trait ReplayWatch {
-    /// The first load or swap that read another word, where it isn't printed why.
+    /// The first load or swap that read another word, if standard output isn't told why.
     fn wrong(&self, wrong: &WrongLoad);
 }
 
-/// Replays the trace in a file of the folder, in the order of its lines, and prints the line of the verdict, and after a no what should
-/// have been read where that is asked. The verdict, or why there is none: 42 with the first line that isn't one of a trace, before which all
-/// was right, and 28 where the file can't be opened or read. It stops at the first load or swap that read another word, of which a watch is told.
+/// Replays the trace in a file of the folder, in the order of its lines, and prints the line of the verdict; after a no, if that is asked,
+/// also what should have been read. It answers the verdict, or why there is none: 42 with the first line that isn't one of a trace, before
+/// which all was right, and 28 if the file can't be opened or read. At the first load or swap that read another word it tells the watch, and
+/// stops.
 pub fn replay<W: ReplayWatch, F: Folder, O: ByteSink>(
     alloc: Global,
     watch: &W,
@@ -57,7 +58,7 @@ fn tell<W: ReplayWatch>(watch: &W, verdict: &ReplayVerdict) {
     }
 }
 
-/// The lines of a verdict, where the stores before it were kept by their words if it is asked why.
+/// The lines of a verdict. If it is asked why, the stores before it were kept by their words.
 fn told_lines(
     alloc: Global,
     why: bool,
@@ -75,7 +76,7 @@ fn source_of(stores: &Option<StoresByWord>, wrong: &WrongLoad) -> Option<StepId>
     stores.as_ref()?.last(wrong.addr, wrong.read)
 }
 
-/// The lines of a no, where it is asked why.
+/// The lines of a no, if it is asked why.
 fn no_lines(
     alloc: Global,
     wrong: &WrongLoad,
@@ -89,7 +90,7 @@ fn no_lines(
     }
 }
 
-/// The verdict on the trace in a file of the folder: 28 where it can't be opened or read, 10 where a growth was refused, and else the
+/// The verdict on the trace in a file of the folder: 28 if it can't be opened or read, 10 if a growth was refused, and else the
 /// first line that isn't one of a trace.
 fn replay_trace<F: Folder>(
     alloc: Global,

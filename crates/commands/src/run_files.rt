@@ -18,7 +18,7 @@ use std::sync::Wait;
 use std::thread::Threads;
 
 /// Runs the programs in a file of the folder, each core in a thread of its own, and writes the log of each core, and then the run's
-/// numbers where a file is given for them, also where a fault ends the run. The number of operations that were performed, or why there is none.
+/// numbers if a file is given for them, also if a fault ends the run. The number of operations that were performed, or why there is none.
 pub fn run<R: Threads + Wait + Sync, W: Watch + Sync, F: Folder>(
     rt: &R,
     alloc: Global,

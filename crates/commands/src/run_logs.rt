@@ -48,7 +48,7 @@ impl<'a> RunParts for MachineLogs<'a> {
     }
 }
 
-/// The logs of units that threads gave back, and the slices, where they are left.
+/// The logs of units that threads gave back, and the slices, if they are left.
 #[derive(Clone, Copy)]
 pub(crate) struct UnitLogs<'a> {
     pub(crate) units: &'a [CoreUnit],

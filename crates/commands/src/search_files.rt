@@ -18,13 +18,11 @@ use host_files::Folder;
 use log_file::{ByteSink, write_all};
 use search::SearchWatch;
 use std::alloc::Global;
-use std::thread::Threads;
 
 /// Searches an order of the trace in files of the folder, or a refutation, puts what it finds where that was asked for, and prints
 /// the answer's line and why it is so. The answer, or why there is none: 29 of a file that can't be put comes before anything is
-/// printed, and 44 where the search gives up. A watch is told how far the search is.
-pub fn search<R: Threads + Sync, W: SearchWatch, F: Folder, O: ByteSink>(
-    rt: &R,
+/// printed, and 44 if the search gives up. A watch is told how far the search is.
+pub fn search<W: SearchWatch, F: Folder, O: ByteSink>(
     alloc: Global,
     watch: &W,
     folder: &mut F,
@@ -41,7 +39,7 @@ pub fn search<R: Threads + Sync, W: SearchWatch, F: Folder, O: ByteSink>(
     ensures files { KeepsFiles (F.files folder.old).told (F.files folder.new).told
         (searching.IsOutputName asked.now) }
 {
-    let read = read_files(rt, alloc, folder, &asked.trace)?;
+    let read = read_files(alloc, folder, &asked.trace)?;
     let proof = find(alloc, watch, &read.trace, asked.budget)?;
     let answer = answer(&asked.trace, &read.trace, &proof);
     let told = read.told(&proof);

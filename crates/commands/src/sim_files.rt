@@ -24,7 +24,7 @@ use std::alloc::Global;
 use tardis_core::{Core, CoreFault};
 
 /// Runs the programs in a file of the folder by a schedule and then to their ends, and writes the log
-/// of each core, and then the run's numbers and its events where files are given for them, also where a fault ends the run. The number
+/// of each core, and then the run's numbers and its events if files are given for them, also if a fault ends the run. The number
 /// of operations that were performed, or why there is none.
 pub fn sim<F: Folder>(alloc: Global, folder: &mut F, asked: &Sim<'_>) -> Result<u64, Refusal>
     ensures exact { simulating.IsTracedRun (F.files folder.old)
@@ -70,8 +70,8 @@ fn new_machine(
     Ok(machine)
 }
 
-/// Puts the events of a run under the name that is given for them, if one is, where what comes before them was left: 29 where that fails,
-/// and 10 where a growth was refused, also of the events themselves.
+/// Puts the events of a run under the name that is given for them, if one is, and if what comes before them was left: 29 if that fails,
+/// and 10 if a growth was refused, also of the events themselves.
 fn leave_events<F: Folder>(
     alloc: Global,
     folder: &mut F,
@@ -99,7 +99,7 @@ fn leave_events<F: Folder>(
     }
 }
 
-/// The commands in a file of the folder, for `cores` cores; none where no name is given.
+/// The commands in a file of the folder, for `cores` cores; none if no name is given.
 fn read_schedule<F: Folder>(
     alloc: Global,
     folder: &mut F,

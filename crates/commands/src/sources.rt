@@ -67,7 +67,7 @@ fn may_give(logs: &[Vec<Record>], source: &Source, addr: Addr, word: Word) -> bo
     }
 }
 
-/// The number that a read of this word gets: that of its source, where it may have the word from there.
+/// The number that a read of this word gets: that of its source, if it may have the word from there.
 fn number_read(logs: &[Vec<Record>], source: &Source, addr: Addr, word: Word) -> Word
     ensures { result ≡ sources.number_read (record_lists logs.now) source.now addr word }
 {
@@ -136,8 +136,8 @@ fn numbered_logs(alloc: Global, logs: &[Vec<Record>]) -> Result<Vec<Vec<Record>>
 }
 
 /// The trace of logs with the sources that they name in place of their words: each store stores a number of its own, and each load or
-/// swap reads the number of the store that it names, 0 for the initial 0, or one that no store has, where it can't have its word from
-/// there. Err where memory was refused.
+/// swap reads the number of the store that it names, 0 for the initial 0, or one that no store has, if it can't have its word from
+/// there. Err if memory was refused.
 pub(crate) fn sourced_trace(alloc: Global, logs: &[Vec<Record>]) -> Result<Trace, AllocError>
     requires few { length logs.now ≤ 64 }
     requires short { All (λ log. vec_len log ≤ operation_limit) logs.now }

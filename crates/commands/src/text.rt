@@ -13,7 +13,7 @@ use host_files::Folder;
 use log_file::{ReadFault, read_all};
 use std::alloc::Global;
 
-/// The text of a file of the folder: 28 where it can't be opened or read, and 10 where a growth was refused.
+/// The text of a file of the folder: 28 if it can't be opened or read, and 10 if a growth was refused.
 pub fn read_text<F: Folder>(alloc: Global, folder: &mut F, name: &str) -> Result<Vec<u8>, ReadFault>
     ensures ok { IfOk result (λ text. Tells ((F.files folder.old).told name.now) text.items) }
     ensures err { IfErr result (IsNoText (IsUnread F.Source.remaining F.Source.failed
@@ -25,7 +25,7 @@ pub fn read_text<F: Folder>(alloc: Global, folder: &mut F, name: &str) -> Result
     read_all(alloc, &mut source)
 }
 
-/// The programs in a file of the folder: 28 where it can't be opened or read, 10 where a growth was refused, and else the
+/// The programs in a file of the folder: 28 if it can't be opened or read, 10 if a growth was refused, and else the
 /// first fault of its text.
 pub fn read_programs<F: Folder>(
     alloc: Global,

@@ -37,7 +37,7 @@ fn read_pieces<S: ByteSource>(alloc: Global, source: &mut S) -> Result<Trace, Re
     Err(Refusal::OutOfMemory)
 }
 
-/// The trace in a file of the folder: 28 where it can't be opened or read, 10 where a growth was refused, and else the
+/// The trace in a file of the folder: 28 if it can't be opened or read, 10 if a growth was refused, and else the
 /// first fault of its text.
 pub(crate) fn read_trace<F: Folder>(
     alloc: Global,

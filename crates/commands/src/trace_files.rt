@@ -11,14 +11,13 @@ use command_line::TraceFiles;
 use host_files::Folder;
 use refutation::{Answer, Step};
 use std::alloc::Global;
-use std::thread::Threads;
 use trace::Trace;
 
 /// The trace that was asked about.
 #[derive(Drop)]
 pub(crate) struct AskedTrace {
     pub(crate) trace: Trace,
-    /// The same operations with their words, where the trace has sources in place of these.
+    /// The same operations with their words, if the trace has sources in place of these.
     worded: Option<Trace>,
 }
 
@@ -43,7 +42,7 @@ impl AskedTrace {
         }
     }
 
-    /// The trace by which a proof is told: the one with the words, but where states are shown, which have those of the trace.
+    /// The trace by which a proof is told: the one with the words, unless states are shown, which have those of the trace.
     pub(crate) fn told(&self, proof: &Answer) -> &Trace {
         match &self.worded {
             Some(worded) => {
@@ -72,8 +71,7 @@ fn shows_states(proof: &Answer) -> bool {
 }
 
 /// The trace in these files of the folder, or why there is none.
-pub(crate) fn read_files<R: Threads + Sync, F: Folder>(
-    rt: &R,
+pub(crate) fn read_files<F: Folder>(
     alloc: Global,
     folder: &mut F,
     files: &TraceFiles<'_>,
@@ -87,12 +85,7 @@ pub(crate) fn read_files<R: Threads + Sync, F: Folder>(
 {
     match files {
         TraceFiles::One(name) => Ok(AskedTrace::of(read_trace(alloc, folder, name)?)),
-        TraceFiles::Logs(names) => Ok(AskedTrace::of(read_logs(
-            rt,
-            alloc,
-            folder,
-            names.as_slice(),
-        )?)),
-        TraceFiles::Sourced(names) => read_sourced(rt, alloc, folder, names.as_slice()),
+        TraceFiles::Logs(names) => Ok(AskedTrace::of(read_logs(alloc, folder, names.as_slice())?)),
+        TraceFiles::Sourced(names) => read_sourced(alloc, folder, names.as_slice()),
     }
 }

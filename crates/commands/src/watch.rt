@@ -9,7 +9,7 @@ pub trait Watch {
     /// since the last of them.
     fn before(&self, core: CoreId, done: usize, turn: u64);
 
-    /// Called when the run is over, before anything is told of how it ended.
+    /// Called when the run is over, before anybody hears how it ended.
     fn over(&self);
 }
 

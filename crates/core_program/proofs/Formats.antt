@@ -3,7 +3,6 @@ use Rattle.std.specs.Prelude.{◌≡◌, ℕ, zero, suc, ◌⊎◌, true, IsTrue
 use Rattle.std.proofs.Common.{subst, inl, inr}
 use Rattle.std.proofs.lemmas.Option.{get_or_from_slice_get, slice_get_within}
 use Rattle.std.proofs.lemmas.List.Elements.{All-get_or}
-use Rattle.mem_op.specs.declared.id.Op.TheVariants as op
 use Rattle.mem_op.specs.Consistency.{Operation, Loaded, Stored, Swapped}
 use Rattle.core_program.specs.declared.format.ProgramFormat.TheVariants.{One}
 use Rattle.core_program.specs.declared.instruction.Instruction.{Instruction}

@@ -13,6 +13,8 @@ use Rattle.core_program.specs.Grammar.{instruction_text, program_lines, sections
 use Rattle.core_program.specs.Least.{IsLeastWhere}
 use Rattle.core_program.specs.Sections.{section_lists}
 use Rattle.core_program.specs.Shape.{IsProgram, is_skip_past_end}
+use Rattle.core_program.proofs.SectionsOf.{length-begun}
+use Rattle.text_lines.proofs.Items.{each_push}
 
 -- the lines of the sections before one, and that section with them
 length-sections-take : (core n m : ℕ) (set : List (List Instruction)) (program : List Instruction) → n < m → slice_get set n ≡ Some program
@@ -109,26 +111,10 @@ pub record NoJumps (set programs : List (List Instruction)) (n line : ℕ) : Typ
   pub line_is : line ≡ length (sections 0 (take n set)) + 3
   pub line_small : line ≤ 3 + n * 4097
 
-each_push : (programs : List (List Instruction)) (program : List Instruction) → AllByRecursion IsProgram programs → IsProgram program
-    → AllByRecursion IsProgram (programs ++ program ∷ [])
-each_push [] program each is = (is, tt)
-each_push (p ∷ programs) program each is = (each.0, each_push programs program each.1 is)
-
-length-sections-push : (core : ℕ) (programs : List (List Instruction)) (program : List Instruction)
-    → length (sections core (programs ++ program ∷ [])) ≡ length (sections core programs) + 1 + length program
-length-sections-push core [] program = omega (arith, length-append (program_lines program) [], length-map program instruction_text)
-length-sections-push core (p ∷ programs) program =
-    omega (
-      arith,
-      length-sections-push (suc core) programs program,
-      length-append (program_lines p) (sections (suc core) (programs ++ program ∷ [])),
-      length-append (program_lines p) (sections (suc core) programs),
-    )
-
 -- the lines of the sections up to the next one
 pub length-sections-next : (set : List (List Instruction)) (n : ℕ) (program : List Instruction) → slice_get set n ≡ Some program
     → length (sections 0 (take (suc n) set)) ≡ length (sections 0 (take n set)) + 1 + length program
-length-sections-next set n program at = ap (λ ps. length (sections 0 ps)) (take_push set n program at) ∙ length-sections-push 0 (take n set) program
+length-sections-next set n program at = ap (λ ps. length (sections 0 ps)) (take_push set n program at) ∙ length-begun (take n set) program
 
 pub one_more_program : (set programs more : List (List Instruction)) (n m line next : ℕ) (program : List Instruction) → NoJumps set programs n line
     → slice_get set n ≡ Some program → IsProgram program → more ≡ programs ++ program ∷ [] → m ≡ n + 1 → next ≡ line + (length program + 1)
@@ -138,7 +124,7 @@ one_more_program set programs more n m line next program so-far at is more-is m-
     let pushed : take m set ≡ take n set ++ program ∷ [] = ap (λ (k : ℕ). take k set) next-m ∙ take_push set n program at in
     record {
       programs_are = more-is ∙ ap (λ (ps : List (List Instruction)). ps ++ program ∷ []) so-far.programs_are ∙ sym pushed;
-      each = subst (AllByRecursion IsProgram) (sym pushed) (each_push (take n set) program so-far.each is);
+      each = subst (AllByRecursion IsProgram) (sym pushed) (each_push IsProgram (take n set) program so-far.each is);
       line_is = omega (arith, ap (λ (k : ℕ). length (sections 0 (take k set))) next-m, length-sections-next set n program at, so-far.line_is, next-is);
       line_small = omega (arith, so-far.line_small, is.short, next-is, m-is);
     }

@@ -3,15 +3,11 @@ pub mod Paths
 pub mod Rests
 pub mod Runs
 pub mod Formats
-pub mod InFront
 pub mod Instructions
-pub mod TextLines
-pub mod SectionTexts
-pub mod Wrong
+pub mod SectionKinds
 pub mod ProgramTexts
 pub mod Headers
 pub mod SetLines
-pub mod HeadLines
 pub mod SetTexts
 pub mod Jumps
 pub mod TextLaws

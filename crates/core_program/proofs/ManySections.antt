@@ -1,19 +1,21 @@
 -- Sections, read one by one.
 use Rattle.std.proofs.Common.{◌≡◌, ℕ, ◌+◌, ◌-◌, ◌*◌, ◌<◌, ◌≤◌, List, [], ◌∷◌, ◌++◌, length, drop, refl, sym, ap, subst, ◌∙◌, arith, append_assoc, length-append}
 use Rattle.std.proofs.lemmas.List.{take-append-drop}
+use Rattle.std.proofs.Math.Seq.{drop-append_seam}
 use Rattle.core_program.specs.declared.format.ProgramFormat.{ProgramFormat}
 use Rattle.core_program.specs.declared.instruction.Instruction.{Instruction}
 use Rattle.core_program.specs.declared.fault.ProgramFault.{ProgramFault}
 use Rattle.core_program.specs.declared.fault.ProgramFault.TheVariants.{BadLine, TooLong, SkipPastEnd, OutOfMemory}
 use Rattle.core_program.specs.declared.section.Section.{Section}
 use Rattle.core_program.specs.declared.sections.Sections.{Sections}
-use Rattle.core_program.specs.Grammar.{core_text, program_lines, sections}
-use Rattle.core_program.specs.Lines.{text_of}
+use Rattle.core_program.specs.Grammar.{core_text, program_lines, sections, IsSection}
 use Rattle.core_program.specs.Sections.{AreSectionsOf, IsSectionsFault, NoCoreInFront, SectionsInFront, section_lists}
 use Rattle.core_program.specs.inner.Sections.{IsSectionFault, IsSectionOf}
-use Rattle.core_program.proofs.SectionsOf.{FromSection, each_push, length-begun}
+use Rattle.core_program.proofs.SectionsOf.{FromSection, length-begun}
 use Rattle.core_program.proofs.SetLines.{sections_push}
-use Rattle.core_program.proofs.TextLines.{text_of-append, text_of-cons}
+use Rattle.text_lines.specs.Lines.{text_of}
+use Rattle.text_lines.proofs.Items.{each_push}
+use Rattle.text_lines.proofs.TextLines.{text_of-append, text_of-cons}
 
 -- the sections before core `core`, and the line after them
 pub record SectionsSoFar (format : ProgramFormat) (cores : ℕ) (text : List ℕ) (programs : List (List Instruction)) (rest : List ℕ) (line core : ℕ) : Type 0 where
@@ -51,7 +53,7 @@ one_more_section format cores text rest behind line next core programs section f
     record {
       in_front = record {
         within = omega (arith, counted, far.count, less);
-        each = each_push format programs program far.in_front.each found.is_section;
+        each = each_push (IsSection format) programs program far.in_front.each found.is_section;
         text = more_text text rest (drop section.taken behind) programs program far.in_front.text from;
         whole = λ some. found.all;
       };
@@ -64,11 +66,7 @@ one_more_section format cores text rest behind line next core programs section f
 pub behind_front : (text front rest : List ℕ) → text ≡ front ++ rest → drop (length text - length rest) text ≡ rest
 behind_front text front rest is =
     let n : length text - length rest ≡ length front = omega (arith, ap length is, length-append front rest) in
-    rw (n, is) (drop-append front rest)
-  where
-    drop-append : (xs ys : List ℕ) → drop (length xs) (xs ++ ys) ≡ ys
-    drop-append [] ys = refl
-    drop-append (x ∷ xs) ys = drop-append xs ys
+    rw (n, is) (drop-append_seam front rest)
 
 pub all_sections : (format : ProgramFormat) (cores : ℕ) (text rest : List ℕ) (line core : ℕ) (found : Sections) → cores ≤ 64
     → SectionsSoFar format cores text (section_lists found.programs.items) rest line core → found.taken ≡ length text - length rest → found.line ≡ line

@@ -1,19 +1,20 @@
 -- The first line that is wrong in the text of a program.
-use Rattle.std.proofs.Common.{◌≡◌, ℕ, ◌+◌, ◌<◌, List, [], ◌∷◌, ◌++◌, length, take, drop, refl, sym, ap, subst, ◌∙◌, arith, append_assoc, append-nil, length-append}
+use Rattle.std.proofs.Common.{◌≡◌, ℕ, ◌+◌, ◌<◌, List, [], ◌∷◌, ◌++◌, length, take, drop, sym, ap, subst, ◌∙◌, arith, append_assoc, append-nil, length-append}
 use Rattle.std.proofs.lemmas.List.{length-map, map-append, take-append-drop, length-take-le, length-drop}
-use Rattle.std.proofs.Math.Seq.{take-length}
 use Rattle.core_program.specs.declared.format.ProgramFormat.{ProgramFormat}
 use Rattle.core_program.specs.declared.instruction.Instruction.{Instruction}
 use Rattle.core_program.specs.declared.fault.ProgramFault.{ProgramFault}
 use Rattle.core_program.specs.declared.fault.ProgramFault.TheVariants.{BadLine, TooLong, SkipPastEnd, OutOfMemory}
 use Rattle.core_program.specs.Answers.{ProgramLines, IsBadLine, IsTooLong, IsProgramFault}
 use Rattle.core_program.specs.Grammar.{instruction_text, program_lines, FitsIn, EachFits, IsSection}
-use Rattle.core_program.specs.Lines.{text_of}
 use Rattle.core_program.specs.inner.Sections.{IsSectionFault}
-use Rattle.core_program.specs.Sections.{NoInstructionInFront}
+use Rattle.core_program.specs.Sections.{InstructionInFront, IsTooMany, NoInstructionInFront}
 use Rattle.core_program.proofs.Instructions.{instruction_no_lf}
-use Rattle.core_program.proofs.TextLines.{EachNoLf, text_of-append, text_of-cons}
-use Rattle.core_program.proofs.Wrong.{HasLines, NoneFollows, wrong_behind}
+use Rattle.core_program.proofs.SectionKinds.{IsKind, bad_lines}
+use Rattle.text_lines.specs.Lines.{text_of, BeginsText}
+use Rattle.text_lines.proofs.Items.{SoFar, each_push, lines_push}
+use Rattle.text_lines.proofs.TextLines.{text_of-append}
+use Rattle.text_lines.proofs.Wrong.{EachNoLf, HasLines, NoneFollows, begins, no_bytes, wrong_behind}
 
 pub program_lines_no_lf : (program : List Instruction) → EachNoLf (program_lines program)
 program_lines_no_lf [] = tt
@@ -31,24 +32,19 @@ line_of_program format (i ∷ program) [] next more fits e = (i, (fits.0, cc))
 line_of_program format (i ∷ program) (l ∷ front) next more fits e = line_of_program format program front next more fits.1 cc
 
 -- where no instruction comes first, no line of a program does
-none_follows : (format : ProgramFormat) (Section : ProgramFormat → List Instruction → Type 0) → ((p : List Instruction) → Section format p → EachFits format p) → (front : List (List ℕ)) (rest : List ℕ)
+none_follows : (format : ProgramFormat) (Section : ProgramFormat → List Instruction → Type 0) → IsKind Section → (front : List (List ℕ)) (rest : List ℕ)
     → NoInstructionInFront format rest → NoneFollows (ProgramLines format Section) front rest
-none_follows format Section fits front rest none = λ next more behind g is.
-    let there = line_of_program format g.0 front next more (fits g.0 g.1.0) g.1.1 in
+none_follows format Section kind front rest none = λ next more behind g is.
+    let there = line_of_program format g.0 front next more (kind.fits format g.0 g.1.0) g.1.1 in
     none there.0 behind (there.1.0, is ∙ ap (λ (l : List ℕ). l ++ 10 ∷ behind) there.1.1)
 
 pub bad_line : (format : ProgramFormat) (text rest : List ℕ) (program : List Instruction) (k : ℕ) → IsSection format program → text ≡ text_of (program_lines program) ++ rest
     → NoInstructionInFront format rest → 0 < length rest → k ≡ length program + 1 → IsBadLine (ProgramLines format) text k
 bad_line format text rest program k section is none more k-is =
-    let counted : k ≡ length (program_lines program) + 1 = k-is ∙ ap (λ (n : ℕ). n + 1) (sym (length-map program instruction_text)) in
-    let wrong = wrong_behind (ProgramLines format EachFits) (program_lines program) text rest k (has_lines format EachFits) is counted
-    ([], (program, (section.each_fits, append-nil (program_lines program))))
-    (none_follows format EachFits (λ p fits. fits) (program_lines program) rest none) (λ e g. omega (arith, ap length e)) in (
-      wrong_behind (ProgramLines format IsSection) (program_lines program) text rest k (has_lines format IsSection) is counted
-          ([], (program, (section, append-nil (program_lines program))))
-          (none_follows format IsSection (λ p s. s.each_fits) (program_lines program) rest none) (λ e g. omega (arith, ap length e)),
-      wrong.wrong,
-    )
+    bad_lines (ProgramLines format) text k (λ Section kind.
+    wrong_behind (ProgramLines format Section) (program_lines program) text rest k (has_lines format Section) is (omega (arith, k-is, length-map program instruction_text))
+    ([], (program, (kind.section format program section, append-nil (program_lines program))))
+    (none_follows format Section kind (program_lines program) rest none) (λ e g. omega (arith, ap length e)))
 
 each_fits_take : (format : ProgramFormat) (n : ℕ) (program : List Instruction) → EachFits format program → EachFits format (take n program)
 each_fits_take format n program fits = each_fits_front (take n program) (drop n program) (subst (EachFits format) (sym (take-append-drop n program)) fits)
@@ -76,10 +72,7 @@ cut_lines program rest =
 
 -- there are bytes of lines
 pub some_bytes : (program : List Instruction) (rest : List ℕ) → 0 < length program → text_of (program_lines program) ++ rest ≡ [] → ⊥
-some_bytes [] rest some e = omega arith
-some_bytes (i ∷ program) rest some e =
-    let is : instruction_text i ++ 10 ∷ (text_of (program_lines program) ++ rest) ≡ [] = sym (text_of-cons (instruction_text i) (program_lines program) rest) ∙ e in
-    omega (arith, ap length is, length-append (instruction_text i) (10 ∷ (text_of (program_lines program) ++ rest)))
+some_bytes program rest some e = no_bytes (program_lines program) rest (omega (arith, length-map program instruction_text)) e
 
 pub too_long : (format : ProgramFormat) (text rest : List ℕ) (program : List Instruction) → EachFits format program → length program ≡ 4097
     → text ≡ text_of (program_lines program) ++ rest → IsTooLong (ProgramLines format) text 4097
@@ -91,15 +84,8 @@ too_long format text rest program fits long is =
           (omega (arith, counted)) ([], (take 4096 program, (first_section format program fits long, append-nil front)))
           (λ next more behind g e. omega (arith, g.1.0.few, ap length g.1.1, length-append front (next ∷ more), length-map g.0 instruction_text, counted))
           (λ e g. some_bytes (drop 4096 program) rest (omega (arith, length-drop 4096 program, long)) e),
-      record {
-        lines = program_lines program;
-        of_text = (program, (fits, refl));
-        enough = omega (arith, length-map program instruction_text, long);
-        rest = rest;
-        begins =
-            is ∙ ap (λ (ls : List (List ℕ)). text_of ls ++ rest)
-            (sym (ap (λ (n : ℕ). take n (program_lines program)) (sym long ∙ sym (length-map program instruction_text)) ∙ take-length (program_lines program)));
-      },
+      subst (BeginsText (ProgramLines format EachFits) text) (length-map program instruction_text ∙ long)
+          (begins (ProgramLines format EachFits) (program_lines program) text rest is ([], (program, (fits, append-nil (program_lines program))))),
     )
 
 pub section_refused : (format : ProgramFormat) (text : List ℕ) (fault : ProgramFault) → IsSectionFault format 1 text fault → IsProgramFault format text fault
@@ -108,3 +94,14 @@ section_refused format text (TooLong k) (at, many) =
     subst (IsTooLong (ProgramLines format) text) (sym at) (too_long format text many.rest many.program many.each_fits many.long many.text)
 section_refused format text (SkipPastEnd k) h = absurd h
 section_refused format text OutOfMemory h = tt
+
+-- one more than a section may have
+pub too_many : (format : ProgramFormat) (text rest behind : List ℕ) (program : List Instruction) (i : Instruction) → SoFar instruction_text (FitsIn format) text program rest
+    → InstructionInFront format i rest behind → length program ≡ 4096 → IsTooMany format text
+too_many format text rest behind program i far there full = record {
+  program = program ++ i ∷ [];
+  each_fits = each_push (FitsIn format) program i far.each_fits there.0;
+  long = omega (arith, length-append program (i ∷ []), full);
+  rest = behind;
+  text = far.text_is ∙ ap (λ (xs : List ℕ). text_of (program_lines program) ++ xs) there.1 ∙ sym (lines_push instruction_text program i behind);
+}

@@ -6,18 +6,19 @@ use Rattle.decimal_text.proofs.Lines.{NoLf}
 use Rattle.core_program.specs.declared.format.ProgramFormat.{ProgramFormat}
 use Rattle.core_program.specs.declared.instruction.Instruction.{Instruction}
 use Rattle.core_program.specs.Grammar.{instruction_text, core_text, program_lines, sections, EachFits, IsSection}
-use Rattle.core_program.specs.Lines.{text_of, BeginsText, IsFirstWrong}
 use Rattle.core_program.specs.Sections.{NoInstructionInFront}
 use Rattle.core_program.proofs.Instructions.{instruction_no_lf}
+use Rattle.core_program.proofs.SectionKinds.{each_section, unlimited}
 use Rattle.core_program.proofs.ProgramTexts.{first_section, cut_lines, some_bytes}
 use Rattle.core_program.proofs.SetLines.{Next, goes_on, next_core, last_line, begun, begun_push, instruction_no_core, core_no_lf}
-use Rattle.core_program.proofs.TextLines.{text_of-append, text_of-cons, line_once}
-use Rattle.core_program.proofs.Wrong.{HasLines, CanGoOn, NoneFollows, begins, wrong_behind}
+use Rattle.text_lines.specs.Lines.{text_of, BeginsText, IsFirstWrong}
+use Rattle.text_lines.proofs.Items.{each_push}
+use Rattle.text_lines.proofs.TextLines.{text_of-append, text_of-cons, line_once}
+use Rattle.text_lines.proofs.Wrong.{HasLines, CanGoOn, NoneFollows, begins, wrong_behind}
 
 -- texts of a grammar that have this first line, then sections of so many cores, and then a last part
 pub record HasSections (format : ProgramFormat) (Grammar : List (List ℕ) → Type 0) (Section : List Instruction → Type 0) (Last : List ℕ → List (List ℕ) → Type 0) (header : List ℕ) (cores : ℕ) : Type 0 where
   pub lines : HasLines Grammar
-  pub fits : (p : List Instruction) → Section p → EachFits format p
   pub can : (programs : List (List Instruction)) → length programs ≤ cores → AllByRecursion Section programs → CanGoOn Grammar (begun header programs)
   pub next : (programs : List (List Instruction)) (next : List ℕ) (more : List (List ℕ)) → AllByRecursion (EachFits format) programs
       → Grammar (begun header programs ++ next ∷ more) → Next format Section Last cores 0 programs next more
@@ -39,8 +40,7 @@ pub record NotNext (Last : List ℕ → List (List ℕ) → Type 0) (cores : ℕ
   pub no_last : length programs ≡ cores → (next : List ℕ) (more : List (List ℕ)) (behind : List ℕ) → Last next more → rest ≡ next ++ 10 ∷ behind → ⊥
 
 pub each_fits_of : (format : ProgramFormat) (programs : List (List Instruction)) → AllByRecursion (IsSection format) programs → AllByRecursion (EachFits format) programs
-each_fits_of format [] each = tt
-each_fits_of format (program ∷ programs) each = (each.0.each_fits, each_fits_of format programs each.1)
+each_fits_of = each_section EachFits unlimited
 
 -- ---- a line that is wrong
 
@@ -92,11 +92,6 @@ length-begun programs program =
     let pushed : length (begun [] (programs ++ program ∷ [])) ≡ length (begun [] programs ++ core_text (length programs) ∷ program_lines program) = ap length (begun_push [] programs program) in
     omega (arith, pushed, length-append (begun [] programs) (core_text (length programs) ∷ program_lines program), length-map program instruction_text)
 
-pub each_push : (format : ProgramFormat) (programs : List (List Instruction)) (program : List Instruction) → AllByRecursion (IsSection format) programs → IsSection format program
-    → AllByRecursion (IsSection format) (programs ++ program ∷ [])
-each_push format [] program each section = (section, tt)
-each_push format (p ∷ programs) program each section = (each.0, each_push format programs program each.1 section)
-
 -- ---- a section that is too long
 
 last_is : (before programs : List (List Instruction)) (last program : List Instruction) → programs ++ program ∷ [] ≡ before ++ last ∷ [] → program ≡ last
@@ -113,10 +108,6 @@ first_instruction (i ∷ program) rest line behind some other none e =
     other i
     (line_once (instruction_text i) line (text_of (program_lines program) ++ rest) behind (instruction_no_lf i) none
     (sym (text_of-cons (instruction_text i) (program_lines program) rest) ∙ e)).0
-
-fits_push : (format : ProgramFormat) (programs : List (List Instruction)) (program : List Instruction) → AllByRecursion (EachFits format) programs → EachFits format program → AllByRecursion (EachFits format) (programs ++ program ∷ [])
-fits_push format [] program each fits = (fits, tt)
-fits_push format (p ∷ programs) program each fits = (each.0, fits_push format programs program each.1 fits)
 
 module _ (format : ProgramFormat) (Last : List ℕ → List (List ℕ) → Type 0) (header : List ℕ) (cores : ℕ) (text rest behind : List ℕ) (line k : ℕ) (programs : List (List Instruction)) (program : List Instruction)
     (stands : AfterSections format header cores text programs rest line) (is : FromSection rest program (length programs) behind) (more : length programs < cores)
@@ -144,7 +135,7 @@ module _ (format : ProgramFormat) (Last : List ℕ → List (List ℕ) → Type 
   too_long_wrong Grammar has =
       wrong_behind Grammar (begun header (programs ++ front ∷ [])) text back k has.lines
       (with_section header text rest back programs front stands.text_is cut) (omega (arith, length-begun programs front, counted, stands.line_is, k-is))
-      (has.can (programs ++ front ∷ []) (omega (arith, more, length-append programs (front ∷ []))) (each_push format programs front stands.each section))
+      (has.can (programs ++ front ∷ []) (omega (arith, more, length-append programs (front ∷ []))) (each_push (IsSection format) programs front stands.each section))
       follows (λ e g. some_bytes (drop 4096 program) behind (omega (arith, length-drop 4096 program, long)) e)
     where
       by_next : (next : List ℕ) (others : List (List ℕ)) (after : List ℕ) → back ≡ next ++ 10 ∷ after → Next format (IsSection format) Last cores 0 (programs ++ front ∷ []) next others → ⊥
@@ -160,7 +151,7 @@ module _ (format : ProgramFormat) (Last : List ℕ → List (List ℕ) → Type 
       follows : NoneFollows Grammar (begun header (programs ++ front ∷ [])) back
       follows next others after g there =
           by_next next others after there
-          (has.next (programs ++ front ∷ []) next others (each_fits_of format (programs ++ front ∷ []) (each_push format programs front stands.each section)) g)
+          (has.next (programs ++ front ∷ []) next others (each_fits_of format (programs ++ front ∷ []) (each_push (IsSection format) programs front stands.each section)) g)
 
   -- with sections of any length it is right
   pub too_long_right : (Grammar : List (List ℕ) → Type 0) → HasSections format Grammar (EachFits format) Last header cores → BeginsText Grammar text k
@@ -168,4 +159,4 @@ module _ (format : ProgramFormat) (Last : List ℕ → List (List ℕ) → Type 
       subst (BeginsText Grammar text) (omega (arith, length-begun programs program, stands.line_is, k-is, long))
       (begins Grammar (begun header (programs ++ program ∷ [])) text behind (with_section header text rest behind programs program stands.text_is is)
       (has.can (programs ++ program ∷ []) (omega (arith, more, length-append programs (program ∷ [])))
-      (fits_push format programs program (each_fits_of format programs stands.each) fits)))
+      (each_push (EachFits format) programs program (each_fits_of format programs stands.each) fits)))

@@ -14,8 +14,7 @@ use Rattle.core_program.specs.SetParts.{SetParts}
 use Rattle.core_program.proofs.Headers.{header_once}
 use Rattle.core_program.proofs.Instructions.{instruction_once}
 use Rattle.core_program.proofs.ProgramTexts.{program_lines_no_lf}
-use Rattle.core_program.proofs.TextLines.{EachNoLf}
-use Rattle.core_program.proofs.Wrong.{HasLines}
+use Rattle.text_lines.proofs.Wrong.{EachNoLf, EachNoLf-append, HasLines}
 
 -- ---- no line feed
 
@@ -29,10 +28,6 @@ header_no_lf format cores =
     NoLf-append (codes "tardis-programs ") (numeral format ++ (codes " cores " ++ numeral cores)) (const_no_lf (codes "tardis-programs ") refl)
     (NoLf-append (numeral format) (codes " cores " ++ numeral cores) (numeral_no_lf format)
     (NoLf-append (codes " cores ") (numeral cores) (const_no_lf (codes " cores ") refl) (numeral_no_lf cores)))
-
-pub EachNoLf-append : (front back : List (List ℕ)) → EachNoLf front → EachNoLf back → EachNoLf (front ++ back)
-EachNoLf-append [] back p q = q
-EachNoLf-append (line ∷ front) back p q = (p.0, EachNoLf-append front back p.1 q)
 
 pub sections_no_lf : (core : ℕ) (programs : List (List Instruction)) → EachNoLf (sections core programs)
 sections_no_lf core [] = tt

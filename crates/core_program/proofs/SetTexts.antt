@@ -10,30 +10,28 @@ use Rattle.core_program.specs.declared.format.ProgramFormat.TheVariants.{One}
 use Rattle.core_program.specs.declared.instruction.Instruction.{Instruction}
 use Rattle.core_program.specs.declared.fault.ProgramFault.{ProgramFault}
 use Rattle.core_program.specs.declared.fault.ProgramFault.TheVariants.{BadLine, TooLong, SkipPastEnd, OutOfMemory}
-use Rattle.core_program.specs.Answers.{SetLines, IsBadLine}
+use Rattle.core_program.specs.Answers.{SetLines, SpellsSet, IsBadLine, IsSetFault}
 use Rattle.core_program.specs.Grammar.{format_number, header_text, core_text, end_text, sections, set_lines, EachFits, IsSection, IsSetOf}
 use Rattle.core_program.specs.SetParts.{SetParts}
-use Rattle.core_program.specs.Lines.{text_of, IsFirstWrong}
 use Rattle.core_program.specs.Sections.{SectionsInFront, IsSectionsFault, section_lists}
-use Rattle.core_program.specs.inner.Sections.{HeaderInFront, IsLineFault}
+use Rattle.core_program.specs.inner.Sections.{HeaderInFront}
+use Rattle.core_program.proofs.SectionKinds.{IsKind, bad_lines, each_section, limited, unlimited}
 use Rattle.core_program.proofs.SectionsOf.{AfterSections, HasSections, NotNext, each_fits_of, line_wrong, too_long_right, too_long_wrong}
 use Rattle.core_program.proofs.SetLines.{Next, goes_on, next_core, last_line, has_lines, begun, sections-append, behind_header, end_is_other, filled_up, instruction_no_end, core_no_end, next_of, sections_no_other}
-use Rattle.core_program.proofs.TextLines.{text_of-append, text_of-cons}
-use Rattle.core_program.proofs.Wrong.{CanGoOn, NoneFollows, wrong_behind}
+use Rattle.text_lines.specs.Lines.{text_of}
+use Rattle.text_lines.proofs.TextLines.{text_of-append, text_of-cons}
+use Rattle.text_lines.proofs.Wrong.{CanGoOn, NoneFollows, wrong_behind}
 
 -- the last line of a set, with nothing behind it
 abbrev pub IsLast : List ℕ → List (List ℕ) → Type 0
 IsLast next more = (next ≡ end_text) × (more ≡ [])
 
-empty_section : (format : ProgramFormat) → IsSection format []
-empty_section format = record { few = omega arith; each_fits = tt }
-
 -- ---- the sections of a set
 
-begun_goes_on : (format : ProgramFormat) (Section : ProgramFormat → List Instruction → Type 0) → Section format [] → (cores : ℕ) (programs : List (List Instruction)) → 1 ≤ cores → cores ≤ 64
+begun_goes_on : (format : ProgramFormat) (Section : ProgramFormat → List Instruction → Type 0) → IsKind Section → (cores : ℕ) (programs : List (List Instruction)) → 1 ≤ cores → cores ≤ 64
     → length programs ≤ cores → AllByRecursion (Section format) programs → CanGoOn (SetLines Section) (begun (header_text (format_number format) cores) programs)
-begun_goes_on format Section none cores programs some few within each =
-    let full = filled_up (Section format) none cores programs within each in
+begun_goes_on format Section kind cores programs some few within each =
+    let full = filled_up (Section format) (kind.empty format) cores programs within each in
     let set = programs ++ full.0 in
     let more = sections (0 + length programs) full.0 ++ end_text ∷ [] in (
       more,
@@ -49,14 +47,14 @@ begun_goes_on format Section none cores programs some few within each =
       ),
     )
 
-next_of_begun : (format : ProgramFormat) (Section : ProgramFormat → List Instruction → Type 0) → ((p : List Instruction) → Section format p → EachFits format p) → (cores : ℕ)
+next_of_begun : (format : ProgramFormat) (Section : ProgramFormat → List Instruction → Type 0) → IsKind Section → (cores : ℕ)
     (programs : List (List Instruction)) (next : List ℕ) (more : List (List ℕ)) → AllByRecursion (EachFits format) programs
     → SetLines Section (begun (header_text (format_number format) cores) programs ++ next ∷ more) → Next format (Section format) IsLast cores 0 programs next more
-next_of_begun format Section fits cores programs next more each (set, p) =
+next_of_begun format Section kind cores programs next more each (set, p) =
     let b = behind_header format cores set (sections 0 programs ++ next ∷ more) p.1 in
     let all : AllByRecursion (Section format) set.programs = subst (λ (f : ProgramFormat). AllByRecursion (Section f) set.programs) (sym b.0) p.0.each in
     subst (λ (n : ℕ). Next format (Section format) IsLast n 0 programs next more) (sym b.1)
-    (next_of format (Section format) fits IsLast end_text [] end_is_other (refl, refl) 0 set.programs programs next more all each (sym b.2))
+    (next_of format (Section format) (kind.fits format) IsLast end_text [] end_is_other (refl, refl) 0 set.programs programs next more all each (sym b.2))
 
 -- lines that begin a set aren't the lines of a whole one
 begun_no_set : (format : ProgramFormat) (Section : ProgramFormat → List Instruction → Type 0) (cores : ℕ) (programs : List (List Instruction))
@@ -65,26 +63,16 @@ begun_no_set format Section cores programs (set, p) =
     sections_no_other end_text end_is_other programs (sections 0 set.programs) [] (behind_header format cores set (sections 0 programs) p.1).2
 
 -- a set of this format and so many cores is a text with sections
-pub set_has : (format : ProgramFormat) (Section : ProgramFormat → List Instruction → Type 0) → Section format [] → ((p : List Instruction) → Section format p → EachFits format p)
-    → (cores : ℕ) → 1 ≤ cores → cores ≤ 64
+pub set_has : (format : ProgramFormat) (Section : ProgramFormat → List Instruction → Type 0) → IsKind Section → (cores : ℕ) → 1 ≤ cores → cores ≤ 64
     → HasSections format (SetLines Section) (Section format) IsLast (header_text (format_number format) cores) cores
-set_has format Section empty fit cores some few = record {
+set_has format Section kind cores some few = record {
   lines = has_lines Section;
-  fits = fit;
-  can = λ programs within each. begun_goes_on format Section empty cores programs some few within each;
-  next = λ programs next more each g. next_of_begun format Section fit cores programs next more each g;
+  can = λ programs within each. begun_goes_on format Section kind cores programs some few within each;
+  next = λ programs next more each g. next_of_begun format Section kind cores programs next more each g;
   unended = λ programs g. begun_no_set format Section cores programs g;
   last_no_lf = λ next more is. subst NoLf (sym is.0) (const_no_lf end_text refl);
   last_other = λ next more is i e. instruction_no_end i (e ∙ is.0);
 }
-
-limited : (format : ProgramFormat) (cores : ℕ) → 1 ≤ cores → cores ≤ 64
-    → HasSections format (SetLines IsSection) (IsSection format) IsLast (header_text (format_number format) cores) cores
-limited format cores some few = set_has format IsSection (empty_section format) (λ p s. s.each_fits) cores some few
-
-unlimited : (format : ProgramFormat) (cores : ℕ) → 1 ≤ cores → cores ≤ 64
-    → HasSections format (SetLines EachFits) (EachFits format) IsLast (header_text (format_number format) cores) cores
-unlimited format cores some few = set_has format EachFits tt (λ p fits. fits) cores some few
 
 -- ---- the header
 
@@ -92,19 +80,15 @@ unlimited format cores some few = set_has format EachFits tt (λ p fits. fits) c
 abbrev one_empty : SetParts
 one_empty = record { format = One; programs = [] ∷ [] }
 
-header_wrong : (Section : ProgramFormat → List Instruction → Type 0) → Section One [] → (text : List ℕ)
-    → ((format : ProgramFormat) (cores : ℕ) (rest : List ℕ) → HeaderInFront format cores text rest → ⊥) → IsFirstWrong (SetLines Section) text 1
-header_wrong Section empty text none =
+pub bad_header : (text : List ℕ) → ((format : ProgramFormat) (cores : ℕ) (rest : List ℕ) → HeaderInFront format cores text rest → ⊥) → IsBadLine SetLines text 1
+bad_header text none = bad_lines SetLines text 1 (λ Section kind.
     wrong_behind (SetLines Section) [] text text 1 (has_lines Section) refl refl
-    (set_lines one_empty, (one_empty, (record { some = omega arith; few = omega arith; each = (empty, tt) }, refl))) follows (λ e g. cc)
+    (set_lines one_empty, (one_empty, (record { some = omega arith; few = omega arith; each = (kind.empty One, tt) }, refl))) (follows Section) (λ e g. cc))
   where
-    follows : NoneFollows (SetLines Section) [] text
-    follows next more behind (set, p) is =
+    follows : (Section : ProgramFormat → List Instruction → Type 0) → NoneFollows (SetLines Section) [] text
+    follows Section next more behind (set, p) is =
         let first : next ≡ header_text (format_number set.format) (length set.programs) = cc in
         none set.format (length set.programs) behind (p.0.some, p.0.few, is ∙ ap (λ (l : List ℕ). l ++ 10 ∷ behind) first)
-
-pub bad_header : (text : List ℕ) → ((format : ProgramFormat) (cores : ℕ) (rest : List ℕ) → HeaderInFront format cores text rest → ⊥) → IsBadLine SetLines text 1
-bad_header text none = (header_wrong IsSection (empty_section One) text none, (header_wrong EachFits tt text none).wrong)
 
 -- ---- the line of a core, and the last line
 
@@ -121,11 +105,9 @@ after_header format text body rest header cores line programs is there line-is =
 
 pub bad_line_of_set : (format : ProgramFormat) (text rest : List ℕ) (cores line : ℕ) (programs : List (List Instruction)) → 1 ≤ cores → cores ≤ 64
     → AfterSections format (header_text (format_number format) cores) cores text programs rest line → NotNext IsLast cores programs rest → IsBadLine SetLines text line
-bad_line_of_set format text rest cores line programs some few stands others = (
-  line_wrong format (SetLines IsSection) (IsSection format) IsLast (header_text (format_number format) cores) cores (limited format cores some few) text rest line programs stands.each stands others,
-  (line_wrong format (SetLines EachFits) (EachFits format) IsLast (header_text (format_number format) cores) cores (unlimited format cores some few) text rest line programs
-      (each_fits_of format programs stands.each) stands others).wrong,
-)
+bad_line_of_set format text rest cores line programs some few stands others = bad_lines SetLines text line (λ Section kind.
+    line_wrong format (SetLines Section) (Section format) IsLast (header_text (format_number format) cores) cores (set_has format Section kind cores some few) text rest line programs
+    (each_section Section kind format programs stands.each) stands others)
 
 -- the line of a core is missing
 pub no_core_line : (format : ProgramFormat) (text rest : List ℕ) (cores line : ℕ) (programs : List (List Instruction)) → 1 ≤ cores → cores ≤ 64
@@ -166,41 +148,42 @@ set_of : (Section : List Instruction → Type 0) (cores : ℕ) (programs : List 
     → AllByRecursion Section programs → length programs ≡ cores → IsSetOf Section programs
 set_of Section cores programs some few each count = record { some = omega (arith, some, count); few = omega (arith, few, count); each = each }
 
-more_wrong : (format : ProgramFormat) (Section : ProgramFormat → List Instruction → Type 0) → ((p : List Instruction) → Section format p → EachFits format p) → (text rest behind : List ℕ) (cores line k : ℕ)
-    (programs : List (List Instruction)) → 1 ≤ cores → cores ≤ 64 → AllByRecursion (Section format) programs → AfterSections format (header_text (format_number format) cores) cores text programs rest line
-    → length programs ≡ cores → rest ≡ end_text ++ 10 ∷ behind → 0 < length behind → k ≡ line + 1 → IsFirstWrong (SetLines Section) text k
-more_wrong format Section fits text rest behind cores line k programs some few each stands count is more k-is =
-    wrong_behind (SetLines Section) front text behind k (has_lines Section) (whole format text rest behind cores line programs stands is)
-    (omega (arith, length-append (begun (header_text (format_number format) cores) programs) (end_text ∷ []), stands.line_is, k-is))
-    ([], (record { format = format; programs = programs }, (set_of (Section format) cores programs some few each count, append-nil front ∙ lines_of_set format cores programs count)))
-    follows (λ e g. omega (arith, ap length e))
-  where
-    front : List (List ℕ)
-    front = begun (header_text (format_number format) cores) programs ++ end_text ∷ []
-
-    by_next : (next : List ℕ) (others : List (List ℕ)) → Next format (Section format) IsLast cores 0 programs end_text (next ∷ others) → ⊥
-    by_next next others (goes_on i before last longer fit next-is at section less) = instruction_no_end i (sym next-is)
-    by_next next others (next_core next-is less) = core_no_end (0 + length programs) (sym next-is)
-    by_next next others (last_line last same) = let wrong : next ∷ others ≡ [] = last.1 in cc
-
-    follows : NoneFollows (SetLines Section) front behind
-    follows next others after g there =
-        by_next next others
-        (next_of_begun format Section fits cores programs end_text (next ∷ others) (each_fits_of format programs stands.each)
-        (subst (SetLines Section) (append_assoc (begun (header_text (format_number format) cores) programs) (end_text ∷ []) (next ∷ others)) g))
+pub spelled : (format : ProgramFormat) (text rest : List ℕ) (cores line : ℕ) (programs : List (List Instruction)) → 1 ≤ cores → cores ≤ 64
+    → AfterSections format (header_text (format_number format) cores) cores text programs rest line → length programs ≡ cores → rest ≡ end_text ++ 10 ∷ []
+    → SpellsSet text (record { format = format; programs = programs })
+spelled format text rest cores line programs some few stands count is =
+    let all = begun (header_text (format_number format) cores) programs ++ end_text ∷ [] in (
+      set_of (IsSection format) cores programs some few stands.each count,
+      whole format text rest [] cores line programs stands is ∙ append-nil (text_of all) ∙ ap text_of (lines_of_set format cores programs count),
+    )
 
 pub more_behind : (format : ProgramFormat) (text rest behind : List ℕ) (cores line k : ℕ) (programs : List (List Instruction)) → 1 ≤ cores → cores ≤ 64
     → AfterSections format (header_text (format_number format) cores) cores text programs rest line
     → length programs ≡ cores → rest ≡ end_text ++ 10 ∷ behind → 0 < length behind → k ≡ line + 1 → IsBadLine SetLines text k
-more_behind format text rest behind cores line k programs some few stands count is more k-is = (
-  more_wrong format IsSection (λ p s. s.each_fits) text rest behind cores line k programs some few stands.each stands count is more k-is,
-  (more_wrong format EachFits (λ p fits. fits) text rest behind cores line k programs some few (each_fits_of format programs stands.each) stands count is more k-is).wrong,
-)
+more_behind format text rest behind cores line k programs some few stands count is more k-is = bad_lines SetLines text k (λ Section kind.
+    wrong_behind (SetLines Section) front text behind k (has_lines Section) (whole format text rest behind cores line programs stands is)
+    (omega (arith, length-append (begun (header_text (format_number format) cores) programs) (end_text ∷ []), stands.line_is, k-is))
+    ([], (record { format = format; programs = programs }, (set_of (Section format) cores programs some few (each_section Section kind format programs stands.each) count, append-nil front ∙ lines_of_set format cores programs count)))
+    (follows Section kind) (λ e g. omega (arith, ap length e)))
+  where
+    front : List (List ℕ)
+    front = begun (header_text (format_number format) cores) programs ++ end_text ∷ []
+
+    by_next : (Section : ProgramFormat → List Instruction → Type 0) (next : List ℕ) (others : List (List ℕ)) → Next format (Section format) IsLast cores 0 programs end_text (next ∷ others) → ⊥
+    by_next Section next others (goes_on i before last longer fit next-is at section less) = instruction_no_end i (sym next-is)
+    by_next Section next others (next_core next-is less) = core_no_end (0 + length programs) (sym next-is)
+    by_next Section next others (last_line last same) = let wrong : next ∷ others ≡ [] = last.1 in cc
+
+    follows : (Section : ProgramFormat → List Instruction → Type 0) → IsKind Section → NoneFollows (SetLines Section) front behind
+    follows Section kind next others after g there =
+        by_next Section next others
+        (next_of_begun format Section kind cores programs end_text (next ∷ others) (each_fits_of format programs stands.each)
+        (subst (SetLines Section) (append_assoc (begun (header_text (format_number format) cores) programs) (end_text ∷ []) (next ∷ others)) g))
 
 -- ---- what a reader of sections refuses
 
 pub sections_refused : (format : ProgramFormat) (text body : List ℕ) (cores : ℕ) (fault : ProgramFault) → HeaderInFront format cores text body
-    → IsSectionsFault format cores body fault → IsLineFault text fault
+    → IsSectionsFault format cores body fault → IsSetFault text fault
 sections_refused format text body cores (BadLine k) there h = absurd h
 sections_refused format text body cores (SkipPastEnd k) there h = absurd h
 sections_refused format text body cores OutOfMemory there h = tt
@@ -210,9 +193,9 @@ sections_refused format text body cores (TooLong k) (some, few, is) h =
     let stands : AfterSections format header cores text h.before h.rest line = after_header format text body h.rest header cores line h.before is h.in_front refl in
     let from = h.core ∙ ap (λ (xs : List ℕ). core_text (length h.before) ++ 10 ∷ xs) h.many.text in (
       too_long_wrong format IsLast header cores text h.rest h.many.rest line k h.before h.many.program stands from h.more h.many.each_fits h.many.long (omega (arith, h.line))
-          (SetLines IsSection) (limited format cores some few),
+          (SetLines IsSection) (set_has format IsSection limited cores some few),
       too_long_right format IsLast header cores text h.rest h.many.rest line k h.before h.many.program stands from h.more h.many.each_fits h.many.long (omega (arith, h.line))
-          (SetLines EachFits) (unlimited format cores some few),
+          (SetLines EachFits) (set_has format EachFits unlimited cores some few),
     )
 
 -- ---- lists that vectors hold

@@ -1,49 +1,35 @@
 -- The text of a program or a set is no other's, and its first fault is the only one.
-use Rattle.std.proofs.Common.{◌≡◌, ℕ, zero, suc, ◌-◌, ◌<◌, ◌≤◌, true, false, List, [], ◌∷◌, ◌++◌, length, take, drop, refl, sym, ap, subst, ◌∙◌, arith, inl, inr, append_assoc, append-nil}
+use Rattle.std.proofs.Common.{◌≡◌, ℕ, suc, true, false, List, [], ◌∷◌, ◌++◌, length, refl, sym, ap, subst, ◌∙◌, arith, append_assoc}
 use Rattle.std.specs.List.{AllByRecursion}
-use Rattle.std.proofs.lemmas.Bool.{cases_lt}
-use Rattle.std.proofs.lemmas.List.{take-append-drop, append_cancel_left}
+use Rattle.std.proofs.lemmas.List.{append_cancel_left}
 use Rattle.core_program.specs.declared.format.ProgramFormat.{ProgramFormat}
 use Rattle.core_program.specs.declared.instruction.Instruction.{Instruction}
 use Rattle.core_program.specs.declared.fault.ProgramFault.{ProgramFault}
 use Rattle.core_program.specs.declared.fault.ProgramFault.TheVariants.{BadLine, TooLong, SkipPastEnd, OutOfMemory}
-use Rattle.core_program.specs.Answers.{ProgramLines, SetLines, SkipsAt, SkipsInSetAt, IsLeast, SpellsProgram, SpellsSet, IsProgramFault, IsSetFault}
-use Rattle.core_program.specs.Grammar.{instruction_text, core_text, end_text, program_lines, sections, set_lines, EachFits, IsSection}
-use Rattle.core_program.specs.Lines.{text_of, BeginsText, IsFirstWrong}
+use Rattle.core_program.specs.Answers.{ProgramLines, SetLines, SkipsAt, SkipsInSetAt, IsLeast, SpellsProgram, SpellsSet, IsBadLine, IsTooLong, IsTextFault, IsProgramFault, IsSetFault}
+use Rattle.core_program.specs.Grammar.{instruction_text, core_text, end_text, program_lines, sections, set_lines, EachFits, Fits, IsSection}
 use Rattle.core_program.specs.SetParts.{SetParts}
 use Rattle.core_program.specs.Shape.{IsProgram}
 use Rattle.core_program.specs.TextLaws.{AtMostOneFault}
-use Rattle.core_program.proofs.Instructions.{instruction_once}
+use Rattle.core_program.proofs.Instructions.{instruction_no_lf, instruction_once}
 use Rattle.core_program.proofs.Jumps.{among}
-use Rattle.core_program.proofs.ProgramTexts.{program_lines_no_lf}
 use Rattle.core_program.proofs.SetLines.{equal, first_longer, second_longer, compared, set_no_lf, behind_header, instruction_no_core, instruction_no_end, core_no_end}
-use Rattle.core_program.proofs.TextLines.{EachNoLf, text_of-append, lines_once, lines_too_few}
+use Rattle.text_lines.specs.Lines.{IsText, BeginsText, IsFirstWrong}
+use Rattle.text_lines.proofs.Items.{AreLines, spelled_once}
+use Rattle.text_lines.proofs.Wrong.{text_once, wrong_once}
 
 -- ---- one text
 
-text_once : (lines others : List (List ℕ)) → EachNoLf lines → EachNoLf others → text_of lines ≡ text_of others → lines ≡ others
-text_once lines others p q e =
-    elim (cases_lt (length lines) (length others)) [
-      | inl less ↦ absurd (lines_too_few others lines [] q p less (append-nil (text_of others) ∙ sym e))
-      | inr ge ↦ elim (cases_lt (length others) (length lines)) [
-        | inl less ↦ absurd (lines_too_few lines others [] p q less (append-nil (text_of lines) ∙ e))
-        | inr le ↦ (lines_once lines others [] [] p q (omega arith) (append-nil (text_of lines) ∙ e ∙ sym (append-nil (text_of others)))).0
-      ]
-    ]
+lines : AreLines instruction_text Fits
+lines = record { no_lf = instruction_no_lf; once = instruction_once }
 
-program_once : (left right : ProgramFormat) (p q : List Instruction) → EachFits left p → EachFits right q → program_lines p ≡ program_lines q → p ≡ q
-program_once left right [] [] f g e = refl
-program_once left right [] (j ∷ q) f g e = absurd cc
-program_once left right (i ∷ p) [] f g e = absurd cc
-program_once left right (i ∷ p) (j ∷ q) f g e =
-    let first : i ≡ j = instruction_once i j f.0.numbers g.0.numbers cc in
-    let rest : p ≡ q = program_once left right p q f.1 g.1 cc in
-    cc
+each_in_range : (format : ProgramFormat) (program : List Instruction) → EachFits format program → AllByRecursion Fits program
+each_in_range format [] each = tt
+each_in_range format (i ∷ program) each = (each.0.numbers, each_in_range format program each.1)
 
 pub one_program : (left right : ProgramFormat) (bytes : List ℕ) (p q : List Instruction) → SpellsProgram left bytes p → SpellsProgram right bytes q → p ≡ q
 one_program left right bytes p q (s, p-is) (t, q-is) =
-    program_once left right p q s.each_fits t.each_fits
-    (text_once (program_lines p) (program_lines q) (program_lines_no_lf p) (program_lines_no_lf q) (sym p-is ∙ q-is))
+    spelled_once lines bytes p q (each_in_range left p s.each_fits, p-is) (each_in_range right q t.each_fits, q-is)
 
 -- no instruction's line comes after the sections that are read
 no_instruction : (core : ℕ) (rest : List (List Instruction)) (i : Instruction) (lines : List (List ℕ)) → sections core rest ++ end_text ∷ [] ≡ instruction_text i ∷ lines → ⊥
@@ -77,103 +63,66 @@ one_set bytes s t (f, s-is) (g, t-is) =
     let format : s.format ≡ t.format = behind.0 in
     λ i. record { format = format i; programs = programs i }
 
--- ---- no fault
-
-no_wrong_program : (format : ProgramFormat) (bytes : List ℕ) (program : List Instruction) (k : ℕ) → SpellsProgram format bytes program → IsFirstWrong (ProgramLines format IsSection) bytes k → ⊥
-no_wrong_program format bytes program k (section, is) wrong = wrong.no_text (program_lines program, ((program, (section, refl)), is))
-
-no_wrong_set : (bytes : List ℕ) (set : SetParts) (k : ℕ) → SpellsSet bytes set → IsFirstWrong (SetLines IsSection) bytes k → ⊥
-no_wrong_set bytes set k (all, is) wrong = wrong.no_text (set_lines set, ((set, (all, refl)), is))
+-- ---- one fault
 
 no_jump : (program : List Instruction) (k : ℕ) → IsProgram program → SkipsAt program k → ⊥
 no_jump program k is s = let wrong : true ≡ false = sym s.passes ∙ is.inside s.index in cc
 
-pub program_quiet : (format : ProgramFormat) (bytes : List ℕ) (program : List Instruction) (fault : ProgramFault) → SpellsProgram format bytes program → IsProgram program
-    → IsProgramFault format bytes fault → fault ≡ OutOfMemory
-program_quiet format bytes program (BadLine k) spells is h = absurd (no_wrong_program format bytes program k spells h.0)
-program_quiet format bytes program (TooLong k) spells is h = absurd (no_wrong_program format bytes program k spells h.0)
-program_quiet format bytes program (SkipPastEnd k) spells is (other, (others, least)) =
-    absurd (no_jump other k (subst IsProgram (one_program format format bytes program other spells others) is) least.0)
-program_quiet format bytes program OutOfMemory spells is h = refl
-
 no_jump_in_set : (set : List (List Instruction)) (k : ℕ) → AllByRecursion IsProgram set → SkipsInSetAt set k → ⊥
 no_jump_in_set set k each s = no_jump s.program s.place (among IsProgram set s.core s.program each s.of_core) s.skips
-
-pub set_quiet : (bytes : List ℕ) (set : SetParts) (fault : ProgramFault) → SpellsSet bytes set → AllByRecursion IsProgram set.programs
-    → IsSetFault bytes fault → fault ≡ OutOfMemory
-set_quiet bytes set (BadLine k) spells each h = absurd (no_wrong_set bytes set k spells h.0)
-set_quiet bytes set (TooLong k) spells each h = absurd (no_wrong_set bytes set k spells h.0)
-set_quiet bytes set (SkipPastEnd k) spells each (other, (others, least)) =
-    absurd (no_jump_in_set other.programs k (subst (λ (t : SetParts). AllByRecursion IsProgram t.programs) (one_set bytes set other spells others) each) least.0)
-set_quiet bytes set OutOfMemory spells each h = refl
-
--- ---- one fault
-
-take-take : {X : Type 0} (j k : ℕ) (xs : List X) → j ≤ k → take j (take k xs) ≡ take j xs
-take-take zero k xs le = refl
-take-take (suc j) zero xs le = absurd (omega arith)
-take-take (suc j) (suc k) [] le = refl
-take-take (suc j) (suc k) (x ∷ xs) le = ap (λ ys. x ∷ ys) (take-take j k xs (omega arith))
-
-begins_less : (Grammar : List (List ℕ) → Type 0) (bytes : List ℕ) (j k : ℕ) → j ≤ k → BeginsText Grammar bytes k → BeginsText Grammar bytes j
-begins_less Grammar bytes j k le b =
-    let front : take k b.lines ≡ take j b.lines ++ drop j (take k b.lines) =
-    sym (take-append-drop j (take k b.lines)) ∙ ap (λ (ls : List (List ℕ)). ls ++ drop j (take k b.lines)) (take-take j k b.lines le) in
-    record {
-      lines = b.lines;
-      of_text = b.of_text;
-      enough = omega (arith, b.enough);
-      rest = text_of (drop j (take k b.lines)) ++ b.rest;
-      begins =
-          b.begins ∙ ap (λ (ls : List (List ℕ)). text_of ls ++ b.rest) front
-          ∙ ap (λ (xs : List ℕ). xs ++ b.rest) (text_of-append (take j b.lines) (drop j (take k b.lines)))
-          ∙ append_assoc (text_of (take j b.lines)) (text_of (drop j (take k b.lines))) b.rest;
-    }
-
-not_before : (Grammar : List (List ℕ) → Type 0) (bytes : List ℕ) (j k : ℕ) → IsFirstWrong Grammar bytes j → IsFirstWrong Grammar bytes k → j < k → ⊥
-not_before Grammar bytes j k p q lt = p.wrong (begins_less Grammar bytes j (k - 1) (omega arith) q.before)
-
-wrong_once : (Grammar : List (List ℕ) → Type 0) (bytes : List ℕ) (j k : ℕ) → IsFirstWrong Grammar bytes j → IsFirstWrong Grammar bytes k → j ≡ k
-wrong_once Grammar bytes j k p q =
-    elim (cases_lt j k) [
-      | inl lt ↦ absurd (not_before Grammar bytes j k p q lt)
-      | inr ge ↦ elim (cases_lt k j) [
-        | inl lt ↦ absurd (not_before Grammar bytes k j q p lt)
-        | inr le ↦ omega arith
-      ]
-    ]
 
 least_once : (Holds : ℕ → Type 0) (j k : ℕ) → IsLeast Holds j → IsLeast Holds k → j ≡ k
 least_once Holds j k p q = let a = p.1 k q.0 in let b = q.1 j p.0 in omega arith
 
+module _ {A : Type 0} (Lines : (ProgramFormat → List Instruction → Type 0) → List (List ℕ) → Type 0) (Spells : List ℕ → A → Type 0) (Skips : A → ℕ → Type 0)
+    (once : (bytes : List ℕ) (x y : A) → Spells bytes x → Spells bytes y → x ≡ y) (is_text : (bytes : List ℕ) (x : A) → Spells bytes x → IsText (Lines IsSection) bytes) where
+  quiet : (bytes : List ℕ) (x : A) (fault : ProgramFault) → Spells bytes x → ((k : ℕ) → Skips x k → ⊥) → IsTextFault Lines Spells Skips bytes fault → fault ≡ OutOfMemory
+  quiet bytes x (BadLine k) spells none h = absurd (h.0.no_text (is_text bytes x spells))
+  quiet bytes x (TooLong k) spells none h = absurd (h.0.no_text (is_text bytes x spells))
+  quiet bytes x (SkipPastEnd k) spells none (other, (others, least)) = absurd (none k (subst (λ (y : A). Skips y k) (once bytes other x others spells) least.0))
+  quiet bytes x OutOfMemory spells none h = refl
+
+  first_once : (bytes : List ℕ) (j k : ℕ) → IsFirstWrong (Lines IsSection) bytes j → IsFirstWrong (Lines IsSection) bytes k → j ≡ k
+  first_once bytes j k p q = wrong_once (Lines IsSection) bytes j k p q
+
+  -- a line isn't both bad and too long
+  one_kind : (bytes : List ℕ) (j k : ℕ) → IsBadLine Lines bytes j → IsTooLong Lines bytes k → ⊥
+  one_kind bytes j k p q = p.1 (subst (BeginsText (Lines EachFits) bytes) (first_once bytes k j q.0 p.0) q.1)
+
+  one_fault : AtMostOneFault (IsTextFault Lines Spells Skips)
+  one_fault bytes (BadLine j) (BadLine k) p q f g = ap (λ (n : ℕ). BadLine n) (first_once bytes j k p.0 q.0)
+  one_fault bytes (BadLine j) (TooLong k) p q f g = absurd (one_kind bytes j k p q)
+  one_fault bytes (BadLine j) (SkipPastEnd k) p (x, (spells, least)) f g = absurd (p.0.no_text (is_text bytes x spells))
+  one_fault bytes (TooLong j) (BadLine k) p q f g = absurd (one_kind bytes k j q p)
+  one_fault bytes (TooLong j) (TooLong k) p q f g = ap (λ (n : ℕ). TooLong n) (first_once bytes j k p.0 q.0)
+  one_fault bytes (TooLong j) (SkipPastEnd k) p (x, (spells, least)) f g = absurd (p.0.no_text (is_text bytes x spells))
+  one_fault bytes (SkipPastEnd j) (BadLine k) (x, (spells, least)) q f g = absurd (q.0.no_text (is_text bytes x spells))
+  one_fault bytes (SkipPastEnd j) (TooLong k) (x, (spells, least)) q f g = absurd (q.0.no_text (is_text bytes x spells))
+  one_fault bytes (SkipPastEnd j) (SkipPastEnd k) (x, (x-spells, x-least)) (y, (y-spells, y-least)) f g =
+      ap (λ (n : ℕ). SkipPastEnd n) (least_once (Skips y) j k (subst (λ (z : A). IsLeast (Skips z) j) (once bytes x y x-spells y-spells) x-least) y-least)
+  one_fault bytes OutOfMemory other p q f g = absurd (f refl)
+  one_fault bytes (BadLine j) OutOfMemory p q f g = absurd (g refl)
+  one_fault bytes (TooLong j) OutOfMemory p q f g = absurd (g refl)
+  one_fault bytes (SkipPastEnd j) OutOfMemory p q f g = absurd (g refl)
+
+program_text : (format : ProgramFormat) (bytes : List ℕ) (program : List Instruction) → SpellsProgram format bytes program → IsText (ProgramLines format IsSection) bytes
+program_text format bytes program (section, is) = (program_lines program, ((program, (section, refl)), is))
+
+set_text : (bytes : List ℕ) (set : SetParts) → SpellsSet bytes set → IsText (SetLines IsSection) bytes
+set_text bytes set (all, is) = (set_lines set, ((set, (all, refl)), is))
+
+pub program_quiet : (format : ProgramFormat) (bytes : List ℕ) (program : List Instruction) (fault : ProgramFault) → SpellsProgram format bytes program → IsProgram program
+    → IsProgramFault format bytes fault → fault ≡ OutOfMemory
+program_quiet format bytes program fault spells is =
+    quiet (ProgramLines format) (SpellsProgram format) SkipsAt (one_program format format) (program_text format) bytes program fault spells (λ k. no_jump program k is)
+
+pub set_quiet : (bytes : List ℕ) (set : SetParts) (fault : ProgramFault) → SpellsSet bytes set → AllByRecursion IsProgram set.programs
+    → IsSetFault bytes fault → fault ≡ OutOfMemory
+set_quiet bytes set fault spells each =
+    quiet SetLines SpellsSet (λ s. SkipsInSetAt s.programs) one_set set_text bytes set fault spells (λ k. no_jump_in_set set.programs k each)
+
 pub one_program_fault : (format : ProgramFormat) → AtMostOneFault (IsProgramFault format)
-one_program_fault format bytes (BadLine j) (BadLine k) p q f g = ap (λ (n : ℕ). BadLine n) (wrong_once (ProgramLines format IsSection) bytes j k p.0 q.0)
-one_program_fault format bytes (BadLine j) (TooLong k) p q f g = absurd (p.1 (subst (BeginsText (ProgramLines format EachFits) bytes) (wrong_once (ProgramLines format IsSection) bytes k j q.0 p.0) q.1))
-one_program_fault format bytes (BadLine j) (SkipPastEnd k) p (program, (spells, least)) f g = absurd (no_wrong_program format bytes program j spells p.0)
-one_program_fault format bytes (TooLong j) (BadLine k) p q f g = absurd (q.1 (subst (BeginsText (ProgramLines format EachFits) bytes) (wrong_once (ProgramLines format IsSection) bytes j k p.0 q.0) p.1))
-one_program_fault format bytes (TooLong j) (TooLong k) p q f g = ap (λ (n : ℕ). TooLong n) (wrong_once (ProgramLines format IsSection) bytes j k p.0 q.0)
-one_program_fault format bytes (TooLong j) (SkipPastEnd k) p (program, (spells, least)) f g = absurd (no_wrong_program format bytes program j spells p.0)
-one_program_fault format bytes (SkipPastEnd j) (BadLine k) (program, (spells, least)) q f g = absurd (no_wrong_program format bytes program k spells q.0)
-one_program_fault format bytes (SkipPastEnd j) (TooLong k) (program, (spells, least)) q f g = absurd (no_wrong_program format bytes program k spells q.0)
-one_program_fault format bytes (SkipPastEnd j) (SkipPastEnd k) (p, (p-spells, p-least)) (q, (q-spells, q-least)) f g =
-    ap (λ (n : ℕ). SkipPastEnd n) (least_once (SkipsAt q) j k (subst (λ (r : List Instruction). IsLeast (SkipsAt r) j) (one_program format format bytes p q p-spells q-spells) p-least) q-least)
-one_program_fault format bytes OutOfMemory other p q f g = absurd (f refl)
-one_program_fault format bytes (BadLine j) OutOfMemory p q f g = absurd (g refl)
-one_program_fault format bytes (TooLong j) OutOfMemory p q f g = absurd (g refl)
-one_program_fault format bytes (SkipPastEnd j) OutOfMemory p q f g = absurd (g refl)
+one_program_fault format = one_fault (ProgramLines format) (SpellsProgram format) SkipsAt (one_program format format) (program_text format)
 
 pub one_set_fault : AtMostOneFault IsSetFault
-one_set_fault bytes (BadLine j) (BadLine k) p q f g = ap (λ (n : ℕ). BadLine n) (wrong_once (SetLines IsSection) bytes j k p.0 q.0)
-one_set_fault bytes (BadLine j) (TooLong k) p q f g = absurd (p.1 (subst (BeginsText (SetLines EachFits) bytes) (wrong_once (SetLines IsSection) bytes k j q.0 p.0) q.1))
-one_set_fault bytes (BadLine j) (SkipPastEnd k) p (set, (spells, least)) f g = absurd (no_wrong_set bytes set j spells p.0)
-one_set_fault bytes (TooLong j) (BadLine k) p q f g = absurd (q.1 (subst (BeginsText (SetLines EachFits) bytes) (wrong_once (SetLines IsSection) bytes j k p.0 q.0) p.1))
-one_set_fault bytes (TooLong j) (TooLong k) p q f g = ap (λ (n : ℕ). TooLong n) (wrong_once (SetLines IsSection) bytes j k p.0 q.0)
-one_set_fault bytes (TooLong j) (SkipPastEnd k) p (set, (spells, least)) f g = absurd (no_wrong_set bytes set j spells p.0)
-one_set_fault bytes (SkipPastEnd j) (BadLine k) (set, (spells, least)) q f g = absurd (no_wrong_set bytes set k spells q.0)
-one_set_fault bytes (SkipPastEnd j) (TooLong k) (set, (spells, least)) q f g = absurd (no_wrong_set bytes set k spells q.0)
-one_set_fault bytes (SkipPastEnd j) (SkipPastEnd k) (s, (s-spells, s-least)) (t, (t-spells, t-least)) f g =
-    ap (λ (n : ℕ). SkipPastEnd n) (least_once (SkipsInSetAt t.programs) j k (subst (λ (r : SetParts). IsLeast (SkipsInSetAt r.programs) j) (one_set bytes s t s-spells t-spells) s-least) t-least)
-one_set_fault bytes OutOfMemory other p q f g = absurd (f refl)
-one_set_fault bytes (BadLine j) OutOfMemory p q f g = absurd (g refl)
-one_set_fault bytes (TooLong j) OutOfMemory p q f g = absurd (g refl)
-one_set_fault bytes (SkipPastEnd j) OutOfMemory p q f g = absurd (g refl)
+one_set_fault = one_fault SetLines SpellsSet (λ s. SkipsInSetAt s.programs) one_set set_text

@@ -5,9 +5,9 @@ use Rattle.core_program.specs.declared.format.ProgramFormat.{ProgramFormat}
 use Rattle.core_program.specs.declared.fault.ProgramFault.{ProgramFault}
 use Rattle.core_program.specs.declared.fault.ProgramFault.TheVariants.{BadLine, TooLong, SkipPastEnd, OutOfMemory}
 use Rattle.core_program.specs.Grammar.{program_lines, sections, set_lines, EachFits, IsSection, IsSetOf}
-use Rattle.core_program.specs.Lines.{text_of, BeginsText, IsFirstWrong}
 use Rattle.core_program.specs.SetParts.{SetParts}
 use Rattle.core_program.specs.Shape.{is_skip_past_end}
+use Rattle.text_lines.specs.Lines.{text_of, BeginsText, IsFirstWrong}
 
 -- ---- lines
 
@@ -73,16 +73,19 @@ SpellsProgram format bytes program = IsSection format program × (bytes ≡ text
 abbrev pub SpellsSet : List ℕ → SetParts → Type 0
 SpellsSet bytes set = IsSetOf (IsSection set.format) set.programs × (bytes ≡ text_of (set_lines set))
 
--- Why bytes aren't the text of a program of this format. Lack of memory may come instead of a program and of every other fault.
+-- Why bytes aren't the text of any of those that have such lines, such texts and such jumps past the end. Lack of memory may come
+-- instead of what has the text and of every other fault.
+abbrev pub IsTextFault : {A : Type 0} → ((ProgramFormat → List Instruction → Type 0) → List (List ℕ) → Type 0) → (List ℕ → A → Type 0) → (A → ℕ → Type 0)
+    → List ℕ → ProgramFault → Type 0
+IsTextFault Lines Spells Skips bytes (BadLine k) = IsBadLine Lines bytes k
+IsTextFault Lines Spells Skips bytes (TooLong k) = IsTooLong Lines bytes k
+IsTextFault {A} Lines Spells Skips bytes (SkipPastEnd k) = (x : A) × (Spells bytes x × IsLeast (Skips x) k)
+IsTextFault Lines Spells Skips bytes OutOfMemory = Unit {0}
+
+-- why bytes aren't the text of a program of this format
 abbrev pub IsProgramFault : ProgramFormat → List ℕ → ProgramFault → Type 0
-IsProgramFault format bytes (BadLine k) = IsBadLine (ProgramLines format) bytes k
-IsProgramFault format bytes (TooLong k) = IsTooLong (ProgramLines format) bytes k
-IsProgramFault format bytes (SkipPastEnd k) = (program : List Instruction) × (SpellsProgram format bytes program × IsLeast (SkipsAt program) k)
-IsProgramFault format bytes OutOfMemory = Unit {0}
+IsProgramFault format bytes fault = IsTextFault (ProgramLines format) (SpellsProgram format) SkipsAt bytes fault
 
 -- why bytes aren't the text of a set
 abbrev pub IsSetFault : List ℕ → ProgramFault → Type 0
-IsSetFault bytes (BadLine k) = IsBadLine SetLines bytes k
-IsSetFault bytes (TooLong k) = IsTooLong SetLines bytes k
-IsSetFault bytes (SkipPastEnd k) = (set : SetParts) × (SpellsSet bytes set × IsLeast (SkipsInSetAt set.programs) k)
-IsSetFault bytes OutOfMemory = Unit {0}
+IsSetFault bytes fault = IsTextFault SetLines SpellsSet (λ set. SkipsInSetAt set.programs) bytes fault

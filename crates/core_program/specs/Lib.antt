@@ -1,10 +1,10 @@
+pub use Rattle.text_lines.specs.Lines
 pub mod Answers
 pub mod Conforming
 pub mod FaultTexts
 pub mod Grammar
 pub mod Laws
 pub mod Least
-pub mod Lines
 pub mod Meaning
 pub mod Running
 pub mod Sections

@@ -8,7 +8,7 @@ use Rattle.core_program.specs.declared.fault.ProgramFault.{ProgramFault}
 use Rattle.core_program.specs.declared.fault.ProgramFault.TheVariants.{BadLine, TooLong, SkipPastEnd, OutOfMemory}
 use Rattle.core_program.specs.declared.sections.Sections.{Sections}
 use Rattle.core_program.specs.Grammar.{core_text, instruction_text, program_lines, sections, FitsIn, EachFits, IsSection}
-use Rattle.core_program.specs.Lines.{text_of}
+use Rattle.text_lines.specs.Lines.{text_of}
 
 -- ---- a line
 

@@ -1,9 +1,10 @@
 //! Reads an instruction's line from left to right.
 
-ghost use Rattle.std.specs.Prelude.{◌≡◌};
+ghost use Rattle.std.specs.Prelude.{◌≡◌, ◌^◌};
 ghost use Rattle.decimal_text.specs.Reading.{front_now};
-ghost use Rattle.core_program.specs.inner.Reading.{register_at, addr_at, last_register, last_addr, last_word, last_skip};
+ghost use Rattle.core_program.specs.inner.Reading.{register_at, last_register, last_skip};
 ghost use Rattle.core_program.specs.inner.Reading.{load_of, store_of, store_register_of, add_of, skip_of, swap_of, instruction_of};
+ghost use Rattle.text_lines.specs.Fields.{field_below, last_below};
 
 use super::format::ProgramFormat;
 use super::instruction::Instruction;
@@ -13,7 +14,7 @@ use decimal_text::{after_text, read_field, read_last};
 use mem_op::{Addr, Word};
 
 /// A register with a space after it, and the bytes after them.
-#[tactic(auto, unfolding(crate::specs::inner::Reading::register_at))]
+#[tactic(auto, unfolding(crate::specs::inner::Reading::register_at, text_lines::specs::Fields::field_below))]
 fn register(bytes: &[u8]) -> Option<(Register, &[u8])>
     ensures { front_now result ≡ register_at bytes.now }
 {
@@ -22,16 +23,16 @@ fn register(bytes: &[u8]) -> Option<(Register, &[u8])>
 }
 
 /// An address with a space after it, and the bytes after them.
-#[tactic(auto, unfolding(crate::specs::inner::Reading::addr_at))]
+#[tactic(auto, unfolding(text_lines::specs::Fields::field_below))]
 fn addr(bytes: &[u8]) -> Option<(Addr, &[u8])>
-    ensures { front_now result ≡ addr_at bytes.now }
+    ensures { front_now result ≡ field_below 65536 bytes.now }
 {
     let (number, rest) = read_field(b' ', bytes)?;
     Some((Addr::new(number?).ok()?, rest))
 }
 
 /// A register that is all there is.
-#[tactic(auto, unfolding(crate::specs::inner::Reading::last_register))]
+#[tactic(auto, unfolding(crate::specs::inner::Reading::last_register, text_lines::specs::Fields::last_below))]
 fn last_register(bytes: &[u8]) -> Option<Register>
     ensures { result ≡ last_register bytes.now }
 {
@@ -39,17 +40,17 @@ fn last_register(bytes: &[u8]) -> Option<Register>
 }
 
 /// An address that is all there is.
-#[tactic(auto, unfolding(crate::specs::inner::Reading::last_addr))]
+#[tactic(auto, unfolding(text_lines::specs::Fields::last_below))]
 fn last_addr(bytes: &[u8]) -> Option<Addr>
-    ensures { result ≡ last_addr bytes.now }
+    ensures { result ≡ last_below 65536 bytes.now }
 {
     Addr::new(read_last(bytes)??).ok()
 }
 
 /// A word that is all there is.
-#[tactic(auto, unfolding(crate::specs::inner::Reading::last_word))]
+#[tactic(auto, unfolding(text_lines::specs::Fields::last_below))]
 fn last_word(bytes: &[u8]) -> Option<Word>
-    ensures { result ≡ last_word bytes.now }
+    ensures { result ≡ last_below (2 ^ 64) bytes.now }
 {
     read_last(bytes)?
 }

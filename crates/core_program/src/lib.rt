@@ -28,7 +28,6 @@ pub use program::Program;
 pub use program_set::ProgramSet;
 pub use program_text::print_instruction;
 pub use register::Register;
-pub use section::next_line;
 pub use sections::{Sections, read_sections};
 pub use skip::Skip;
 pub use state::ProgramState;

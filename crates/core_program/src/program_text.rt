@@ -69,37 +69,24 @@ pub fn print_instruction(alloc: Global, instruction: &Instruction) -> Result<Str
     ensures fits { Fits instruction.now }
 {
     match instruction {
-        Instruction::Load(to, addr) => {
-            let to = to.get();
-            let addr = addr.get();
-            format!(in alloc; "ld r{to} {addr}")
-        }
+        Instruction::Load(to, addr) => format!(in alloc; "ld r{} {}", to.get(), addr.get()),
         Instruction::Store(addr, value) => {
-            let addr = addr.get();
             let value = *value;
-            format!(in alloc; "st {addr} {value}")
+            format!(in alloc; "st {} {value}", addr.get())
         }
         Instruction::StoreRegister(addr, from) => {
-            let addr = addr.get();
-            let from = from.get();
-            format!(in alloc; "sr {addr} r{from}")
+            format!(in alloc; "sr {} r{}", addr.get(), from.get())
         }
         Instruction::Add(to, from, value) => {
-            let to = to.get();
-            let from = from.get();
             let value = *value;
-            format!(in alloc; "ai r{to} r{from} {value}")
+            format!(in alloc; "ai r{} r{} {value}", to.get(), from.get())
         }
         Instruction::SkipIfZero(tested, skip) => {
-            let tested = tested.get();
-            let skip = skip.get();
-            format!(in alloc; "jz r{tested} {skip}")
+            format!(in alloc; "jz r{} {}", tested.get(), skip.get())
         }
         Instruction::Swap(to, addr, value) => {
-            let to = to.get();
-            let addr = addr.get();
             let value = *value;
-            format!(in alloc; "sw r{to} {addr} {value}")
+            format!(in alloc; "sw r{} {} {value}", to.get(), addr.get())
         }
     }
 }

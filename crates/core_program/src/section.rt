@@ -1,7 +1,6 @@
 //! Reads the instructions of a section.
 
-ghost use Rattle.std.specs.Prelude.{◌≡◌, ◌<◌, ◌^◌, ◌∷◌, ◌++◌, IfSome, IsNone, IfOk, IfErr};
-ghost use Rattle.core_program.specs.Lines.{IsOneLine};
+ghost use Rattle.std.specs.Prelude.{◌<◌, ◌^◌, IfSome, IsNone, IfOk, IfErr};
 ghost use Rattle.core_program.specs.inner.Sections.{IsSectionOf, IsSectionFault};
 ghost use Rattle.core_program.specs.Sections.{InstructionInFront, NoInstructionInFront};
 
@@ -9,8 +8,8 @@ use super::fault::ProgramFault;
 use super::format::ProgramFormat;
 use super::instruction::Instruction;
 use super::instruction_line::read_instruction;
-use memchr::memchr;
 use std::alloc::Global;
+use text_lines::next_line;
 
 /// The most instructions of a section.
 const SECTION_LIMIT: usize = 4_096;
@@ -22,16 +21,6 @@ pub(crate) struct Section {
     pub(crate) instructions: Vec<Instruction>,
     /// How many bytes their lines have.
     pub(crate) taken: usize,
-}
-
-/// The first line, without its line feed, and the bytes after it; None where no line feed is there.
-pub fn next_line(text: &[u8]) -> Option<(&[u8], &[u8])>
-    ensures found { IfSome result (λ split.
-        IsOneLine split.0.now × (text.now ≡ split.0.now ++ 10 ∷ split.1.now)) }
-    ensures none { IsNone result → IsOneLine text.now }
-{
-    let at = memchr(b'\n', text)?;
-    Some((&text[..at], &text[at + 1..]))
 }
 
 /// The instruction whose line is the first, and the bytes after it; None where the first line isn't

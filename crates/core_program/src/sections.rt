@@ -1,15 +1,14 @@
 //! Reads the sections of a text.
 
-ghost use Rattle.std.specs.Prelude.{◌≡◌, ◌≢◌, ◌≤◌, ◌+◌, ◌^◌, ◌<◌, ℕ, List, ◌∷◌, ◌++◌, length, IfErr, IfOk, IfSome, IsNone};
-ghost use Rattle.core_program.specs.Grammar.{core_text};
+ghost use Rattle.std.specs.Prelude.{◌≡◌, ◌≤◌, IfErr, IfOk, option_map};
 ghost use Rattle.core_program.specs.Sections.{AreSectionsOf, IsSectionsFault};
-ghost use Rattle.core_program.specs.inner.Reading.{core_of};
+ghost use Rattle.core_program.specs.inner.Reading.{behind_core};
 
 use super::fault::ProgramFault;
 use super::format::ProgramFormat;
 use super::instruction::Instruction;
-use super::section::{next_line, read_section};
-use decimal_text::{after_text, read_last};
+use super::section::read_section;
+use decimal_text::{after_text, read_field};
 use std::alloc::Global;
 
 /// The sections at the front of a text.
@@ -23,25 +22,13 @@ pub struct Sections {
     pub line: u64,
 }
 
-/// The core whose section a line begins.
-#[tactic(auto, unfolding(crate::specs::inner::Reading::core_of))]
-fn core_of(line: &[u8]) -> Option<u64>
-    ensures { result ≡ core_of line.now }
-{
-    read_last(after_text(b"core ", line)?)?
-}
-
 /// The bytes after the line with which a core's section begins; None where that isn't the first.
-fn after_core_line(core: u64, text: &[u8]) -> Option<&[u8]>
-    ensures found { IfSome result (λ rest. text.now ≡ core_text core ++ 10 ∷ rest.now) }
-    ensures none { IsNone result → (rest : List ℕ) → text.now ≢ core_text core ++ 10 ∷ rest }
+#[tactic(auto, unfolding(crate::specs::inner::Reading::behind_core))]
+fn behind_core(core: u64, text: &[u8]) -> Option<&[u8]>
+    ensures { option_map (λ rest. rest.now) result ≡ behind_core core text.now }
 {
-    let (line, rest) = next_line(text)?;
-    if core_of(line) == Some(core) {
-        Some(rest)
-    } else {
-        None
-    }
+    let (number, rest) = read_field(b'\n', after_text(b"core ", text)?)?;
+    (number? == core).then_some(rest)
 }
 
 /// The sections of core 0, core 1, and so on that a text begins with in a format, of `cores` at most: all
@@ -61,7 +48,7 @@ pub fn read_sections(
     let mut rest = text;
     let mut line = 2;
     for core in 0..cores {
-        let Some(behind) = after_core_line(core, rest) else {
+        let Some(behind) = behind_core(core, rest) else {
             return Ok(Sections {
                 programs,
                 taken: text.len() - rest.len(),

@@ -1,11 +1,11 @@
 //! The text of a set of programs, read.
 
-ghost use Rattle.std.specs.Prelude.{◌≡◌, ℕ, List, IfSome, IsNone, MatchResult};
+ghost use Rattle.std.specs.Prelude.{◌≡◌, MatchResult, option_map};
 ghost use Rattle.std.specs.List.{AllByRecursion};
 ghost use Rattle.core_program.specs.Answers.{IsJumpFault, IsSetFault, SpellsSet};
 ghost use Rattle.core_program.specs.Grammar.{IsSection, IsSetOf};
-ghost use Rattle.core_program.specs.inner.Reading.{cores_of, first_words, header_of};
-ghost use Rattle.core_program.specs.inner.Sections.{HeaderInFront, IsLineFault, parts_of};
+ghost use Rattle.core_program.specs.inner.Reading.{cores_at, first_words, header_at};
+ghost use Rattle.core_program.specs.inner.Sections.{parts_of};
 ghost use Rattle.decimal_text.specs.Reading.{front_now};
 ghost use Rattle.core_program.specs.Sections.{section_lists};
 ghost use Rattle.core_program.specs.Shape.{IsProgram};
@@ -15,9 +15,8 @@ use super::format::ProgramFormat;
 use super::instruction::Instruction;
 use super::program::{Program, skip_past_end};
 use super::program_set::ProgramSet;
-use super::section::next_line;
 use super::sections::read_sections;
-use decimal_text::{after_text, read_last};
+use decimal_text::{after_text, read_field};
 use std::alloc::Global;
 
 /// The most cores of a set.
@@ -25,47 +24,36 @@ const CORE_LIMIT: u64 = 64;
 
 /// The format that a header's first words say, and the bytes after them.
 #[tactic(auto, unfolding(crate::specs::inner::Reading::first_words))]
-fn format_of(line: &[u8]) -> Option<(ProgramFormat, &[u8])>
-    ensures { front_now result ≡ first_words line.now }
+fn format_of(text: &[u8]) -> Option<(ProgramFormat, &[u8])>
+    ensures { front_now result ≡ first_words text.now }
 {
-    if let Some(rest) = after_text(b"tardis-programs 1 cores ", line) {
+    if let Some(rest) = after_text(b"tardis-programs 1 cores ", text) {
         return Some((ProgramFormat::One, rest));
     }
-    let rest = after_text(b"tardis-programs 2 cores ", line)?;
+    let rest = after_text(b"tardis-programs 2 cores ", text)?;
     Some((ProgramFormat::Two, rest))
 }
 
-/// The number of cores after a header's first words, 1..64.
-#[tactic(auto, unfolding(crate::specs::inner::Reading::cores_of))]
-fn cores_of(bytes: &[u8]) -> Option<u64>
-    ensures { result ≡ cores_of bytes.now }
+/// The number of cores that ends a header, 1..64, and the bytes after it.
+#[tactic(auto, unfolding(crate::specs::inner::Reading::cores_at))]
+fn cores_at(bytes: &[u8]) -> Option<(u64, &[u8])>
+    ensures { front_now result ≡ cores_at bytes.now }
 {
-    let cores = read_last(bytes)??;
+    let (number, rest) = read_field(b'\n', bytes)?;
+    let cores = number?;
     if cores == 0 || cores > CORE_LIMIT {
         return None;
     }
-    Some(cores)
+    Some((cores, rest))
 }
 
-/// The format and the number of cores that a header tells.
-#[tactic(auto, unfolding(crate::specs::inner::Reading::header_of))]
-fn header_of(line: &[u8]) -> Option<(ProgramFormat, u64)>
-    ensures { result ≡ header_of line.now }
-{
-    let (format, rest) = format_of(line)?;
-    let cores = cores_of(rest)?;
-    Some((format, cores))
-}
-
-/// The format and the number of cores that the first line tells, and the bytes after that line; None
-/// where it isn't a header with such a number.
+/// The format and the number of cores that a header tells, and the bytes after its line.
+#[tactic(auto, unfolding(crate::specs::inner::Reading::header_at))]
 fn after_header(text: &[u8]) -> Option<(ProgramFormat, u64, &[u8])>
-    ensures found { IfSome result (λ read. HeaderInFront read.0 read.1 text.now read.2.now) }
-    ensures none { IsNone result →
-        (format : ProgramFormat) (cores : ℕ) (rest : List ℕ) → ¬ HeaderInFront format cores text.now rest }
+    ensures { option_map (λ read. (read.0, read.1, read.2.now)) result ≡ header_at text.now }
 {
-    let (line, rest) = next_line(text)?;
-    let (format, cores) = header_of(line)?;
+    let (format, rest) = format_of(text)?;
+    let (cores, rest) = cores_at(rest)?;
     Some((format, cores, rest))
 }
 
@@ -81,7 +69,7 @@ struct Parts {
 fn read_set(alloc: Global, text: &[u8]) -> Result<Parts, ProgramFault>
     ensures { MatchResult result
         (λ parts. SpellsSet text.now (parts_of parts))
-        (λ fault. IsLineFault text.now fault) }
+        (λ fault. IsSetFault text.now fault) }
 {
     let Some((format, cores, body)) = after_header(text) else {
         return Err(ProgramFault::BadLine(1));

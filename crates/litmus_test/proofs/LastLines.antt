@@ -4,36 +4,17 @@ use Rattle.std.specs.List.{AllByRecursion}
 use Rattle.decimal_text.proofs.Lines.{NoLf, const_no_lf}
 use Rattle.core_program.specs.declared.format.ProgramFormat.{ProgramFormat}
 use Rattle.core_program.specs.declared.instruction.Instruction.{Instruction}
-use Rattle.core_program.specs.Answers.{IsBadLine}
-use Rattle.core_program.specs.Grammar.{end_text, sections, EachFits, IsSection}
-use Rattle.core_program.specs.Lines.{IsFirstWrong}
-use Rattle.core_program.proofs.SectionsOf.{HasSections, each_fits_of}
-use Rattle.core_program.proofs.SetLines.{Next, goes_on, next_core, last_line, begun, filled_up, next_of, sections-append, sections_no_lf, sections_no_other, EachNoLf-append}
-use Rattle.core_program.proofs.TextLines.{EachNoLf}
-use Rattle.core_program.proofs.Wrong.{CanGoOn, HasLines}
+use Rattle.core_program.specs.Grammar.{end_text, sections, EachFits}
+use Rattle.core_program.proofs.SectionKinds.{IsKind}
+use Rattle.core_program.proofs.SectionsOf.{HasSections}
+use Rattle.core_program.proofs.SetLines.{Next, goes_on, next_core, last_line, begun, filled_up, next_of, sections-append, sections_no_lf, sections_no_other}
 use Rattle.litmus_test.specs.Answers.{LitmusLines}
 use Rattle.litmus_test.specs.Grammar.{forbid_text, last_lines, litmus_lines, show_text, AreForbidden, AreShown, IsOutcome, IsTestOf}
 use Rattle.litmus_test.specs.Parts.{LitmusParts, ShownParts}
 use Rattle.litmus_test.specs.inner.Reading.{head_text, HeadParts, IsHead}
 use Rattle.litmus_test.proofs.Headers.{head_no_lf, head_once}
 use Rattle.litmus_test.proofs.WordLines.{forbid_no_end, forbid_no_lf, show_is_other, show_no_lf, show_once}
-
--- ---- sections of two kinds: limited in length, or of any length
-
-pub record IsKind (Section : ProgramFormat → List Instruction → Type 0) : Type 0 where
-  pub empty : (format : ProgramFormat) → Section format []
-  pub fits : (format : ProgramFormat) (p : List Instruction) → Section format p → EachFits format p
-  pub each : (format : ProgramFormat) (programs : List (List Instruction)) → AllByRecursion (IsSection format) programs → AllByRecursion (Section format) programs
-
-pub limited : IsKind IsSection
-limited = record { empty = λ format. record { few = omega arith; each_fits = tt }; fits = λ format p section. section.each_fits; each = λ format programs each. each }
-
-pub unlimited : IsKind EachFits
-unlimited = record { empty = λ format. tt; fits = λ format p each. each; each = each_fits_of }
-
--- a line that is the first wrong one for both
-pub bad_line : (text : List ℕ) (k : ℕ) → ((Section : ProgramFormat → List Instruction → Type 0) → IsKind Section → IsFirstWrong (LitmusLines Section) text k) → IsBadLine LitmusLines text k
-bad_line text k wrong = (wrong IsSection limited, (wrong EachFits unlimited).wrong)
+use Rattle.text_lines.proofs.Wrong.{CanGoOn, EachNoLf, EachNoLf-append, HasLines}
 
 -- ---- no line feed
 
@@ -141,7 +122,6 @@ module _ (h : HeadParts) (is : IsHead h) where
   pub has : (Section : ProgramFormat → List Instruction → Type 0) → IsKind Section → HasSections h.format (LitmusLines Section) (Section h.format) (IsLast h.cores) (head_text h) h.cores
   has Section kind = record {
     lines = has_lines Section;
-    fits = kind.fits h.format;
     can = goes Section kind;
     next = next_line Section kind;
     unended = λ programs g. sections_no_other (show_text g.0.shown) (show_is_other g.0.shown) programs (sections 0 g.0.programs) (map forbid_text g.0.forbidden ++ end_text ∷ [])

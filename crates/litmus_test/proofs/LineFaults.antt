@@ -11,11 +11,10 @@ use Rattle.core_program.specs.Answers.{IsBadLine}
 use Rattle.core_program.specs.Grammar.{core_text, end_text, format_number, sections, EachFits, IsSection}
 use Rattle.core_program.specs.Lines.{text_of, IsFirstWrong}
 use Rattle.core_program.specs.Sections.{IsSectionsFault, NoCoreInFront}
+use Rattle.core_program.proofs.SectionKinds.{IsKind, bad_lines, each_section, limited, unlimited}
 use Rattle.core_program.proofs.SectionsOf.{AfterSections, NotNext, each_fits_of, line_wrong, too_long_right, too_long_wrong}
-use Rattle.core_program.proofs.SetLines.{begun, sections_no_lf, sections_no_other, EachNoLf-append}
+use Rattle.core_program.proofs.SetLines.{begun, sections_no_lf, sections_no_other}
 use Rattle.core_program.proofs.SetTexts.{after_header}
-use Rattle.core_program.proofs.TextLines.{EachNoLf, lines_once, text_of-append, text_of-cons}
-use Rattle.core_program.proofs.Wrong.{NoneFollows, wrong_behind}
 use Rattle.litmus_test.specs.Answers.{IsInstructionLine, LitmusLines, Spells}
 use Rattle.litmus_test.specs.FaultTexts.{from_program}
 use Rattle.litmus_test.specs.Grammar.{forbid_text, header_text, last_lines, show_text, AreForbidden, AreShown}
@@ -26,9 +25,11 @@ use Rattle.litmus_test.specs.inner.Ending.{BeginsInstruction, IsEnding, IsEnding
 use Rattle.litmus_test.specs.inner.Reading.{head_text, HeadParts, IsHead}
 use Rattle.litmus_test.specs.inner.Whole.{IsLineFault}
 use Rattle.litmus_test.proofs.Headers.{head_no_lf, header_no_lf}
-use Rattle.litmus_test.proofs.LastLines.{Comes, IsKind, IsLast, bad_line, comes_behind, forbids_no_lf, goes, has, has_lines, heading, heading_is, limited, one_more, the_end, unlimited, whole}
+use Rattle.litmus_test.proofs.LastLines.{Comes, IsLast, comes_behind, forbids_no_lf, goes, has, has_lines, heading, heading_is, one_more, the_end, whole}
 use Rattle.litmus_test.proofs.WordLines.{forbid_no_end, show_is_other, show_no_lf}
 use Rattle.text_lines.specs.Items.{ItemInFront, NoItemInFront}
+use Rattle.text_lines.proofs.TextLines.{text_of-append, text_of-cons}
+use Rattle.text_lines.proofs.Wrong.{EachNoLf, EachNoLf-append, NoneFollows, lines_once, wrong_behind}
 
 -- ---- the first line
 
@@ -41,7 +42,7 @@ unfolding any_head
 any_is_head = record { is_name = record { some = omega arith; few = omega arith; each = (refl, tt) }; some = omega arith; few = omega arith }
 
 pub bad_header : (text : List ℕ) → NoItemInFront head_text IsHead text → IsLineFault text (BadLitmusLine 1)
-bad_header text none = (bad_line text 1 wrong, λ x. omega (arith, x.line))
+bad_header text none = (bad_lines LitmusLines text 1 wrong, λ x. omega (arith, x.line))
   where
     follows : (Section : ProgramFormat → List Instruction → Type 0) → NoneFollows (LitmusLines Section) [] text
     follows Section next more behind (t, (is, e)) there =
@@ -97,8 +98,8 @@ module _ (h : HeadParts) (is : IsHead h) (text rest : List ℕ) (line : ℕ) (pr
   wrong_told fault wrong others = go fault wrong
     where
       bad : IsBadLine LitmusLines text line
-      bad = bad_line text line (λ Section kind.
-          line_wrong h.format (LitmusLines Section) (Section h.format) (IsLast h.cores) (head_text h) h.cores (has h is Section kind) text rest line programs (kind.each h.format programs stands.each) stands others)
+      bad = bad_lines LitmusLines text line (λ Section kind.
+          line_wrong h.format (LitmusLines Section) (Section h.format) (IsLast h.cores) (head_text h) h.cores (has h is Section kind) text rest line programs (each_section Section kind h.format programs stands.each) stands others)
 
       no_instruction : (0 < length programs → BeginsInstruction rest → ⊥) → IsInstructionLine text line → ⊥
       no_instruction none x =
@@ -170,7 +171,7 @@ module _ (h : HeadParts) (is : IsHead h) (text rest : List ℕ) (line : ℕ) (pr
       wrong_behind_them : (tail more : List (List ℕ)) (last : List ℕ) (k : ℕ) → tail ++ more ≡ end_text ∷ [] → EachNoLf tail → text ≡ text_of (front_of tail) ++ last → k ≡ line + 1 + length forbidden + length tail
           → ((next : List ℕ) (others : List (List ℕ)) (behind : List ℕ) → Comes (length shown) (length forbidden) (tail ++ next ∷ others) → last ≡ next ++ 10 ∷ behind → ⊥)
           → (last ≡ [] → Comes (length shown) (length forbidden) tail → ⊥) → IsLineFault text (BadLitmusLine k)
-      wrong_behind_them tail more last k both none text-is k-is goes_wrong ends_wrong = (bad_line text k wrong, no_instruction)
+      wrong_behind_them tail more last k both none text-is k-is goes_wrong ends_wrong = (bad_lines LitmusLines text k wrong, no_instruction)
         where
           lines-are : length (front_of tail) ≡ line + length forbidden + length tail
           lines-are = omega (
@@ -184,7 +185,7 @@ module _ (h : HeadParts) (is : IsHead h) (text rest : List ℕ) (line : ℕ) (pr
           wrong : (Section : ProgramFormat → List Instruction → Type 0) → IsKind Section → IsFirstWrong (LitmusLines Section) text k
           wrong Section kind =
               let each = each_fits_of h.format programs stands.each in
-              let test = whole h is Section programs shown forbidden count (kind.each h.format programs stands.each) are_shown are_forbidden in
+              let test = whole h is Section programs shown forbidden count (each_section Section kind h.format programs stands.each) are_shown are_forbidden in
               let can = subst (LitmusLines Section) (sym (regroup tail more ∙ ap front_of both)) test in
               wrong_behind (LitmusLines Section) (front_of tail) text last k (has_lines Section) text-is (omega (arith, k-is, lines-are)) (more, can)
               (λ next others behind g there.

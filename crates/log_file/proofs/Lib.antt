@@ -3,7 +3,6 @@ pub mod Devices
 pub mod Fed
 pub mod FedAll
 pub mod Front
-pub mod Fronts
 pub mod Joined
 pub mod LineFeeds
 pub mod LineOf

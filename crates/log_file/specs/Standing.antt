@@ -127,18 +127,6 @@ pub record Takes (old : LineReader) (records : List Record) (bytes : List ℕ) (
   pub stands : Stands new after
   pub text : read_text new after ≡ read_text old records ++ bytes
 
--- the reader stands between the records of a log of this format that has room for `many` more
-pub record HasRoom (format : Format) (s : LineReader) (many : ℕ) : Type 0 where
-  pub stage : s.progress.stage ≡ stage.Records format
-  pub between : s.begun.items ≡ []
-  pub room : s.progress.count + many ≤ operation_limit
-
--- it stands `many` records further on
-pub record IsPassed (format : Format) (old : LineReader) (many : ℕ) (new : LineReader) : Type 0 where
-  pub had_room : HasRoom format old many
-  pub progress : new.progress ≡ record old.progress { count = old.progress.count + many }
-  pub between : new.begun.items ≡ []
-
 -- the bytes that were read have a first fault with these after them, however they go on
 abbrev pub IsSettledWith : LineReader → List Record → List ℕ → LogFault → Type 0
 IsSettledWith s records bytes fault = IsSettled s.progress.core s.progress.cores (read_text s records ++ bytes) fault

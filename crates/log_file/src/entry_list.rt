@@ -65,12 +65,4 @@ impl RecordList for EntryList {
         self.entries.push(Entry::new(id, &logged))?;
         Ok(())
     }
-
-    fn keep_all(&mut self, more: &[Record]) -> Result<(), AllocError> {
-        self.entries.reserve(more.len())?;
-        for logged in more {
-            self.keep(*logged)?;
-        }
-        Ok(())
-    }
 }

@@ -3,7 +3,6 @@
 
 mod byte_sink;
 mod byte_source;
-mod chunks;
 mod device_fault;
 mod entry_list;
 mod fault;
@@ -23,7 +22,6 @@ mod record_list;
 mod record_reader;
 mod slice_source;
 mod step;
-mod taking;
 mod write;
 mod write_fault;
 

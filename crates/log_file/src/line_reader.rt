@@ -1,18 +1,17 @@
 //! A log read line by line.
 
-ghost use Rattle.std.specs.Prelude.{◌≡◌, ◌<◌, ◌≤◌, true, false, [], ◌++◌, List, IfOk, IfErr, IfSome, IsNone, OnOk, MatchResult, length};
+ghost use Rattle.std.specs.Prelude.{◌≡◌, ◌<◌, ◌≤◌, [], ◌++◌, List, IfOk, IfErr, IfSome, OnOk, MatchResult, length};
 ghost use Rattle.log_record.specs.declared.record.Record.{Record};
-ghost use Rattle.log_file.specs.declared.progress.Stage.TheVariants as stage;
 ghost use Rattle.log_file.specs.Answers.{IsFaultOf, IsOfText};
 ghost use Rattle.log_file.specs.Log.{Spells};
-ghost use Rattle.log_file.specs.Standing.{IsInRange, IsInRecords, SameLog, IsBehind, IsTooFar, IsPartRefused, IsLineRefused};
-ghost use Rattle.log_file.specs.Standing.{HasRoom, IsPassed, Stands, IsSettledWith, TakesNext, read_text};
+ghost use Rattle.log_file.specs.Standing.{IsInRange, SameLog, IsBehind, IsTooFar, IsPartRefused, IsLineRefused};
+ghost use Rattle.log_file.specs.Standing.{Stands, IsSettledWith, TakesNext, read_text};
 
 use super::fault::{FormatFault, LogFault};
-use super::one_line::{LONGEST_LINE, RECORD_LIMIT};
+use super::one_line::LONGEST_LINE;
 use super::progress::{Progress, Stage};
 use arrayvec::ArrayVec;
-use log_record::{Format, Record};
+use log_record::Record;
 use memchr::memchr;
 
 /// A whole line that was taken.
@@ -58,17 +57,6 @@ impl LineReader {
                 count: 0,
             },
             begun: ArrayVec::new(),
-        }
-    }
-
-    /// The format of the log, where the header or a record was read last.
-    pub(crate) fn format(&self) -> Option<Format>
-        ensures some { IfSome result (λ format. self.now.progress.stage ≡ stage.Records format) }
-        ensures none { IsNone result → ¬ IsInRecords self.now.progress.stage }
-    {
-        match self.progress.stage {
-            Stage::Records(format) => Some(format),
-            _ => None,
         }
     }
 
@@ -137,26 +125,6 @@ impl LineReader {
             logged,
             taken: at + 1,
         }))
-    }
-
-    /// Passes over the lines of `records` records, which a log of this format may have. False, and then
-    /// nothing changes, where the reader doesn't stand between the records of a log of this format, or the
-    /// log has no room for them.
-    pub(crate) fn pass(&mut self, format: Format, records: usize) -> bool
-        requires { IsInRange self.old.progress }
-        ensures same { SameLog self.old.progress self.new.progress }
-        ensures in_range { IsInRange self.new.progress }
-        ensures passed { result ≡ true → IsPassed format self.old records self.new }
-        ensures kept { result ≡ false → (self.new ≡ self.old) × (¬ HasRoom format self.old records) }
-    {
-        let progress = &mut self.progress;
-        let room = RECORD_LIMIT - progress.count;
-        let is_there = progress.stage == Stage::Records(format) && self.begun.is_empty();
-        if !is_there || records as u64 > room {
-            return false;
-        }
-        progress.count += records as u64;
-        true
     }
 
     /// Whether the log is whole; Truncated at the line that the bytes end in, where it isn't.

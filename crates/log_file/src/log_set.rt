@@ -16,7 +16,6 @@ use log_record::{Entry, Record};
 use mem_op::CoreId;
 use std::alloc::{AllocError, Global};
 use std::marker::Model;
-use std::thread::Threads;
 
 /// The records of some entries.
 fn records_of(alloc: Global, entries: &[Entry]) -> Result<Vec<Record>, AllocError>
@@ -51,14 +50,8 @@ impl Model for LogSet {
 impl LogSet {
     /// The logs of a set, one from each reader in their order, or the fault of the first file that has one. File k is to
     /// be the log of core k, and the cores as many as the readers. 10 comes where a growth was refused, 28 where a read
-    /// failed. The calling thread reads the files; `workers` workers parse their lines in parallel (0 counts as 1), and the
-    /// answer doesn't depend on how many.
-    pub fn read<R: Threads + Sync, S: ByteSource>(
-        rt: &R,
-        alloc: Global,
-        readers: &mut [S],
-        workers: usize,
-    ) -> Result<LogSet, SetFault>
+    /// failed.
+    pub fn read<S: ByteSource>(alloc: Global, readers: &mut [S]) -> Result<LogSet, SetFault>
         requires { length readers.old ≤ 64 }
         // There are texts, those that the readers tell, of which this is the answer.
         ensures answer { (texts : List (List ℕ)) × TellEach S.remaining readers.old texts
@@ -80,7 +73,7 @@ impl LogSet {
             let core = CoreId::at(file);
             let fresh = RecordReader::new(core, cores);
             let list = EntryList::after(core, entries);
-            entries = match read_list(rt, alloc, reader, fresh, list, workers) {
+            entries = match read_list(alloc, reader, fresh, list) {
                 Ok(list) => list.into_entries(),
                 Err(fault) => return Err(SetFault { file, fault }),
             };

@@ -14,7 +14,7 @@ pub(crate) const HEADER_LIMIT: usize = 80;
 pub(crate) const LONGEST_LINE: usize = 96;
 
 /// The most records of a log.
-pub(crate) const RECORD_LIMIT: u64 = 1_048_576;
+const RECORD_LIMIT: u64 = 1_048_576;
 
 /// The most cores, and so the most logs of a set.
 const CORE_LIMIT: u64 = 64;

@@ -1,6 +1,6 @@
 //! A log read from a device, piece by piece.
 
-ghost use Rattle.std.specs.Prelude.{◌≡◌, ◌<◌, ◌≤◌, ℕ, List, [], IfOk, IsErrOf};
+ghost use Rattle.std.specs.Prelude.{◌≡◌, ◌<◌, ℕ, List, [], IfOk, IsErrOf, vec_len};
 ghost use Rattle.log_file.specs.Answering.{HasAnswered};
 ghost use Rattle.log_file.specs.Answers.{IsListAnswer, IsReadAnswer};
 ghost use Rattle.log_file.specs.Devices.{Failed, Tells};
@@ -11,24 +11,25 @@ use super::record_list::RecordList;
 use super::record_reader::RecordReader;
 use log_record::Record;
 use mem_op::CoreId;
-use std::alloc::Global;
-use std::thread::Threads;
+use std::alloc::{AllocError, Global};
 
-/// The most bytes of a piece that the calling thread parses alone: it stays near the processor.
-const CALLER_PIECE_BYTES: usize = 32_768;
+/// The most bytes of a piece: it stays near the processor.
+const PIECE_BYTES: usize = 32_768;
 
-/// The most bytes of a piece that several workers parse.
-const WORKERS_PIECE_BYTES: usize = 2_097_152;
+/// Room for a piece. Err where memory was refused.
+fn piece_room(alloc: Global) -> Result<Vec<u8>, AllocError>
+    ensures { IfOk result (λ room. 0 < vec_len room) }
+{
+    vec![in alloc; 0u8; PIECE_BYTES]
+}
 
 /// The records of the log that the source's bytes spell, kept in this list, or the first fault of these bytes. The reader was
 /// fed nothing.
-pub(crate) fn read_list<R: Threads + Sync, S: ByteSource, L: RecordList + Drop>(
-    rt: &R,
+pub(crate) fn read_list<S: ByteSource, L: RecordList + Drop>(
     alloc: Global,
     source: &mut S,
     mut reader: RecordReader,
     mut list: L,
-    workers: usize,
 ) -> Result<L, LogFault>
     requires { HasAnswered reader [] (L.records list) }
     ensures base { IfOk result (λ read. L.base read ≡ L.base list) }
@@ -38,12 +39,7 @@ pub(crate) fn read_list<R: Threads + Sync, S: ByteSource, L: RecordList + Drop>(
         Failed (S.failed source.old) (S.failed source.new) }
     ensures quiet { ¬ IsErrOf result LogFault.Read → S.failed source.new ≡ S.failed source.old }
 {
-    let size = if workers > 1 {
-        WORKERS_PIECE_BYTES
-    } else {
-        CALLER_PIECE_BYTES
-    };
-    let mut buffer = vec![in alloc; 0u8; size]?;
+    let mut buffer = piece_room(alloc)?;
     'pieces: loop {
         let room = buffer.as_mut_slice();
         let count = source.read(room)?;
@@ -51,21 +47,17 @@ pub(crate) fn read_list<R: Threads + Sync, S: ByteSource, L: RecordList + Drop>(
             reader.finish()?;
             return Ok(list);
         }
-        reader.feed_all_by(rt, alloc, &mut list, &room[..count], workers)?;
+        reader.feed_all(&mut list, &room[..count])?;
     }
 }
 
 /// The log of this core of `cores` that the source's bytes spell, or their first fault. 10 comes
-/// where a growth was refused, 28 where a read failed. The calling thread reads the source; `workers`
-/// workers parse the lines of each piece in parallel (0 counts as 1), and the answer doesn't depend on
-/// how many.
-pub fn read_log<R: Threads + Sync, S: ByteSource>(
-    rt: &R,
+/// where a growth was refused, 28 where a read failed.
+pub fn read_log<S: ByteSource>(
     alloc: Global,
     source: &mut S,
     core: CoreId,
     cores: u64,
-    workers: usize,
 ) -> Result<Vec<Record>, LogFault>
     // There are bytes, those that the source tells, of which this is the answer.
     ensures answer { (bytes : List ℕ) × Tells (S.remaining source.old) bytes
@@ -77,5 +69,5 @@ pub fn read_log<R: Threads + Sync, S: ByteSource>(
     ensures quiet { ¬ IsErrOf result LogFault.Read → S.failed source.new ≡ S.failed source.old }
 {
     let reader = RecordReader::new(core, cores);
-    read_list(rt, alloc, source, reader, Vec::new(alloc), workers)
+    read_list(alloc, source, reader, Vec::new(alloc))
 }

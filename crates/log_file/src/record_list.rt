@@ -1,6 +1,6 @@
 //! Lists that keep the records of a log as they are read.
 
-ghost use Rattle.std.specs.Prelude.{◌≡◌, ◌<◌, ◌≤◌, ◌+◌, ◌++◌, ◌∷◌, [], List, OnOk, length};
+ghost use Rattle.std.specs.Prelude.{◌≡◌, ◌<◌, ◌++◌, ◌∷◌, [], List, OnOk, length};
 ghost use Rattle.mem_op.specs.Limits.{operation_limit};
 ghost use Rattle.log_file.specs.inner.Listing.{Base};
 
@@ -22,12 +22,6 @@ pub(crate) trait RecordList {
         requires { length (records self.old) < operation_limit }
         ensures base { base self.new ≡ base self.old }
         ensures kept { OnOk result (records self.new ≡ records self.old ++ logged ∷ []) };
-
-    /// Keeps these records after its own.
-    fn keep_all(&mut self, more: &[Record]) -> Result<(), AllocError>
-        requires { length (records self.old) + length more.now ≤ operation_limit }
-        ensures base { base self.new ≡ base self.old }
-        ensures kept { OnOk result (records self.new ≡ records self.old ++ more.now) };
 }
 
 impl RecordList for Vec<Record> {
@@ -39,9 +33,5 @@ impl RecordList for Vec<Record> {
     fn keep(&mut self, logged: Record) -> Result<(), AllocError> {
         self.push(logged)?;
         Ok(())
-    }
-
-    fn keep_all(&mut self, more: &[Record]) -> Result<(), AllocError> {
-        self.extend_from_slice(more)
     }
 }

@@ -8,17 +8,14 @@ ghost use Rattle.log_file.specs.Feeding.{IsSettled};
 ghost use Rattle.log_file.specs.Keeping.{KeepsRecords};
 ghost use Rattle.log_file.specs.Log.{Spells};
 ghost use Rattle.log_file.specs.inner.FedAll.{AnswersPiece};
-ghost use Rattle.log_file.specs.Standing.{IsInRange, IsSettledWith, SameLog, Stands, TakesRecord};
+ghost use Rattle.log_file.specs.Standing.{IsInRange, IsSettledWith, SameLog, Stands, Takes, TakesRecord};
 
 use super::fault::LogFault;
 use super::line_reader::LineReader;
 use super::record_list::RecordList;
-use super::taking::{take_piece, take_piece_by};
 use log_record::Record;
 use mem_op::CoreId;
-use std::alloc::Global;
 use std::marker::Model;
-use std::thread::Threads;
 
 /// Takes the lines of a piece up to the first record's, and answers how many bytes those are and the
 /// record; where no record's line ends in the piece, it takes all of it.
@@ -40,6 +37,31 @@ fn next_record(lines: &mut LineReader, piece: &[u8]) -> Result<(usize, Option<Re
         }
     }
     Ok((piece.len(), None))
+}
+
+/// Takes all of a piece, and keeps its records.
+fn take_piece<L: RecordList>(
+    lines: &mut LineReader,
+    records: &mut L,
+    piece: &[u8],
+) -> Result<(), LogFault>
+    requires in_range { IsInRange lines.old.progress }
+    requires stands { Stands lines.old (L.records records.old) }
+    ensures same { SameLog lines.old.progress lines.new.progress }
+    ensures in_range { IsInRange lines.new.progress }
+    ensures base { L.base records.new ≡ L.base records.old }
+    ensures taken { MatchResult result
+        (λ _. Takes lines.old (L.records records.old) piece.now lines.new (L.records records.new))
+        (IsSettledWith lines.old (L.records records.old) piece.now) }
+{
+    let mut rest = piece;
+    while let Some(line) = lines.next_line(rest)? {
+        if let Some(logged) = line.logged {
+            records.keep(logged)?;
+        }
+        rest = &rest[line.taken..];
+    }
+    Ok(())
 }
 
 /// Keeps the fault of an outcome, where it is one, and answers the outcome.
@@ -122,26 +144,6 @@ impl RecordReader {
     {
         self.faultless()?;
         remember(&mut self.fault, take_piece(&mut self.lines, records, piece))
-    }
-
-    /// Takes all of a piece as `feed_all` does. `workers` workers parse its lines in parallel; 0 counts as 1.
-    pub(crate) fn feed_all_by<R: Threads + Sync, L: RecordList>(
-        &mut self,
-        rt: &R,
-        alloc: Global,
-        records: &mut L,
-        piece: &[u8],
-        workers: usize,
-    ) -> Result<(), LogFault>
-        requires { KeepsRecords self.old (L.records records.old) }
-        ensures base { L.base records.new ≡ L.base records.old }
-        ensures fed { AnswersPiece self.old (L.records records.old) piece.now result self.new (L.records records.new) }
-    {
-        self.faultless()?;
-        remember(
-            &mut self.fault,
-            take_piece_by(rt, alloc, &mut self.lines, records, piece, workers),
-        )
     }
 
     /// Answers the fault that is kept, where one is.

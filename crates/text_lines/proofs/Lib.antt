@@ -2,3 +2,4 @@ pub mod Fields
 pub mod Items
 pub mod SpacedWords
 pub mod TextLines
+pub mod Wrong

@@ -105,7 +105,7 @@ fn is_over(bytes: &[u8]) -> bool
     matches!(skip_blanks(bytes), [] | [b'#', ..])
 }
 
-/// The bytes after a time, or all where there is none.
+/// The bytes after a time, or all if there is none.
 #[tactic(auto, unfolding(crate::specs::inner::Reading::after_time))]
 fn after_time(bytes: &[u8]) -> &[u8]
     ensures { result.now ≡ after_time bytes.now }
@@ -157,7 +157,7 @@ fn core(bytes: &[u8]) -> Option<(CoreId, &[u8])>
     Some((CoreId::new(number).ok()?, rest))
 }
 
-/// What a line says, without its line feed; None where it isn't a line of a trace.
+/// What a line says, without its line feed; None if it isn't a line of a trace.
 #[tactic(auto, unfolding(crate::specs::inner::Reading::line_of))]
 pub(crate) fn read_line(line: &[u8]) -> Option<TraceLine>
     ensures { result ≡ line_of line.now }

@@ -32,8 +32,8 @@ fn operations_of_logs(alloc: Global, logs: &[Vec<Record>]) -> Result<Vec<Vec<Acc
 }
 
 impl Trace {
-    /// The trace of a set of logs, core 0's first. 23 TooMany where there are more than 64 logs, or one has more than
-    /// 1,048,576 records; 10 OutOfMemory where memory was refused.
+    /// The trace of a set of logs, core 0's first. 23 TooMany if there are more than 64 logs, or one has more than
+    /// 1,048,576 records; 10 OutOfMemory if memory was refused.
     pub fn from_logs(alloc: Global, logs: &[Vec<Record>]) -> Result<Trace, TraceFull>
         ensures trace { IfOk result (λ trace. trace ≡ operations_of (record_lists logs.now)) }
         ensures refused { IfErr result (IsRefusalOfAll (operations_of (record_lists logs.now))) }

@@ -8,7 +8,7 @@ ghost use Rattle.trace.specs.inner.Reading.{digits_at, fitting, goes_on, number_
 use super::line::skip_blanks;
 use decimal_text::after_text;
 
-/// What a byte is as a digit: 0..9, or 10..15 for a letter; 16 where it is none.
+/// What a byte is as a digit: 0..9, or 10..15 for a letter; 16 if it is none.
 #[tactic(auto, unfolding(crate::specs::Grammar::digit_value))]
 fn digit_value(byte: u8) -> u64
     ensures value { result ≡ digit_value byte }
@@ -68,7 +68,7 @@ fn digits(base: u64, bytes: &[u8]) -> Option<(u64, &[u8])>
     value(base, bytes)
 }
 
-/// The number at the front, before which blanks may stand, and the bytes after it; None where there is none, or 64 bits
+/// The number at the front, before which blanks may stand, and the bytes after it; None if there is none, or 64 bits
 /// don't hold it, or a letter or a digit goes on after it.
 #[tactic(auto, unfolding(crate::specs::inner::Reading::number_at))]
 pub(crate) fn number(bytes: &[u8]) -> Option<(u64, &[u8])>

@@ -43,7 +43,7 @@ fn take_line(trace: &mut Trace, count: &mut u64, line: &[u8]) -> Result<(), Trac
     }
 }
 
-/// Reads the text of a trace, fed in pieces of any cutting. It keeps no bytes but those of the line that a piece cuts.
+/// Reads the text of a trace, fed in pieces cut anywhere. It keeps only the bytes of the line that a piece cuts.
 #[derive(Drop)]
 pub struct TraceReader {
     trace: Trace,
@@ -111,7 +111,7 @@ impl TraceReader {
         Ok(())
     }
 
-    /// Answers the fault that is kept, where one is.
+    /// Answers the fault that is kept, if one is.
     fn faultless(&self) -> Result<(), TraceFault>
         ensures { MatchResult result (λ _. self.now.fault ≡ None) (λ fault. self.now.fault ≡ Some fault) }
     {
@@ -121,8 +121,7 @@ impl TraceReader {
         }
     }
 
-    /// Takes the next bytes. After a fault it answers that fault from then on. The fault of a line comes with the piece
-    /// in which it ends.
+    /// Takes the next bytes. The fault of a line comes with the piece in which the line ends, and from then on each call answers it.
     pub fn feed(&mut self, piece: &[u8]) -> Result<(), TraceFault>
         ensures fed { (bytes : List ℕ) → WasFed self.old bytes → MatchResult result
             (λ _. WasFed self.new (bytes ++ piece.now))

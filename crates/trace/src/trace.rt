@@ -57,7 +57,7 @@ fn push_at(cores: &mut Vec<Vec<Access>>, place: usize, access: Access) -> Result
     Ok(())
 }
 
-/// Of each core its operations in program order: at most 64 cores, each of at most 1,048,576 operations.
+/// The operations of each core in program order: at most 64 cores, each with at most 1,048,576 operations.
 #[derive(Debug, Drop)]
 pub struct Trace {
     cores: Vec<Vec<Access>>,
@@ -90,7 +90,7 @@ impl Trace {
         }
     }
 
-    /// The trace of these operations, core 0's first; 23 TooMany where there are more than 64 cores, or one has more than
+    /// The trace of these operations, core 0's first; 23 TooMany if there are more than 64 cores, or one has more than
     /// 1,048,576.
     #[tactic(auto, using(crate::proofs::Growth::size_is))]
     pub fn of(alloc: Global, cores: Vec<Vec<Access>>) -> Result<Trace, TraceFull>
@@ -107,15 +107,15 @@ impl Trace {
         })
     }
 
-    /// The same operations, which were written as this tells.
+    /// The same operations, written in the order that this tells.
     pub(crate) fn with_written(self, written: Written) -> Trace
         ensures { result ≡ self }
     {
         Trace { written, ..self }
     }
 
-    /// The operations in the order in which they were pushed or their lines stood; where lines tell when operations ended, in
-    /// the order of that; those of logs in the order of their keys. Nothing is promised of it. Err where memory was refused.
+    /// The operations in the order in which they were pushed or their lines stood; if lines tell when operations ended, in that
+    /// order; those of logs in the order of their keys. Nothing is promised of it. Err if memory was refused.
     pub fn as_written(&self, alloc: Global) -> Result<Vec<OpId>, AllocError> {
         self.written.order(alloc)
     }
@@ -139,7 +139,7 @@ impl Trace {
         }
     }
 
-    /// How many operations a core has: none, where the trace doesn't name it.
+    /// How many operations a core has; 0 if the trace doesn't name it.
     fn count(&self, core: CoreId) -> usize
         ensures { result ≡ length (own_operations self.now core) }
     {
@@ -149,9 +149,8 @@ impl Trace {
         }
     }
 
-    /// One more operation of a core, which comes after its others. Where the core isn't there yet, so are it and the
-    /// cores before it then. 23 TooMany where the core has 1,048,576 operations, and 10 OutOfMemory where memory was
-    /// refused: the operations are those that they were.
+    /// Adds an operation of a core after its others. If the core isn't there yet, it comes, and the cores before it. 23 TooMany if
+    /// the core has 1,048,576 operations, and 10 OutOfMemory if memory was refused; then the operations stay as they were.
     #[tactic(auto, using(crate::proofs::Growth::size_of_widened, crate::proofs::Growth::size_with, crate::proofs::Growth::length_lists))]
     pub fn push(&mut self, core: CoreId, access: Access) -> Result<(), TraceFull>
         ensures pushed { OnOk result (self.new ≡ with_operation core access self.old) }

@@ -7,7 +7,7 @@ use log_file::LogSet;
 /// What a verdict stands on.
 #[derive(Drop)]
 pub enum Basis {
-    /// The logs as they were read, where one of them breaks a rule by itself.
+    /// The logs as they were read: one of them breaks a rule by itself.
     Logs(LogSet),
     /// All records, by address and then by key.
     Index(AddressIndex),

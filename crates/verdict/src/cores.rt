@@ -17,7 +17,7 @@ use mem_op::{CoreId, OpId, OpIndex};
 use std::alloc::{AllocError, Global};
 use std::thread::Threads;
 
-/// The check of the logs of a set, against the programs of its cores where they are given.
+/// The check of the logs of a set, against the programs of its cores if they are given.
 #[derive(Clone, Copy)]
 pub(crate) struct CoreCheck<'a> {
     logs: &'a LogSet,
@@ -33,7 +33,7 @@ impl<'a> CoreCheck<'a> {
         CoreCheck { logs, programs }
     }
 
-    /// The cores of the set. Err where memory was refused.
+    /// The cores of the set. Err if memory was refused.
     fn cores(&self, alloc: Global) -> Result<Vec<CoreId>, AllocError>
         ensures { IfOk result (λ cores. (core : ℕ) → core < length self.now.logs.now → In core cores.items) }
     {
@@ -44,7 +44,7 @@ impl<'a> CoreCheck<'a> {
         Ok(cores)
     }
 
-    /// Where a core's log falls first, if it does.
+    /// The first place at which a core's log falls, if it does.
     fn order_fault(&self, core: CoreId) -> Option<RuleFault>
         ensures { result ≡ least_of_core (order_faults self.now.logs.now) core }
     {
@@ -52,7 +52,7 @@ impl<'a> CoreCheck<'a> {
         Some(fault_at(CoreRule::CoreOrder, core, index))
     }
 
-    /// Where a core's log leaves its program first, if there are programs and it does.
+    /// The first place at which a core's log leaves its program, if there are programs and it does.
     fn program_fault(&self, core: CoreId) -> Option<RuleFault>
         ensures { result
             ≡ least_of_core (faults_by_programs (given self.now.programs) self.now.logs.now) core }
@@ -71,7 +71,7 @@ impl<'a> CoreCheck<'a> {
     }
 
     /// The least core fault of the set, found by `workers` workers at once, 1 to 64. Each has whole cores.
-    /// Err where memory was refused.
+    /// Err if memory was refused.
     pub(crate) fn least_fault<R: Threads + Sync, G: Gate + Sync>(
         &self,
         rt: &R,

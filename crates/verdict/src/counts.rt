@@ -15,8 +15,8 @@ const MAX_FILES: usize = 64;
 /// How many workers judge a set at most.
 const MAX_WORKERS: usize = 64;
 
-/// Whether `files` files can be judged by `workers` workers, each number 1..64. Else 6
-/// BadConfig with the first count that is out of range, `files` before `workers`.
+/// Whether `workers` workers can judge `files` files, each number 1..64. If not, 6 BadConfig with the
+/// first count that is out of range, `files` before `workers`.
 pub fn check_counts(files: usize, workers: usize) -> Result<(), JudgeFault>
     ensures ok { IsOk result ↔ (IsInRange files × IsInRange workers) }
     ensures err { IfErr result IsBadCount }
@@ -33,7 +33,7 @@ pub fn check_counts(files: usize, workers: usize) -> Result<(), JudgeFault>
     Ok(())
 }
 
-/// Whether there are as many programs as files, where programs are given. Else 6 BadConfig.
+/// Whether there are as many programs as files, if programs are given. If not, 6 BadConfig.
 pub(crate) fn check_programs(programs: Option<&ProgramSet>, files: usize) -> Result<(), JudgeFault>
     ensures ok { OnOk result (AreAsMany files (given programs.entry)) }
     ensures err { IfErr result (λ fault. (fault ≡ BadConfig Programs)

@@ -16,8 +16,8 @@ use log_file::LogSet;
 use std::alloc::{AllocError, Global};
 use std::thread::Threads;
 
-/// The verdict on a set, against the programs of its cores where they are given, with what it stands
-/// on: each core alone first, and where none has a fault, each address alone. Err where memory was
+/// The verdict on a set, against the programs of its cores if they are given, with what it stands
+/// on: each core alone first, and if none has a fault, each address alone. Err if memory was
 /// refused.
 pub(crate) fn examine_set<R: Threads + Sync, G: Gate + Sync>(
     rt: &R,

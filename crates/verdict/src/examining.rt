@@ -19,9 +19,9 @@ use log_file::{ByteSource, LogSet};
 use std::alloc::Global;
 use std::thread::Threads;
 
-/// Judges the set of logs that the readers give as `judge` does, or as `judge_run` where programs are
-/// given, and gives back what the verdict stands on beside it: the logs where a core's log breaks a
-/// rule by itself, else the index of all records.
+/// Judges the set of logs that the readers give as `judge` does, or as `judge_run` if programs are
+/// given. With the verdict it gives back what that stands on: the logs if a core's log breaks a rule by
+/// itself, else the index of all records.
 ///
 /// Refusals: those of `judge` or `judge_run`.
 pub fn examine<R: Threads + Sync, S: ByteSource, G: Gate + Sync>(
@@ -54,7 +54,7 @@ pub fn examine<R: Threads + Sync, S: ByteSource, G: Gate + Sync>(
     let files = readers.len();
     check_counts(files, workers)?;
     check_programs(programs, files)?;
-    let set = LogSet::read(rt, alloc, readers, workers)?;
+    let set = LogSet::read(alloc, readers)?;
     let examined = examine_set(rt, alloc, programs, set, workers, gate)?;
     Ok(examined)
 }

@@ -18,14 +18,13 @@ use std::thread::Threads;
 /// The verdict on the set of logs that the readers give, file `k` the log of core `k` of as many cores
 /// as there are files. A set that gets Yes is sequentially consistent, whoever made its logs.
 ///
-/// The calling thread reads the files in their order and stops at the first fault; workers parse the lines of
-/// what it has read. Then come the phases `Cores` and, where no core has a fault, `Addresses`, each cut into as
-/// many pieces as there are workers. Each worker enters the gate with the number of its piece, from 1; a single worker is the
-/// calling thread.
+/// The calling thread reads the files in their order and stops at the first fault. Then come the phases `Cores`
+/// and, if no core has a fault, `Addresses`, each cut into as many pieces as there are workers. Each worker
+/// enters the gate with the number of its piece, from 1; a single worker is the calling thread.
 ///
-/// Refusals: 6 BadConfig before any read, where the number of files, or else that of workers, isn't
-/// 1..64; 20..27, the first fault of the least file that has one; 28 Read where the reader of a file
-/// failed; 10 OutOfMemory where a growth was refused.
+/// Refusals: 6 BadConfig before any read, if the number of files, or else that of workers, isn't
+/// 1..64; 20..27, the first fault of the least file that has one; 28 Read if the reader of a file
+/// failed; 10 OutOfMemory if a growth was refused.
 pub fn judge<R: Threads + Sync, S: ByteSource, G: Gate + Sync>(
     rt: &R,
     alloc: Global,

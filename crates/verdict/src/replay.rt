@@ -10,8 +10,8 @@ use mem_op::OpId;
 use std::alloc::{AllocError, Global};
 
 /// Whether the list is a serial order of the operations of the logs that keeps program order, and in which
-/// each load's value, and the word that each swap read, is that of the last earlier store to its address,
-/// or 0. It looks at no stamp, rank or source. Refused only where memory is.
+/// each load and each swap read the word of the last earlier store to its address, or 0. It looks at no
+/// stamp, rank or source. Err only if memory was refused.
 pub fn replay_order(alloc: Global, order: &[OpId], logs: &[Vec<Record>]) -> Result<bool, AllocError>
     ensures { IfOk result (λ holds.
         IsTrue holds ↔ IsSequentialOrder (operations_of (record_lists logs.now)) order.now) }

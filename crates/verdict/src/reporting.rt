@@ -8,9 +8,9 @@ use super::judge_fault::JudgeFault;
 use log_file::{ByteSink, write_all};
 use std::alloc::Global;
 
-/// Prints an answer of the judge, and gives the exit status. The line of a verdict goes to `out`, with 0 for Yes and 1 for No; why there is
-/// none goes to `err`, with the fault's status. Where `out` fails, or there is no memory for a line, `err` is told so, and the status is 4.
-/// A write to `err` that fails is passed over.
+/// Prints an answer of the judge, and gives the exit status. The line of a verdict goes to `out`, with 0 for Yes and 1 for No. A fault goes
+/// to `err`, with its status. If `out` fails, or there is no memory for a line, `err` gets that, and the status is 4. If a write to `err`
+/// fails, nothing more happens.
 pub fn report<O: ByteSink, E: ByteSink>(
     alloc: Global,
     answer: Result<Verdict, JudgeFault>,

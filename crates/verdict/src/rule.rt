@@ -10,9 +10,9 @@ pub enum Rule {
     CoreOrder,
     /// A core's records are the operations that its program issues.
     Program,
-    /// A load names the last earlier store to its address by key, or none where there isn't any.
+    /// A load names the last earlier store to its address by key, or none if there isn't any.
     Source,
-    /// A load has that store's value, or 0 where there is none.
+    /// A load has that store's value, or 0 if there is none.
     Value,
 }
 

@@ -21,11 +21,10 @@ use std::thread::Threads;
 /// file `k` is the log of core `k`, which ran program `k`. A set that gets Yes is sequentially
 /// consistent, and one memory that runs the programs, a core at a time, performs just its operations.
 ///
-/// It reads and works as `judge` does. A core's log has to be that of its program: else the answer is
-/// No by CORE-ORDER where a log falls, and by PROGRAM where none does.
+/// It reads and works as `judge` does. A core's log has to be that of its program. If it isn't, the answer
+/// is No by CORE-ORDER if a log falls, and else by PROGRAM.
 ///
-/// Refusals: those of `judge`, and 6 BadConfig after its own where there aren't as many programs as
-/// files.
+/// Refusals: those of `judge`, and 6 BadConfig after its own if there aren't as many programs as files.
 pub fn judge_run<R: Threads + Sync, S: ByteSource, G: Gate + Sync>(
     rt: &R,
     alloc: Global,

@@ -62,17 +62,17 @@ returns-then-count-eq0-clause-answer g c =
     let spelled : Spells c.pieces.reader.core c.pieces.reader.cores bytes (records c.pieces.list) = c.in_ok-finish.ensures.ends bytes (records c.pieces.list) inv.answered in
     (bytes, consumes_end _ _ bytes all end, same_log (λ core cores. Spells core cores bytes (records c.pieces.list)) inv.core inv.cores spelled)
 
-pub returns-in_err-feed_all_by-clause-answer : goal.returns-in_err-feed_all_by-clause-answer
-returns-in_err-feed_all_by-clause-answer g c =
+pub returns-in_err-feed_all-clause-answer : goal.returns-in_err-feed_all-clause-answer
+returns-in_err-feed_all-clause-answer g c =
     let inv = c.pieces.invariant in
     let rem = g.S.ByteSource.remaining in
     let records = g.L.RecordList.records in
     let piece = take c.in_ok-count.count c.read.new.buf in
     let bytes = fed_text c.pieces.reader (records c.pieces.list) in
-    let f = c.in_err-feed_all_by.field-0.0 in
+    let f = c.in_err-feed_all.field-0.0 in
     let read : Consumes (rem c.pieces.source) (rem c.read.new.self) piece = c.in_ok-count.ensures.bytes.0 in
-    let settled : IsSettled c.pieces.reader.core c.pieces.reader.cores (bytes ++ piece) f = (c.in_err-feed_all_by.ensures.fed.fed inv.answered.faultless).1 in
-    source_refused records c.args.reader.core c.args.reader.cores (rem c.args.source.now) (rem c.read.new.self) c.from_residual-in_err-feed_all_by.result f c.from_residual-in_err-feed_all_by.ensures.1
+    let settled : IsSettled c.pieces.reader.core c.pieces.reader.cores (bytes ++ piece) f = (c.in_err-feed_all.ensures.fed.fed inv.answered.faultless).1 in
+    source_refused records c.args.reader.core c.args.reader.cores (rem c.args.source.now) (rem c.read.new.self) c.from_residual-in_err-feed_all.result f c.from_residual-in_err-feed_all.ensures.1
     (bytes ++ piece) (Consumes-trans _ (rem c.pieces.source) _ bytes piece inv.read read) (same_log (λ core cores. IsSettled core cores (bytes ++ piece) f) inv.core inv.cores settled)
 
 pub pieces-smaller : goal.pieces-smaller
@@ -80,8 +80,8 @@ pieces-smaller g c =
     let records = g.L.RecordList.records in
     let piece = take c.in_ok-count.count c.read.new.buf in
     let bytes = fed_text c.pieces.reader (records c.pieces.list) in
-    let now = c.feed_all_by.new in
-    let after : HasAnswered now.self (bytes ++ piece) (records now.records) = answered c.in_ok-feed_all_by.field-0 c.in_ok-feed_all_by.ensures.fed in
+    let now = c.feed_all.new in
+    let after : HasAnswered now.self (bytes ++ piece) (records now.records) = answered c.in_ok-feed_all.field-0 c.in_ok-feed_all.ensures.fed in
     let few = read_long now.self (bytes ++ piece) (records now.records) after in
     let some : 0 < length piece = search rules in
     omega (arith, few, some, ap length after.text, length-append bytes piece)
@@ -93,9 +93,9 @@ pieces-preserved g c =
     let records = g.L.RecordList.records in
     let piece = take c.in_ok-count.count c.read.new.buf in
     let bytes = fed_text c.pieces.reader (records c.pieces.list) in
-    let now = c.feed_all_by.new in
+    let now = c.feed_all.new in
     let read : Consumes (rem c.pieces.source) (rem c.read.new.self) piece = c.in_ok-count.ensures.bytes.0 in
-    let after : HasAnswered now.self (bytes ++ piece) (records now.records) = answered c.in_ok-feed_all_by.field-0 c.in_ok-feed_all_by.ensures.fed in
+    let after : HasAnswered now.self (bytes ++ piece) (records now.records) = answered c.in_ok-feed_all.field-0 c.in_ok-feed_all.ensures.fed in
     record {
       answered = subst (λ (all : List ℕ). HasAnswered now.self all (records now.records)) after.text after;
       core = search rules;

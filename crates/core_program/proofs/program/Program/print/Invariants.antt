@@ -2,7 +2,7 @@
 use Rattle.std.proofs.Common.{◌≡◌, take}
 use Rattle.core_program.specs.Grammar.{program_lines, EachFits}
 use Rattle.core_program.specs.declared.format.ProgramFormat.TheVariants.{Two}
-use Rattle.core_program.specs.Lines.{text_of}
+use Rattle.text_lines.specs.Lines.{text_of}
 use Rattle.core_program.proofs.program.Program.print.Given as goal
 
 abbrev pub invariant-loop-instruction : goal.invariant-loop-instruction

@@ -1,7 +1,7 @@
 -- What was taken and what is left are all of the piece.
 use Rattle.std.proofs.Common.{◌≡◌, length}
 use Rattle.log_file.proofs.TakenParts.{TakesBut}
-use Rattle.log_file.proofs.taking.take_piece.Given as goal
+use Rattle.log_file.proofs.record_reader.take_piece.Given as goal
 
 abbrev pub invariant-loop-line : goal.invariant-loop-line
 invariant-loop-line g l =
