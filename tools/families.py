@@ -3,10 +3,10 @@
 
     tools/families.py FAMILY OPERATIONS [--cores N] [--seed N] [--bug stale|lost|buffers] [--where PART] [--in-order]
 
-It runs a program on each core of a small machine and prints what the cores did: each core's lines together, or with --in-order all lines
-as they were performed. The machine's memory is sequentially consistent, but for one bug where one is asked for: once, after that PART of
-the run, a load or a swap finds the word before the last one (stale, lost), or all along each core's stores wait in a buffer (buffers).
-`FAMILIES` names the programs. The same options print the same trace.
+It runs a program on each core of a small machine and prints what the cores did: each core's lines together, or with --in-order all lines in the
+order in which they were performed. The machine's memory is sequentially consistent, unless a bug is asked for: once, after that PART of the run, a
+load (stale) or a swap (lost) finds the word before the last one, or each core's stores wait in a buffer all along (buffers). `FAMILIES` names the
+programs. The same options print the same trace.
 """
 import argparse
 import random

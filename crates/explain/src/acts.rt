@@ -10,7 +10,7 @@ use address_check::{AddressRule, broken_by};
 use log_record::{Act, Entry};
 use mem_op::{OpId, Source, Word};
 
-/// The id that the source of an operation names; none where that is the initial 0, or there is no source.
+/// The id that the source of an operation names; none if that is the initial 0, or there is no source.
 pub fn named_id(entry: &Entry) -> Option<OpId>
     ensures { result ≡ named_id entry.now.logged.act }
 {
@@ -20,7 +20,7 @@ pub fn named_id(entry: &Entry) -> Option<OpId>
     }
 }
 
-/// The rule that a read of a word breaks, with this source, where it should read this store, or with none the initial 0.
+/// The rule that a read of a word breaks, with this source, if it should read this store, or with none the initial 0.
 fn broken_with(source: &Source, read: Word, store: Option<&Entry>) -> Option<AddressRule>
     ensures { result ≡ broken_rule source.now read (option_copied store.entry) }
 {

@@ -6,7 +6,7 @@ ghost use Rattle.explain.specs.Windows.{window, window_start};
 use log_record::Entry;
 use std::alloc::{AllocError, Global};
 
-/// How many rows to each side of a place are told.
+/// How many rows an explanation has to each side of a place.
 pub(crate) const ROWS_EACH_SIDE: usize = 8;
 
 /// The first place that is told of.

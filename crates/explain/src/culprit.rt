@@ -31,7 +31,7 @@ fn first_over(group: &[Entry], place: usize, store: Option<&Entry>) -> Option<En
     None
 }
 
-/// The first store, by key, that wrote over what the load at a place read, which names this record; none where that isn't a store at its
+/// The first store, by key, that wrote over what the load at a place read, which names this record; none if that isn't a store at its
 /// address.
 pub(crate) fn culprit(
     group: &[Entry],

@@ -110,7 +110,7 @@ fn departure_from(
     })
 }
 
-/// What stands at this id, and what its core's program does there; none where that core has no program, or its log ends
+/// What stands at this id, and what its core's program does there; none if that core has no program, or its log ends
 /// before.
 pub(crate) fn departure(
     alloc: Global,

@@ -48,8 +48,8 @@ fn log_fault(
 }
 
 /// Why a set of logs, of this many cores, got its verdict: the record that breaks a rule with what stands around it, or, with a
-/// Yes, what the records have. There is one of whatever `examine` gives with these programs. None may come only where the verdict
-/// and what it stands on don't belong together.
+/// Yes, what the records have. Whatever `examine` gives with these programs has an explanation. None comes only if the verdict and
+/// what it stands on don't belong together.
 pub fn explain(
     alloc: Global,
     examined: &Examined,

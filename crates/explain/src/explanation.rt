@@ -26,9 +26,9 @@ pub struct WrongRead {
     pub rule: Rule,
     /// The load, or the swap.
     pub load: Entry,
-    /// The store that it should read; none where that is the initial 0.
+    /// The store that it should read; none if that is the initial 0.
     pub right: Option<Entry>,
-    /// The record that its source names; none where it names the initial 0, or nothing that is there.
+    /// The record that its source names; none if it names the initial 0, or nothing that is there.
     pub named: Option<Entry>,
     /// The first store, by key, that wrote over what it read: over the store that it names, or over the initial 0.
     pub culprit: Option<Entry>,
@@ -48,13 +48,13 @@ pub struct WrongRead {
     pub own_last: Option<Entry>,
     /// What its core did around it, in program order.
     pub own_rows: Vec<Entry>,
-    /// What the core of the store that it should read did around that, in program order; nothing where there is no such store.
+    /// What the core of the store that it should read did around that store, in program order; nothing if there is no such store.
     pub right_rows: Vec<Entry>,
     /// How many operations of the set break SOURCE or VALUE.
     pub faults: FaultCounts,
 }
 
-/// How many operations of a set break SOURCE or VALUE, which the first of them may have brought about.
+/// How many operations of a set break SOURCE or VALUE. The first of them may have caused the others.
 #[derive(Drop)]
 pub struct FaultCounts {
     /// How many break SOURCE.
@@ -65,11 +65,11 @@ pub struct FaultCounts {
     pub by_core: Vec<usize>,
     /// At how many addresses they are.
     pub addresses: usize,
-    /// The addresses at which most are, five at most, and how many are there.
+    /// The at most five addresses at which most are, and how many are there.
     pub most: Vec<Use>,
 }
 
-/// Two records of a core of which the later has the lesser stamp and rank.
+/// Two records of a core, the later one with the lesser stamp and rank.
 #[derive(Drop)]
 pub struct Fall {
     /// The record before.
@@ -87,9 +87,9 @@ pub struct Fall {
 pub struct Departure {
     /// Where the operation was due.
     pub id: OpId,
-    /// The record that stands there; none where the log has ended.
+    /// The record that stands there; none if the log has ended.
     pub found: Option<Entry>,
-    /// What was due there; none where the program had ended.
+    /// What was due there; none if the program had ended.
     pub due: Option<Due>,
     /// What the registers held.
     pub registers: [Word; 16],
@@ -108,7 +108,7 @@ pub struct Due {
     pub op: Op,
 }
 
-/// What a set has that gets Yes.
+/// What is in a set that gets Yes.
 #[derive(Drop)]
 pub struct Summary {
     /// How many cores there are.
@@ -121,13 +121,13 @@ pub struct Summary {
     pub swaps: usize,
     /// How many addresses are used.
     pub addresses: usize,
-    /// The most used addresses, five at most, the most used first.
+    /// The at most five most used addresses, the most used first.
     pub most_used: Vec<Use>,
-    /// The least and the greatest stamp, where there are operations.
+    /// The least and the greatest stamp, if there are operations.
     pub stamps: Option<(Stamp, Stamp)>,
     /// How many operations have a stamp that another has too.
     pub sharing: usize,
-    /// All operations in the order of their keys, where they are few enough to be drawn.
+    /// All operations in the order of their keys, if they are few enough to be drawn.
     pub rows: Option<Vec<Entry>>,
 }
 

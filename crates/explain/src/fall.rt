@@ -10,7 +10,7 @@ use log_record::Entry;
 use mem_op::OpId;
 use std::alloc::{AllocError, Global};
 
-/// The record of this id and the one before it, with these counts; none where it is the first of its log, or isn't there.
+/// The record of this id and the one before it, with these counts; none if it is the first of its log, or isn't there.
 pub(crate) fn fall(
     alloc: Global,
     log: &[Entry],

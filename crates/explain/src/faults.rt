@@ -9,7 +9,7 @@ use mem_op::CoreId;
 use std::alloc::{AllocError, Global};
 use verdict::LogSet;
 
-/// The rule that an operation breaks, where this is the last store before it by address and then by key.
+/// The rule that an operation breaks, if this is the last store before it by address and then by key.
 fn rule_after(entry: &Entry, last: Option<&Entry>) -> Option<AddressRule> {
     rule_with(entry, last.filter(|store| store.addr() == entry.addr()))
 }

@@ -1,4 +1,4 @@
-//! What a set has that gets Yes.
+//! What is in a set that gets Yes.
 
 ghost use Rattle.std.specs.Prelude.{◌≡◌, ◌≤◌, ◌↔◌, IfOk, IfSome, IsSome, IsPermutation, IsSorted, length};
 ghost use Rattle.log_record.specs.Entries.{entry_cmp};
@@ -19,7 +19,7 @@ const MAX_DRAWN_OPERATIONS: usize = 200;
 /// How many stamps are counted one by one, at most, for each operation: the bytes of a stamp, since a count takes one.
 const MAX_COUNTS_PER_OPERATION: usize = 8;
 
-/// How many addresses are told as the most used.
+/// How many addresses an explanation names as the most used.
 const MOST_USED_ADDRESSES: usize = 5;
 
 /// How often each address is used, where the entries stand by address.
@@ -38,7 +38,7 @@ pub(crate) fn uses(alloc: Global, entries: &[Entry]) -> Result<Vec<Use>, AllocEr
     Ok(uses)
 }
 
-/// The least and the greatest stamp of the entries; none where there are no entries.
+/// The least and the greatest stamp of the entries; none if there are no entries.
 fn range_of(entries: &[Entry]) -> Option<(Stamp, Stamp)> {
     let first = entries.first()?.key().ts;
     let mut range = (first, first);
@@ -49,7 +49,7 @@ fn range_of(entries: &[Entry]) -> Option<(Stamp, Stamp)> {
     Some(range)
 }
 
-/// How many entries have a stamp that no other has, where each stamp is less than `span` after the least.
+/// How many entries have a stamp that no other has, if each stamp is less than `span` after the least.
 fn alone(alloc: Global, entries: &[Entry], least: Stamp, span: usize) -> Result<usize, AllocError> {
     let mut times: Vec<u8> = vec![in alloc; 0; span]?;
     for entry in entries {
@@ -81,7 +81,7 @@ fn beside_the_same(stamps: &[Stamp]) -> usize {
     sharing
 }
 
-/// How many entries have a stamp that another has too, where their stamps lie in this range. Stamps that lie close, as those of a
+/// How many entries have a stamp that another has too, if their stamps lie in this range. Stamps that lie close, as those of a
 /// machine do, are counted one by one, which takes no more memory than to sort them and less time.
 fn sharing(
     alloc: Global,
@@ -99,7 +99,7 @@ fn sharing(
     Ok(beside_the_same(stamps(alloc, entries)?.as_slice()))
 }
 
-/// These entries in the order of their keys. Err where there is no memory.
+/// These entries in the order of their keys. Err if there is no memory.
 pub fn by_key(alloc: Global, entries: &[Entry]) -> Result<Vec<Entry>, AllocError>
     ensures same { IfOk result (λ rows. IsPermutation entries.now rows.items) }
     ensures sorted { IfOk result (λ rows. IsSorted entry_cmp rows.items) }
@@ -109,7 +109,7 @@ pub fn by_key(alloc: Global, entries: &[Entry]) -> Result<Vec<Entry>, AllocError
     Ok(rows)
 }
 
-/// All entries in the order of their keys, where they are few enough to be drawn.
+/// All entries in the order of their keys, if they are few enough to be drawn.
 fn rows(alloc: Global, entries: &[Entry]) -> Result<Option<Vec<Entry>>, AllocError>
     ensures all { IfOk result (λ rows. IfSome rows (λ rows. IsPermutation entries.now rows.items)) }
     ensures sorted { IfOk result (λ rows. IfSome rows (λ rows. IsSorted entry_cmp rows.items)) }

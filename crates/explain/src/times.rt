@@ -55,7 +55,7 @@ pub(crate) fn store_after(group: &[Entry], place: usize) -> Option<Entry>
     None
 }
 
-/// Whether a load breaks no rule just before the store at a place, where another core made it.
+/// Whether a load breaks no rule just before the store at a place, if another core made it.
 fn is_right_at(group: &[Entry], load: &Entry, place: usize) -> bool
     requires { place < length group.now }
     ensures { result ≡ is_right_at group.now load.now place }
@@ -81,7 +81,7 @@ pub(crate) fn is_right_before(group: &[Entry], load: &Entry, right: Option<usize
     }
 }
 
-/// Whether a load breaks no rule just after the store that comes next, where another core made it.
+/// Whether a load breaks no rule just after the store that comes next, if another core made it.
 pub(crate) fn is_right_after(load: &Entry, next: &Option<Entry>) -> bool
     ensures { result ≡ is_right_later load.now next.now }
 {

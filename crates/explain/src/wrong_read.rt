@@ -59,14 +59,14 @@ fn named(entries: &[Entry], load: &Entry) -> Option<Entry>
     }
 }
 
-/// The entry at a place, where there is a place.
+/// The entry at a place, if there is a place.
 fn entry_at(entries: &[Entry], place: Option<usize>) -> Option<Entry>
     ensures { result ≡ option_and_then (slice_get entries.now) place }
 {
     entries.get(place?).copied()
 }
 
-/// What a core did around an operation, where there is one.
+/// What a core did around an operation, if there is one.
 fn rows_of(
     alloc: Global,
     entries: &[Entry],
@@ -78,7 +78,7 @@ fn rows_of(
     }
 }
 
-/// Why the load or the swap of this id breaks a rule; none where no record has the id.
+/// Why the load or the swap of this id breaks a rule; none if no record has the id.
 pub(crate) fn wrong_read(
     alloc: Global,
     index: &AddressIndex,

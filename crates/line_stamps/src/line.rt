@@ -33,7 +33,7 @@ impl Model for LineStamps {
 }
 
 impl LineStamps {
-    /// The stamps of a line that was just written or filled: its lease ends as it begins.
+    /// The stamps of a line that was just written or filled: its lease ends when it begins.
     pub fn at(ts: Stamp, wr: Rank) -> LineStamps
         ensures { result ≡ record { wts = ts; rts = ts; wr = wr } }
     {
@@ -55,7 +55,7 @@ impl LineStamps {
         }
     }
 
-    /// The stamps with the lease up to `t`; none where that is before the write.
+    /// The stamps with the lease up to `t`; none if that is before the write.
     pub fn with_rts(self, t: Stamp) -> Option<LineStamps>
         ensures { MatchOption result
             (t < self.wts)

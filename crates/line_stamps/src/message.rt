@@ -48,7 +48,7 @@ impl Message {
     }
 }
 
-/// How a line is to be given back.
+/// How the owner should give a line back.
 #[derive(Clone, Copy, Debug, PartialEq, Eq)]
 pub enum RecallKind {
     /// `wb`: by WB_REP.
@@ -57,16 +57,16 @@ pub enum RecallKind {
     Flush,
 }
 
-/// A hint to an owner that its line is wanted.
+/// A hint to an owner that somebody wants its line.
 #[derive(Clone, Copy, Debug, PartialEq, Eq)]
 pub struct Recall {
-    /// Up to when the line is wanted for reading; 0, and not used, for a flush.
+    /// Up to when somebody wants to read the line; 0, and unused, for a flush.
     pub rts: Stamp,
     /// The line's address.
     pub addr: Addr,
     /// The core that owns the line.
     pub owner: CoreId,
-    /// How it is to be given back.
+    /// How the owner should give it back.
     pub kind: RecallKind,
 }
 
@@ -91,8 +91,8 @@ pub enum Reply {
     RenewRep(Stamp),
     /// UPGRADE_REP: the copy is still good, up to this `rts`, and may be written.
     UpgradeRep(Stamp),
-    /// What was given back is taken.
+    /// The slice took the line back.
     Taken,
-    /// The line is another's: offer it this recall, and ask again.
+    /// The slice can't serve the request yet: offer this recall to the owner that it names, and ask again.
     Busy(Recall),
 }

@@ -28,7 +28,7 @@ impl Rank {
     /// The first rank.
     pub const ZERO: Rank = Rank { number: 0 };
 
-    /// The rank of this number; 5 RankLimit where it is above 4,294,967,295.
+    /// The rank of this number; 5 RankLimit if it is above 4,294,967,295.
     pub fn new(number: u64) -> Result<Rank, StampFault>
         ensures { MatchResult result
             (λ rank. (rank ≡ number) × (number < 4294967296))
@@ -50,7 +50,7 @@ impl Rank {
         u64::from(self.number)
     }
 
-    /// The rank after this one; 5 RankLimit where this is the last.
+    /// The rank after this one; 5 RankLimit if this is the last.
     pub fn next(self) -> Result<Rank, StampFault>
         ensures { MatchResult result
             (λ rank. (rank ≡ self + 1) × (self + 1 < 4294967296))

@@ -28,7 +28,7 @@ impl Stamp {
     /// The first stamp.
     pub const ZERO: Stamp = Stamp { number: 0 };
 
-    /// The stamp of this number; 4 StampLimit where it is above 2^48.
+    /// The stamp of this number; 4 StampLimit if it is above 2^48.
     pub fn new(number: u64) -> Result<Stamp, StampFault>
         ensures { MatchResult result
             (λ stamp. (stamp ≡ number) × (number ≤ 281474976710656))
@@ -48,7 +48,7 @@ impl Stamp {
         self.number
     }
 
-    /// The stamp `n` later; 4 StampLimit where that is above 2^48.
+    /// The stamp `n` later; 4 StampLimit if that is above 2^48.
     pub fn plus(self, n: u64) -> Result<Stamp, StampFault>
         ensures { MatchResult result
             (λ stamp. (stamp ≡ self + n) × (self + n ≤ 281474976710656))

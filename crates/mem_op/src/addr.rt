@@ -25,7 +25,7 @@ impl Model for Addr {
 }
 
 impl Addr {
-    /// The address of this number; 1 AddrRange where it is above 65,535.
+    /// The address of this number; 1 AddrRange if it is above 65,535.
     pub fn new(number: u64) -> Result<Addr, RangeFault>
         ensures { MatchResult result
             (λ addr. (addr ≡ number) × (number < 65536))

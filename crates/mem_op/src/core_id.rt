@@ -25,7 +25,7 @@ impl Model for CoreId {
 }
 
 impl CoreId {
-    /// The core of this number; 2 CoreRange where it is above 63.
+    /// The core of this number; 2 CoreRange if it is above 63.
     pub fn new(number: u64) -> Result<CoreId, RangeFault>
         ensures { MatchResult result
             (λ core. (core ≡ number) × (number < 64))

@@ -17,7 +17,7 @@ pub enum FaultName {
     RankLimit,
     /// A number of the configuration, or of a call, out of its range.
     BadConfig,
-    /// A line of a program that isn't an instruction's, or isn't there.
+    /// A line of a program that has no instruction, or is missing.
     BadProgramLine,
     /// An instruction after 4,096 instructions.
     TooLong,
@@ -59,11 +59,11 @@ pub enum FaultName {
     GaveUp,
     /// A run was stopped: its pace said so.
     Stopped,
-    /// A thread couldn't be had.
+    /// The host refused a thread.
     Spawn,
     /// What a core and a slice recorded doesn't agree.
     Audit,
-    /// A line of a schedule that isn't a command's.
+    /// A line of a schedule that has no command.
     BadScheduleLine,
     /// A line of a litmus test that isn't as it should be.
     BadLitmusLine,

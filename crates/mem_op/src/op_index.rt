@@ -27,7 +27,7 @@ impl Model for OpIndex {
 }
 
 impl OpIndex {
-    /// The index of this number; 3 IndexRange where it is above 1,048,575.
+    /// The index of this number; 3 IndexRange if it is above 1,048,575.
     pub fn new(number: u64) -> Result<OpIndex, RangeFault>
         ensures { MatchResult result
             (λ index. (index ≡ number) × (number < operation_limit))

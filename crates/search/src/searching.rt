@@ -8,9 +8,9 @@ use refutation::{Answer, confirm};
 use std::alloc::{AllocError, Global};
 use trace::Trace;
 
-/// Whether a trace is consistent, with what shows it: an order, or a refutation. Undecided where neither was found in
-/// so many steps. The order as written is tried first, which takes no step. The answer depends on the trace, on how it was
-/// written, and on the budget alone. Err where memory was refused.
+/// Whether a trace is consistent, with what shows it: an order, or a refutation. Undecided if the search found neither in so many steps. It
+/// tries the order as written first, for no step. The answer depends only on the trace, on how it was written, and on the budget. Err if
+/// memory was refused.
 pub fn search(alloc: Global, trace: &Trace, budget: u64) -> Result<Answer, AllocError>
     ensures right { IfOk result (IsRight trace.now) }
     ensures shown { IfOk result (IsShown trace.now) }
@@ -18,7 +18,7 @@ pub fn search(alloc: Global, trace: &Trace, budget: u64) -> Result<Answer, Alloc
     search_watched(alloc, trace, budget, &Unwatched)
 }
 
-/// The same. A watch is told how far the search is, and may stop it.
+/// The same. The watch hears how far the search is, and may stop it.
 pub fn search_watched<W: SearchWatch>(
     alloc: Global,
     trace: &Trace,
@@ -39,8 +39,7 @@ pub fn search_watched<W: SearchWatch>(
     confirm(alloc, trace, found?)
 }
 
-/// What the search finds, which nobody has confirmed. What isn't shown of it would be a bug of the search, and tests ask for
-/// it.
+/// What the search finds, before anybody has confirmed it. If it doesn't hold, the search has a bug: tests look for that.
 pub fn guess(alloc: Global, trace: &Trace, budget: u64) -> Result<Answer, AllocError> {
     guessing::guess(alloc, trace, budget, &Unwatched)
 }

@@ -258,7 +258,7 @@ impl<'a> Argument<'a> {
         write!(self.text, ", comes before {}", Shown(link.last))
     }
 
-    /// Adds how a path leads on, where that isn't told before: by program order alone, or by which points.
+    /// Adds how a path leads on, if that isn't told before: by program order alone, or by which points.
     fn way(&mut self, from: &Point, path: &[usize], to: &Point) -> Written {
         let way = hops(self.alloc, self.walk.facts(), from, path, to)?;
         match way.as_slice() {

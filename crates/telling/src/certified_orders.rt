@@ -1,4 +1,4 @@
-//! What is told of a line of an order of a trace.
+//! The words about a line of an order of a trace.
 
 use super::arguments::count_of;
 use super::certificates::push_end;
@@ -15,7 +15,7 @@ use trace::{Address, Trace};
 const LINES: &str =
     "An order has a line C.I for each operation, then end N with their number; a refutation begins with tardis-refutation 1.\n";
 
-/// Adds what is told of a line of an order.
+/// Adds the words about a line of an order.
 pub(crate) fn push_order_line(
     told: &mut String,
     alloc: Global,
@@ -79,7 +79,7 @@ fn push_slip(told: &mut String, at: &RefusedLine<'_>) -> Written {
     }
 }
 
-/// What is told of a line of something else than an order, by its words.
+/// The words about a line of something else than an order, by its words.
 fn slip_of(first: &str, words: &[&str]) -> Option<&'static str> {
     if words.iter().any(|word| word.starts_with("M[")) {
         return Some("It is a line of a trace: explain --certificate takes the certificate first.");

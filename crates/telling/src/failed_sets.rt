@@ -129,7 +129,7 @@ impl<'a> SetCheck<'a> {
         operations.len().max(from) as u64
     }
 
-    /// The word at an address, where it is looked at.
+    /// The word at an address, if it is looked at.
     fn word_at(&self, words: &[Word], addr: Address) -> Option<Word> {
         let slot = self.addresses.iter().position(|other| *other == addr)?;
         words.get(slot).copied()
@@ -336,7 +336,7 @@ fn was_performed(state: &State, point: &Point) -> bool {
     }
 }
 
-/// The number of a core: 0, where there is none.
+/// The number of a core: 0 if there is none.
 fn number_of(numbers: &[u64], core: usize) -> u64 {
     numbers.get(core).copied().unwrap_or(0)
 }

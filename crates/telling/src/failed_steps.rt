@@ -102,7 +102,7 @@ impl<'a> Asked<'a> {
         write!(told, "The trace has no operation {}.\n", Point::At(*id))
     }
 
-    /// The fact of this number, where it tells the source of a read, and the write is another one at the address of that; else adds why
+    /// The fact of this number, if it tells the source of a read, and the write is another one at the address of that; else adds why
     /// it isn't so.
     fn push_source(
         &self,

@@ -174,7 +174,7 @@ impl<'a> Display for Deed<'a> {
     }
 }
 
-/// Adds a line of the store that a load or a swap points to: with SOURCE the first one that wrote over what it read, where that isn't the
+/// Adds a line of the store that a load or a swap points to: with SOURCE the first one that wrote over what it read, if that isn't the
 /// one that it should read; with VALUE the last one of the word that it read.
 pub(crate) fn push_culprit(text: &mut String, found: &WrongRead) -> Written {
     match (&found.culprit, &found.same_word) {
@@ -197,7 +197,7 @@ pub(crate) fn push_culprit(text: &mut String, found: &WrongRead) -> Written {
     }
 }
 
-/// Adds a line of what the times of a load or a swap allow, where it doesn't name the store that it should read.
+/// Adds a line of what the times of a load or a swap allow, if it doesn't name the store that it should read.
 pub(crate) fn push_times(text: &mut String, found: &WrongRead) -> Written {
     if found.rule != Rule::Source {
         return Ok(());
@@ -216,10 +216,10 @@ pub(crate) fn push_times(text: &mut String, found: &WrongRead) -> Written {
     push_moved(text, found, next, "after", WRONG)
 }
 
-/// What is told of a load that would be right at another time.
+/// The words about a load that would be right at another time.
 const RIGHT: &str = "right: the times may be at fault, and not the machine.";
 
-/// What is told of one that wouldn't.
+/// The words about one that wouldn't.
 const WRONG: &str = "wrong too.";
 
 /// The load and the store that it names, or the one that it should read, where the numbers of their cores decide which
@@ -246,7 +246,7 @@ fn push_tie(text: &mut String, first: &Entry, second: &Entry) -> Written {
     )
 }
 
-/// Adds how far the stamp of a load is from that of a store, where there is one, and whether it would be right just before or just after
+/// Adds how far the stamp of a load is from that of a store, if there is one, and whether it would be right just before or just after
 /// that store, or no times can put it there.
 fn push_moved(
     text: &mut String,

@@ -1,11 +1,11 @@
-//! What is told of a line of a log.
+//! The words about a line of a log.
 
 use super::shown::Written;
 use super::slips::{RECORDS, RefusedLine, begun_by, number_in, push_departure, shape_of};
 use log_file::FormatFault;
 use log_record::Format;
 
-/// Adds what is told of the fault of a log at this line: of the file of this number, counted from 0, of so many.
+/// Adds the words about the fault of a log at this line: of the file of this number, counted from 0, of so many.
 pub(crate) fn push_log(
     text: &mut String,
     file: (usize, usize),
@@ -41,7 +41,7 @@ const NO_END: &str =
 /// How a file ends whose last line isn't whole.
 const CUT_OFF: &str = "in the middle of a line: it is cut off";
 
-/// What is told of a fault at this line, where that is one sentence.
+/// The words about a fault at this line, if that is one sentence.
 fn sentence(fault: FormatFault, at: &RefusedLine<'_>) -> Option<&'static str> {
     Some(match (fault, at.line) {
         (FormatFault::OutOfRange, _) if at.place.line == 1 => {
@@ -61,7 +61,7 @@ fn sentence(fault: FormatFault, at: &RefusedLine<'_>) -> Option<&'static str> {
     })
 }
 
-/// What is told of a slip of a later line.
+/// The words about a slip of a later line.
 fn line_slip(line: &[u8], at: &RefusedLine<'_>) -> Option<&'static str> {
     let slip = at.slip();
     Some(match line {
@@ -75,7 +75,7 @@ fn line_slip(line: &[u8], at: &RefusedLine<'_>) -> Option<&'static str> {
     })
 }
 
-/// Adds how a first line is written, and what is told of one that isn't so.
+/// Adds how a first line is written, and the words about one that isn't so.
 fn push_header(text: &mut String, at: &RefusedLine<'_>) -> Written {
     text.push_str(
         "The first line is written tardis-log 1 core C of N, with 2 in place of 1 where there are swaps.\n",
@@ -106,7 +106,7 @@ fn push_record(text: &mut String, words: &[&str]) -> Written {
     }
 }
 
-/// Adds what is told of a header of another core or of another number of cores.
+/// Adds the words about a header of another core or of another number of cores.
 fn push_wrong_core(text: &mut String, file: (usize, usize), at: &RefusedLine<'_>) -> Written {
     let (core, cores) = file;
     write!(

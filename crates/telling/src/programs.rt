@@ -1,4 +1,4 @@
-//! What is told of a line of a set of programs, or of a litmus test.
+//! The words about a line of a set of programs, or of a litmus test.
 
 use super::refusals::Kind;
 use super::shown::{Counted, Written};
@@ -13,7 +13,7 @@ use std::str;
 const SECTIONS: &str =
     "The sections are core 0, core 1 and so on, in this order, as many as the first line says; end is the last line.\n";
 
-/// Adds what is told of a line that isn't as a set of programs or a litmus test says.
+/// Adds the words about a line that isn't as a set of programs or a litmus test says.
 pub(crate) fn push_bad_line(text: &mut String, kind: Kind, at: &RefusedLine<'_>) -> Written {
     if let Some(slip) = slip(at) {
         return write!(text, "{slip}\n");
@@ -33,7 +33,7 @@ pub(crate) fn push_bad_line(text: &mut String, kind: Kind, at: &RefusedLine<'_>)
     }
 }
 
-/// What is told of a line behind the last one, of one that is cut off, of an empty one, and of a slip.
+/// The words about a line after the last one, about one that is cut off, about an empty one, and about a slip.
 fn slip(at: &RefusedLine<'_>) -> Option<&'static str> {
     let is_cut = !at.is_whole();
     let before = line_of(at.text, at.place.line.saturating_sub(1));
@@ -65,7 +65,7 @@ fn push_first(text: &mut String, kind: Kind, first: &str, fields: &[&str]) -> Wr
     text.push_str(begun_by(first))
 }
 
-/// Adds what is told of a line that begins as the last one of this text.
+/// Adds the words about a line that begins as the last one of this text.
 fn push_end(text: &mut String, kind: Kind, bytes: &[u8]) -> Written {
     text.push_str(SECTIONS)?;
     if kind == Kind::Programs || shown_count(bytes) > 0 {
@@ -118,7 +118,7 @@ fn says_format_one(line: &[u8]) -> bool {
     line.starts_with(b"tardis-programs 1 ") || line.starts_with(b"tardis-litmus 1 ")
 }
 
-/// Adds what is told of a line that shows registers, after whose first word stand these words.
+/// Adds the words about a line that shows registers, after whose first word stand these words.
 fn push_show(text: &mut String, at: &RefusedLine<'_>, registers: &[&str]) -> Written {
     text.push_str(
         "After the last section stands one line show C.rN .. of 1 to 8 registers, as show 0.r0 1.r0.\n",
@@ -161,7 +161,7 @@ fn core_trouble(word: &str, cores: u64) -> Option<Trouble> {
     (core >= cores).then_some((told, Some(cores)))
 }
 
-/// Adds what is told of a line of a forbidden outcome, after whose first word stand these words.
+/// Adds the words about a line of a forbidden outcome, after whose first word stand these words.
 fn push_forbid(text: &mut String, at: &RefusedLine<'_>, values: &[&str]) -> Written {
     text.push_str(
         "A forbidden outcome is written forbid K .., a value for each register of show, in their order.\n",
@@ -185,7 +185,7 @@ fn push_forbid(text: &mut String, at: &RefusedLine<'_>, values: &[&str]) -> Writ
     Ok(())
 }
 
-/// How many registers the line `show` has; 0 where there is none.
+/// How many registers the line `show` has; 0 if there is none.
 fn shown_count(text: &[u8]) -> u64 {
     for line in text.split(is_feed) {
         if line.starts_with(b"show ") {

@@ -1,4 +1,4 @@
-//! What is told of a file that a reader refused: the line of the fault, what it should be, and what has usually gone wrong.
+//! The words about a file that a reader refused: the line of the fault, what it should be, and what has usually gone wrong.
 
 ghost use Rattle.std.specs.Prelude.{◌≡◌, ◌++◌, ℕ, List, IfOk, string_bytes};
 ghost use Rattle.telling.specs.Places.{place_text};
@@ -64,7 +64,7 @@ pub enum Refused {
 }
 
 impl Refused {
-    /// Adds what is told of a line that was refused.
+    /// Adds the words about a line that was refused.
     fn push(self, text: &mut String, at: &RefusedLine<'_>) -> Written {
         text.push_str(match self {
             Refused::Log { file, files, fault } => return push_log(text, (file, files), fault, at),
@@ -79,20 +79,20 @@ impl Refused {
     }
 }
 
-/// What is told of the fault of a file.
+/// The words about the fault of a file.
 #[derive(Clone, Copy)]
 pub struct Telling<'a> {
     /// Where the fault is.
     pub place: Place<'a>,
     /// What was refused there.
     pub refused: Refused,
-    /// The bytes of the file; none of one that can be read once alone.
+    /// The bytes of the file; none if it can be read only once.
     pub bytes: Option<&'a [u8]>,
 }
 
 impl<'a> Telling<'a> {
     /// The text of it, each line with its line feed: the place of the fault and the line there, how such a line is written, and what
-    /// is wrong with this one, where it is one of the usual slips.
+    /// is wrong with this one, if it is one of the usual slips.
     pub fn print(&self, alloc: Global) -> Result<String, AllocError>
         ensures { IfOk result (λ text. (words : List ℕ) × (string_bytes text
             ≡ place_text self.now.place.file.now self.now.place.line ++ words)) }
@@ -105,7 +105,7 @@ impl<'a> Telling<'a> {
         joined(place, words.as_str())
     }
 
-    /// What is told of the line of the fault in these bytes: its text, and what is wrong with it.
+    /// The words about the line of the fault in these bytes: its text, and what is wrong with it.
     fn told_of(&self, alloc: Global, text: &[u8]) -> Result<String, AllocError> {
         let line = line_of(text, self.place.line);
         let words: Vec<&str> = match str::from_utf8(line) {

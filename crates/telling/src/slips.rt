@@ -82,7 +82,7 @@ fn push_missing(text: &mut String, line: &str, words: &[&str]) -> Written {
     Ok(())
 }
 
-/// What is told where a field before the last was left out. Where the last of four words is a source, it is the rank, and where the number
+/// The words if a field before the last was left out. If the last of four words is a source, it is the rank, and if the number
 /// of cores of a test has its word before it, it is the name.
 fn left_out(line: &str, words: &[&str]) -> Option<&'static str> {
     match words {
@@ -113,7 +113,7 @@ pub(crate) fn push_trouble(text: &mut String, name: &str, word: &str, it: Troubl
     }
 }
 
-/// What is told of a word in the place of a field, and the number after that, where there is one.
+/// The words about a word in the place of a field, and the number after that, if there is one.
 pub(crate) type Trouble = (&'static str, Option<u64>);
 
 /// What the field is called that a shape has so.
@@ -157,7 +157,7 @@ fn limits_of(field: &str) -> (u64, u64) {
     }
 }
 
-/// What is told of a word that isn't a register of a core.
+/// The words about a word that isn't a register of a core.
 const NO_SHOWN: &str = "isn't written C.rN, for register rN, r0 to r15, of core C";
 
 fn unless(is_right: bool, told: &'static str) -> Option<Trouble> {
@@ -174,7 +174,7 @@ fn number_trouble(word: &str, least: u64, greatest: u64, unlike: &'static str) -
     }
 }
 
-/// What is told of a word that isn't a number, where it is like one.
+/// The words about a word that isn't a number, if it is like one.
 fn no_number(word: &str) -> Option<&'static str> {
     Some(match word.as_bytes() {
         [b'0', b'x' | b'X', ..] => "is hexadecimal; write numbers in decimal",
@@ -188,7 +188,7 @@ fn no_number(word: &str) -> Option<&'static str> {
     })
 }
 
-/// The number that a word is; none where it isn't one, or one of more than 64 bits.
+/// The number that a word is; none if it isn't one, or one of more than 64 bits.
 pub(crate) fn number_in(word: &str) -> Option<u64> {
     read_last(word.as_bytes())?
 }
@@ -231,7 +231,7 @@ fn is_of_name(byte: u8) -> bool {
     byte.is_ascii_alphanumeric() || matches!(byte, b'+' | b'-')
 }
 
-/// A line that was refused, the text in which it stands, and its words, between its spaces; none where it isn't text.
+/// A line that was refused, the text in which it stands, and its words, between its spaces; none if it isn't text.
 #[derive(Clone, Copy)]
 pub(crate) struct RefusedLine<'a> {
     pub(crate) place: Place<'a>,
@@ -263,7 +263,7 @@ impl<'a> RefusedLine<'a> {
         count
     }
 
-    /// What is told of the first slip that it has.
+    /// The words about the first slip that it has.
     pub(crate) fn slip(&self) -> Option<&'static str> {
         let (line, words) = (self.line, self.words);
         Some(match line {
@@ -318,7 +318,7 @@ fn begins_comment(word: &&str) -> bool {
     word.starts_with("#") || word.starts_with("//") || word.starts_with(";")
 }
 
-/// What is told of a first line that begins with this word, in place of that of another format; nothing of a word that begins no
+/// The words about a first line that begins with this word, in place of that of another format; nothing of a word that begins no
 /// line of the formats.
 pub(crate) fn begun_by(first: &str) -> &'static str {
     match first {

@@ -24,7 +24,7 @@ const STEPS: [Shape; 5] = [
     ),
 ];
 
-/// What is told of a line that begins as no step does.
+/// The words about a line that begins as no step does.
 const NO_STEP: &str =
     "A step begins with read, from-read, write-order, cycle or states; the last line is end N, with the number of steps.\n";
 

@@ -1,4 +1,4 @@
-//! What is told of a line of a trace.
+//! The words about a line of a trace.
 
 use super::shown::Written;
 use super::slips::number_in;
@@ -90,7 +90,7 @@ fn addresses(act: &str) -> (Option<u64>, Option<u64>) {
     (parts.next().flatten(), parts.next().flatten())
 }
 
-/// The number before a closing bracket, where it is one in decimal.
+/// The number before a closing bracket, if it is one in decimal.
 fn address_in(part: &str) -> Option<u64> {
     let (address, _) = part.split_once(']')?;
     number_in(address.trim())
