@@ -19,8 +19,8 @@ use std::alloc::{AllocError, Global};
 use std::thread::Threads;
 
 impl AddressIndex {
-    /// Spans, `count` of them at most, one of which has each address that a record has. They are cut at
-    /// the addresses of records that stand evenly far apart. Err where memory was refused.
+    /// At most `count` spans, which together have every address of a record. They are cut at the
+    /// addresses of records that stand evenly far apart. Err if memory was refused.
     fn spans(&self, alloc: Global, count: usize) -> Result<Vec<AddrSpan>, AllocError>
         requires { 0 < count }
         ensures { IfOk result (λ spans. (e : Entry) → In e self.now → HaveAddress e.logged.addr spans.items) }
@@ -44,8 +44,8 @@ impl AddressIndex {
         Ok(spans)
     }
 
-    /// The address fault of least key, found by `workers` workers at once, 1 to 64, each with whole
-    /// groups. Err where memory was refused.
+    /// The address fault with the least key. 1 to 64 workers look for it at once, each among whole
+    /// groups. Err if memory was refused.
     pub fn least_fault<R: Threads + Sync, G: Gate + Sync>(
         &self,
         rt: &R,
@@ -62,7 +62,7 @@ impl AddressIndex {
     }
 }
 
-// An item stands for the whole groups of its addresses, so no list of items splits one.
+// An item stands for the whole groups of its addresses, so no list of items splits a group.
 impl LocalCheck for AddressIndex {
     type Item = AddrSpan;
 

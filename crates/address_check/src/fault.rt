@@ -1,9 +1,9 @@
-//! What a load or a swap breaks.
+//! The rule that a load or a swap breaks.
 
 use line_stamps::Key;
 use std::marker::Model;
 
-/// Which rule a load breaks, or a swap by what it reads.
+/// The rule that a load breaks, or a swap by its read.
 #[derive(Clone, Copy, Debug, PartialEq, Eq, PartialOrd, Ord)]
 pub enum AddressRule {
     /// Its source isn't the last earlier store to its address.

@@ -1,15 +1,15 @@
-//! What is told of each piece of a check.
+//! The pieces of a check, as workers enter them.
 
-/// A part of a judgement that is done before the next one begins.
+/// A part of a judgement, which ends before the next one begins.
 #[derive(Clone, Copy, Debug, PartialEq, Eq)]
 pub enum Phase {
-    /// Each core's log is looked at alone.
+    /// The judge looks at each core's log alone.
     Cores,
-    /// Each address's records are looked at alone.
+    /// The judge looks at each address's records alone.
     Addresses,
 }
 
-/// Told of each piece by the worker that does it, as it enters it.
+/// Each worker calls it as it enters a piece.
 pub trait Gate {
     /// The calling worker enters a piece of a phase. The pieces of a phase are numbered from 1.
     fn enter(&self, phase: Phase, piece: usize);

@@ -28,7 +28,7 @@ pub fn is_store(entry: &Entry) -> bool
     writes(&entry.act())
 }
 
-/// The rule that a read of a word breaks, with this source, where the word of its address is this one and
+/// The rule that a read of a word breaks, with this source, if its address has the word `word`, which
 /// comes from `from`.
 pub fn broken_by(source: &Source, read: Word, from: &Source, word: Word) -> Option<AddressRule>
     ensures { result ≡ broken_by source.now read from.now word }
@@ -47,7 +47,7 @@ pub fn broken_by(source: &Source, read: Word, from: &Source, word: Word) -> Opti
     }
 }
 
-/// The rule that a read of a word breaks, with this source, where this is the store that it should have
+/// The rule that a read of a word breaks, with this source, if `right` is the store that it should have
 /// read.
 fn broken_rule(source: &Source, read: Word, right: Option<&Entry>) -> Option<AddressRule>
     ensures { result ≡ broken_rule source.now read (option_copied right.entry) }
@@ -58,8 +58,8 @@ fn broken_rule(source: &Source, read: Word, right: Option<&Entry>) -> Option<Add
     }
 }
 
-/// The rule that an operation of this act breaks, where this is the last store before it by address and then by key: its
-/// right store, if it is at the same address.
+/// The rule that an operation with this act breaks, if `last` is the last store before it by address and then by key.
+/// That is its right store, if it is at the same address.
 fn entry_rule(entry: &Entry, act: &Act, last: Option<&Entry>) -> Option<AddressRule>
     requires { act.now ≡ entry.now.logged.act }
     ensures { fault_by entry.now result
@@ -73,7 +73,7 @@ fn entry_rule(entry: &Entry, act: &Act, last: Option<&Entry>) -> Option<AddressR
     }
 }
 
-/// The fault of least key among records by address and then by key. Each is looked at once.
+/// The fault with the least key among records by address and then by key. It looks at each record once.
 pub(crate) fn part_fault(part: &[Entry]) -> Option<AddressFault>
     requires { AscendsByPlace part.now }
     ensures { result ≡ least_address_fault part.now }
@@ -81,7 +81,7 @@ pub(crate) fn part_fault(part: &[Entry]) -> Option<AddressFault>
     let mut least = None;
     let mut last = None;
     for entry in part {
-        // What was done takes some work to tell, so it is asked once.
+        // Making the act takes some work, so it is done once.
         let act = entry.act();
         if let Some(rule) = entry_rule(entry, &act, last) {
             let key = entry.key();
@@ -94,7 +94,7 @@ pub(crate) fn part_fault(part: &[Entry]) -> Option<AddressFault>
     least
 }
 
-/// The fault of least key among the records of one address, which stand in the order of their keys.
+/// The fault with the least key among the records of one address, which stand in the order of their keys.
 pub fn group_fault(group: &[Entry]) -> Option<AddressFault>
     requires { IsGroup group.now }
     ensures { result ≡ least_address_fault group.now }

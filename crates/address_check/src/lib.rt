@@ -1,4 +1,4 @@
-//! The check of what is read against what was stored, address by address.
+//! The check of reads against stores, address by address.
 #![tactic(auto)]
 
 mod addresses;

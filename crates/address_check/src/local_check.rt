@@ -1,14 +1,14 @@
-//! Checks that may be made piece by piece.
+//! Checks that workers may make piece by piece.
 
 ghost use Rattle.std.specs.Prelude.{◌≡◌, List, [], ◌++◌, Option, None};
 ghost use Rattle.line_stamps.specs.Least.{lesser};
 
-/// A check of a list of items that gives the same fault piece by piece as at once.
+/// A check of a list of items, which gives the same fault piece by piece as at once.
 pub trait LocalCheck {
-    /// What is looked at as a whole.
+    /// A part of the list that stays whole.
     type Item: Sync;
 
-    /// What an item may break. The least one is answered.
+    /// The fault of an item. The check answers the least.
     type Fault: Ord + Copy + Send;
 
     // The fault of a list of items.
@@ -18,7 +18,7 @@ pub trait LocalCheck {
     fn fault(&self, items: &[Self::Item]) -> Option<Self::Fault>
         ensures { result ≡ fault_of self.now items.now };
 
-    // An empty list has none.
+    // An empty list has no fault.
     ghost empty: { (check : Self) → fault_of check [] ≡ None };
 
     // The fault of two lists joined is the lesser of theirs.
@@ -27,7 +27,7 @@ pub trait LocalCheck {
         ≡ lesser Self.Fault.cmp (fault_of check xs) (fault_of check ys) };
 }
 
-/// The lesser of two faults, if there is one, and the first where they tie.
+/// The lesser of two faults, if there is one, and the first if they tie.
 pub fn lesser_fault<F: Ord + Copy>(a: Option<F>, b: Option<F>) -> Option<F>
     ensures { result ≡ lesser F.cmp a b }
 {

@@ -18,7 +18,7 @@ fn least_fault<F: Ord + Copy>(found: &[Option<F>]) -> Option<F>
         .fold(None, |least, fault| lesser_fault(least, *fault))
 }
 
-/// Items that are cut into pieces, each of at most `size`, the first with number 0.
+/// Items, cut into pieces of at most `size` each, the first with number 0.
 #[derive(Drop)]
 struct Pieces<'a, C: LocalCheck> {
     check: &'a C,
@@ -49,8 +49,8 @@ impl<'a, C: LocalCheck> Pieces<'a, C> {
     }
 }
 
-/// The fault of all items, found by `workers` workers at once, 1 to 64, each with a piece of the
-/// items. A single worker is the calling thread, and takes no memory. Err where memory was refused.
+/// The fault of all items. 1 to 64 workers look for it at once, each in a piece of the items. A
+/// single worker is the calling thread, and takes no memory. Err if memory was refused.
 pub fn fault_by_workers<R: Threads + Sync, G: Gate + Sync, C: LocalCheck + Sync>(
     rt: &R,
     alloc: Global,

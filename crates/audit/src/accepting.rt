@@ -1,4 +1,4 @@
-//! What the units and slices that threads gave back are found to be.
+//! Checks the units and slices that threads gave back.
 
 ghost use Rattle.std.specs.Prelude.{◌≡◌, ◌≢◌, ◌<◌, ◌≤◌, ◌⊎◌, length, slice_get, Some, IfSome, IfOk, IfErr, OnOk, MatchBool, MatchOption, MatchResult};
 ghost use Rattle.audit.specs.Runs.{AllEnded, AllNumbered, HasEnded, IsFirstReport, IsNumbered, IsRun, IsRunFault, IsShort, MayReport, NoneReports, RefusesRun, Reports, StoppedShort};
@@ -22,7 +22,7 @@ fn is_config(one: &Config, other: &Config) -> bool
     one == other
 }
 
-// The program of a core, which is there.
+// The program of a core that the set has.
 fn program_at(programs: &ProgramSet, core: usize) -> &Program
     requires { core < length programs.now.programs }
     ensures { slice_get programs.now.programs core ≡ Some result.now }
@@ -31,7 +31,7 @@ fn program_at(programs: &ProgramSet, core: usize) -> &Program
     programs.get(CoreId::new(core as u64).unwrap()).unwrap()
 }
 
-// Whether a unit has run a core's program to its end.
+// Whether a unit has run a core's program to the end.
 fn has_ended(unit: &CoreUnit, core: usize, programs: &ProgramSet, config: &Config) -> bool
     requires { core < length programs.now.programs }
     ensures { MatchBool result
@@ -60,7 +60,7 @@ fn has_ended(unit: &CoreUnit, core: usize, programs: &ProgramSet, config: &Confi
     true
 }
 
-// Whether a unit is of this core and its program, and has operations left.
+// Whether a unit is this core's, has its program, and has operations left.
 fn is_short(unit: &CoreUnit, core: usize, programs: &ProgramSet) -> bool
     requires { core < length programs.now.programs }
     ensures { MatchBool result
@@ -99,7 +99,7 @@ fn is_numbered(slice: &ManagerSlice, number: usize, config: &Config) -> bool
     true
 }
 
-// Whether each unit has run its core's program to its end.
+// Whether each unit has run its core's program to the end.
 fn all_ended(units: &[CoreUnit], programs: &ProgramSet, config: &Config) -> bool
     requires { length units.now ≡ length programs.now.programs }
     ensures { MatchBool result
@@ -128,7 +128,7 @@ fn all_numbered(slices: &[ManagerSlice], config: &Config) -> bool
     true
 }
 
-// A difference that has no place.
+// A difference without a place.
 fn nowhere() -> AuditFault
     ensures { result ≡ record { core = 0; slice = 0; place = 0 } }
 {
@@ -187,7 +187,7 @@ fn reports(programs: &ProgramSet, units: &[CoreUnit], core: usize, cause: Cause)
     }
 }
 
-// The fault that a core has to report, if it has one.
+// The fault that a core reports, if it has one to report.
 fn report_of(
     programs: &ProgramSet,
     units: &[CoreUnit],
@@ -224,13 +224,13 @@ fn first_report(
     None
 }
 
-/// What a run of threads ends with, of what its threads gave back: at index c of `units` the unit of core c, and at index c of
-/// `faults` the fault that its thread met, if it did.
+/// The end of a run of threads, from what its threads gave back: at index c of `units` the unit of core c, and at index c of
+/// `faults` the fault that its thread met, if it met one.
 ///
-/// The fault is the least core's that has one; 33 is none of a core, and 30 and 31 are none of a unit that isn't of that core and
-/// its program, or has ended.
-/// Where no core has one, cores, programs, numbers and configurations are compared, each hand has to be empty and each
-/// program to have ended: a difference there is 33 at core 0, slice 0, place 0. Then comes what `audit` finds. Takes no memory.
+/// The fault is that of the least core that has one. A 33 in `faults` doesn't count, and a 30 or a 31 counts only if the unit is
+/// that core's, has its program, and hasn't ended. If no core has a fault, this compares cores, programs, numbers and
+/// configurations; each hand must be empty, and each program must have ended. A difference there is 33 at core 0, slice 0, place
+/// 0. Then comes the fault that `audit` finds. Takes no memory.
 pub fn accept_run(
     programs: &ProgramSet,
     config: &Config,
@@ -243,7 +243,7 @@ pub fn accept_run(
     ensures kept { IfOk result (λ end. (end.units.items ≡ units.items) × (end.slices.items ≡ slices.items)) }
     ensures short { IfErr result (λ f. (f.cause ≡ GaveUp ⊎ f.cause ≡ Stopped) →
         StoppedShort programs.now.programs f.units.items f.core) }
-    // Each refusal is the first report's, or, where there is none, 33, which tells why these are no whole run.
+    // Each refusal is the first report's, or, if there is none, 33, which says why these aren't a whole run.
     ensures refused { IfErr result (λ f.
         IsFirstReport programs.now.programs units.items faults.now f.core f.cause
         ⊎ (NoneReports programs.now.programs units.items faults.now

@@ -16,7 +16,7 @@ use super::pairs::pairs_fault;
 use core_unit::CoreUnit;
 use manager_slice::{HistoryEntry, ManagerSlice};
 
-// Does nothing: the core that was served at a place of a history is one of 64, by its type.
+// Does nothing: by its type, the core served at a place of a history is one of 64.
 fn server_in_range(history: &[HistoryEntry], at: usize)
     ensures { (c : ℕ) → (m : Message) → (r : Reply) → slice_get history.now at ≡ Some (Served c m r) → c < 64 }
 {
@@ -25,7 +25,7 @@ fn server_in_range(history: &[HistoryEntry], at: usize)
     }
 }
 
-// The fault of slices that may have served more than the cores took, or none where they didn't.
+// The fault of slices that served more than the cores took, or none if they didn't. All transcripts are used up.
 fn slices_fault(
     units: &[CoreUnit],
     slices: &[ManagerSlice],
@@ -53,12 +53,12 @@ fn slices_fault(
     }
 }
 
-/// Whether the transcripts of cores and the histories of slices agree, and have one order of all their entries
-/// in which each reply is given just before it is taken. The unit at index c is core c's, and the slice at index s
-/// is the one of the addresses that leave s when they are divided by the number of slices. A core without a unit did nothing.
+/// Whether the transcripts of cores and the histories of slices agree, and have one order of all their entries in which the
+/// slice gives each reply just before the core takes it. The unit at index c is core c's. The slice at index s has the
+/// addresses that leave s when divided by the number of slices. A core without a unit did nothing.
 ///
-/// The fault is the first difference, by core, then slice, then place. Where there is none, it is the first reply,
-/// by core and then in its transcript, that no order reaches. Takes no memory.
+/// The fault is the first difference, by core, then slice, then place. If there is none, it is the first reply, by
+/// core and then in its transcript, that no order reaches. Takes no memory.
 pub fn audit(units: &[CoreUnit], slices: &[ManagerSlice]) -> Result<(), AuditFault>
     requires cores { length units.now ≤ 64 }
     requires some { 1 ≤ length slices.now }

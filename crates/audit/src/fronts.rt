@@ -1,4 +1,4 @@
-//! Fronts of all lists that move on as far as one order of their entries goes.
+//! Fronts of all lists, which move on as far as one order of their entries goes.
 
 ghost use Rattle.std.specs.Prelude.{◌≡◌, ◌≢◌, ◌<◌, ◌≤◌, ◌+◌, ◌*◌, ◌^◌, ℕ, Some, IfSome, MatchBool, MatchOption, false, length, slice_get, slice_index, slice_set, sum};
 ghost use Rattle.std.specs.Option.{option_copied};
@@ -12,7 +12,7 @@ use core_unit::{CoreEntry, CoreUnit};
 use line_stamps::{Message, Reply};
 use manager_slice::{HistoryEntry, ManagerSlice};
 
-// What a slice does next.
+// The next step of a slice.
 #[derive(Clone, Copy)]
 enum SliceStep {
     // It evicts a line.
@@ -21,7 +21,7 @@ enum SliceStep {
     Passes(usize),
 }
 
-// One entry further.
+// Moves one place on by one entry.
 fn bump(places: &mut [usize], at: usize)
     requires within { at < length places.old }
     requires fits { slice_index places.old at + 1 < 2 ^ 64 }
@@ -30,7 +30,7 @@ fn bump(places: &mut [usize], at: usize)
     places[at] += 1;
 }
 
-// Says whether a slice is due for a look, by 1 or 0.
+// Sets whether a slice is due for a look: 1 or 0.
 fn set_due(due: &mut [usize], slice: usize, value: usize)
     requires { slice < length due.old }
     ensures { due.new ≡ slice_set due.old slice value }
@@ -38,7 +38,7 @@ fn set_due(due: &mut [usize], slice: usize, value: usize)
     due[slice] = value;
 }
 
-// Whether a core's entry at a place is its own.
+// Whether the entry at a place is one that the core makes alone.
 fn is_alone(units: &[CoreUnit], core: usize, at: usize) -> bool
     ensures { result ≡ goes_alone (transcript_of (transcripts units.now) core) at }
 {
@@ -84,7 +84,7 @@ fn waited_for(units: &[CoreUnit], core: usize, at: usize, count: usize) -> Optio
     }
 }
 
-// What a slice can do next.
+// The step that a slice can make next, if it can make one.
 fn slice_step(
     units: &[CoreUnit],
     slices: &[ManagerSlice],
@@ -116,7 +116,7 @@ fn slice_step(
     }
 }
 
-/// Moves a core on over its own entries.
+/// Moves a core on over the entries that it makes alone.
 pub(crate) fn core_on(
     units: &[CoreUnit],
     slices: &[ManagerSlice],
@@ -139,8 +139,8 @@ pub(crate) fn core_on(
     }
 }
 
-// A slice serves a core, which takes the reply and goes on over its own entries. The slice that it waits for then
-// is due for a look.
+// A slice serves a core. The core takes the reply and goes on over the entries that it makes alone. The slice for
+// which it waits then is due for a look.
 fn pass(
     units: &[CoreUnit],
     slices: &[ManagerSlice],
@@ -169,8 +169,8 @@ fn pass(
     set_due(due, waited, 1);
 }
 
-/// Moves a slice that is due for a look on by one step, if it can go on; else it is no longer due. A slice
-/// that another core waits for then is due.
+/// Moves a slice that is due for a look on by one step. If it can't go on, it is no longer due. If the
+/// core that it served then waits for a slice, that slice is due.
 pub(crate) fn move_slice(
     units: &[CoreUnit],
     slices: &[ManagerSlice],

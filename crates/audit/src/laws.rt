@@ -2,8 +2,8 @@
 
 ghost use Rattle.audit.specs.Events.{MergesAreRuns, WholeRunsAreRuns};
 
-/// Where the whole lists of the units and slices of a machine have a merge, events that are read off it lead from the start of
-/// the programs to the states of these units and slices.
+/// If the whole lists of the units and slices of a machine have a merge, the events in it lead from the start of the programs
+/// to the states of these units and slices.
 pub fn merges_are_runs()
     ensures merges { MergesAreRuns }
     ensures whole { WholeRunsAreRuns }

@@ -1,4 +1,4 @@
-//! The lists of a run, and what stands in them.
+//! The lists of a run, and their entries.
 
 ghost use Rattle.std.specs.Prelude.{◌≡◌, ◌≢◌, ◌<◌, ◌≤◌, get_or, length, MatchBool, slice_get};
 ghost use Rattle.std.specs.Option.{option_copied};
@@ -11,10 +11,10 @@ use line_stamps::{Message, Reply};
 use manager_slice::{HistoryEntry, ManagerSlice};
 use mem_op::Addr;
 
-/// As many cores as there may be.
+/// The greatest number of cores.
 pub(crate) const MAX_CORES: usize = 64;
 
-/// As many slices as there may be.
+/// The greatest number of slices.
 pub(crate) const MAX_SLICES: usize = 16;
 
 /// The slice of an address, of so many slices.
@@ -26,7 +26,7 @@ pub(crate) fn slice_of(count: usize, addr: Addr) -> usize
     addr.get() as usize % count
 }
 
-/// How many entries a core has: none where it has no unit.
+/// How many entries a core has: none if it has no unit.
 pub(crate) fn entry_count(units: &[CoreUnit], core: usize) -> usize
     ensures { result ≡ length (transcript_of (transcripts units.now) core) }
 {
@@ -36,7 +36,7 @@ pub(crate) fn entry_count(units: &[CoreUnit], core: usize) -> usize
     }
 }
 
-/// The history of a slice, which is empty where there is no such slice.
+/// The history of a slice; empty if there is no such slice.
 pub(crate) fn history_at(slices: &[ManagerSlice], slice: usize) -> &[HistoryEntry]
     ensures { result.now ≡ history_of (histories slices.now) slice }
 {
@@ -53,7 +53,7 @@ pub(crate) fn entry_at(units: &[CoreUnit], core: usize, at: usize) -> Option<Cor
     units.get(core)?.transcript().get(at)
 }
 
-/// The entry of a core at a place where it has one.
+/// The entry of a core at a place within its transcript.
 pub(crate) fn entry_there(units: &[CoreUnit], core: usize, at: usize) -> CoreEntry
     requires { at < length (transcript_of (transcripts units.now) core) }
     ensures { result ≡ get_or (transcript_of (transcripts units.now) core) at result }

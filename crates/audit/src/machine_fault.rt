@@ -1,4 +1,4 @@
-//! Why a run of threads isn't ended, and the units and slices that it left.
+//! Why a run of threads didn't end well, and the units and slices that it left.
 
 ghost use Rattle.std.specs.Prelude.{◌≡◌, ◌⊎◌, []};
 ghost use Rattle.audit.specs.Runs.{IsUnitLog, kept_log};
@@ -13,26 +13,26 @@ use std::fmt;
 use std::fmt::{Debug, Display};
 use thiserror::Error;
 
-/// Why a core of a run stopped, or the run isn't accepted.
+/// Why a core of a run stopped, or why the run isn't accepted.
 #[derive(Clone, Copy, Debug, PartialEq, Eq)]
 pub enum Cause {
-    /// 30 GaveUp: as many turns as the configuration says brought no operation.
+    /// 30 GaveUp: the core made as many turns as the configuration allows without an operation.
     GaveUp,
-    /// 31 Stopped: the pace said so.
+    /// 31 Stopped: the pace told the core to stop.
     Stopped,
-    /// 32 Spawn: a thread was refused.
+    /// 32 Spawn: the host refused a thread.
     Spawn,
     /// 33 Audit: what the threads gave back isn't a whole run of the programs.
     Audit(AuditFault),
-    /// A call of the core was refused.
+    /// The core's unit refused a call.
     Unit(UnitFault),
-    /// A slice that the core asked refused.
+    /// A slice refused the core's message.
     Slice(SliceFault),
-    /// 10 OutOfMemory: a growth was refused beside the machine.
+    /// 10 OutOfMemory: a growth was refused outside the cores' runs.
     OutOfMemory,
 }
 
-/// What a run of threads ends with.
+/// The end of a run of threads.
 #[derive(Drop)]
 pub struct RunEnd {
     /// The units, core 0's first.
@@ -41,21 +41,21 @@ pub struct RunEnd {
     pub slices: Vec<ManagerSlice>,
 }
 
-/// Why a run of threads isn't ended, with the units that its threads gave back, and the slices.
+/// Why a run of threads didn't end well, with the units that its threads gave back, and the slices.
 #[derive(Drop, Error)]
 pub struct MachineFault {
-    /// The core that the fault is of; of 33 its core.
+    /// The core with the fault; with 33, the core that the audit's fault names.
     pub core: usize,
     /// Why.
     pub cause: Cause,
     /// The units that threads gave back.
     pub units: Vec<CoreUnit>,
-    /// The slices, number 0 first; none where no thread was to be started.
+    /// The slices, number 0 first; empty if memory was refused before any thread was to start.
     pub slices: Vec<ManagerSlice>,
 }
 
 impl MachineFault {
-    /// The log that a core made so far: that of its unit, or empty where no thread gave one back. Takes no memory.
+    /// The log that a core has made so far: that of its unit, or empty if no thread gave its unit back. Takes no memory.
     pub fn log(&self, core: CoreId) -> &[Record]
         ensures kept { result.now ≡ kept_log self.now.units.items core }
         ensures whole { IsUnitLog core result.now ⊎ (result.now ≡ []) }
@@ -71,7 +71,7 @@ impl MachineFault {
     }
 }
 
-// The units, which hold whole programs, caches and logs, aren't shown.
+// Doesn't show the units, which hold whole programs, caches and logs.
 impl Debug for MachineFault {
     fn fmt<W: fmt::Write>(&self, f: &mut fmt::Formatter<W>) -> fmt::Result {
         f.debug_struct("MachineFault")

@@ -1,4 +1,4 @@
-//! How far one order of the entries of all lists goes.
+//! Moves along all lists as far as one order of their entries goes.
 
 ghost use Rattle.std.specs.Prelude.{◌≡◌, ◌≢◌, ◌<◌, ◌≤◌, ℕ, MatchOption, false, is_some, length, slice_index, take};
 ghost use Rattle.audit.specs.Lists.{transcripts, histories, transcript_of, history_of};
@@ -15,7 +15,7 @@ use super::pairs::is_of_slice;
 use core_unit::{CoreEntry, CoreUnit};
 use manager_slice::ManagerSlice;
 
-// Does nothing: it tells that transcripts and histories are short, by the types of units and slices.
+// Does nothing: its contract says that transcripts and histories are short, by the types of units and slices.
 fn lengths(units: &[CoreUnit], slices: &[ManagerSlice])
     requires units { length units.now ≤ 64 }
     requires slices { length slices.now ≤ 16 }
@@ -44,7 +44,7 @@ fn next_due(due: &[usize]) -> Option<usize>
     None
 }
 
-// Moves each core on over its own entries.
+// Moves each core on over the entries that it makes alone.
 fn cores_on(units: &[CoreUnit], slices: &[ManagerSlice], cores: &mut [usize], fronts: &[usize])
     requires units { length units.now ≤ 64 }
     requires cores { length cores.old ≡ 64 }
@@ -61,8 +61,8 @@ fn cores_on(units: &[CoreUnit], slices: &[ManagerSlice], cores: &mut [usize], fr
     }
 }
 
-/// Moves all on as far as one order goes. Each entry is looked at a bounded number of times: a core's once as its
-/// own, and a slice's once for each core that comes to wait for it.
+/// Moves all cores and slices on as far as one order goes. It looks at each entry a bounded number of times: at
+/// an entry that a core makes alone once, and at a slice's once for each core that comes to wait for it.
 pub(crate) fn advance(
     units: &[CoreUnit],
     slices: &[ManagerSlice],
@@ -121,7 +121,7 @@ pub(crate) fn slice_left(slices: &[ManagerSlice], fronts: &[usize]) -> Option<us
     None
 }
 
-// How many replies of a slice a core took before a place.
+// How many replies a core took from a slice before a place.
 fn gots_before(units: &[CoreUnit], core: usize, count: usize, slice: usize, at: usize) -> usize
     requires some { 0 < count }
     requires within { at ≤ length (transcript_of (transcripts units.now) core) }
@@ -138,7 +138,7 @@ fn gots_before(units: &[CoreUnit], core: usize, count: usize, slice: usize, at: 
     taken
 }
 
-/// The fault of a core that can't go on, where the cores before it are used up.
+/// The fault of a core that can't go on. The transcripts of the cores before it are used up.
 pub(crate) fn unmerged_at(
     units: &[CoreUnit],
     slices: &[ManagerSlice],

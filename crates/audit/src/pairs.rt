@@ -1,4 +1,4 @@
-//! What one core and one slice tell of each other.
+//! Compares the messages of each core with those of each slice.
 
 ghost use Rattle.std.specs.Prelude.{◌≡◌, ◌<◌, ◌≤◌, ◌≢◌, ℕ, [], drop, length, is_some, true, option_and_then, MatchOption, MatchBool, slice_get};
 ghost use Rattle.audit.specs.Lists.{transcripts, histories, transcript_of, history_of};
@@ -12,7 +12,7 @@ use super::lists::{
 use core_unit::{CoreEntry, CoreUnit};
 use manager_slice::{HistoryEntry, ManagerSlice};
 
-/// Whether an entry of a core is a reply of this slice, of so many.
+/// Whether an entry of a core is a reply from this slice, of so many.
 pub(crate) fn is_of_slice(entry: &CoreEntry, count: usize, slice: usize) -> bool
     requires { 0 < count }
     ensures { result ≡ is_some (got_at count slice entry.now) }
@@ -33,7 +33,7 @@ fn is_of_core(entry: &HistoryEntry, core: usize) -> bool
     }
 }
 
-// Whether what a slice did at a place is the service of a message that a core got answered so.
+// Whether a slice's entry at a place serves the message of a core's entry with the same reply.
 fn is_served(history: &[HistoryEntry], at: usize, entry: &CoreEntry) -> bool
     requires { is_some (got_in entry.now) ≡ true }
     ensures { MatchBool result
@@ -50,7 +50,7 @@ fn is_served(history: &[HistoryEntry], at: usize, entry: &CoreEntry) -> bool
     }
 }
 
-// The first place from this one on at which a message of the core was served.
+// The first place from this one on at which the slice served the core.
 fn next_served(history: &[HistoryEntry], core: usize, from: usize) -> Option<usize>
     requires { from ≤ length history.now }
     ensures { MatchOption result
@@ -65,8 +65,8 @@ fn next_served(history: &[HistoryEntry], core: usize, from: usize) -> Option<usi
     None
 }
 
-// The first place at which the messages of the core that the slice served differ from those that the
-// core got answered, if they do.
+// The first place at which the messages that the slice served for the core differ from those to
+// which the core took replies, if they differ.
 fn pair_fault(
     units: &[CoreUnit],
     history: &[HistoryEntry],
@@ -101,7 +101,7 @@ fn pair_fault(
     }
 }
 
-// The first slice that a core differs from.
+// The first slice from which a core differs.
 fn core_fault(units: &[CoreUnit], slices: &[ManagerSlice], core: usize) -> Option<AuditFault>
     requires some { 0 < length slices.now }
     requires core { core < 64 }

@@ -1,4 +1,4 @@
-//! Why a run of threads isn't ended, as it is told.
+//! Why a run of threads didn't end well, in words.
 
 ghost use Rattle.std.specs.Prelude.{◌≡◌};
 
@@ -8,17 +8,17 @@ use std::fmt;
 use std::fmt::Display;
 use thiserror::Error;
 
-/// Why a run of threads isn't ended, without the units that it left.
+/// Why a run of threads didn't end well, without the units that it left.
 #[derive(Clone, Copy, Debug, PartialEq, Eq, Error)]
 pub struct ThreadsFault {
-    /// The core that the fault is of; of 33 its core.
+    /// The core with the fault; with 33, the core that the audit's fault names.
     pub core: usize,
     /// Why.
     pub cause: Cause,
 }
 
 impl ThreadsFault {
-    /// Why the run isn't ended that left this.
+    /// Why the run that left this didn't end well.
     pub fn of(left: &MachineFault) -> ThreadsFault
         ensures core { result.core ≡ left.now.core }
         ensures cause { result.cause ≡ left.now.cause }

@@ -1,4 +1,4 @@
-//! Whether a core's log is one of its program.
+//! Whether a core's log conforms to its program.
 
 ghost use Rattle.std.specs.Prelude.{◌≡◌, ◌↔◌, ◌≤◌, None, IfSome, length, map};
 ghost use Rattle.core_program.specs.Conforming.{Conforms, DiffersAt, program_fault};
@@ -11,19 +11,19 @@ use log_record::{Act, Record};
 use mem_op::Op;
 
 /// The least index of a log at which the record isn't the operation that the program issues there,
-/// given the logged values of the loads before; the log's length where it ends before the program;
-/// none where the log conforms to the program. Takes no memory.
+/// given the words that the loads and swaps before it read by the log; the log's length if it ends
+/// before the program; none if the log conforms to the program. Takes no memory.
 pub fn conforms<L: Logged>(program: &Program, log: &[L]) -> Option<usize>
     ensures fault { result ≡ program_fault program.now (map operation_of (L.records_of log.now)) }
 
-    // So it is by the paths that the program allows.
+    // None comes exactly if a path of the program allows the log.
     ensures conforms { (result ≡ None) ↔ Conforms program.now (map operation_of (L.records_of log.now)) }
     ensures differs { IfSome result (DiffersAt program.now (map operation_of (L.records_of log.now))) }
 
     ensures within { IfSome result (λ i. i ≤ length (L.records_of log.now)) }
     ensures few { IfSome result (λ i. i ≤ 4096) }
 {
-    // So the index is small.
+    // This keeps the index small.
     prove!(program.instructions().len() <= 4_096);
     let mut state = ProgramState::new(program);
     for (i, item) in log.iter().enumerate() {
@@ -39,7 +39,7 @@ pub fn conforms<L: Logged>(program: &Program, log: &[L]) -> Option<usize>
     }
 }
 
-// Whether a record is of the operation that was issued.
+// Whether a record is that of the issued operation.
 fn is_issued(issued: &Option<Op>, logged: &Record) -> bool
     ensures { result ≡ is_issued issued.now (operation_of logged.now) }
 {

@@ -8,7 +8,7 @@ ghost use Rattle.core_check.specs.CoreOrder.{is_core_fault, stamp_cmp};
 use super::logged::Logged;
 
 /// The least index above 0 of a log at which `(ts, rank)` is less than at the index before, or none
-/// where it never falls. Takes no memory.
+/// if it never falls. Takes no memory.
 pub fn core_fault<L: Logged>(log: &[L]) -> Option<usize>
     ensures least { IsLeastWhere (is_core_fault (L.records_of log.now)) result }
     ensures within { IfSome result (λ i. i < length (L.records_of log.now)) }

@@ -7,7 +7,7 @@ use mem_op::OpId;
 use std::cmp::Ordering;
 use std::marker::Model;
 
-/// What a core's log breaks, the graver rule first.
+/// The rules that a core's log may break, the graver one first.
 #[derive(Clone, Copy, Debug, PartialEq, Eq, PartialOrd, Ord)]
 pub enum CoreRule {
     /// `(ts, rank)` is less than that of the record before.
@@ -36,7 +36,7 @@ impl Model for RuleFault {
 }
 
 impl RuleFault {
-    /// How two faults compare: by rule, then core, then index.
+    /// The order of two faults: by rule, then core, then index.
     pub fn order(&self, other: &RuleFault) -> Ordering
         ensures { result ≡ core_fault_cmp self.now other.now }
     {

@@ -19,8 +19,8 @@ pub fn order_faults_are_where_logs_fall()
     ensures { OrderFaultsAreWhereLogsFall }
 {}
 
-/// The PROGRAM faults of a set are the places at which one of its logs differs from what its core's
-/// program issues.
+/// The PROGRAM faults of a set are the places at which one of its logs differs from the operations
+/// that its core's program issues.
 pub fn program_faults_are_where_logs_differ()
     ensures { ProgramFaultsAreWhereLogsDiffer }
 {}

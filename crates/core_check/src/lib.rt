@@ -1,4 +1,4 @@
-//! What a core's log breaks by itself.
+//! The checks of one core's log alone.
 #![tactic(auto)]
 
 mod conforming;

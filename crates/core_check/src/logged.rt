@@ -1,4 +1,4 @@
-//! What a log may be made of.
+//! The items of a log.
 
 ghost use Rattle.std.specs.Prelude.{◌≡◌, ℕ, List, length, map, option_map, slice_get};
 ghost use Rattle.log_record.specs.declared.record.Record.{Record};
@@ -6,7 +6,7 @@ ghost use Rattle.log_record.specs.declared.record.Record.{Record};
 use line_stamps::{Rank, Stamp};
 use log_record::{Entry, Record};
 
-/// What a log may be made of: records, with or without their ids.
+/// An item of a log: a record, with or without its id.
 pub trait Logged {
     // The record of an item.
     ghost record_of: { Self → Record };
@@ -26,7 +26,7 @@ pub trait Logged {
     // A list has as many records as items.
     ghost as_many: { (items : List Self) → length (records_of items) ≡ length items };
 
-    // At each index stands the record of the item there.
+    // At each index it has the record of the item there.
     ghost each: { (items : List Self) (i : ℕ) →
         slice_get (records_of items) i ≡ option_map record_of (slice_get items i) };
 }

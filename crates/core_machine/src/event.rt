@@ -10,13 +10,13 @@ pub enum Event {
     Turn(CoreId),
     /// A slice serves the core's message in hand.
     Serve(CoreId),
-    /// The core takes the reply that is kept for it.
+    /// The core takes the reply that the machine keeps for it.
     Take(CoreId),
-    /// This recall comes to the core.
+    /// The core gets this recall.
     Recall(CoreId, Recall),
     /// The core evicts the line of this address.
     Evict(CoreId, Addr),
-    /// The slice of this address evicts its line, where it is Shared.
+    /// The slice of this address evicts its line, if it is Shared.
     Spill(Addr),
     /// The core increments its stamp.
     Increment(CoreId),

@@ -14,9 +14,9 @@ use thiserror::Error;
 /// Why an event is refused.
 #[derive(Clone, Copy, Debug, PartialEq, Eq, Error)]
 pub enum CoreFault {
-    /// A core refuses it.
+    /// A core refuses the event.
     Unit(UnitFault),
-    /// A slice refuses it.
+    /// A slice refuses the event.
     Slice(SliceFault),
 }
 

@@ -1,5 +1,5 @@
-//! The core machine: its events, and what each of them makes of cores and slices. Only its definitions are here, and why an event is
-//! refused; the laws of the machine stand on them, and the crate that runs it stands on both.
+//! The core machine: its events, and how each of them changes cores and slices. This crate has only its definitions, and the reasons
+//! why an event is refused. The laws of the machine use these, and the crate that runs it uses both.
 #![tactic(auto)]
 
 mod event;

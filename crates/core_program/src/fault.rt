@@ -12,12 +12,12 @@ use thiserror::Error;
 /// Why bytes aren't a program or a set of programs. Lines are counted from 1.
 #[derive(Clone, Copy, Debug, PartialEq, Eq, Error)]
 pub enum ProgramFault {
-    /// At this line: it isn't as the format says, or it is missing.
+    /// This line isn't as the format says, or it is missing.
     BadLine(u64),
-    /// At this line: it is the 4,097th instruction of its section.
+    /// This line is the 4,097th instruction of its section.
     TooLong(u64),
-    /// At this line: it is a jump further than to just past the last instruction of its program. No
-    /// line is bad or too long.
+    /// This line jumps further than just past the last instruction of its program. No line is bad,
+    /// and no section too long.
     SkipPastEnd(u64),
     /// A growth was refused.
     OutOfMemory,

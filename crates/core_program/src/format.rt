@@ -5,12 +5,12 @@ ghost use Rattle.core_program.specs.Shape.{has_instruction};
 
 use super::instruction::Instruction;
 
-/// A format of programs and of sets of programs. A set says its own in its first line.
+/// A format of programs and of sets of programs. A set names its own in its first line.
 #[derive(Clone, Copy, Debug, PartialEq, Eq)]
 pub enum ProgramFormat {
     /// Format 1, which has no swaps.
     One,
-    /// Format 2, which has them.
+    /// Format 2, which has swaps.
     Two,
 }
 

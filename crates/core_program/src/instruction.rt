@@ -16,12 +16,12 @@ pub enum Instruction {
     Store(Addr, Word),
     /// `sr a rN`: stores a register at an address.
     StoreRegister(Addr, Register),
-    /// `ai rN rM K`: the first register becomes the second plus a word, modulo 2^64.
+    /// `ai rN rM K`: sets the first register to the second plus a word, modulo 2^64.
     Add(Register, Register, Word),
-    /// `jz rN k`: where the register is 0, skips the next k instructions.
+    /// `jz rN k`: if the register is 0, skips the next k instructions.
     SkipIfZero(Register, Skip),
     /// `sw rN a K`: loads the word at an address into a register and stores a word there, in one
-    /// step. Format 1 has none.
+    /// step. Format 1 has no swaps.
     Swap(Register, Addr, Word),
 }
 

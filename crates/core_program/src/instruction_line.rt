@@ -13,7 +13,7 @@ use super::skip::Skip;
 use decimal_text::{after_text, read_field, read_last};
 use mem_op::{Addr, Word};
 
-/// A register with a space after it, and the bytes after them.
+/// A register with a space after it, and the bytes after the space.
 #[tactic(auto, unfolding(crate::specs::inner::Reading::register_at, text_lines::specs::Fields::field_below))]
 fn register(bytes: &[u8]) -> Option<(Register, &[u8])>
     ensures { front_now result ≡ register_at bytes.now }
@@ -22,7 +22,7 @@ fn register(bytes: &[u8]) -> Option<(Register, &[u8])>
     Some((Register::new(number?)?, rest))
 }
 
-/// An address with a space after it, and the bytes after them.
+/// An address with a space after it, and the bytes after the space.
 #[tactic(auto, unfolding(text_lines::specs::Fields::field_below))]
 fn addr(bytes: &[u8]) -> Option<(Addr, &[u8])>
     ensures { front_now result ≡ field_below 65536 bytes.now }
@@ -31,7 +31,7 @@ fn addr(bytes: &[u8]) -> Option<(Addr, &[u8])>
     Some((Addr::new(number?).ok()?, rest))
 }
 
-/// A register that is all there is.
+/// A register that takes up all the bytes.
 #[tactic(auto, unfolding(crate::specs::inner::Reading::last_register, text_lines::specs::Fields::last_below))]
 fn last_register(bytes: &[u8]) -> Option<Register>
     ensures { result ≡ last_register bytes.now }
@@ -39,7 +39,7 @@ fn last_register(bytes: &[u8]) -> Option<Register>
     Register::new(read_last(after_text(b"r", bytes)?)??)
 }
 
-/// An address that is all there is.
+/// An address that takes up all the bytes.
 #[tactic(auto, unfolding(text_lines::specs::Fields::last_below))]
 fn last_addr(bytes: &[u8]) -> Option<Addr>
     ensures { result ≡ last_below 65536 bytes.now }
@@ -47,7 +47,7 @@ fn last_addr(bytes: &[u8]) -> Option<Addr>
     Addr::new(read_last(bytes)??).ok()
 }
 
-/// A word that is all there is.
+/// A word that takes up all the bytes.
 #[tactic(auto, unfolding(text_lines::specs::Fields::last_below))]
 fn last_word(bytes: &[u8]) -> Option<Word>
     ensures { result ≡ last_below (2 ^ 64) bytes.now }
@@ -55,7 +55,7 @@ fn last_word(bytes: &[u8]) -> Option<Word>
     read_last(bytes)?
 }
 
-/// The length of a jump that is all there is.
+/// The length of a jump that takes up all the bytes.
 #[tactic(auto, unfolding(crate::specs::inner::Reading::last_skip))]
 fn last_skip(bytes: &[u8]) -> Option<Skip>
     ensures { result ≡ last_skip bytes.now }
@@ -135,7 +135,7 @@ fn swap(fields: &[u8]) -> Option<Instruction>
     Some(Instruction::Swap(to, addr, last_word(rest)?))
 }
 
-/// The instruction whose line this is in a format, without its line feed.
+/// The instruction on this line in a format, without its line feed.
 #[tactic(auto, unfolding(crate::specs::inner::Reading::instruction_of, decimal_text::specs::Reading::after))]
 pub(crate) fn read_instruction(format: ProgramFormat, line: &[u8]) -> Option<Instruction>
     ensures { result ≡ instruction_of format line.now }

@@ -8,7 +8,7 @@ use super::instruction::Instruction;
 use std::alloc::AllocError;
 use std::marker::Model;
 
-/// The program of a core: at most 4,096 instructions, and no jump goes further than to just
+/// The program of a core: at most 4,096 instructions, and no jump goes further than just
 /// past the last one.
 #[derive(Drop)]
 pub struct Program {
@@ -28,7 +28,7 @@ impl Model for Program {
 }
 
 impl Program {
-    /// The program of these instructions; none where they are more than 4,096 or a jump goes past
+    /// The program of these instructions; none if there are more than 4,096 or a jump goes past
     /// the end.
     pub fn new(instructions: Vec<Instruction>) -> Option<Program>
         ensures { MatchOption result
@@ -102,8 +102,8 @@ impl Clone for Program {
     }
 }
 
-/// The least index of a jump that goes further than to just past the last instruction, or none
-/// where there is no such jump. Takes no memory.
+/// The least index of a jump that goes further than just past the last instruction, or none if
+/// there is no such jump. Takes no memory.
 pub(crate) fn skip_past_end(instructions: &[Instruction]) -> Option<usize>
     requires { length instructions.now ≤ 4096 }
     ensures least { IsLeastWhere (is_skip_past_end instructions.now) result }

@@ -10,7 +10,7 @@ use super::program::Program;
 use mem_op::CoreId;
 use std::marker::Model;
 
-/// The programs of 1..64 cores, one a core, and their format.
+/// The programs of 1..64 cores, one for each core, and their format.
 #[derive(Drop)]
 pub struct ProgramSet {
     format: ProgramFormat,
@@ -31,8 +31,8 @@ impl Model for ProgramSet {
 }
 
 impl ProgramSet {
-    /// The set of these programs, of a format; none where they aren't 1..64, or one of them has an
-    /// instruction that the format hasn't.
+    /// The set of these programs, in a format; none if there aren't 1..64 of them, or one has an
+    /// instruction that the format doesn't have.
     pub fn new(format: ProgramFormat, programs: Vec<Program>) -> Option<ProgramSet>
         ensures { MatchOption result
             ((length programs.items ≡ 0) ⊎ (65 ≤ length programs.items) ⊎ (¬ All (IsOfFormat format) programs.items))
@@ -66,7 +66,7 @@ impl ProgramSet {
         self.programs.len()
     }
 
-    /// The program of a core, if it is among them.
+    /// The program of a core, if the core is among them.
     pub fn get(&self, core: CoreId) -> Option<&Program>
         ensures { option_copied result ≡ slice_get self.now.programs core }
     {
@@ -98,7 +98,7 @@ fn each_is_of_format(format: ProgramFormat, programs: &[Program]) -> bool
     true
 }
 
-/// Does nothing: each program of a list is one by its type.
+/// Does nothing: each program of a list is valid by its type.
 fn each_is_program(programs: &[Program])
     ensures { All IsProgram programs.now }
 {

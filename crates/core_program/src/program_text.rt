@@ -14,8 +14,8 @@ use super::section::read_section;
 use std::alloc::{AllocError, Global};
 
 impl Program {
-    /// The program whose text this is, in format 2, which has all instructions; else as `parse_in`
-    /// says.
+    /// The program of this text in format 2, which has all instructions. Refuses as `parse_in`
+    /// does.
     pub fn parse(alloc: Global, text: &[u8]) -> Result<Program, ProgramFault>
         ensures { MatchResult result
             (λ program. SpellsProgram Two text.now program × IsProgram program)
@@ -24,9 +24,9 @@ impl Program {
         Program::parse_in(alloc, ProgramFormat::Two, text)
     }
 
-    /// The program whose text this is in a format: a line for each instruction, each ended by a line
-    /// feed. BadLine at the first line that isn't an instruction's there or has no line feed, TooLong
-    /// at the line of the 4,097th instruction, whichever comes first; where there is neither,
+    /// The program of this text in a format: a line for each instruction, each ended by a line feed.
+    /// BadLine at the first line that isn't an instruction's in this format or has no line feed,
+    /// TooLong at the line of the 4,097th instruction, whichever comes first; if there is neither,
     /// SkipPastEnd at the first jump past the end.
     pub fn parse_in(
         alloc: Global,

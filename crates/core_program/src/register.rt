@@ -23,7 +23,7 @@ impl Model for Register {
 }
 
 impl Register {
-    /// The register of this number; none where it is above 15.
+    /// The register of this number; none if it is above 15.
     pub fn new(number: u64) -> Option<Register>
         ensures { MatchOption result
             (16 ≤ number)

@@ -19,11 +19,11 @@ const SECTION_LIMIT: usize = 4_096;
 pub(crate) struct Section {
     /// The instructions, in their order.
     pub(crate) instructions: Vec<Instruction>,
-    /// How many bytes their lines have.
+    /// How many bytes their lines take.
     pub(crate) taken: usize,
 }
 
-/// The instruction whose line is the first, and the bytes after it; None where the first line isn't
+/// The instruction on the first line, and the bytes after that line; None if the first line isn't
 /// an instruction's in this format, or has no line feed.
 fn next_instruction(format: ProgramFormat, text: &[u8]) -> Option<(Instruction, &[u8])>
     ensures found { IfSome result (λ read. InstructionInFront format read.0 text.now read.1.now) }
@@ -33,9 +33,9 @@ fn next_instruction(format: ProgramFormat, text: &[u8]) -> Option<(Instruction, 
     Some((read_instruction(format, line)?, rest))
 }
 
-/// The instructions whose lines a text begins with, up to the first line that isn't an
+/// The instructions at the front of a text, up to the first line that isn't an
 /// instruction's. `first` is the number of the text's first line. TooLong at the line of the
-/// 4,097th instruction, where there is one.
+/// 4,097th instruction, if there is one.
 pub(crate) fn read_section(
     alloc: Global,
     format: ProgramFormat,

@@ -16,13 +16,13 @@ use std::alloc::Global;
 pub struct Sections {
     /// The instructions of core 0, of core 1, and so on.
     pub programs: Vec<Vec<Instruction>>,
-    /// How many bytes their lines have.
+    /// How many bytes their lines take.
     pub taken: usize,
     /// The number of the line after them.
     pub line: u64,
 }
 
-/// The bytes after the line with which a core's section begins; None where that isn't the first.
+/// The bytes after the line that begins a core's section; None if the first line isn't that one.
 #[tactic(auto, unfolding(crate::specs::inner::Reading::behind_core))]
 fn behind_core(core: u64, text: &[u8]) -> Option<&[u8]>
     ensures { option_map (λ rest. rest.now) result ≡ behind_core core text.now }
@@ -31,9 +31,9 @@ fn behind_core(core: u64, text: &[u8]) -> Option<&[u8]>
     (number? == core).then_some(rest)
 }
 
-/// The sections of core 0, core 1, and so on that a text begins with in a format, of `cores` at most: all
-/// that are there, each with all its instructions. Lines are counted as if the text's first line were
-/// line 2. TooLong at the line of a section's 4,097th instruction.
+/// The sections of core 0, core 1, and so on at the front of a text, in a format: all that are there, of
+/// at most `cores` cores, each with all its instructions. The text's first line counts as line 2. TooLong
+/// at the line of a section's 4,097th instruction.
 pub fn read_sections(
     alloc: Global,
     format: ProgramFormat,

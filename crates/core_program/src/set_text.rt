@@ -22,7 +22,7 @@ use std::alloc::Global;
 /// The most cores of a set.
 const CORE_LIMIT: u64 = 64;
 
-/// The format that a header's first words say, and the bytes after them.
+/// The format that a header's first words name, and the bytes after them.
 #[tactic(auto, unfolding(crate::specs::inner::Reading::first_words))]
 fn format_of(text: &[u8]) -> Option<(ProgramFormat, &[u8])>
     ensures { front_now result ≡ first_words text.now }
@@ -47,7 +47,7 @@ fn cores_at(bytes: &[u8]) -> Option<(u64, &[u8])>
     Some((cores, rest))
 }
 
-/// The format and the number of cores that a header tells, and the bytes after its line.
+/// The format and the number of cores in a header, and the bytes after its line.
 #[tactic(auto, unfolding(crate::specs::inner::Reading::header_at))]
 fn after_header(text: &[u8]) -> Option<(ProgramFormat, u64, &[u8])>
     ensures { option_map (λ read. (read.0, read.1, read.2.now)) result ≡ header_at text.now }
@@ -64,7 +64,7 @@ struct Parts {
     sections: Vec<Vec<Instruction>>,
 }
 
-/// The format and the sections of a set's text. A fault is that of the first line that isn't as it
+/// The format and the sections of a set's text. A fault names the first line that isn't as it
 /// should be.
 fn read_set(alloc: Global, text: &[u8]) -> Result<Parts, ProgramFault>
     ensures { MatchResult result
@@ -114,11 +114,11 @@ fn programs_of(
 }
 
 impl ProgramSet {
-    /// The set whose text this is: a header, a section for each core, `end`, each line ended by a
-    /// line feed, and nothing after. The header says the format, and each instruction is one that
-    /// the format has. BadLine at the first line that isn't so, or is missing, TooLong at the line of
-    /// a section's 4,097th instruction, whichever comes first; where there is neither, SkipPastEnd at
-    /// the first jump past the end of its program.
+    /// The set of this text: a header, a section for each core, `end`, each line ended by a line
+    /// feed, and nothing after. The header names the format, which has each of the instructions.
+    /// BadLine at the first line that isn't so, or is missing, TooLong at the line of a section's
+    /// 4,097th instruction, whichever comes first; if there is neither, SkipPastEnd at the first jump
+    /// past the end of its program.
     pub fn parse(alloc: Global, text: &[u8]) -> Result<ProgramSet, ProgramFault>
         ensures { MatchResult result
             (λ set. SpellsSet text.now set × AllByRecursion IsProgram set.programs)
@@ -129,8 +129,8 @@ impl ProgramSet {
     }
 
     /// The set of these sections, of 1..64 cores, each of at most 4,096 instructions that the format
-    /// has, in range. SkipPastEnd at the first jump past the end of its program, where core 0's line
-    /// is line 2.
+    /// has, in range. SkipPastEnd at the first jump past the end of its program; the line of core 0
+    /// counts as line 2.
     pub fn of_sections(
         alloc: Global,
         format: ProgramFormat,

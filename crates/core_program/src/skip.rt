@@ -23,7 +23,7 @@ impl Model for Skip {
 }
 
 impl Skip {
-    /// The skip of `count` instructions; None where that is 0 or above 4,095.
+    /// The skip of `count` instructions; None if that is 0 or above 4,095.
     pub fn new(count: u64) -> Option<Skip>
         ensures { MatchOption result
             ((count ≡ 0) ⊎ (4096 ≤ count))

@@ -46,8 +46,8 @@ impl ProgramState {
         state
     }
 
-    /// The operation that the program issues next; none where it has ended. The state is one of
-    /// this program. Takes no memory.
+    /// The operation that the program issues next; none if it has ended. The state must be at
+    /// rest in this program. Takes no memory.
     pub fn next_op(&self, program: &Program) -> Option<Op>
         requires { IsAtRest program.now self.now }
         ensures next { result ≡ next_op program.now self.now }
@@ -63,8 +63,8 @@ impl ProgramState {
     }
 
     /// Performs the next operation and moves on. A load and a swap put this word into their register;
-    /// a store has no use for it. The state is one of this program, and an operation is left. Takes
-    /// no memory.
+    /// a store doesn't use it. The state must be at rest in this program, and an operation must be
+    /// left. Takes no memory.
     pub fn answer(&mut self, program: &Program, word: Word)
         requires own { IsAtRest program.now self.old }
         requires left { IsSome (next_op program.now self.old) }
@@ -86,7 +86,7 @@ impl ProgramState {
         self.registers[register.get() as usize]
     }
 
-    /// The index of the next instruction in its program; at the end, how many there are.
+    /// The index of the next instruction in its program; at the end, the number of instructions.
     pub fn position(&self) -> usize
         ensures { result ≡ self.now.position }
     {

@@ -4,18 +4,18 @@ ghost use Rattle.core_program.specs.Answers.{IsProgramFault, IsSetFault};
 ghost use Rattle.core_program.specs.declared.format.ProgramFormat.{ProgramFormat};
 ghost use Rattle.core_program.specs.TextLaws.{PrintedIsRead, SpelledSetIsRead, AtMostOneFault};
 
-/// A program's text is that of no other, and it has no fault in its format: `parse` gives back what
-/// `print` wrote.
+/// No two programs have the same text, and a program's text has no fault in its format but lack
+/// of memory: `parse` gives back what `print` wrote.
 pub fn printed_is_read()
     ensures { PrintedIsRead }
 {}
 
-/// A set's text is that of no other, of its format or the other, and it has no fault.
+/// No two sets have the same text, whatever their formats, and a set's text has no fault but lack of memory.
 pub fn spelled_set_is_read()
     ensures { SpelledSetIsRead }
 {}
 
-/// Bytes that aren't a program's text have one fault, and those that aren't a set's text have one.
+/// Bytes have at most one fault as a program's text in a format, and at most one as a set's text, lack of memory aside.
 pub fn one_fault()
     ensures program { (format : ProgramFormat) → AtMostOneFault (IsProgramFault format) }
     ensures set { AtMostOneFault IsSetFault }

@@ -6,13 +6,13 @@ use mem_op::Addr;
 /// An entry of a core's transcript.
 #[derive(Clone, Copy, Debug, PartialEq, Eq)]
 pub enum CoreEntry {
-    /// The next operation was performed, and the stamp incremented where that was due.
+    /// The core performed the next operation, and incremented its stamp if that was due.
     Performed,
-    /// The Shared line of this address was dropped.
+    /// The core dropped the Shared line of this address.
     Dropped(Addr),
-    /// An Exclusive line was given back by this message.
+    /// The core gave an Exclusive line back by this message.
     Gave(Message),
-    /// This reply to this message was taken, and it isn't Busy.
+    /// The core took this reply to this message. The reply isn't Busy.
     Got(Message, Reply),
     /// The core incremented its stamp of its own accord.
     Bumped,

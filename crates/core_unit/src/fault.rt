@@ -14,13 +14,13 @@ use thiserror::Error;
 /// Why a core refuses an event.
 #[derive(Clone, Copy, Debug, PartialEq, Eq, Error)]
 pub enum UnitFault {
-    /// The reply isn't one to the message in hand, or no message is.
+    /// The reply doesn't answer the message in hand, or no message is in hand.
     BadReply,
-    /// A transcript has at most 1,048,576 entries.
+    /// The transcript has 1,048,576 entries, which is the most.
     TranscriptFull,
     /// A stamp or a rank would be above its limit.
     Stamp(StampFault),
-    /// Memory of the host was refused.
+    /// The host refused memory.
     OutOfMemory,
 }
 

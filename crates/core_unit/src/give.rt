@@ -16,9 +16,9 @@ use mem_op::Addr;
 use private_cache::{Evicted, PrivateCache};
 
 impl CoreUnit {
-    /// Gives the recall's line back where it is there as Exclusive: Gave with the give-back, which is
-    /// then in hand. NoEffect where it isn't there so, or while a message is in hand. The recall's
-    /// owner isn't looked at.
+    /// Gives the recall's line back if the core has it as Exclusive: Gave with the give-back, which
+    /// is then in hand. NoEffect if the core doesn't have it so, or while a message is in hand. It
+    /// doesn't look at the recall's owner.
     ///
     /// The refusals, in this order: 13 TranscriptFull, 4 StampLimit, 10 OutOfMemory. They change
     /// nothing.
@@ -48,8 +48,8 @@ impl CoreUnit {
         Ok(Outcome::Gave(*message))
     }
 
-    /// Evicts the line of an address: Dropped where it was Shared, Gave with the give-back in hand
-    /// where it was Exclusive. NoEffect where it isn't there, or while a message is in hand.
+    /// Evicts the line of an address: Dropped if it was Shared, Gave with the give-back in hand if
+    /// it was Exclusive. NoEffect if the core doesn't have it, or while a message is in hand.
     ///
     /// The refusals, in this order: 13 TranscriptFull, 10 OutOfMemory. They change nothing.
     pub fn evict(&mut self, addr: Addr) -> Result<Outcome, UnitFault>
@@ -97,8 +97,8 @@ impl CoreUnit {
     }
 }
 
-// What a recall comes to where one more entry is refused: it has no effect all the same, or its own
-// fault comes before lack of memory.
+// The outcome of a recall when there is no room for one more entry. It may have no effect all the
+// same. Otherwise 13 comes first, then its own fault, then lack of memory.
 fn recall_without_room(
     cache: &PrivateCache,
     recall: &Recall,

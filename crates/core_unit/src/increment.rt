@@ -1,4 +1,4 @@
-//! Self-increments.
+//! Self-increments: a core adds 1 to its own stamp.
 
 ghost use Rattle.std.specs.Prelude.{◌≡◌, OnErr};
 ghost use Rattle.core_unit.specs.Outcomes.{OutcomeLeads, increment_outcome};

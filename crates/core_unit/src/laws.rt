@@ -2,7 +2,7 @@
 
 ghost use Rattle.core_unit.specs.Laws.{LogsAreFronts};
 
-/// The log of a unit is a front of its program's operations, and conforms to its program where that has ended.
+/// The log of a unit is a front of its program's operations, and conforms to its program if that has ended.
 pub fn logs_are_fronts()
     ensures { LogsAreFronts }
 {}

@@ -1,5 +1,5 @@
-//! A core of the machine: its program, its private cache and the message it has in hand, in the state
-//! to which its transcript leads.
+//! A core of the machine: its program, its private cache and the message in hand. Its transcript
+//! leads to its state.
 #![tactic(auto)]
 
 mod entry;

@@ -1,4 +1,4 @@
-//! Operations: what a core's line makes of one, and how it is performed.
+//! Operations: whether one hits or misses its line, and how the core performs it.
 
 ghost use Rattle.std.specs.Prelude.{◌≡◌, None, MatchOption, MatchResult, if◌then◌else◌};
 ghost use Rattle.lease_rule.specs.Lease.{self_increment};
@@ -14,12 +14,12 @@ use log_record::{Act, Record};
 use mem_op::{Addr, Op, OpId, Word};
 use private_cache::{Load, PrivateCache, Store, Swap};
 
-/// What a core's line makes of an operation.
+/// Whether an operation hits or misses its line.
 #[derive(Clone, Copy, Debug, PartialEq, Eq)]
 pub(crate) enum Look {
-    /// The operation can be performed, and this is its record.
+    /// The core can perform the operation, and this is its record.
     Hit(Record),
-    /// This is to be asked for first.
+    /// The core must make this request first.
     Miss(Message),
 }
 
@@ -35,7 +35,7 @@ pub(crate) fn op_addr(op: &Op) -> Addr
 }
 
 impl CoreUnit {
-    /// What the line of its address makes of an operation.
+    /// Whether an operation hits or misses the line of its address.
     pub(crate) fn look(&self, op: &Op) -> Result<Look, StampFault>
         ensures { IsLook self.now op.now result }
     {
@@ -97,8 +97,8 @@ impl CoreUnit {
     }
 }
 
-/// Performs an operation on its line, where it hits; `id` is its own. A miss, and a hit above a limit,
-/// change nothing.
+/// Performs an operation on its line, if it hits. `id` is the operation's id. A miss changes nothing,
+/// and neither does a hit above a limit.
 pub(crate) fn perform_at(cache: &mut PrivateCache, op: &Op, id: OpId, pts: Stamp, r: Rank)
     ensures { let hit = op_hit op.now id pts r (line_at cache.old (op_addr op.now)) in
         MatchOption (hit_fault hit)
@@ -118,8 +118,8 @@ pub(crate) fn perform_at(cache: &mut PrivateCache, op: &Op, id: OpId, pts: Stamp
     }
 }
 
-/// The core's stamp and rank after `count` operations, the last of them with this stamp and rank. The
-/// stamp is incremented where that is due. 4 StampLimit where it is above 2^48.
+/// The core's stamp and rank after `count` operations, the last of them with this stamp and rank. It
+/// increments the stamp if that is due. 4 StampLimit if that makes it more than 2^48.
 pub(crate) fn after(
     config: &Config,
     count: u64,

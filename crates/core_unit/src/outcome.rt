@@ -6,23 +6,23 @@ use mem_op::{Addr, OpId};
 /// The outcome of an event.
 #[derive(Clone, Copy, Debug, PartialEq, Eq)]
 pub enum Outcome {
-    /// This operation was performed.
+    /// The core performed this operation.
     Performed(OpId),
-    /// The Shared line of this address was dropped.
+    /// The core dropped the Shared line of this address.
     Dropped(Addr),
     /// A turn took this message in hand.
     Sent(Message),
     /// The program has ended.
     Ended,
-    /// The reply was taken.
+    /// The core took the reply.
     Took,
-    /// The reply was Busy: the recall is to be offered, and the request made again.
+    /// The reply was Busy: the caller should offer this recall, and a turn makes the request again.
     Busy(Recall),
     /// A recall or an eviction took this give-back in hand.
     Gave(Message),
     /// The core incremented its stamp.
     Bumped,
-    /// A slice answered the message in hand so.
+    /// A slice answered the message in hand with this reply.
     Served(Reply),
     /// A slice's Shared line went to memory.
     Spilled,

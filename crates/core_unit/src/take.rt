@@ -1,4 +1,4 @@
-//! Replies that are taken.
+//! Taking replies.
 
 ghost use Rattle.std.specs.Prelude.{◌≡◌, Some, OnErr, true, false};
 ghost use Rattle.private_cache.specs.Steps.{fill_line};
@@ -19,12 +19,13 @@ use super::unit::CoreUnit;
 use line_stamps::{Message, Reply};
 
 impl CoreUnit {
-    /// Takes the reply to the message in hand, which is no longer in hand: Took, where a reply to a
-    /// request has filled its line, or Busy with the recall. A later turn performs the operation.
+    /// Takes the reply to the message in hand, which is then no longer in hand: Busy with the
+    /// recall, or Took. With Took, the reply to a request has filled its line, and a later turn
+    /// performs the operation.
     ///
-    /// The refusals, in this order: 14 BadReply where no message is in hand, the reply isn't of a
-    /// kind that it asks for, or doesn't fit the line or the cache; 13 TranscriptFull, which a Busy
-    /// doesn't meet, as it makes no entry; 10 OutOfMemory. They change nothing.
+    /// The refusals, in this order: 14 BadReply if no message is in hand, or the reply isn't of a
+    /// kind for which the message asks, or doesn't fit the line or the cache; 13 TranscriptFull,
+    /// but not for a Busy, which makes no entry; 10 OutOfMemory. They change nothing.
     pub fn take(&mut self, reply: &Reply) -> Result<Outcome, UnitFault>
         ensures outcome { OutcomeLeads (take_outcome self.old reply.now) result self.old self.new }
         ensures same { SameUnit self.old self.new }
@@ -44,7 +45,7 @@ impl CoreUnit {
         }
     }
 
-    // What was given back is taken: the give-back is no longer in hand.
+    // The slice took the line back: the give-back is no longer in hand.
     fn end_give_back(&mut self, message: &Message) -> Result<Outcome, UnitFault>
         requires hand { self.old.hand ≡ Some message.now }
         requires gives { is_request message.now ≡ false }
@@ -64,7 +65,7 @@ impl CoreUnit {
         Ok(Outcome::Took)
     }
 
-    // A reply of a kind that the request in hand asks for fills its line.
+    // A reply of a kind for which the request in hand asks fills its line.
     fn fill(&mut self, message: &Message, reply: &Reply) -> Result<Outcome, UnitFault>
         requires hand { self.old.hand ≡ Some message.now }
         requires kind { fits message.now reply.now ≡ true }
@@ -81,7 +82,7 @@ impl CoreUnit {
         } = self;
         let addr = message.addr();
         if let Err(refused) = make_room(transcript) {
-            // That a reply doesn't fit is told first.
+            // A reply that doesn't fit is refused before lack of room.
             if cache.fits(addr, reply) {
                 return Err(refused);
             }

@@ -11,23 +11,23 @@ use super::fault::UnitFault;
 use std::alloc::{AllocError, Global};
 use std::marker::Model;
 
-/// How many entries a transcript has at most.
+/// The most entries of a transcript.
 const ENTRY_LIMIT: usize = 1_048_576;
 
-/// How many entries an operation makes whose line another core wants too: the line comes, the
-/// operation is performed, the line is given back, and that is taken.
+/// How many entries an operation makes if another core wants its line too: the core takes the
+/// line, performs the operation, gives the line back, and takes the reply to that.
 const ENTRIES_PER_OPERATION: usize = 4;
 
-/// An entry as a transcript keeps it. It takes 8 bytes, where one with a message and its reply takes 104.
+/// An entry as a transcript keeps it. It takes 8 bytes, where an entry with a message and its reply takes 104.
 #[derive(Clone, Copy, Debug, PartialEq, Eq)]
 enum KeptEntry {
-    /// The next operation was performed.
+    /// The core performed the next operation.
     Performed,
-    /// The entry at this place of the others.
+    /// The entry at this place among the others.
     Other(u32),
 }
 
-/// What a core did, in order: at most 1,048,576 entries. Operations, of which there are most, take few bytes.
+/// What a core did, in order: at most 1,048,576 entries. Most are operations, which take few bytes.
 #[derive(Drop)]
 pub struct Transcript {
     kept: Vec<KeptEntry>,
@@ -51,8 +51,8 @@ impl Model for Transcript {
 }
 
 impl Transcript {
-    /// A transcript of no entry, with room for as many operations whose lines other cores want too. Err
-    /// where memory was refused.
+    /// An empty transcript, with room for this many operations whose lines other cores want too. Err if
+    /// memory was refused.
     pub(crate) fn with_room(alloc: Global, operations: usize) -> Result<Transcript, AllocError>
         ensures { IfOk result (λ t. t.entries ≡ []) }
     {
@@ -80,7 +80,7 @@ impl Transcript {
         }
     }
 
-    /// Makes room for one more entry. Err where memory was refused.
+    /// Makes room for one more entry. Err if memory was refused.
     pub(crate) fn reserve(&mut self) -> Result<(), AllocError>
         ensures entries { self.new.entries ≡ self.old.entries }
         ensures room { OnOk result (self.new.has_room ≡ true) }
@@ -90,7 +90,7 @@ impl Transcript {
         Ok(())
     }
 
-    /// One operation more.
+    /// Adds an operation.
     pub(crate) fn push_performed(&mut self)
         requires room { self.old.has_room ≡ true }
         requires fits { length self.old.entries < entry_limit }
@@ -99,7 +99,7 @@ impl Transcript {
         self.kept.push_reserved(KeptEntry::Performed);
     }
 
-    /// One entry more that isn't an operation.
+    /// Adds an entry that isn't an operation.
     pub(crate) fn push(&mut self, entry: CoreEntry)
         requires room { self.old.has_room ≡ true }
         requires fits { length self.old.entries < entry_limit }
@@ -111,7 +111,7 @@ impl Transcript {
     }
 }
 
-// Adds an entry. It is spelled out at each push, since the prover can't follow one that is passed on whole.
+// Adds an entry. Each push spells the entry out, since the prover can't follow one that is passed on whole.
 fn push_other(others: &mut Vec<CoreEntry>, entry: CoreEntry)
     requires { vec_len others.old < vec_capacity others.old }
     ensures { others.new.items ≡ others.old.items ++ entry ∷ [] }
@@ -125,7 +125,7 @@ fn push_other(others: &mut Vec<CoreEntry>, entry: CoreEntry)
     }
 }
 
-/// 13 TranscriptFull where one more entry doesn't fit.
+/// 13 TranscriptFull if one more entry doesn't fit.
 pub(crate) fn check_room(transcript: &Transcript) -> Result<(), UnitFault>
     ensures { MatchResult result
         (λ _. length transcript.now.entries < entry_limit)
@@ -137,8 +137,8 @@ pub(crate) fn check_room(transcript: &Transcript) -> Result<(), UnitFault>
     Ok(())
 }
 
-/// Makes room for one more entry: 13 TranscriptFull where it doesn't fit, or else 10 OutOfMemory. A
-/// refusal changes nothing.
+/// Makes room for one more entry: 13 TranscriptFull if it doesn't fit, otherwise 10 OutOfMemory if
+/// memory was refused. A refusal changes nothing.
 pub(crate) fn make_room(transcript: &mut Transcript) -> Result<(), UnitFault>
     ensures entries { transcript.new.entries ≡ transcript.old.entries }
     ensures room { OnOk result (transcript.new.has_room ≡ true) }

@@ -1,4 +1,4 @@
-//! Turns.
+//! Turns of a core.
 
 ghost use Rattle.std.specs.Prelude.{◌≡◌, Some, None, IsSome, IsSomeAnd, Ok, OnErr};
 ghost use Rattle.private_cache.specs.Answers.{hit_fault};
@@ -17,10 +17,10 @@ use log_record::Record;
 use mem_op::{Op, OpId, OpIndex};
 
 impl CoreUnit {
-    /// Makes a turn. Where the next operation hits, it is performed: Performed with its id. On a miss
-    /// with no room for the line, the victim goes: Dropped, or Sent with its give-back in hand. On
-    /// any other miss the request is taken in hand: Sent. Ended where the program has ended, and
-    /// NoEffect while a message is in hand.
+    /// Makes a turn. If the next operation hits, the core performs it: Performed with its id. On a
+    /// miss with no room for the line, the victim goes: Dropped, or Sent with its give-back in hand.
+    /// On any other miss the core takes the request in hand: Sent. Ended if the program has ended,
+    /// and NoEffect while a message is in hand.
     ///
     /// The refusals, in this order: 13 TranscriptFull, 4 StampLimit or 5 RankLimit of the operation,
     /// 4 StampLimit of the self-increment that is due after it, 10 OutOfMemory. They change nothing.
@@ -86,8 +86,8 @@ impl CoreUnit {
         Ok(Outcome::Performed(id))
     }
 
-    // Takes the request of the next operation in hand, which misses, where there is room for the
-    // line; else lets the victim go.
+    // The next operation misses: takes its request in hand if there is room for the line, and
+    // otherwise lets the victim go.
     fn ask(&mut self, op: &Op, request: &Message) -> Result<Outcome, UnitFault>
         requires free { self.old.hand ≡ None }
         requires next { next_of (core_of self.old None) ≡ Some op.now }

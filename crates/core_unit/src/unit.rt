@@ -20,7 +20,7 @@ use std::alloc::Global;
 use std::marker::Model;
 
 /// A core with its program. It is always in the state to which its transcript leads, entry by entry
-/// through the table of the private cache, from the start of its program; a request in hand is the
+/// through the table of the private cache, from the start of its program. A request in hand comes from a
 /// miss of its next operation, and isn't an entry. While a message is in hand, no call but `take` has an
 /// effect.
 #[derive(Drop)]
@@ -75,7 +75,7 @@ impl Model for CoreUnit {
 }
 
 impl CoreUnit {
-    /// The core at the start of this program; 10 OutOfMemory alone is refused.
+    /// The core at the start of this program. Only 10 OutOfMemory may come.
     pub fn new(
         alloc: Global,
         core: CoreId,
@@ -172,7 +172,7 @@ impl CoreUnit {
         self.hand.as_ref()
     }
 
-    /// What it did so far, in order: at most 1,048,576 entries.
+    /// What it has done so far, in order: at most 1,048,576 entries.
     pub fn transcript(&self) -> &Transcript
         ensures entries { result.now.entries ≡ self.now.transcript }
         ensures limit { length self.now.transcript ≤ entry_limit }
@@ -180,7 +180,7 @@ impl CoreUnit {
         &self.transcript
     }
 
-    /// The records of the operations that it performed, in order: at most 1,048,576.
+    /// The records of the operations that it has performed, in order: at most 1,048,576.
     pub fn log(&self) -> &[Record]
         ensures records { result.now ≡ self.now.log }
         ensures limit { length self.now.log ≤ entry_limit }
@@ -188,15 +188,15 @@ impl CoreUnit {
         self.log.as_slice()
     }
 
-    /// The least address whose line is Exclusive; none where no line is. No memory.
+    /// The least address whose line is Exclusive; none if no line is. Takes no memory.
     pub fn next_exclusive(&self) -> Option<Addr>
         ensures { IsLeastExclusive self.now.cache result }
     {
         self.cache.least_exclusive()
     }
 
-    /// Does nothing: it tells that the state is the replay of the transcript, that the program rests,
-    /// and that the cache has room for as many lines as the configuration says.
+    /// Does nothing: its contract says that the state is the replay of the transcript, that the
+    /// program rests, and that the cache has room for as many lines as the configuration says.
     pub fn replays(&self)
         ensures replays { Replays self.now }
         ensures rests { IsAtRest self.now.program self.now.state }

@@ -1,4 +1,4 @@
-//! What a core did to memory, with the words that it read and stored.
+//! Operations on memory, with the words that they read and stored.
 
 ghost use Rattle.std.specs.Prelude.{◌≡◌, ◌&&◌, ◌==◌};
 ghost use Rattle.mem_op.specs.Consistency.{Loaded, Stored, Swapped, is_store_to, word_left};
@@ -23,7 +23,7 @@ enum Kind {
 /// with both. It takes 32 bytes.
 #[derive(Clone, Copy, Debug, PartialEq, Eq)]
 pub struct Access {
-    // Of a load both words are the one that it read, and of a store both are the one that it stored.
+    // In a load both words are the one that it read, and in a store both are the one that it stored.
     read: Word,
     stored: Word,
     addr: Address,
@@ -98,7 +98,7 @@ impl Access {
         self.addr
     }
 
-    /// The word that it read, where it is a load or a swap.
+    /// The word that it read, if it is a load or a swap.
     pub fn read(&self) -> Option<Word>
         ensures { result ≡ word_read self.now }
     {
@@ -108,7 +108,7 @@ impl Access {
         }
     }
 
-    /// The word that stands at its address after it: a load leaves the one that it read.
+    /// The word at its address after it: a load leaves the one that it read.
     pub fn word_left(&self) -> Word
         ensures { result ≡ word_left self.now }
     {

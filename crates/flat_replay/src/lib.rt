@@ -1,4 +1,4 @@
-//! Operations without times, one memory that they are performed on, and whether an order of their ids replays on it.
+//! Operations without times, one memory on which they are performed, and whether an order of their ids replays on it.
 #![tactic(auto)]
 
 mod access;

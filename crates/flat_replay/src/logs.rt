@@ -1,4 +1,4 @@
-//! What logs lend: stamps, ranks and sources are left out.
+//! The operations that logs lend, without stamps, ranks and sources.
 
 ghost use Rattle.std.specs.Prelude.{◌≡◌};
 ghost use Rattle.log_record.specs.Entries.{record_at, record_lists, operation_of, operations_of};
@@ -19,7 +19,7 @@ fn record_of(logs: &[Vec<Record>], id: &OpId) -> Option<Record>
     }
 }
 
-/// The operation of a record: its stamp, rank and source are left out.
+/// The operation of a record, without its stamp, rank and source.
 pub fn access_of(logged: &Record) -> Access
     ensures { result ≡ operation_of logged.now }
 {

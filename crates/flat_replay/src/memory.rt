@@ -9,15 +9,15 @@ use mem_op::Word;
 use std::alloc::{AllocError, Global};
 use std::collections::BTreeMap;
 
-/// One memory of words, all 0 at first, which knows of each word which store left it, by an `I`. It takes memory for each
-/// address that is stored to.
+/// One memory of words, all 0 at first. For each word it knows the store that left it, by an `I`. It takes memory for
+/// each address that has a store.
 #[derive(Drop)]
 pub struct Memory<I> {
     stores: BTreeMap<Address, (Word, I)>,
 }
 
 impl<I: Copy> Memory<I> {
-    /// Nothing was stored yet.
+    /// A memory without stores.
     pub fn new(alloc: Global) -> Memory<I>
         ensures { (addr : ℕ) → last_at result addr ≡ None }
     {
@@ -33,7 +33,7 @@ impl<I: Copy> Memory<I> {
         self.stores.get(&addr).copied()
     }
 
-    /// Whether an operation may come next: a load or a swap reads the word of its address.
+    /// Whether an operation may come next: a load or a swap must read the word at its address.
     pub fn answers(&self, access: &Access) -> bool
         ensures { IsTrue result ↔ IsAnsweredBy (word_at self.now) access.now }
     {
@@ -43,7 +43,8 @@ impl<I: Copy> Memory<I> {
         }
     }
 
-    /// Performs an operation, which is this one where it is a store. Err where memory was refused.
+    /// Performs an operation. If it stores a word, `id` says which store it is. Err if memory was refused, and then nothing
+    /// changes.
     pub fn perform(&mut self, access: &Access, id: I) -> Result<(), AllocError>
         ensures stored { (addr : ℕ) → OnOk result (last_at self.new addr
             ≡ cond (is_store_to addr access.now) (Some (word_left access.now, id)) (last_at self.old addr)) }

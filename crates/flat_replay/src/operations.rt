@@ -1,4 +1,4 @@
-//! What lends the operations of some cores.
+//! Types that lend the operations of some cores.
 
 ghost use Rattle.std.specs.Prelude.{◌≡◌, IfOk, length, map, vec_len};
 ghost use Rattle.mem_op.specs.Consistency.{operation_at};
@@ -15,7 +15,7 @@ pub trait Operations {
     /// The operations of each core, core 0's first.
     ghost operations: { Self → List (List Operation) };
 
-    /// How many operations each core has. Err where memory was refused.
+    /// How many operations each core has. Err if memory was refused.
     fn lengths(&self, alloc: Global) -> Result<Vec<u64>, AllocError>
         ensures { IfOk result (λ lengths. lengths.items ≡ map length (operations self.now)) };
 
@@ -24,7 +24,7 @@ pub trait Operations {
         ensures { result ≡ operation_at (operations self.now) id.now };
 }
 
-/// How long each list is. Err where memory was refused.
+/// How long each list is. Err if memory was refused.
 pub fn lengths_of<T>(alloc: Global, lists: &[Vec<T>]) -> Result<Vec<u64>, AllocError>
     ensures { IfOk result (λ lengths. lengths.items ≡ map vec_len lists.now) }
 {

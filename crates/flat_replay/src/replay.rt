@@ -9,7 +9,7 @@ use mem_op::OpId;
 use std::alloc::{AllocError, Global};
 
 /// Whether the list is a serial order of the operations that keeps program order, and in which each load's word, and
-/// the word that each swap read, is that of the last earlier store to its address, or 0. Err where memory was refused.
+/// the word that each swap read, is that of the last earlier store to its address, or 0. Err if memory was refused.
 pub fn replays<T: Operations>(
     alloc: Global,
     operations: &T,

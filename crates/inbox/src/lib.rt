@@ -1,4 +1,4 @@
-//! The inbox of a core: the recalls that were offered to it, in a bounded queue.
+//! The inbox of a core: a bounded queue of the recalls that threads have offered to it.
 #![tactic(auto)]
 
 mod recalls;

@@ -7,8 +7,8 @@ use line_stamps::Recall;
 use std::alloc::{AllocError, Global};
 use std::sync::Wait;
 
-/// The recalls that wait for a core, which any thread may offer and the core's own thread takes. A recall is a hint: no promise
-/// rests on its delivery or order.
+/// The recalls that wait for a core. Any thread may offer them, and the core's own thread takes them. A recall is a hint: no
+/// promise rests on its delivery or order.
 #[derive(Drop)]
 pub struct Inbox {
     queue: ArrayQueue<Recall>,
@@ -17,7 +17,7 @@ pub struct Inbox {
 impl Inbox {
     ghost use Rattle.inbox.specs.Capacity.{capacity_of};
 
-    /// An empty inbox, for at most this many recalls; a capacity of 0 counts as 1. 10 OutOfMemory alone is refused.
+    /// An empty inbox, for at most this many recalls; a capacity of 0 counts as 1. Only 10 OutOfMemory may come.
     pub fn new(alloc: Global, capacity: usize) -> Result<Inbox, AllocError>
         ensures { IfOk result (λ inbox. capacity_of inbox ≡ max 1 capacity) }
     {
@@ -26,7 +26,7 @@ impl Inbox {
         })
     }
 
-    /// Leaves a recall for the core. Where the inbox is full, the recall comes back.
+    /// Leaves a recall for the core. If the inbox is full, the recall comes back.
     pub fn offer<R: Wait>(&self, rt: &R, recall: Recall) -> Result<(), Recall>
         ensures { IfErr result (λ refused. refused ≡ recall) }
     {
@@ -35,7 +35,7 @@ impl Inbox {
 
     /// Takes the recall that has waited longest, if one waits.
     pub fn poll<R: Wait>(&self, rt: &R) -> Option<Recall> {
-        // Mostly none waits, which two loads tell.
+        // Mostly no recall waits, and two loads show that.
         if self.queue.is_empty() {
             return None;
         }

@@ -8,7 +8,7 @@ use super::fault::BadConfig;
 use mem_op::Addr;
 use std::marker::Model;
 
-/// The numbers that a machine is built by, each within its range.
+/// The numbers of a machine, each within its range.
 #[derive(Clone, Copy, Debug, PartialEq, Eq)]
 pub struct Config {
     slices: u64,
@@ -58,7 +58,7 @@ impl Model for Config {
     } };
 }
 
-// The number, where it is from 1 to the greatest; else this fault.
+// The number, if it is from 1 to the greatest; otherwise this fault.
 fn within(number: u64, greatest: u64, fault: BadConfig) -> Result<u64, BadConfig>
     ensures { MatchResult result
         (λ n. (n ≡ number) × IsTrue (is_within greatest number))
@@ -72,7 +72,7 @@ fn within(number: u64, greatest: u64, fault: BadConfig) -> Result<u64, BadConfig
 }
 
 impl Config {
-    /// The configuration of these numbers; 6 BadConfig with the first one that is out of its range.
+    /// The configuration of these numbers; 6 BadConfig with the first number that is out of its range.
     pub fn new(
         slices: u64,
         lease: u64,
@@ -169,7 +169,7 @@ impl Config {
         self.turns
     }
 
-    /// The slice that an address belongs to, counted from 0.
+    /// The slice to which an address belongs, counted from 0.
     pub fn slice_of(&self, addr: Addr) -> usize
         ensures value { result ≡ addr % self.now.slices }
         ensures in_range { result < self.now.slices }

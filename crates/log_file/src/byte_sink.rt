@@ -1,4 +1,4 @@
-//! Devices that take bytes, and writers of std as such.
+//! Devices that take bytes, and std's writers as such devices.
 
 ghost use Rattle.std.specs.Prelude.{◌≡◌, ◌<◌, ◌≤◌, ℕ, List, length, take, IfOk, OnOk, OnErr, None, Option};
 ghost use Rattle.std.specs.Io.KnownBytes.{WriteAppends, Appends};
@@ -8,15 +8,15 @@ ghost use Rattle.log_file.specs.Wrapped.{writer_of, failed_writes};
 use super::device_fault::WriteFailed;
 use std::io::Write;
 
-/// What takes bytes, some at a time, and may fail at any time.
+/// A device that takes bytes, some at a time, and may fail at any time.
 pub trait ByteSink {
-    /// The bytes that it took, where the sink tells them.
+    /// The bytes that it took, if the sink tells them.
     ghost contents: { Self → Option (List ℕ) } = { λ _. None };
 
-    /// How many writes have failed: at most 18,446,744,073,709,551,615 are counted.
+    /// How many writes have failed. The count stops at 18,446,744,073,709,551,615.
     ghost failed: { Self → ℕ };
 
-    /// Takes bytes from the front of the piece, and answers how many: never 0 of a piece that isn't
+    /// Takes bytes from the front of the piece, and answers how many: never 0 if the piece isn't
     /// empty.
     fn write(&mut self, piece: &[u8]) -> Result<usize, WriteFailed>
         ensures bound { IfOk result (λ n. n ≤ length piece.now) }
@@ -29,7 +29,7 @@ pub trait ByteSink {
         ensures { result ≡ failed self.now };
 }
 
-/// Writes all of the bytes. Where a write fails, what the sink took is a beginning of them.
+/// Writes all of the bytes. If a write fails, the sink has taken a beginning of them.
 pub fn write_all<W: ByteSink>(sink: &mut W, bytes: &[u8]) -> Result<(), WriteFailed>
     ensures ok { OnOk result (Appends (W.contents sink.old) (W.contents sink.new) bytes.now) }
     ensures begun { (n : ℕ) × (n ≤ length bytes.now)
@@ -46,8 +46,8 @@ pub fn write_all<W: ByteSink>(sink: &mut W, bytes: &[u8]) -> Result<(), WriteFai
     Ok(())
 }
 
-/// A writer of std as a sink. Each `Err` of the writer counts as a failure, and so does a write
-/// that takes nothing of a piece that isn't empty.
+/// One of std's writers as a sink. Each `Err` of the writer counts as a failure, and so does a
+/// write that takes nothing from a piece that isn't empty.
 #[derive(Drop)]
 pub struct FromWrite<W> {
     writer: W,

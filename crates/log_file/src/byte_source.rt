@@ -1,4 +1,4 @@
-//! Devices that give bytes, and readers of std as such.
+//! Devices that give bytes, and std's readers as such devices.
 
 ghost use Rattle.std.specs.Prelude.{◌≡◌, ◌≤◌, ℕ, List, length, IfOk, None, Option};
 ghost use Rattle.std.specs.Io.KnownBytes.{ReadConsumes};
@@ -8,16 +8,16 @@ ghost use Rattle.log_file.specs.Wrapped.{reader_of, failed_reads};
 use super::device_fault::ReadFailed;
 use std::io::Read;
 
-/// What gives bytes, some at a time, and may fail at any time.
+/// A device that gives bytes, some at a time, and may fail at any time.
 pub trait ByteSource {
-    /// The bytes that reads will give from here on, where the source tells them.
+    /// The bytes that reads will give from here on, if the source tells them.
     ghost remaining: { Self → Option (List ℕ) } = { λ _. None };
 
-    /// How many reads have failed: at most 18,446,744,073,709,551,615 are counted.
+    /// How many reads have failed. The count stops at 18,446,744,073,709,551,615.
     ghost failed: { Self → ℕ };
 
-    /// Reads into the front of the buffer, and answers how many bytes; 0 is the end, where the
-    /// buffer has room.
+    /// Reads into the front of the buffer, and answers how many bytes. If the buffer has room,
+    /// 0 means the end.
     fn read(&mut self, buf: &mut [u8]) -> Result<usize, ReadFailed>
         ensures bound { IfOk result (λ n. n ≤ length buf.new) }
         ensures bytes { ReadConsumes (remaining self.old) (remaining self.new) result buf.new }
@@ -28,7 +28,7 @@ pub trait ByteSource {
         ensures { result ≡ failed self.now };
 }
 
-/// A reader of std as a source. Each `Err` of the reader counts as a failure, `Interrupted` too.
+/// One of std's readers as a source. Each `Err` of the reader counts as a failure, `Interrupted` too.
 #[derive(Drop)]
 pub struct FromRead<R> {
     reader: R,

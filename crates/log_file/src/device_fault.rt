@@ -1,4 +1,4 @@
-//! How devices fail, and why their bytes could not be had or given.
+//! How devices fail, and why bytes weren't read or written.
 
 use mem_op::FaultName;
 use std::alloc::AllocError;
@@ -38,7 +38,7 @@ impl Display for WriteFailed {
     }
 }
 
-/// Why the bytes of a device couldn't be had.
+/// Why a device's bytes weren't read.
 #[derive(Clone, Copy, Debug, PartialEq, Eq, Error)]
 pub enum ReadFault {
     /// A growth was refused.

@@ -1,4 +1,4 @@
-//! The entries of one core after those of others.
+//! A list with the entries of one core after those of others.
 
 ghost use Rattle.std.specs.Prelude.{◌≡◌, ◌++◌, []};
 ghost use Rattle.log_record.specs.Entries.{core_entries};
@@ -9,11 +9,11 @@ use mem_op::{CoreId, OpId, OpIndex};
 use std::alloc::AllocError;
 use std::marker::Model;
 
-/// Keeps the records of one core as entries, after others that stood before.
+/// Keeps the records of one core as entries, after those that were there before.
 #[derive(Drop)]
 pub(crate) struct EntryList {
     core: CoreId,
-    /// How many entries stood before.
+    /// How many entries were there before.
     start: usize,
     entries: Vec<Entry>,
 }
@@ -31,7 +31,7 @@ impl Model for EntryList {
 }
 
 impl EntryList {
-    /// No records of this core, after these entries.
+    /// A list that has these entries and no record of this core yet.
     pub(crate) fn after(core: CoreId, entries: Vec<Entry>) -> EntryList
         ensures { result ≡ record { base = record { core = core; before = entries.items }; records = [] } }
     {
@@ -42,7 +42,7 @@ impl EntryList {
         }
     }
 
-    /// The entries that stood before, and those of the records.
+    /// The entries that were there before, then those of the records.
     pub(crate) fn into_entries(self) -> Vec<Entry>
         ensures { result.items ≡ self.base.before ++ core_entries self.base.core 0 self.records }
     {

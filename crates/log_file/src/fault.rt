@@ -10,21 +10,21 @@ use thiserror::Error;
 /// What is wrong at a line of a log.
 #[derive(Clone, Copy, Debug, PartialEq, Eq, Error)]
 pub enum FormatFault {
-    /// Line 1 is too long, or whole and not a header.
+    /// Line 1 is too long, or it is whole and isn't a header.
     BadHeader,
-    /// A later line is too long, or whole and neither a record nor the end line.
+    /// A later line is too long, or it is whole and neither a record nor the end line.
     BadLine,
     /// A number of the header or of a record is out of range.
     OutOfRange,
-    /// A record after 1,048,576 records.
+    /// A record comes after 1,048,576 records.
     TooMany,
     /// The end line's number isn't the number of records.
     CountDiffers,
-    /// A byte after the end line.
+    /// A byte comes after the end line.
     TrailingBytes,
     /// The bytes end before the end line does.
     Truncated,
-    /// The header is that of another core, or of another number of cores.
+    /// The header names another core, or another number of cores.
     WrongCore,
 }
 
@@ -49,7 +49,7 @@ impl Display for FormatFault {
     }
 }
 
-/// Why no log was read.
+/// Why a log wasn't read.
 #[derive(Clone, Copy, Debug, PartialEq, Eq, Error)]
 pub enum LogFault {
     /// What is wrong, and at which line, counted from 1.
@@ -108,10 +108,10 @@ impl From<ReadFailed> for LogFault {
     }
 }
 
-/// Why no set of logs was read: the fault of one of its files, counted from 0.
+/// Why a set of logs wasn't read: one of its files has a fault.
 #[derive(Clone, Copy, Debug, PartialEq, Eq, Error)]
 pub struct SetFault {
-    /// The file.
+    /// The file's number, counted from 0.
     pub file: usize,
     /// Its fault.
     pub fault: LogFault,

@@ -22,8 +22,8 @@ pub fn fault_stays()
     ensures { FaultStays }
 {}
 
-/// Of bytes that a reader of records took without a fault, no fault but Truncated holds: every other is
-/// answered by the call whose bytes settle it. And no log has more bytes.
+/// Bytes that a reader of records took without a fault have no fault but Truncated: the reader answers
+/// every other fault in the call whose bytes settle it. And no log has more bytes.
 pub fn no_fault_passed_over()
     ensures { NoFaultPassedOver }
 {}

@@ -14,25 +14,25 @@ use arrayvec::ArrayVec;
 use log_record::Record;
 use memchr::memchr;
 
-/// A whole line that was taken.
+/// A whole line that the reader took.
 #[derive(Clone, Copy)]
 pub(crate) struct TakenLine {
     /// The record, if the line is one.
     pub(crate) logged: Option<Record>,
-    /// How many bytes of the piece were taken, its line feed with them.
+    /// How many bytes of the piece it took for this line, the line feed with them.
     pub(crate) taken: usize,
 }
 
 /// Reads the lines of a log one at a time, and keeps no record.
 #[derive(Drop)]
 pub(crate) struct LineReader {
-    /// What the whole lines were.
+    /// How far the whole lines go.
     progress: Progress,
     /// The bytes of the line that isn't whole yet. The array has room for a line of any format.
     begun: ArrayVec<u8, LONGEST_LINE>,
 }
 
-/// The bytes that were begun, or else the line.
+/// The bytes of the begun line, or, if there are none, the line.
 #[inline(always)]
 fn begun_or<'a>(begun: &'a [u8], line: &'a [u8]) -> &'a [u8]
     ensures none { begun.now ≡ [] → result.now ≡ line.now }
@@ -102,8 +102,8 @@ impl LineReader {
         Ok(logged)
     }
 
-    /// Takes the bytes of the piece up to its first line feed, and answers what line they end.
-    /// Where no line feed is in the piece, it takes all of it as a part of a line: None.
+    /// Takes the bytes of the piece up to its first line feed, and answers the line that they
+    /// end. If the piece has no line feed, it takes all of it as a part of a line: None.
     #[inline(always)]
     pub(crate) fn next_line(&mut self, piece: &[u8]) -> Result<Option<TakenLine>, LogFault>
         requires { IsInRange self.old.progress }
@@ -127,7 +127,7 @@ impl LineReader {
         }))
     }
 
-    /// Whether the log is whole; Truncated at the line that the bytes end in, where it isn't.
+    /// Whether the log is whole; if it isn't, Truncated at the line in which the bytes end.
     pub(crate) fn finish(&self) -> Result<(), LogFault>
         requires { IsInRange self.now.progress }
         ensures { (records : List Record) → Stands self.now records → MatchResult result

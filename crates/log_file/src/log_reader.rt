@@ -10,7 +10,7 @@ use mem_op::CoreId;
 use std::alloc::Global;
 use std::marker::Model;
 
-/// Reads the log of one core, fed in pieces of any cutting.
+/// Reads the log of one core, from pieces that may be cut anywhere.
 #[derive(Drop)]
 pub struct LogReader {
     reader: RecordReader,
@@ -30,7 +30,7 @@ impl Model for LogReader {
 }
 
 impl LogReader {
-    /// A reader of the log of this core of `cores`, which was fed nothing.
+    /// A reader of the log of this core of `cores`. It has had no bytes yet.
     pub fn new(alloc: Global, core: CoreId, cores: u64) -> LogReader
         ensures { result ≡ record { core = core; cores = cores; fed = Ok [] } }
     {
@@ -40,13 +40,13 @@ impl LogReader {
         }
     }
 
-    /// Takes the next bytes. After a fault it answers that fault from then on.
+    /// Takes the next bytes. After a fault it answers that same fault each time.
     pub fn feed(&mut self, piece: &[u8]) -> Result<(), LogFault>
         ensures core { self.new.core ≡ self.old.core }
         ensures cores { self.new.cores ≡ self.old.cores }
         ensures fed { Feeds self.old.core self.old.cores
             self.old.fed piece.now result self.new.fed }
-        // Every fault but Truncated is answered by the call whose bytes settle it.
+        // It answers every fault but Truncated in the call whose bytes settle it.
         ensures at_once { OnOk result (IsOpen self.new.core self.new.cores self.new.fed) }
         // No log has more bytes.
         ensures bounded { OnOk result (fed_len self.new.fed < 2 ^ 27) }
@@ -54,7 +54,7 @@ impl LogReader {
         self.reader.feed_all(&mut self.records, piece)
     }
 
-    /// The log of the bytes that were fed, or their first fault.
+    /// The log that the fed bytes spell, or their first fault.
     pub fn finish(self) -> Result<Vec<Record>, LogFault>
         ensures { Finishes self.core self.cores self.fed result }
     {

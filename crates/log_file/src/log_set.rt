@@ -48,20 +48,20 @@ impl Model for LogSet {
 }
 
 impl LogSet {
-    /// The logs of a set, one from each reader in their order, or the fault of the first file that has one. File k is to
-    /// be the log of core k, and the cores as many as the readers. 10 comes where a growth was refused, 28 where a read
+    /// The logs of a set, one from each reader in their order, or the fault of the first file that has one. File k must
+    /// be the log of core k, and there must be as many cores as readers. 10 comes if a growth was refused, 28 if a read
     /// failed.
     pub fn read<S: ByteSource>(alloc: Global, readers: &mut [S]) -> Result<LogSet, SetFault>
         requires { length readers.old ≤ 64 }
-        // There are texts, those that the readers tell, of which this is the answer.
+        // The readers tell texts, and this is the answer to these.
         ensures answer { (texts : List (List ℕ)) × TellEach S.remaining readers.old texts
             × IsSetAnswer texts result }
-        // A failed read is answered only where that reader failed in this call.
+        // It answers a failed read only if that reader failed in this call.
         ensures read { IfErr result (λ e. e.fault ≡ LogFault.Read →
             ReaderFailed S.failed readers.old readers.new e.file) }
-        // And no failed read is passed over.
+        // And it passes over no failed read.
         ensures quiet { ¬ IsReadFault result → NoneFailed S.failed readers.old readers.new }
-        // The readers after the file that is refused aren't read.
+        // It doesn't read the readers after the refused file.
         ensures unread { IfErr result (λ e.
             drop (e.file + 1) readers.new ≡ drop (e.file + 1) readers.old) }
         ensures count { IfOk result (λ set. length set ≡ length readers.old) }
@@ -121,7 +121,7 @@ impl LogSet {
         self.ends[place - 1]
     }
 
-    /// The records of each log, core 0's first. Err where memory was refused.
+    /// The records of each log, core 0's first. Err if memory was refused.
     pub fn logs(&self, alloc: Global) -> Result<Vec<Vec<Record>>, AllocError>
         ensures logs { IfOk result (λ logs. record_lists logs.items ≡ self.now) }
         ensures count { IfOk result (λ logs. vec_len logs ≡ length self.now) }
@@ -137,7 +137,7 @@ impl LogSet {
         Ok(logs)
     }
 
-    /// The entries of all logs, by core and then by index, to be kept.
+    /// The entries of all logs, by core and then by index, for the caller to keep.
     pub fn into_entries(self) -> Vec<Entry>
         ensures entries { result.items ≡ entries self }
         ensures cores { length self ≤ 64 }

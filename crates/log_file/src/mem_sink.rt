@@ -8,8 +8,8 @@ use super::device_fault::WriteFailed;
 use super::step::{Step, take_step};
 use std::alloc::Global;
 
-/// A sink that keeps in memory what it took. Each write follows a step, and after the last it takes
-/// all. Lack of memory is a failure too.
+/// A sink that keeps in memory what it took. Each write follows one step; after the last step a
+/// write takes all. Lack of memory is a failure too.
 #[derive(Drop)]
 pub struct MemSink<'a> {
     taken: Vec<u8>,
@@ -18,7 +18,7 @@ pub struct MemSink<'a> {
 }
 
 impl<'a> MemSink<'a> {
-    /// A sink that took nothing and hasn't failed yet.
+    /// A sink that has taken nothing and hasn't failed yet.
     pub fn new(alloc: Global, steps: &'a [Step]) -> MemSink<'a>
         ensures bytes { bytes_taken result ≡ [] }
         ensures steps { writes_to_come result ≡ steps.entry.now }
@@ -49,8 +49,8 @@ impl ByteSink for MemSink<'_> {
 
     ghost failed = { λ sink. sink.failures };
 
-    /// Fails where the next step is `Fail` and where memory is refused, and else takes all that the
-    /// step allows. Each call takes one step away.
+    /// Fails if the next step is `Fail` or memory is refused, and otherwise takes all that the step
+    /// allows. Each call uses up one step.
     fn write(&mut self, piece: &[u8]) -> Result<usize, WriteFailed>
         ensures bound { IfOk result (λ n. n ≤ length piece.now) }
         ensures some { IfOk result (λ n. 0 < length piece.now → 0 < n) }

@@ -7,8 +7,8 @@ use super::byte_source::ByteSource;
 use super::device_fault::ReadFailed;
 use super::step::{Step, take_step};
 
-/// A source over bytes in memory. Each read follows a step, and after the last it gives what there
-/// is.
+/// A source over bytes in memory. Each read follows one step; after the last step a read gives
+/// what there is.
 #[derive(Drop)]
 pub struct MemSource<'a> {
     bytes: &'a [u8],
@@ -31,7 +31,7 @@ impl<'a> MemSource<'a> {
     }
 }
 
-/// Copies as much as fits of at most one byte more than the limit, and answers how many bytes.
+/// Copies at most one byte more than the limit, as far as the bytes and the buffer reach, and answers how many bytes.
 fn give(bytes: &[u8], limit: usize, buf: &mut [u8]) -> usize
     ensures within { result ≤ length bytes.now }
     ensures fits { result ≤ length buf.new }
@@ -55,8 +55,8 @@ impl ByteSource for MemSource<'_> {
 
     ghost failed = { λ source. source.failures };
 
-    /// Fails where the next step is `Fail`, and else moves all that the step, the buffer and the bytes
-    /// left allow. Each call takes one step away.
+    /// Fails if the next step is `Fail`, and otherwise moves all that the step, the buffer and the
+    /// bytes left allow. Each call uses up one step.
     fn read(&mut self, buf: &mut [u8]) -> Result<usize, ReadFailed>
         ensures bound { IfOk result (λ n. n ≤ length buf.new) }
         ensures bytes { ReadConsumes (Some (bytes_left self.old)) (Some (bytes_left self.new))

@@ -1,9 +1,9 @@
-//! The line of a text that has a number.
+//! A line of a text, by its number.
 
 ghost use Rattle.std.specs.Prelude.{◌≡◌};
 ghost use Rattle.log_file.specs.Log.{line, lines_of};
 
-/// Line `number` of a text, counted from 1, without its line feed; empty where there is none.
+/// Line `number` of a text, counted from 1, without its line feed; empty if there is none.
 pub fn line_of(text: &[u8], number: u64) -> &[u8]
     ensures { result.now ≡ line (lines_of text.now) number }
 {

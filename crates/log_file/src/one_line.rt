@@ -1,4 +1,4 @@
-//! One whole line at a time.
+//! Checks one whole line at a time.
 
 ghost use Rattle.std.specs.Prelude.{◌≡◌, ◌<◌, ◌≤◌, MatchResult};
 ghost use Rattle.mem_op.specs.Limits.{operation_limit};
@@ -19,7 +19,7 @@ const RECORD_LIMIT: u64 = 1_048_576;
 /// The most cores, and so the most logs of a set.
 const CORE_LIMIT: u64 = 64;
 
-/// Looks at a whole first line: whether it is the header of core `core` of `cores`, and of which format.
+/// Checks that a whole first line is the header of core `core` of `cores`, and answers its format.
 pub(crate) fn check_header(line: &[u8], core: u64, cores: u64) -> Result<Format, FormatFault>
     ensures { MatchResult result
         (λ format. HeaderIs format core cores line.now)
@@ -43,8 +43,8 @@ pub(crate) fn check_header(line: &[u8], core: u64, cores: u64) -> Result<Format,
     Ok(header.format)
 }
 
-/// The record that a whole line of a log of this format is, after the header and `count` records;
-/// None where it is the end line.
+/// The record on a whole line of a log of this format, after the header and `count` records; None
+/// if the line is the end line.
 #[inline(always)]
 pub(crate) fn check_body(
     format: Format,

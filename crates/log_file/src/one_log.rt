@@ -13,18 +13,18 @@ use log_record::Record;
 use mem_op::CoreId;
 use std::alloc::{AllocError, Global};
 
-/// The most bytes of a piece: it stays near the processor.
+/// The most bytes of a piece: few enough to stay in the processor's cache.
 const PIECE_BYTES: usize = 32_768;
 
-/// Room for a piece. Err where memory was refused.
+/// Room for a piece. Err if memory was refused.
 fn piece_room(alloc: Global) -> Result<Vec<u8>, AllocError>
     ensures { IfOk result (λ room. 0 < vec_len room) }
 {
     vec![in alloc; 0u8; PIECE_BYTES]
 }
 
-/// The records of the log that the source's bytes spell, kept in this list, or the first fault of these bytes. The reader was
-/// fed nothing.
+/// This list with the records of the log that the source's bytes spell, or the first fault of these bytes. The reader has had
+/// no bytes yet, and the list has no records.
 pub(crate) fn read_list<S: ByteSource, L: RecordList + Drop>(
     alloc: Global,
     source: &mut S,
@@ -52,20 +52,20 @@ pub(crate) fn read_list<S: ByteSource, L: RecordList + Drop>(
 }
 
 /// The log of this core of `cores` that the source's bytes spell, or their first fault. 10 comes
-/// where a growth was refused, 28 where a read failed.
+/// if a growth was refused, 28 if a read failed.
 pub fn read_log<S: ByteSource>(
     alloc: Global,
     source: &mut S,
     core: CoreId,
     cores: u64,
 ) -> Result<Vec<Record>, LogFault>
-    // There are bytes, those that the source tells, of which this is the answer.
+    // The source tells bytes, and this is the answer to these.
     ensures answer { (bytes : List ℕ) × Tells (S.remaining source.old) bytes
         × IsReadAnswer core cores bytes result }
-    // A failed read is answered only where the source failed in this call.
+    // It answers a failed read only if the source failed in this call.
     ensures read { IsErrOf result LogFault.Read →
         Failed (S.failed source.old) (S.failed source.new) }
-    // And no failed read is passed over.
+    // And it passes over no failed read.
     ensures quiet { ¬ IsErrOf result LogFault.Read → S.failed source.new ≡ S.failed source.old }
 {
     let reader = RecordReader::new(core, cores);

@@ -10,8 +10,8 @@ use log_record::Record;
 use mem_op::CoreId;
 use std::alloc::Global;
 
-/// The log of this core of `cores` that the pieces spell together, or their first fault: however
-/// they were cut, the answer is that of the whole. 10 comes where a growth was refused.
+/// The log of this core of `cores` that the pieces spell together, or their first fault. The
+/// answer is the same however they were cut. 10 comes if a growth was refused.
 pub fn read_pieces(
     alloc: Global,
     pieces: &[Vec<u8>],

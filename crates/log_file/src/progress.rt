@@ -1,4 +1,4 @@
-//! How far a log was read, in whole lines.
+//! How far a reader is in a log, in whole lines.
 
 ghost use Rattle.std.specs.Prelude.{◌≡◌, ◌≤◌, ◌↔◌, IsTrue, MatchResult};
 ghost use Rattle.log_file.specs.Standing.{IsEnded, IsInRange, IsBehind, IsRefused, SameLog, fault_of_more, limit_at};
@@ -7,10 +7,10 @@ use super::fault::{FormatFault, LogFault};
 use super::one_line::{HEADER_LIMIT, check_body, check_header};
 use log_record::{Format, Record};
 
-/// What was read last of a log.
+/// The last whole line of a log that the reader took.
 #[derive(Clone, Copy, Debug, PartialEq, Eq)]
 pub(crate) enum Stage {
-    /// No whole line.
+    /// None yet.
     Header,
     /// The header of a log of this format, or a record.
     Records(Format),
@@ -31,7 +31,7 @@ impl Stage {
         }
     }
 
-    /// Whether the end line was read.
+    /// Whether that is the end line.
     pub(crate) fn is_ended(self) -> bool
         ensures { IsTrue result ↔ IsEnded self }
     {
@@ -42,16 +42,16 @@ impl Stage {
     }
 }
 
-/// How far the log of a core was read, in whole lines.
+/// How far the reader is in the log of a core, in whole lines.
 #[derive(Clone, Copy, Debug)]
 pub(crate) struct Progress {
-    /// The core whose log it is to be.
+    /// The core whose log it should be.
     pub(crate) core: u64,
-    /// The number of cores that there are to be.
+    /// How many cores there should be.
     pub(crate) cores: u64,
-    /// What was read last.
+    /// The last whole line that the reader took.
     pub(crate) stage: Stage,
-    /// How many records were read.
+    /// How many records the reader took.
     pub(crate) count: u64,
 }
 
@@ -89,7 +89,7 @@ impl Progress {
         }
     }
 
-    /// The fault of a line that goes on too far: after the end line, any byte does.
+    /// The fault of a line that is too long. After the end line even one byte is too many.
     pub(crate) fn fault_of_more(&self) -> LogFault
         requires { IsInRange self.now }
         ensures { result ≡ fault_of_more self.now.stage self.now.count }

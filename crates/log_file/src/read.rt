@@ -10,13 +10,13 @@ use std::alloc::Global;
 /// The most bytes of a piece.
 const READ_PIECE_BYTES: usize = 4_096;
 
-/// The bytes that a source has left: 10 where a growth was refused, 28 where a read failed.
+/// The bytes that a source has left. 10 comes if a growth was refused, 28 if a read failed.
 pub fn read_all<S: ByteSource>(alloc: Global, source: &mut S) -> Result<Vec<u8>, ReadFault>
     ensures bytes { IfOk result (λ bytes. Tells (S.remaining source.old) bytes.items) }
-    // A failed read is answered only where the source failed in this call.
+    // It answers a failed read only if the source failed in this call.
     ensures read { IsErrOf result ReadFault.Read →
         Failed (S.failed source.old) (S.failed source.new) }
-    // And no failed read is passed over.
+    // And it passes over no failed read.
     ensures quiet { ¬ IsErrOf result ReadFault.Read → S.failed source.new ≡ S.failed source.old }
 {
     let mut found = Vec::new(alloc);

@@ -14,7 +14,7 @@ pub(crate) trait RecordList {
     /// Its records.
     ghost records: { Self → List Record };
 
-    /// What stays as it is while records are kept.
+    /// What stays the same while it keeps records.
     ghost base: { Self → Base };
 
     /// Keeps one more record.

@@ -18,7 +18,7 @@ use mem_op::CoreId;
 use std::marker::Model;
 
 /// Takes the lines of a piece up to the first record's, and answers how many bytes those are and the
-/// record; where no record's line ends in the piece, it takes all of it.
+/// record. If no record's line ends in the piece, it takes all of it.
 fn next_record(lines: &mut LineReader, piece: &[u8]) -> Result<(usize, Option<Record>), LogFault>
     requires { IsInRange lines.old.progress }
     ensures same { SameLog lines.old.progress lines.new.progress }
@@ -64,7 +64,7 @@ fn take_piece<L: RecordList>(
     Ok(())
 }
 
-/// Keeps the fault of an outcome, where it is one, and answers the outcome.
+/// Keeps the outcome's fault, if it has one, and answers the outcome.
 fn remember<T>(kept: &mut Option<LogFault>, outcome: Result<T, LogFault>) -> Result<T, LogFault>
     ensures same { result ≡ outcome }
     ensures kept { MatchResult outcome (λ _. kept.new ≡ kept.old) (λ fault. kept.new ≡ Some fault) }
@@ -75,8 +75,8 @@ fn remember<T>(kept: &mut Option<LogFault>, outcome: Result<T, LogFault>) -> Res
     outcome
 }
 
-/// Reads the log of one core, fed in pieces of any cutting, and answers its records one at a time. It
-/// keeps none of them.
+/// Reads the log of one core, from pieces that may be cut anywhere, and answers its records one at a
+/// time. It keeps none of them.
 #[derive(Drop)]
 pub struct RecordReader {
     lines: LineReader,
@@ -96,7 +96,7 @@ impl Model for RecordReader {
 }
 
 impl RecordReader {
-    /// A reader of the log of this core of `cores`, which was fed nothing.
+    /// A reader of the log of this core of `cores`. It has had no bytes yet.
     pub fn new(core: CoreId, cores: u64) -> RecordReader
         ensures core { result.core ≡ core }
         ensures cores { result.cores ≡ cores }
@@ -109,14 +109,14 @@ impl RecordReader {
     }
 
     /// Takes the next bytes up to the end of the next record's line, and answers how many bytes those
-    /// are, and the record. Where no record's line ends in the piece, it takes all of it, and answers no
-    /// record. After a fault it answers that fault from then on. Takes no memory.
+    /// are, and the record. If no record's line ends in the piece, it takes all of it, and answers no
+    /// record. After a fault it answers that same fault each time. Takes no memory.
     pub fn feed_one(&mut self, piece: &[u8]) -> Result<(usize, Option<Record>), LogFault>
         ensures core { self.new.core ≡ self.old.core }
         ensures cores { self.new.cores ≡ self.old.cores }
         ensures within { IfOk result (λ one. one.0 ≤ length piece.now) }
-        // The records of all pieces, in order, are those of their text; a fault is that of the text,
-        // however it goes on.
+        // The records of all pieces, in order, are those of the whole text. A fault is the text's,
+        // however the text goes on.
         ensures fed { (bytes : List ℕ) (records : List Record) → HasAnswered self.old bytes records
             → MatchResult result
             (λ one. AnswersOne bytes records piece.now one self.new)
@@ -124,15 +124,15 @@ impl RecordReader {
             × IsSettled self.old.core self.old.cores (bytes ++ piece.now) fault) }
         ensures again { IfSome self.old.fault (λ fault.
             MatchResult result (λ _. ⊥) (λ f. f ≡ fault) × (self.new.fault ≡ Some fault)) }
-        // So 10 and 28 come only where they came before.
+        // So 10 and 28 come only if they came before.
         ensures text { IsNone self.old.fault → IfErr result IsOfText }
     {
         self.faultless()?;
         remember(&mut self.fault, next_record(&mut self.lines, piece))
     }
 
-    /// Takes all of a piece, and keeps its records after these, which were answered before. Lack of
-    /// memory for them is a fault too.
+    /// Takes all of a piece, and adds its records to this list, which has those of the pieces
+    /// before. Lack of memory for them is a fault too.
     pub(crate) fn feed_all<L: RecordList>(
         &mut self,
         records: &mut L,
@@ -146,7 +146,7 @@ impl RecordReader {
         remember(&mut self.fault, take_piece(&mut self.lines, records, piece))
     }
 
-    /// Answers the fault that is kept, where one is.
+    /// Answers the kept fault, if there is one.
     fn faultless(&self) -> Result<(), LogFault>
         ensures { MatchResult result (λ _. self.now.fault ≡ None) (λ fault. self.now.fault ≡ Some fault) }
     {
@@ -156,8 +156,8 @@ impl RecordReader {
         }
     }
 
-    /// Whether the log is whole, where its bytes end here: the fault that came before, or Truncated at
-    /// the line that they end in.
+    /// Whether the log is whole if its bytes end here. If it isn't, answers the fault that came
+    /// before, or Truncated at the line in which they end.
     pub fn check_end(&self) -> Result<(), LogFault>
         ensures ends { (bytes : List ℕ) (records : List Record) → HasAnswered self.now bytes records
             → MatchResult result
@@ -169,7 +169,7 @@ impl RecordReader {
         self.lines.finish()
     }
 
-    /// Ends the reading, and answers what `check_end` does.
+    /// Ends the reading, with the answer of `check_end`.
     pub fn finish(self) -> Result<(), LogFault>
         ensures ends { (bytes : List ℕ) (records : List Record) → HasAnswered self bytes records
             → MatchResult result

@@ -12,8 +12,8 @@ pub enum Step {
     Fail,
 }
 
-/// Takes the first of the steps: the limit of what the call moves, or none where it fails. After the
-/// last step a call moves what it can.
+/// Takes the first of the steps. Answers the limit of what the call moves, or none if the call
+/// fails. After the last step a call moves what it can.
 pub(crate) fn take_step(steps: &mut &[Step]) -> Option<usize>
     ensures limit { result ≡ limit_of steps.old.now }
     ensures rest { steps.new.now ≡ drop 1 steps.old.now }

@@ -13,9 +13,9 @@ use log_record::{Act, Format, LineBuffer, Record, print_end, print_header};
 use mem_op::{CoreId, Source};
 use std::alloc::Global;
 
-/// Writes the log of this core of `cores` in this format. 15 comes where the format is 1 and one of the records
-/// is a swap, 10 where a growth was refused, 29 where a write failed; what the sink took by then is a beginning
-/// of the log's text, and nothing where 15 comes.
+/// Writes the log of this core of `cores` in this format. 15 comes if the format is 1 and one of the records is
+/// a swap, 10 if a growth was refused, 29 if a write failed. By then the sink has taken a beginning of the
+/// log's text, and nothing if 15 comes.
 pub fn write_log<W: ByteSink>(
     alloc: Global,
     sink: &mut W,
@@ -27,14 +27,14 @@ pub fn write_log<W: ByteSink>(
     requires core { core < cores }
     requires cores { cores ≤ 64 }
     requires few { length records.now ≤ operation_limit }
-    // 15 comes exactly where a log of this format may not have one of the records, before any byte.
+    // 15 comes exactly if a log of this format may not have one of the records. It comes before any byte.
     ensures swap { IsErrOf result LogWriteFault.SwapInFormatOne ↔ ¬ HasEach format records.now }
     ensures untouched { IsErrOf result LogWriteFault.SwapInFormatOne → sink.new ≡ sink.old }
-    // What is written spells a log, the one of these records; after a fault it is a beginning of that.
+    // The written bytes spell the log of these records; after a fault, a beginning of it.
     ensures log { OnOk result (IsLog format core cores records.now) }
     ensures written { Writes (W.contents sink.old) (W.contents sink.new)
         (spelling format core cores records.now) result }
-    // A failed write is answered only where the sink failed in this call, and none is passed over.
+    // It answers a failed write only if the sink failed in this call, and it passes over none.
     ensures failures { TellsFailure (IsErrOf result LogWriteFault.Write)
         (W.failed sink.old) (W.failed sink.new) }
 {
@@ -105,7 +105,7 @@ fn write_record<W: ByteSink>(
     Ok(write_all(sink, line.line(logged))?)
 }
 
-// Does nothing: it tells that the numbers of a record are in range.
+// Does nothing: its contract says that the numbers of a record are in range.
 fn in_range(logged: &Record)
     ensures { Fits logged.now }
 {
@@ -120,7 +120,7 @@ fn in_range(logged: &Record)
     }
 }
 
-// Does nothing: it tells that the numbers of a source are in range.
+// Does nothing: its contract says that the numbers of a source are in range.
 fn source_in_range(source: Source)
     ensures { SourceFits source }
 {

@@ -9,7 +9,7 @@ use thiserror::Error;
 /// Why a log wasn't written whole.
 #[derive(Clone, Copy, Debug, PartialEq, Eq, Error)]
 pub enum LogWriteFault {
-    /// The log was to be in format 1, and has a swap.
+    /// The log has a swap, and should be in format 1.
     SwapInFormatOne,
     /// A growth was refused.
     OutOfMemory,

@@ -1,4 +1,4 @@
-//! What a record says was done.
+//! The acts of records.
 
 ghost use Rattle.std.specs.Prelude.{◌≡◌, ◌<◌};
 ghost use Rattle.log_record.specs.declared.act.Act.{Act};
@@ -6,7 +6,7 @@ ghost use Rattle.log_record.specs.declared.act.Act.{Act};
 use mem_op::{CoreId, OpId, OpIndex, Source, Word};
 use std::marker::Model;
 
-/// What a record says was done.
+/// The act of a record.
 #[derive(Clone, Copy, Debug, PartialEq, Eq)]
 pub enum Act {
     /// A load, with the store that it says it read.
@@ -28,8 +28,8 @@ pub(crate) enum Kind {
     SwapOf(CoreId),
 }
 
-/// A kind in one byte, where a `Kind` takes two and an entry has room for one: a load of a core's store is the
-/// core's number, a swap of it is that plus 64, and from 128 on stand those that name no store.
+/// A kind in one byte, since a `Kind` takes two and an entry has room for one. A load of a core's store is the
+/// core's number, a swap of it is that plus 64, and the kinds that name no store are 128 and above.
 #[derive(Clone, Copy, Debug, PartialEq, Eq)]
 pub(crate) struct Tag {
     code: u8,
@@ -85,7 +85,7 @@ impl Tag {
     }
 }
 
-/// An act in parts: 16 bytes, where an `Act` takes 32. A part that the act doesn't have is 0.
+/// An act in parts: it takes 16 bytes, where an `Act` takes 32. A part that the act doesn't have is 0.
 #[derive(Clone, Copy, Debug, PartialEq, Eq)]
 pub(crate) struct FlatAct {
     pub(crate) read: Word,

@@ -12,7 +12,7 @@ use std::alloc::{AllocError, Global};
 /// The number of an end line.
 #[derive(Clone, Copy, Debug, PartialEq, Eq)]
 pub struct End {
-    /// How many records the log is said to have; None where 64 bits don't hold the number.
+    /// How many records the line says the log has; None if the number doesn't fit in 64 bits.
     pub count: Option<u64>,
 }
 
@@ -24,7 +24,7 @@ fn parts(line: &[u8]) -> Option<End>
     Some(End { count })
 }
 
-/// The end line that this is, without its line feed; None where it isn't one.
+/// Reads an end line, without its line feed; None if it isn't one.
 #[tactic(auto, using(crate::proofs::Ends::end_found, crate::proofs::Ends::end_none))]
 pub fn read_end(line: &[u8]) -> Option<End>
     ensures found { IfSome result

@@ -1,4 +1,4 @@
-//! Why a line isn't a record's.
+//! Why a line is refused as a record's.
 
 use mem_op::FaultName;
 use std::fmt;
@@ -8,9 +8,9 @@ use thiserror::Error;
 /// Why a line is refused as a record's.
 #[derive(Clone, Copy, Debug, PartialEq, Eq, Error)]
 pub enum LineFault {
-    /// It hasn't the shape of a record's line.
+    /// It doesn't have the shape of a record's line.
     BadLine,
-    /// It has, and one of its numbers is out of range.
+    /// It has that shape, and one of its numbers is out of range.
     OutOfRange,
 }
 

@@ -5,17 +5,17 @@ ghost use Rattle.log_record.specs.Line.{has_act, limit_of};
 
 use super::act::Act;
 
-/// A format of logs. A log says its own in its header.
+/// A format of logs. A log names its own in its header.
 #[derive(Clone, Copy, Debug, PartialEq, Eq)]
 pub enum Format {
     /// Format 1, which has no swaps.
     One,
-    /// Format 2, which has them, and whose lines after the header may be longer.
+    /// Format 2, which has swaps, and allows longer lines after the header.
     Two,
 }
 
 impl Format {
-    /// The most bytes of a line after the header, its line feed not counted.
+    /// The most bytes of a line after the header, without its line feed.
     pub fn line_limit(self) -> usize
         ensures { result ≡ limit_of self }
     {

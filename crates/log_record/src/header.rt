@@ -12,7 +12,7 @@ use decimal_text::{after_text, read_last, read_number};
 use mem_op::CoreId;
 use std::alloc::{AllocError, Global};
 
-/// The format of a header, and its numbers. One that 64 bits don't hold is None.
+/// The format of a header, and its numbers. A number that doesn't fit in 64 bits is None.
 #[derive(Clone, Copy, Debug, PartialEq, Eq)]
 pub struct Header {
     /// The format of the log.
@@ -23,7 +23,7 @@ pub struct Header {
     pub cores: Option<u64>,
 }
 
-/// The format that a header's first words say, and the bytes after them.
+/// The format that a header's first words name, and the bytes after them.
 #[tactic(auto, unfolding(crate::specs::inner::Reading::first_words))]
 fn format_of(line: &[u8]) -> Option<(Format, &[u8])>
     ensures { front_now result ≡ first_words line.now }
@@ -57,7 +57,7 @@ fn parts(line: &[u8]) -> Option<Header>
     numbers(format, rest)
 }
 
-/// The header whose line this is, without its line feed; None where it isn't a header's of either format.
+/// Reads a header, without its line feed; None if it isn't a header of either format.
 #[tactic(auto, using(crate::proofs::Ends::header_found, crate::proofs::Ends::header_none))]
 pub fn read_header(line: &[u8]) -> Option<Header>
     ensures found { IfSome result (λ h. (core : ℕ) × ((cores : ℕ) ×

@@ -2,13 +2,13 @@
 
 ghost use Rattle.log_record.specs.Laws.{OneRecordALine, NoLineIsAnothers, NoRecordIsLong};
 
-/// A line is that of at most one record.
+/// At most one record has a given line.
 #[tactic(auto, using(crate::proofs::Lines::record_once))]
 pub fn one_record_a_line()
     ensures { OneRecordALine }
 {}
 
-/// No line of a record, a header or an end line is another's.
+/// No line is two of these: a record's, a header, an end line.
 #[tactic(auto, using(crate::proofs::Lines::record_no_header, crate::proofs::Lines::record_no_end, crate::proofs::Lines::header_no_end))]
 pub fn no_line_is_anothers()
     ensures { NoLineIsAnothers }

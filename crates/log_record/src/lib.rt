@@ -1,4 +1,4 @@
-//! The records of a core's log, and the line of text that each one is.
+//! The records of a core's log, and the line of text of each.
 #![tactic(auto)]
 
 mod act;

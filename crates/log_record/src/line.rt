@@ -69,7 +69,7 @@ pub fn print_line(alloc: Global, logged: &Record) -> Result<String, AllocError>
     logged.to_string(alloc)
 }
 
-// Whether a log of this format may have a record of this act, its numbers of any size.
+// Whether a log of this format may have a record of this act, whatever the size of its numbers.
 #[inline(always)]
 fn has_raw(format: Format, act: RawAct) -> bool
     ensures { (a : Act) → act ≡ raw_act_of a → result ≡ has_act format a }
@@ -80,9 +80,9 @@ fn has_raw(format: Format, act: RawAct) -> bool
     }
 }
 
-/// The record whose line this is in a log of this format, without its line feed. BadLine where it isn't a
-/// record's line there, whatever the size of its numbers; OutOfRange where it is the line of a record with
-/// a number out of range.
+/// The record on this line of a log of this format, without its line feed. BadLine if it isn't a record's
+/// line there, whatever the size of its numbers; OutOfRange if it is the line of a record with a number
+/// out of range.
 #[inline(always)]
 #[tactic(auto, using(crate::proofs::Raws::out_of_range, crate::proofs::Raws::found))]
 pub fn read_line(format: Format, line: &[u8]) -> Result<Record, LineFault>

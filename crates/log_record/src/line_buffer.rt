@@ -11,11 +11,11 @@ use itoa::write_digits;
 use mem_op::Source;
 use std::marker::Model;
 
-/// Room for the line of any record with its line feed: seven numbers of at most 20 digits, and what
-/// stands between them.
+/// Room for the line of any record with its line feed: seven numbers of at most 20 digits, and the
+/// bytes between them.
 const ROOM: usize = 160;
 
-/// A buffer for the line of one record at a time, which takes no memory. A line is written from its end.
+/// A buffer for the line of one record at a time. It takes no memory, and writes each line from its end.
 #[derive(Drop)]
 pub struct LineBuffer {
     bytes: [u8; ROOM],
@@ -51,14 +51,14 @@ impl LineBuffer {
         self.text()
     }
 
-    // What was put there.
+    // The bytes in the buffer.
     fn text(&self) -> &[u8]
         ensures { result.now ≡ self.now }
     {
         &self.bytes[self.start..]
     }
 
-    // Puts the line of a record, with its line feed, in place of what is there.
+    // Puts the line of a record, with its line feed, in place of the bytes there.
     #[tactic(auto, using(crate::proofs::Buffers::line_is))]
     fn print(&mut self, logged: &Record)
         ensures { self.new ≡ record_text logged.now ++ 10 ∷ [] }
@@ -74,14 +74,14 @@ impl LineBuffer {
         self.put_tag(act);
     }
 
-    // Takes out what was put there.
+    // Empties the buffer.
     fn clear(&mut self)
         ensures { self.new ≡ [] }
     {
         self.start = ROOM;
     }
 
-    // Puts a byte before what is there.
+    // Puts a byte before the bytes there.
     fn put_byte(&mut self, byte: u8)
         requires { length self.old < 160 }
         ensures { self.new ≡ byte ∷ self.old }
@@ -90,7 +90,7 @@ impl LineBuffer {
         self.bytes[self.start] = byte;
     }
 
-    // Puts a number before what is there.
+    // Puts a number before the bytes there.
     fn put_number(&mut self, number: u64)
         requires { length self.old ≤ 140 }
         ensures text { self.new ≡ numeral number ++ self.old }
@@ -99,7 +99,7 @@ impl LineBuffer {
         self.start = write_digits(number, &mut self.bytes, self.start);
     }
 
-    // Puts a space and a number before what is there.
+    // Puts a space and a number before the bytes there.
     fn put_field(&mut self, number: u64)
         requires { length self.old ≤ 139 }
         ensures text { self.new ≡ 32 ∷ (numeral number ++ self.old) }
@@ -109,7 +109,7 @@ impl LineBuffer {
         self.put_byte(b' ');
     }
 
-    // Puts a space and a source before what is there.
+    // Puts a space and a source before the bytes there.
     fn put_source(&mut self, source: &Source)
         requires { length self.old ≤ 100 }
         ensures text { self.new ≡ 32 ∷ (source_text source.now ++ self.old) }
@@ -131,7 +131,8 @@ impl LineBuffer {
         self.put_byte(b' ');
     }
 
-    // Puts what follows a record's rank before what is there: what a load or a swap read.
+    // Puts the end of a line, after the rank, before the bytes there: the source of a load or a swap, and the word that a swap
+    // read.
     fn put_act(&mut self, act: &Act)
         requires { length self.old ≤ 10 }
         ensures text { self.new ≡ act_text act.now self.old }
@@ -147,7 +148,7 @@ impl LineBuffer {
         }
     }
 
-    // Puts the letter of an act before what is there.
+    // Puts the letter of an act before the bytes there.
     fn put_tag(&mut self, act: &Act)
         requires { length self.old < 160 }
         ensures { self.new ≡ tag act.now ++ self.old }

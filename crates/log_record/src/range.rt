@@ -1,4 +1,4 @@
-//! The record of numbers that are in range.
+//! Records from numbers of any size, if these are in range.
 
 ghost use Rattle.std.specs.Prelude.{◌≡◌, ◌<◌, ℕ, IfSome, IfNone};
 ghost use Rattle.mem_op.specs.Limits.{operation_limit};
@@ -15,7 +15,7 @@ use super::record::Record;
 use line_stamps::{Rank, Stamp};
 use mem_op::{Addr, CoreId, OpId, OpIndex, Source};
 
-/// The id, where the core and the index are in range.
+/// The id, if the core and the index are in range.
 #[inline(always)]
 fn id_in_range(core: Option<u64>, index: Option<u64>) -> Option<OpId>
     ensures found { IfSome result
@@ -29,7 +29,7 @@ fn id_in_range(core: Option<u64>, index: Option<u64>) -> Option<OpId>
     })
 }
 
-/// The source, where its numbers are in range.
+/// The source, if its numbers are in range.
 #[inline(always)]
 fn source_in_range(raw: RawSource) -> Option<Source>
     ensures found { IfSome result (λ s. (raw ≡ raw_source_of s) × SourceFits s) }
@@ -41,7 +41,7 @@ fn source_in_range(raw: RawSource) -> Option<Source>
     }
 }
 
-/// The act, where its numbers are in range.
+/// The act, if its numbers are in range.
 #[inline(always)]
 fn act_in_range(raw: RawAct) -> Option<FlatAct>
     ensures found { IfSome result (λ a. (raw ≡ raw_act_of a) × ActFits a) }
@@ -54,7 +54,7 @@ fn act_in_range(raw: RawAct) -> Option<FlatAct>
     }
 }
 
-/// The record, where all its numbers are in range.
+/// The record, if all its numbers are in range.
 #[inline(always)]
 pub(crate) fn in_range(raw: RawRecord) -> Option<Record>
     ensures found { IfSome result (λ r. (raw ≡ raw_of r) × Fits r) }

@@ -1,6 +1,6 @@
-//! A record as its line has it, before ranges are looked at: a number that 64 bits don't hold is None.
+//! A record as its line has it, before its ranges are checked: a number that doesn't fit in 64 bits is None.
 
-/// The letter that a record's line begins with: what was done.
+/// The letter with which a record's line begins: its act.
 #[derive(Clone, Copy, Debug, PartialEq, Eq)]
 pub(crate) enum Letter {
     Store,

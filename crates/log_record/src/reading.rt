@@ -1,5 +1,5 @@
-//! Reads a record's line from left to right. All of it is inlined into one function, so that what is read of a line
-//! stays in registers.
+//! Reads a record's line from left to right. All of it is inlined into one function, so that the parts of a line
+//! stay in registers.
 
 ghost use Rattle.std.specs.Prelude.{◌≡◌, option_map};
 ghost use Rattle.decimal_text.specs.Reading.{front_now, front_map};
@@ -44,7 +44,7 @@ fn fields(bytes: &[u8]) -> Option<(RawFields, &[u8])>
     Some((RawFields { addr, value, ts }, rest))
 }
 
-/// The letter that a record's line begins with, and the bytes after its space.
+/// The letter with which a record's line begins, and the bytes after its space.
 #[inline(always)]
 #[tactic(auto, unfolding(crate::specs::inner::Reading::letter_at, crate::specs::inner::Reading::reading_letter_at, decimal_text::specs::Reading::after))]
 fn letter(bytes: &[u8]) -> Option<(Letter, &[u8])>
@@ -58,7 +58,7 @@ fn letter(bytes: &[u8]) -> Option<(Letter, &[u8])>
     }
 }
 
-/// The act, from the bytes after the rank: the source of a load's or a swap's, and then the word that a
+/// The act, from the bytes after the rank: of a load or a swap the source, and then the word that a
 /// swap read.
 #[inline(always)]
 #[tactic(auto, unfolding(crate::specs::inner::Reading::act_at))]
@@ -89,7 +89,7 @@ fn lettered(bytes: &[u8]) -> Option<(RawRecord, &[u8])>
     Some((RawRecord { act, fields, rank }, rest))
 }
 
-/// The record whose line this is, its numbers of any size.
+/// The record on this line, whatever the size of its numbers.
 #[inline(always)]
 #[tactic(auto, unfolding(crate::specs::inner::Reading::record_of))]
 pub(crate) fn raw_record(line: &[u8]) -> Option<RawRecord>

@@ -9,15 +9,15 @@ use line_stamps::{Key, Rank, Stamp};
 use mem_op::{Addr, CoreId, OpId, OpIndex, Word};
 use std::marker::Model;
 
-/// One operation of a core, as its log has it. It takes 40 bytes.
+/// One operation of a core, as its log has it. A record takes 40 bytes.
 #[derive(Clone, Copy, Debug, PartialEq, Eq)]
 pub struct Record {
-    /// The word that was loaded or stored; of a swap the one that it stored.
+    /// The word that the operation loaded or stored; of a swap, the one that it stored.
     pub value: Word,
     /// When the operation took place.
     pub ts: Stamp,
     act: FlatAct,
-    /// Its order among those of its stamp.
+    /// Its place among the operations of its stamp.
     pub rank: Rank,
     /// The address of the word.
     pub addr: Addr,
@@ -34,15 +34,15 @@ impl Model for Record {
 }
 
 impl Record {
-    /// A record of these parts: the word that was loaded or stored, and when, at which rank, at which address
-    /// and how.
+    /// A record of these parts: the word that the operation loaded or stored, its stamp, rank and address,
+    /// and its act.
     pub fn new(value: Word, ts: Stamp, rank: Rank, addr: Addr, act: &Act) -> Record
         ensures { result ≡ record { value = value; ts = ts; rank = rank; addr = addr; act = act.now } }
     {
         Record::of_flat(value, ts, rank, addr, FlatAct::of(act))
     }
 
-    /// A record of these parts, its act flat.
+    /// A record of these parts, with its act in parts.
     #[inline(always)]
     pub(crate) fn of_flat(value: Word, ts: Stamp, rank: Rank, addr: Addr, act: FlatAct) -> Record
         ensures { result ≡ record { value = value; ts = ts; rank = rank; addr = addr; act = act } }
@@ -56,15 +56,15 @@ impl Record {
         }
     }
 
-    /// What was done.
+    /// The act.
     pub fn act(&self) -> Act
         ensures { result ≡ self.now.act }
     {
         self.act.act()
     }
 
-    /// The word that the core had of the operation: the one that a load or a swap read, the one that a store
-    /// stored.
+    /// The word that the core got from the operation: the one that a load or a swap read, or the one that a
+    /// store stored.
     pub fn word_answered(&self) -> Word
         ensures { result ≡ word_answered (operation_of self.now) }
     {
@@ -75,7 +75,7 @@ impl Record {
     }
 }
 
-/// A record with its id, its act in parts. It takes 40 bytes, as the record does alone.
+/// A record with its id. It takes 40 bytes, as the record alone does.
 #[derive(Clone, Copy, Debug, PartialEq, Eq)]
 pub struct Entry {
     value: Word,
@@ -182,7 +182,7 @@ impl Entry {
         }
     }
 
-    // What was done, as a record keeps it.
+    // The act in parts, as a record keeps it.
     fn flat_act(&self) -> FlatAct
         ensures { result ≡ self.now.logged.act }
     {
@@ -200,14 +200,14 @@ impl Entry {
         self.addr
     }
 
-    /// The word that was loaded or stored; of a swap the one that it stored.
+    /// The word that the operation loaded or stored; of a swap, the one that it stored.
     pub fn value(&self) -> Word
         ensures { result ≡ self.now.logged.value }
     {
         self.value
     }
 
-    /// What was done.
+    /// The act.
     pub fn act(&self) -> Act
         ensures { result ≡ self.now.logged.act }
     {

@@ -1,4 +1,4 @@
-//! What the thread of a core does.
+//! The work of a core's thread.
 
 ghost use Rattle.std.specs.Prelude.{◌≡◌, None, IfOk, IsOk, IsSome, OnOk};
 ghost use Rattle.core_unit.specs.Parts.{SameUnit};
@@ -18,28 +18,28 @@ use std::hint::spin_loop;
 use std::sync::Wait;
 use std::thread;
 
-/// A core that is answered Busy looks into its inbox so often before it asks again, so that the owner of the line finds the lock of
-/// the slice free, and since two cores may wait for each other's lines; after a recall it asks at once.
+/// How often a core looks into its inbox after a Busy, before it asks again. So the owner of the line finds the lock of the slice
+/// free, and two cores that wait for each other's lines find each other's recalls. After a recall it asks at once.
 const INBOX_LOOKS_AFTER_BUSY: u32 = 64;
 
-/// After as many turns for an operation a core that is answered Busy lets other threads have its processor, since the owner of the
+/// After every so many turns for an operation, a core that got Busy lets other threads have its processor, since the owner of the
 /// line may wait for one.
 const BUSY_TURNS_BETWEEN_YIELDS: u64 = 2;
 
-// What a turn came to.
+// The result of a turn.
 #[derive(Clone, Copy, Debug, PartialEq, Eq)]
 enum Turned {
-    // It performed an operation.
+    // The turn performed an operation.
     Performed,
-    // It filled a line, by which the next turn may perform its operation.
+    // It filled a line, and the next turn may perform its operation.
     Filled,
-    // Its request was answered with Busy.
+    // The slice answered its request with Busy.
     Refused,
     // None of these.
     Waits,
 }
 
-/// Waits at the gate, and runs a core; where a thread was refused the unit comes back as it is.
+/// Waits at the gate, and runs a core. If a thread was refused, the unit comes back as it is.
 pub(crate) fn run_behind<T: Port + Drop, P: Pace, R: Wait>(
     rt: &R,
     gate: &StartGate,
@@ -56,7 +56,7 @@ pub(crate) fn run_behind<T: Port + Drop, P: Pace, R: Wait>(
     run_core(rt, unit, port, inboxes, pace)
 }
 
-// Runs a core's program to its end, as far as no fault is met, and then gives the core's Exclusive lines back.
+// Runs a core's program to its end or to the first fault, and then gives the core's Exclusive lines back.
 fn run_core<T: Port + Drop, P: Pace, R: Wait>(
     rt: &R,
     unit: CoreUnit,
@@ -77,7 +77,7 @@ fn run_core<T: Port + Drop, P: Pace, R: Wait>(
     }
 }
 
-// Performs the operations of the core's program to its end.
+// Performs the operations of the core's program up to its end.
 fn run_program<T: Port, P: Pace, R: Wait>(
     rt: &R,
     unit: &mut CoreUnit,
@@ -104,8 +104,9 @@ fn has_ended(unit: &CoreUnit) -> bool {
     unit.program_state().position() >= unit.program().instructions().len()
 }
 
-// Makes turns until one more operation is performed: 31 where the pace says Stop, 30 where as many turns as the configuration
-// says bring none. Before each it asks the pace, and then takes one recall at most, and none after a turn that filled a line.
+// Makes turns until the core has performed one more operation: 31 if the pace says Stop, 30 if as many turns as the
+// configuration allows bring none. Before each turn it asks the pace, and then takes at most one recall, and none after a
+// turn that filled a line.
 fn perform<T: Port, P: Pace, R: Wait>(
     rt: &R,
     unit: &mut CoreUnit,
@@ -137,7 +138,7 @@ fn perform<T: Port, P: Pace, R: Wait>(
     Err(Cause::GaveUp)
 }
 
-// Takes a recall from the core's inbox, if one comes there while it looks so often, and gives its line back.
+// Takes a recall from the core's inbox, if one is there within so many looks, and gives its line back.
 fn answer_recall<T: Port, R: Wait>(
     rt: &R,
     unit: &mut CoreUnit,
@@ -153,7 +154,7 @@ fn answer_recall<T: Port, R: Wait>(
     }
 }
 
-// The next recall in a core's inbox, into which it looks so often.
+// The next recall in a core's inbox, if one is there within so many looks.
 fn next_recall<R: Wait>(rt: &R, core: CoreId, inboxes: &[Inbox], looks: u32) -> Option<Recall> {
     let own = inboxes.get(core.get() as usize)?;
     for look in 0..looks {
@@ -167,7 +168,7 @@ fn next_recall<R: Wait>(rt: &R, core: CoreId, inboxes: &[Inbox], looks: u32) -> 
     None
 }
 
-// Gives the line back that a recall asks for, where the core has it as Exclusive.
+// Gives back the line that a recall asks for, if the core has it as Exclusive.
 fn give_back<T: Port>(unit: &mut CoreUnit, port: &mut T, recall: &Recall) -> Result<(), Cause>
     ensures { SameUnit unit.old unit.new }
 {
@@ -181,7 +182,7 @@ fn give_back<T: Port>(unit: &mut CoreUnit, port: &mut T, recall: &Recall) -> Res
     }
 }
 
-// Makes a turn, and has the message that it brings answered.
+// Makes a turn, and has a slice answer the message that the turn brings.
 fn make_turn<T: Port, R: Wait>(
     rt: &R,
     unit: &mut CoreUnit,
@@ -207,14 +208,14 @@ fn make_turn<T: Port, R: Wait>(
     }
 }
 
-// Leaves a recall for the owner that it names. Where its inbox is full, the recall is let go: the next Busy brings another.
+// Leaves a recall for the owner that it names. If the owner's inbox is full, it lets the recall go: the next Busy brings another.
 fn offer<R: Wait>(rt: &R, inboxes: &[Inbox], recall: Recall) {
     if let Some(theirs) = inboxes.get(recall.owner.get() as usize) {
         let _full = theirs.offer(rt, recall);
     }
 }
 
-// Has the message in hand served, and takes the reply.
+// Has a slice serve the message in hand, and takes the reply.
 fn exchange<T: Port>(unit: &mut CoreUnit, port: &mut T, message: &Message) -> Result<Reply, Cause>
     ensures same { SameUnit unit.old unit.new }
     ensures taken { IfOk result (λ reply. HasTaken unit.old reply unit.new) }

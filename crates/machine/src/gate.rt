@@ -1,16 +1,16 @@
-//! What the threads of a run wait at until all of them are started.
+//! The gate at which the threads of a run wait until all of them are started.
 
 use std::hint::spin_loop;
 use std::sync::{OnceLock, Wait};
 
-/// So often a thread looks whether the gate is open before it sleeps: a tenth of a millisecond or more, in which four threads are
-/// started. One that slept may be woken on the processor of another that has just begun, and then waits for it.
+/// How often a thread looks whether the gate is open before it sleeps. That takes a tenth of a millisecond or more, in which four
+/// threads can start. A thread that slept may wake on the processor of another that has just begun, and then waits for it.
 const GATE_LOOKS_BEFORE_SLEEP: u32 = 20_000;
 
-/// Opens once, for all who wait.
+/// A gate that opens once, for all who wait.
 #[derive(Drop)]
 pub(crate) struct StartGate {
-    // Whether those who pass are to go on, once that is known: all threads are started, or one of them was refused.
+    // Whether those who pass should go on. This is set once all threads are started, or one of them was refused.
     goes: OnceLock<bool>,
 }
 
@@ -22,7 +22,7 @@ impl StartGate {
         }
     }
 
-    /// Opens the gate, and tells all whether they are to go on.
+    /// Opens the gate, and tells all whether to go on.
     pub(crate) fn open<R: Wait>(&self, rt: &R, goes: bool) {
         let _first = self.goes.set(rt, goes);
     }

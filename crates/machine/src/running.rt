@@ -1,4 +1,4 @@
-//! A run of the machine, a thread a core.
+//! A run of the machine, with a thread for each core.
 
 ghost use Rattle.std.specs.Prelude.{◌≡◌, ◌⊎◌, ℕ, [], All, IfOk, IfErr, length};
 ghost use Rattle.core_unit.specs.Kept.{Replays};
@@ -30,11 +30,11 @@ use tardis_core::opening_units;
 
 /// Runs each program to its end in a thread of its own, which owns its core's unit and asks the pace before each turn.
 ///
-/// Ok has the units and slices of one whole run of the core machine, whatever the order in which its steps came, and the logs of its units
-/// get Yes against the programs: they are sequentially consistent. The fault is the least
-/// core's: 30 where as many turns as the configuration says brought no operation, 31 where the pace said so, 32 where its
-/// thread was refused, and then no core did anything, or what a call of its unit or a slice refused. 33 is where what
-/// the threads gave back isn't such a run, and 10 where a growth was refused beside the cores. May wait for its threads.
+/// Ok has the units and slices of one whole run of the core machine, whatever the order of its steps. The logs of its units get Yes
+/// against the programs: they are sequentially consistent. The fault is the least core's: 30 if as many turns as the configuration allows
+/// brought no operation, 31 if the pace said Stop, 32 if its thread was refused, and then no core did anything, or the refusal of its unit
+/// or of a slice. 33 comes if the threads didn't give back such a run, and 10 if a growth was refused outside the cores' runs. May wait
+/// for its threads.
 pub fn run_threads<P: Pace + Sync, R: Threads + Wait + Sync>(
     rt: &R,
     alloc: Global,
@@ -47,12 +47,13 @@ pub fn run_threads<P: Pace + Sync, R: Threads + Wait + Sync>(
     ensures yes { IfOk result (λ end. GetYesBy programs.now.programs (unit_logs end.units.items)) }
     ensures short { IfErr result (λ f. (f.cause ≡ GaveUp ⊎ f.cause ≡ Stopped) →
         StoppedShort programs.now.programs f.units.items f.core) }
-    // 33 tells why the units and slices that are left are those of no whole run.
+    // 33 says why the units and slices that are left aren't those of a whole run.
     ensures refused { IfErr result (λ f. (fault : AuditFault) → f.cause ≡ Audit fault → (f.core ≡ fault.core)
         × IsRunFault programs.now.programs config.now f.units.items f.slices.items fault) }
     // Each log that is left is that of a unit of its core whose transcript replays, or empty.
     ensures logs { IfErr result (λ f. (c : ℕ) → IsUnitLog c (kept_log f.units.items c) ⊎ (kept_log f.units.items c ≡ [])) }
-    // All slices are left, each with a state that is the replay of its history, or nothing where memory was refused beside the cores.
+    // All slices are left, each with a state that is the replay of its history, or nothing if memory was refused outside the
+    // cores' runs.
     ensures slices { IfErr result (λ f. AreSlicesLeft config.now.slices f.cause f.units.items f.slices.items) }
 {
     let Ok(units) = opening_units(alloc, programs, config) else {
@@ -70,8 +71,8 @@ pub fn run_threads<P: Pace + Sync, R: Threads + Wait + Sync>(
     accepted(programs, config, ends, bank.into_slices())
 }
 
-// What the threads gave back, accepted: Ok names the events of a run, whose logs get Yes, and of a fault each log that is left is a unit's
-// own, and all slices are left.
+// Accepts what the threads gave back. With Ok, the units and slices are those of a run of some events, and the logs get Yes. With a
+// fault, each log that is left is a unit's own or empty, and all slices are left.
 fn accepted(
     programs: &ProgramSet,
     config: &Config,
@@ -125,7 +126,7 @@ fn each_slice_replays(slices: &[ManagerSlice])
     }
 }
 
-// A growth was refused beside the cores, and no unit is left, and no slice.
+// The fault if a growth was refused outside the cores' runs: no unit is left, and no slice.
 fn no_memory(alloc: Global) -> MachineFault
     ensures cause { result.cause ≡ Cause.OutOfMemory }
     ensures units { result.units.items ≡ [] }

@@ -1,4 +1,4 @@
-//! A run that the core machine has, so that its laws speak of something. The function does nothing: its contract is the law.
+//! A run that the core machine has, which shows that its laws aren't empty. The function does nothing: its contract is the law.
 
 ghost use Rattle.machine_laws.specs.Laws.{OneStoreRuns};
 

@@ -17,13 +17,13 @@ pub fn runs_get_yes()
 {}
 
 /// After any events by which every program has ended, the logs get Yes against the programs too; so some whole run of one memory and
-/// the programs, a core at a time, performs just the logged operations.
+/// the programs, one core at a time, performs exactly the logged operations.
 pub fn ended_runs_get_yes()
     ensures yes { EndedRunsGetYes }
     ensures flat { EndedRunsAreFlat }
 {}
 
-/// Where the whole lists of the units and slices of one machine have a merge, the logs of the units get Yes; and those of a whole
+/// If the whole lists of the units and slices of one machine have a merge, the logs of the units get Yes; and those of a whole
 /// run of programs get Yes against the programs too.
 pub fn merged_logs_get_yes()
     ensures merged { MergedLogsGetYes }

@@ -12,13 +12,13 @@ use thiserror::Error;
 /// Why a slice refuses a call.
 #[derive(Clone, Copy, Debug, PartialEq, Eq, Error)]
 pub enum SliceFault {
-    /// A line is given back by a core that isn't its owner.
+    /// A core gives a line back and isn't its owner.
     NotOwner,
-    /// The answer would carry a stamp above 281,474,976,710,656, which is 2^48.
+    /// The reply would carry a stamp above 281,474,976,710,656, which is 2^48.
     StampLimit,
-    /// A history has at most 1,048,576 entries.
+    /// The history would have more than 1,048,576 entries.
     HistoryFull,
-    /// Memory of the host was refused.
+    /// The host refused memory.
     OutOfMemory,
 }
 

@@ -1,4 +1,4 @@
-//! The manager slices: the second table of the protocol, exact, with a history of each slice.
+//! The manager slices: they follow the second table of the protocol exactly, and each keeps a history.
 #![tactic(auto)]
 
 mod fault;

@@ -30,7 +30,7 @@ impl Model for ServedLines {
 }
 
 impl ServedLines {
-    /// No lines. 10 OutOfMemory alone is refused.
+    /// No lines. Only 10 OutOfMemory may come.
     pub(crate) fn new(alloc: Global) -> Result<ServedLines, AllocError>
         ensures { IfOk result (λ lines. lines ≡ []) }
     {
@@ -47,14 +47,15 @@ impl ServedLines {
         self.lines.len()
     }
 
-    /// The line of an address, if it is there. It isn't served by this.
+    /// The line of an address, if it is there. This doesn't count as service.
     pub fn get(&self, addr: Addr) -> Option<&ManagedLine>
         ensures { option_copied result ≡ lookup (nat_eq addr) self.now }
     {
         self.lines.peek(&addr)
     }
 
-    /// The line that gives way to another one: the least recently served Shared line, or else the least recently served.
+    /// The line that gives way to another one: the least recently served Shared line, or, if no line is Shared, the least
+    /// recently served line.
     pub(crate) fn giving_way(&self) -> Option<(Addr, ManagedLine)>
         ensures { result ≡ giving_way self.now }
     {
@@ -67,13 +68,13 @@ impl ServedLines {
         Some((*addr, *line))
     }
 
-    /// Leaves the line of an address so, and makes it the most recently served. Only where it isn't there can this be
-    /// refused, and then nothing changes.
+    /// Puts a line at an address, and makes it the most recently served. Memory can be refused only if the address
+    /// has no line yet, and then nothing changes.
     pub(crate) fn serve(&mut self, addr: Addr, line: ManagedLine) -> Result<(), AllocError>
         ensures ok { OnOk result (self.new ≡ (addr, line) ∷ remove_entry (nat_eq addr) self.old) }
         ensures err { OnErr result (self.new ≡ self.old) }
     {
-        // So nothing is pushed out.
+        // So this pushes no line out.
         prove!(self.lines.len() < usize::MAX);
         self.lines.put(addr, line)?;
         Ok(())

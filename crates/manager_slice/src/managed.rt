@@ -8,7 +8,7 @@ use mem_op::{Addr, CoreId};
 pub enum ManagedLine {
     /// The line itself: any core may have a copy.
     Shared(Line),
-    /// The core that owns the line, and alone knows its word and stamps.
+    /// The core that owns the line. Only this core knows its word and stamps.
     Exclusive(CoreId),
 }
 
@@ -17,6 +17,6 @@ pub enum ManagedLine {
 pub enum HistoryEntry {
     /// The Shared line of this address went to memory.
     Evicted(Addr),
-    /// This core's message was answered so, and not with Busy.
+    /// The slice answered this core's message with this reply, which isn't Busy.
     Served(CoreId, Message, Reply),
 }

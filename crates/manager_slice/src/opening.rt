@@ -1,4 +1,4 @@
-//! The slices of a machine as it starts.
+//! The slices of a machine at its start.
 
 ghost use Rattle.std.specs.Prelude.{◌≡◌, IfOk, IfErr, vec_len};
 ghost use Rattle.manager_slice.specs.Opening.{new_slices};
@@ -9,7 +9,7 @@ use super::slice::ManagerSlice;
 use lease_rule::Config;
 use std::alloc::Global;
 
-/// As many empty slices as the configuration says, each at its number; 10 OutOfMemory alone is refused.
+/// As many empty slices as the configuration says, each at its number. Only 10 OutOfMemory may come.
 pub fn new_slices(alloc: Global, config: &Config) -> Result<Vec<ManagerSlice>, SliceFault>
     ensures slices { IfOk result (λ slices. slices.items ≡ new_slices config.now config.now.slices) }
     ensures count { IfOk result (λ slices. vec_len slices ≡ config.now.slices) }

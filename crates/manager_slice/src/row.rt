@@ -1,4 +1,4 @@
-//! The row of the manager's table that a message meets. A row is wide: it is made in one place, out of line.
+//! The row of the manager's table that a message meets. A row is wide, so one function makes it, and isn't inlined.
 
 ghost use Rattle.std.specs.Prelude.{◌≡◌, ◌+◌, ◌<◌, ◌≢◌, length, if◌then◌else◌, nat_lt, nat_eq, Some, None, IfSome};
 ghost use Rattle.std.specs.Map.{lookup};
@@ -26,7 +26,7 @@ pub(crate) enum Access {
 /// A core's request for a line.
 #[derive(Clone, Copy, Debug, PartialEq, Eq)]
 pub(crate) struct Request {
-    /// The core that asks.
+    /// The core that makes the request.
     from: CoreId,
     /// The address of the line.
     addr: Addr,
@@ -41,8 +41,8 @@ pub(crate) struct Request {
 pub(crate) enum Row {
     /// The answer is Busy with this recall, and nothing changes.
     Recalled(Recall),
-    /// The line of the address `evicted.0`, if there is one, goes to memory; then the message has this reply, and leaves its
-    /// line so.
+    /// The line of the address `evicted.0`, if there is one, goes to memory. Then the message gets this reply, and its line
+    /// becomes this one.
     Answered {
         evicted: Option<(Addr, Line)>,
         reply: Reply,
@@ -50,8 +50,8 @@ pub(crate) enum Row {
     },
 }
 
-/// The row that a message meets; 11 where the line that it gives back isn't the sender's, 4 where the reply would carry a
-/// stamp above the limit.
+/// The row that a message meets; 11 if it gives back a line that isn't the sender's, 4 if the reply would carry a stamp
+/// above the limit.
 #[inline(never)]
 pub(crate) fn row_of(
     config: &Config,
@@ -134,7 +134,7 @@ fn absent_row(config: &Config, state: &SliceState, request: &Request) -> Result<
     }
 }
 
-// The line that has to give way before one more fits, if any.
+// The line that must give way before one more fits, if one must.
 fn makes_way(config: &Config, state: &SliceState) -> Option<(Addr, ManagedLine)>
     ensures value { result ≡ makes_way config.now state.now }
     ensures there { IfSome result (λ e. lookup (nat_eq e.0) state.now.lines ≡ Some e.1) }
@@ -145,7 +145,7 @@ fn makes_way(config: &Config, state: &SliceState) -> Option<(Addr, ManagedLine)>
     state.lines.giving_way()
 }
 
-// The line that a fill makes after the eviction of another.
+// The line that comes from memory after the eviction of another.
 fn fill_after(state: &SliceState, addr: Addr, victim: Addr, evicted: &Line) -> Line
     requires { addr ≢ victim }
     ensures { result ≡ filled_line (with_line state.now.memory victim evicted.now) addr }
@@ -217,7 +217,7 @@ fn answer_row(
     }
 }
 
-// Whether a request's copy is of the line's version.
+// Whether a request's copy has the line's version.
 fn is_copy(copy: &Option<Stamp>, line: &Line) -> bool
     ensures { result ≡ is_copy copy.now line.now }
 {

@@ -26,7 +26,7 @@ use mem_op::{Addr, CoreId};
 use std::alloc::{AllocError, Global};
 use std::marker::Model;
 
-/// How many entries a history has at most.
+/// The most entries of a history.
 const HISTORY_LIMIT: usize = 1_048_576;
 
 /// A slice of the memory with the manager of its lines. It is always in the state to which its history leads, entry by entry
@@ -65,7 +65,7 @@ impl Model for ManagerSlice {
 }
 
 impl ManagerSlice {
-    /// The slice of this number as a machine of this configuration starts; 10 OutOfMemory alone is refused.
+    /// The slice of this number at the start of a machine with this configuration. Only 10 OutOfMemory may come.
     pub fn new(alloc: Global, number: usize, config: &Config) -> Result<ManagerSlice, SliceFault>
         ensures opening { IfOk result (λ slice. slice ≡ new_slice config.now number) }
         ensures refused { IfErr result (λ fault. fault ≡ OutOfMemory) }
@@ -100,7 +100,7 @@ impl ManagerSlice {
         &self.state
     }
 
-    /// What it did so far, in order: at most 1,048,576 entries.
+    /// What it has done so far, in order: at most 1,048,576 entries.
     pub fn history(&self) -> &[HistoryEntry]
         ensures entries { result.now ≡ self.now.history }
         ensures limit { length self.now.history ≤ entry_limit }
@@ -108,25 +108,25 @@ impl ManagerSlice {
         self.history.as_slice()
     }
 
-    /// Does nothing: it tells that the state is the replay of the history.
+    /// Does nothing: its contract says that the state is the replay of the history.
     pub fn replays(&self)
         ensures { Replays self.now }
     {
         let _ = &self.number;
     }
 
-    /// Handles a message of a core. Busy changes nothing and takes no memory; any other reply is an entry of the history, and
-    /// leaves the message's line the most recently served. Where the line is absent and the slice is full, the least recently
-    /// served Shared line is evicted first, or, if there is none, the least recently served line is recalled by Busy.
+    /// Handles a message of a core. Busy changes nothing and takes no memory. Any other reply makes an entry of the history,
+    /// and makes the message's line the most recently served. If the line is absent and the slice is full, it first evicts
+    /// the least recently served Shared line, or, if there is none, recalls the least recently served line by Busy.
     ///
-    /// The refusals, in this order: 11 NotOwner where a line is given back by a core that isn't its owner, 4 StampLimit where
-    /// the reply would carry a stamp above 2^48, 12 HistoryFull where the entries don't fit, 10 OutOfMemory. They change nothing.
+    /// The refusals, in this order: 11 NotOwner if a core gives a line back and isn't its owner, 4 StampLimit if the reply would
+    /// carry a stamp above 2^48, 12 HistoryFull if the entries don't fit, 10 OutOfMemory. They change nothing.
     pub fn handle(&mut self, from: CoreId, message: &Message) -> Result<Reply, SliceFault>
-        // The reply, the entries and the state that is left are of the table.
+        // The reply, the entries and the state after it follow the table.
         ensures table { IfOk result (λ reply. IsHandled self.old from message.now reply self.new) }
 
-        // Which row it is and which line gives way follows from the order of service. 11, 4 and 12 come exactly where they
-        // are due; 10 comes only instead of a step.
+        // The order of service settles the row and the line that gives way. 11, 4 and 12 come exactly when they are due;
+        // 10 comes only instead of a step.
         ensures outcome { OutcomeLeads (handle_outcome self.old from message.now) result self.old self.new }
         ensures busy { (x : RecallParts) → (result ≡ Ok (Busy x))
             ↔ (handle_outcome self.old from message.now ≡ Answers (Busy x)) }
@@ -148,12 +148,12 @@ impl ManagerSlice {
         }
     }
 
-    /// Evicts the line of an address to memory where it is there and Shared, and tells whether it was. Where it was, this is an
-    /// entry of the history; else nothing changes and no memory is taken.
+    /// Evicts the line of an address to memory if it is there and Shared, and answers whether it was. If it was, this makes an
+    /// entry of the history. Otherwise nothing changes, and it takes no memory.
     ///
-    /// The refusals, in this order: 12 HistoryFull where the entry doesn't fit, 10 OutOfMemory. They change nothing.
+    /// The refusals, in this order: 12 HistoryFull if the entry doesn't fit, 10 OutOfMemory. They change nothing.
     pub fn evict(&mut self, addr: Addr) -> Result<bool, SliceFault>
-        // The state that is left is of the table.
+        // The state after it follows the table.
         ensures table { IfOk result (λ went. OnTrue went (IsEvicted self.old addr self.new)) }
         ensures shared { IfOk result (λ went.
             went ≡ is_some_shared (lookup (nat_eq addr) self.old.state.lines)) }
@@ -194,7 +194,7 @@ impl ManagerSlice {
     }
 }
 
-// Makes room for `entries` more entries; 12 where they don't fit, 10.
+// Makes room for `entries` more entries; 12 if they don't fit, 10 if memory was refused.
 fn reserve(history: &mut Vec<HistoryEntry>, entries: usize) -> Result<(), SliceFault>
     requires { entries ≤ 2 }
     ensures items { history.new.items ≡ history.old.items }
@@ -210,7 +210,7 @@ fn reserve(history: &mut Vec<HistoryEntry>, entries: usize) -> Result<(), SliceF
     Ok(())
 }
 
-// Appends a copy of an item. There is room for it.
+// Appends a copy of an item. There must be room for it.
 fn push_copy<T: Copy>(items: &mut Vec<T>, item: &T)
     requires { vec_len items.old < vec_capacity items.old }
     ensures items { items.new.items ≡ items.old.items ++ item.now ∷ [] }
@@ -220,7 +220,7 @@ fn push_copy<T: Copy>(items: &mut Vec<T>, item: &T)
     items.push_reserved(*item);
 }
 
-// The entries of a message that is answered. There is room for them.
+// Appends the entries of an answered message. There must be room for them.
 fn append(
     history: &mut Vec<HistoryEntry>,
     evicted: &Option<(Addr, Line)>,

@@ -18,7 +18,7 @@ use std::alloc::{AllocError, Global};
 pub struct SliceState {
     /// The lines, in order of service.
     pub lines: ServedLines,
-    /// The memory that lines are filled from and evicted to.
+    /// The memory below, which fills lines and takes evicted ones.
     pub memory: MemorySlice,
 }
 
@@ -36,7 +36,7 @@ impl SliceState {
         })
     }
 
-    /// Sends a line to memory, and takes it out. A refusal changes nothing.
+    /// Sends a line to memory, and takes it out of the slice. A refusal changes nothing.
     pub(crate) fn evict(&mut self, addr: Addr, line: &Line) -> Result<(), AllocError>
         ensures ok { OnOk result (self.new ≡ spilled self.old addr line.now) }
         ensures err { OnErr result (self.new ≡ self.old) }
@@ -46,7 +46,7 @@ impl SliceState {
         Ok(())
     }
 
-    /// Evicts the line that gives way, if there is one, and leaves the line of the address so. A refusal changes nothing.
+    /// Evicts the line that gives way, if there is one, and puts the line at the address. A refusal changes nothing.
     pub(crate) fn serve(
         &mut self,
         evicted: &Option<(Addr, Line)>,
@@ -61,7 +61,7 @@ impl SliceState {
         let Some((victim, spilled)) = evicted else {
             return self.lines.serve(addr, line);
         };
-        // Of the two growths the one that can be taken back comes first.
+        // Of the two growths, the one that can be undone comes first.
         self.lines.serve(addr, line)?;
         if let Err(refused) = self.memory.put_back(*victim, spilled) {
             self.lines.remove(addr);

@@ -1,4 +1,4 @@
-//! The memory below a slice: its words, and the memory stamp that lines are filled with.
+//! The memory below a slice: its words, and the memory stamp with which it fills lines.
 #![tactic(auto)]
 
 mod memory;

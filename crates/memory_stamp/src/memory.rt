@@ -9,20 +9,20 @@ use line_stamps::{Line, LineStamps, Rank, Stamp};
 use mem_op::{Addr, Source};
 use std::alloc::{AllocError, Global};
 
-/// The memory below a slice. Its stamp and rank are at or above the leases and ranks of all lines that it took back, and
-/// stand for those of every line that it is asked for: no stamps are kept by address.
+/// The memory below a slice. Its stamp and rank are at or above the leases and ranks of all lines that it took back. It
+/// gives them to every line that it fills, since it keeps no stamps by address.
 #[derive(Drop)]
 pub struct MemorySlice {
-    /// The words that were put back. Any other is 0 and comes from no store.
+    /// The words that the slice put back. Any other word is 0 and comes from no store.
     pub words: Words,
-    /// The memory stamp: the latest end of a lease among the lines that were put back.
+    /// The memory stamp: the latest end of a lease among the lines that the slice put back.
     pub mts: Stamp,
-    /// The highest rank among the lines that were put back.
+    /// The highest rank among the lines that the slice put back.
     pub mrank: Rank,
 }
 
 impl MemorySlice {
-    /// Memory as a machine starts: every word 0, stamp and rank 0. It takes no memory of the host.
+    /// Memory at the start of a machine: every word 0, stamp and rank 0. It takes no memory from the host.
     pub fn new(alloc: Global) -> MemorySlice
         ensures { result ≡ record { words = map.empty; mts = 0; mrank = 0 } }
     {
@@ -33,7 +33,8 @@ impl MemorySlice {
         }
     }
 
-    /// The line that a fill from memory makes: the word and its source, written and leased up to `mts`, of rank `mrank`.
+    /// The line that a fill from memory makes: the word and its source, with the write and the end of the lease at `mts`, and
+    /// rank `mrank`.
     pub fn fill(&self, addr: Addr) -> Line
         ensures { result ≡ filled_line self.now addr }
     {
@@ -48,8 +49,8 @@ impl MemorySlice {
         )
     }
 
-    /// Takes a line back: its word and source, and its lease and rank into the memory stamp and rank. It is refused, and
-    /// then changes nothing, only where memory of the host can't be had for an address that has no word yet.
+    /// Takes a line back: its word and source, and its lease and rank into the memory stamp and rank. It is refused only
+    /// if the host has no memory for an address that has no word yet, and then nothing changes.
     pub fn put_back(&mut self, addr: Addr, line: &Line) -> Result<(), AllocError>
         ensures ok { OnOk result (self.new ≡ with_line self.old addr line.now) }
         ensures err { OnErr result (self.new ≡ self.old) }

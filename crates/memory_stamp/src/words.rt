@@ -28,7 +28,7 @@ impl Model for StoredWord {
     ghost inverse = { λ w. record { value = w.value; source = w.source } };
 }
 
-/// The words that were put back, by address.
+/// The words that the slice put back, by address.
 #[derive(Drop)]
 pub struct Words {
     words: HashMap<Addr, StoredWord>,
@@ -58,14 +58,14 @@ impl Words {
         }
     }
 
-    /// The word at an address, if one was put back.
+    /// The word at an address, if there is one.
     pub fn get(&self, addr: Addr) -> Option<StoredWord>
         ensures { result ≡ map.get self.now addr }
     {
         self.words.get(&addr).copied()
     }
 
-    /// Puts a word at an address. Only at an address that has none can it be refused, and then nothing changes.
+    /// Puts a word at an address. It can be refused only if the address has no word yet, and then nothing changes.
     pub fn insert(&mut self, addr: Addr, word: StoredWord) -> Result<(), AllocError>
         ensures ok { OnOk result (self.new ≡ map.insert self.old addr word) }
         ensures err { OnErr result (self.new ≡ self.old) }

@@ -1,4 +1,4 @@
-//! The verdict on a set whose logs were merged to their ends.
+//! The verdict on a set, once its logs are merged to their ends.
 
 ghost use Rattle.std.specs.Prelude.{◌≡◌, ◌<◌, ℕ, List, [], None, Some, Ok, IfErr, MatchOption, length};
 ghost use Rattle.verdict.specs.Counts.{IsBadCount};
@@ -43,9 +43,9 @@ fn first_fall<L: Reading>(lanes: &[Lane<L>]) -> Option<(usize, usize)>
 }
 
 impl<L: Reading> Merge<L> {
-    /// The verdict on logs that were merged to their ends, of which no core falling this is the first
-    /// fault along the order of keys, and this the number of records; or the fault of the least log
-    /// that has one.
+    /// The verdict on logs that are merged to their ends, or the fault of the least log that has one.
+    /// `address` is the first fault along the order of keys, if no core's log falls, and `count` the
+    /// number of records.
     pub(crate) fn final_verdict<S: RecordSource<L>>(
         &self,
         readers: &[S],

@@ -32,7 +32,7 @@ use log_record::Entry;
 use std::alloc::Global;
 use verdict::{JudgeFault, Verdict, check_counts};
 
-/// Looks at a record that was merged, and writes its id where no fault was found up to it.
+/// Checks a merged record, and writes its id if there is no fault up to it.
 fn look<W: ByteSink, O: Order<W>>(
     entry: &Entry,
     clean: bool,
@@ -68,8 +68,8 @@ fn look<W: ByteSink, O: Order<W>>(
     order.add(order_out, entry.id())
 }
 
-/// What `merge_judge` answers and writes, where the number of files is in range and this becomes of the
-/// ids of the order.
+/// Answers and writes what `merge_judge` does, with the number of files in range. `order` takes the ids
+/// of the order.
 pub(crate) fn merged<L: Reading, S: RecordSource<L>, W: ByteSink, O: Order<W>>(
     alloc: Global,
     readers: &mut [S],
@@ -103,41 +103,41 @@ pub(crate) fn merged<L: Reading, S: RecordSource<L>, W: ByteSink, O: Order<W>>(
     }
 }
 
-/// The verdict on the set of logs that the readers give, file `k` the log of core `k` of as many cores
-/// as there are files: that of the judge, in constant memory. With a Yes it has written the order of all
+/// The judge's verdict, in constant memory, on the set of logs that the readers give. File `k` is the
+/// log of core `k`, and there are as many cores as files. With a Yes it has written an order of all
 /// operations by which the set is sequentially consistent, a line for each, and then the `end` line.
 ///
-/// It reads all files at once, each in pieces, and keeps of each at most one record that isn't merged
-/// yet. From the first fault on it writes no more, and reads each file on to its end or its own first
-/// fault. It never flushes.
+/// It reads all files at once, each in pieces, and keeps at most one unmerged record of each. After
+/// the first fault it writes no more, and reads each file on to its end or its own first fault. It
+/// never flushes.
 ///
-/// Refusals: 6 BadConfig before any read, where the number of files isn't 1..64; 20..27, the first fault
-/// of the least file that has one; 28 Read where the reader of a file failed; 29 Write where the writer
-/// failed; 10 OutOfMemory where a growth was refused.
+/// Refusals: 6 BadConfig before any read, if the number of files isn't 1..64; 20..27, the first fault of
+/// the least file that has one; 28 Read if the reader of a file failed; 29 Write if the writer failed;
+/// 10 OutOfMemory if a growth was refused.
 pub fn merge_judge<S: ByteSource, W: ByteSink>(
     alloc: Global,
     readers: &mut [S],
     order_out: &mut W,
 ) -> Result<Verdict, MergeFault>
-    // 6 comes exactly where the number of files is out of range, and nothing is read then.
+    // 6 comes exactly if the number of files is out of range, and then it reads nothing.
     ensures files { IsErrOf result (Judge (BadConfig Files)) ↔ IsOutOfRange (length readers.old) }
     ensures unread { IsErrOf result (Judge (BadConfig Files)) → readers.new ≡ readers.old }
     ensures workers { ¬ IsErrOf result (Judge (BadConfig Workers)) }
     ensures programs { ¬ IsErrOf result (Judge (BadConfig Programs)) }
-    // The readers tell texts, and where no write failed the answer is that of the judge to these. With a Yes
-    // the writer took the text of an order by which the set is consistent; else what it took lacks the `end`
-    // line, and the ids in it are, in the order of keys, the first of records with which the texts begin and
-    // to which the verdict is Yes. All of these come before the next record of each text that has more, and
-    // before the fault. After 6 it took nothing.
+    // The readers tell texts, and if no write failed, the answer is the judge's answer to these texts. With
+    // a Yes the writer took the text of an order by which the set is consistent. Otherwise the `end` line is
+    // missing from the bytes it took. The ids in them are then, in the order of keys, the first of some
+    // records: the texts begin with these, the verdict on these is Yes, and each of them comes before the
+    // next record of each text that has more, and before the fault. After 6 it took nothing.
     ensures exact { (texts : List (List ℕ)) × TellEach S.remaining readers.old texts
         × IfSome (judged result) (IsAnswerTo texts)
         × ((written : List ℕ) × Appends (W.contents order_out.old) (W.contents order_out.new) written
         × WritesOrder texts result written × StopsBefore texts result written) }
     ensures read { IfErr result (λ fault. (file : ℕ) → fault ≡ Judge (Read file)
         → ReaderFailed S.failed readers.old readers.new file) }
-    // No failed read is passed over, but behind the file that is told, and where memory was refused.
+    // It passes over no failed read, except after the file that it names, and if memory was refused.
     ensures quiet { IsQuietUpTo S.failed readers.old readers.new (judged result) }
-    // A failed write is answered only where the writer failed in this call, and none is passed over.
+    // It answers a failed write only if the writer failed in this call, and it passes over none.
     ensures failures { TellsFailure (IsErrOf result Write) (W.failed order_out.old) (W.failed order_out.new) }
 {
     check_counts(readers.len(), 1)?;
@@ -145,19 +145,19 @@ pub fn merge_judge<S: ByteSource, W: ByteSink>(
     merged::<OpenLog, S, W, OrderText>(alloc, readers, order_out, order)
 }
 
-/// The verdict on the set of logs that the readers give, as `merge_judge` answers it, without an order.
+/// The verdict of `merge_judge` on the set of logs that the readers give, without an order.
 ///
 /// Refusals: those of `merge_judge` but 29.
 pub fn merged_verdict<S: ByteSource>(
     alloc: Global,
     readers: &mut [S],
 ) -> Result<Verdict, JudgeFault>
-    // 6 comes exactly where the number of files is out of range, and nothing is read then.
+    // 6 comes exactly if the number of files is out of range, and then it reads nothing.
     ensures files { IsErrOf result (BadConfig Files) ↔ IsOutOfRange (length readers.old) }
     ensures unread { IsErrOf result (BadConfig Files) → readers.new ≡ readers.old }
     ensures workers { ¬ IsErrOf result (BadConfig Workers) }
     ensures programs { ¬ IsErrOf result (BadConfig Programs) }
-    // The readers tell texts, and the answer is that of the judge to these.
+    // The readers tell texts, and the answer is the judge's answer to these texts.
     ensures exact { (texts : List (List ℕ)) × TellEach S.remaining readers.old texts
         × IsAnswerTo texts result }
     ensures read { IfErr result (λ fault. (file : ℕ) → fault ≡ Read file

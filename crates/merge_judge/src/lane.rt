@@ -13,18 +13,18 @@ use mem_op::CoreId;
 use std::alloc::{AllocError, Global};
 use std::marker::Model;
 
-/// How far the log of one core was merged.
+/// How far one core's log is merged.
 #[derive(Drop)]
 pub(crate) struct Lane<L: Reading> {
-    /// The log, of which all records up to the front were read.
+    /// The log, read up to and with the front.
     log: L,
-    /// The first record that wasn't merged, if there is one.
+    /// The first unmerged record, if there is one.
     front: Option<Record>,
-    /// How many records were merged.
+    /// How many records are merged.
     merged: usize,
     /// The first index at which `(ts, rank)` is less than at the index before.
     falls: Option<usize>,
-    /// Why the log has no more records, where it isn't whole.
+    /// Why the log has no more records, if it isn't whole.
     fault: Option<LogFault>,
 }
 
@@ -36,7 +36,7 @@ impl<L: Reading> Model for Lane<L> {
     ghost view = { λ a. record { log = L.kept a.log; front = a.front; merged = a.merged; falls = a.falls; fault = a.fault } };
 }
 
-/// Whether `(ts, rank)` falls from one record to the next, for the first time.
+/// Whether `(ts, rank)` falls from one record to the next, and didn't before.
 fn falls_now(known: Option<usize>, earlier: &Record, later: &Record) -> bool
     ensures { result ≡ falls_now known earlier.now later.now }
 {
@@ -47,7 +47,7 @@ fn falls_now(known: Option<usize>, earlier: &Record, later: &Record) -> bool
 }
 
 impl<L: Reading> Lane<L> {
-    /// The log of this core of `cores`, of which the first record was read. Err where memory was refused.
+    /// The log of this core of `cores`, read up to its first record. Err if memory was refused.
     pub(crate) fn new<S: RecordSource<L>>(
         alloc: Global,
         core: CoreId,
@@ -81,14 +81,14 @@ impl<L: Reading> Lane<L> {
         }
     }
 
-    /// The first record that wasn't merged, if there is one.
+    /// The first unmerged record, if there is one.
     pub(crate) fn front(&self) -> Option<Record>
         ensures { result ≡ self.now.front }
     {
         self.front
     }
 
-    /// How many records were merged.
+    /// How many records are merged.
     pub(crate) fn merged(&self) -> usize
         ensures { result ≡ self.now.merged }
     {
@@ -102,14 +102,14 @@ impl<L: Reading> Lane<L> {
         self.falls
     }
 
-    /// Why the log has no more records, where it isn't whole.
+    /// Why the log has no more records, if it isn't whole.
     pub(crate) fn fault(&self) -> Option<LogFault>
         ensures { result ≡ self.now.fault }
     {
         self.fault
     }
 
-    /// Merges the front, and reads the next record. False where that one falls, or the log has a fault.
+    /// Merges the front, and reads the next record. False if that one is the first to fall, or the log has a fault.
     pub(crate) fn advance<S: RecordSource<L>>(&mut self, source: &mut S, front: &Record) -> bool
         requires faultless { IsFaultless self.old.log.log.reader }
         requires room { self.old.merged < operation_limit }

@@ -1,4 +1,4 @@
-//! The judge of a set of log files in constant memory, which writes the order of a set that gets Yes.
+//! The judge of a set of log files in constant memory. It writes the order of a set that gets Yes.
 #![tactic(auto)]
 
 mod final_verdict;

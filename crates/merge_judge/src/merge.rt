@@ -13,19 +13,19 @@ use log_record::{Entry, Record};
 use mem_op::{CoreId, OpId, OpIndex};
 use std::alloc::{AllocError, Global};
 
-/// How far the logs of a set were merged.
+/// How far the logs of a set are merged.
 #[derive(Drop)]
 pub(crate) struct Merge<L: Reading> {
-    /// The logs, one a core.
+    /// The logs, one for each core.
     pub(crate) lanes: Vec<Lane<L>>,
     /// The numbers of their fronts.
     pub(crate) fronts: Tournament,
-    /// Whether no fault was found in any of them.
+    /// Whether no log has a fault so far.
     pub(crate) clean: bool,
 }
 
-/// The number of a front: its stamp, rank and core as one number, or the greatest of all where there is
-/// none. To compare these takes no branch.
+/// The number of a front: its stamp, rank and core as one number, or, without a front, the greatest
+/// number of all. Comparing these takes no branch.
 fn front_number(front: &Option<Record>, core: usize) -> u128
     requires { core < 64 }
     ensures { IsFrontNumber core front.now result }
@@ -41,7 +41,7 @@ fn front_number(front: &Option<Record>, core: usize) -> u128
 }
 
 impl<L: Reading> Merge<L> {
-    /// The logs of a set, of each of which the first record was read. Err where memory was refused.
+    /// The logs of a set, each read up to its first record. Err if memory was refused.
     pub(crate) fn new<S: RecordSource<L>>(
         alloc: Global,
         readers: &mut [S],
@@ -70,7 +70,7 @@ impl<L: Reading> Merge<L> {
         })
     }
 
-    /// Takes the front of least key, and reads the record after it; None where all logs have ended.
+    /// Takes the front with the least key, and reads the record after it; None if all logs have ended.
     pub(crate) fn take_first<S: RecordSource<L>>(&mut self, readers: &mut [S]) -> Option<Entry>
         requires { IsMerging S.remaining S.failed readers.old self.old }
         ensures clean { self.new.clean ≡ true → self.old.clean ≡ true }

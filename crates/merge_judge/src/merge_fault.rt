@@ -16,7 +16,7 @@ use verdict::JudgeFault;
 /// Why a merge has no verdict.
 #[derive(Clone, Copy, Debug, PartialEq, Eq, Error)]
 pub enum MergeFault {
-    /// The logs have none.
+    /// The judge has no verdict on the logs.
     Judge(JudgeFault),
     /// A write of the order failed.
     Write,

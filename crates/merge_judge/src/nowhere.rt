@@ -6,7 +6,7 @@ use super::order::Order;
 use log_file::{ByteSink, WriteFailed, WriteFault};
 use mem_op::OpId;
 
-/// A sink that takes all bytes and keeps none, and the order whose lines nobody writes to it. It never
+/// A sink that takes all bytes and keeps none, and an order that writes no lines to it. It never
 /// fails.
 #[derive(Drop)]
 pub(crate) struct Nowhere;

@@ -1,4 +1,4 @@
-//! A log whose records are read one at a time.
+//! A log that is read one record at a time.
 
 ghost use Rattle.std.specs.Prelude.{◌≡◌, ◌<◌, ◌≤◌, ◌++◌, ℕ, List, [], Ok, Some, Option, IfOk, IfErr, IsErrOf, MatchResult, OnErr, length};
 ghost use Rattle.std.specs.Io.KnownBytes.{Consumes, IsAtEnd, Keeps};
@@ -14,17 +14,17 @@ use mem_op::CoreId;
 use std::alloc::{AllocError, Global};
 use std::marker::Model;
 
-/// The most bytes of a file that are read at once.
+/// The most bytes to read from a file at once.
 const LOG_PIECE_BYTES: usize = 65_536;
 
-/// The log of one core, whose file is read in pieces as records are asked for.
+/// The log of one core. It reads the file in pieces, as its caller asks for records.
 #[derive(Drop)]
 pub(crate) struct OpenLog {
     reader: RecordReader,
     piece: Vec<u8>,
-    /// How many bytes of the piece were fed.
+    /// How many bytes of the piece the reader took.
     used: usize,
-    /// How many bytes of the piece were read.
+    /// How many bytes the piece has from the file.
     filled: usize,
 }
 
@@ -48,7 +48,7 @@ fn room(alloc: Global) -> Result<Vec<u8>, AllocError>
 }
 
 impl OpenLog {
-    /// The log of this core of `cores`, of which nothing was read. Err where memory was refused.
+    /// The log of this core of `cores`, before the first read. Err if memory was refused.
     fn new(alloc: Global, core: CoreId, cores: u64) -> Result<OpenLog, AllocError>
         requires core { core < cores }
         requires cores { cores ≤ 64 }
@@ -66,7 +66,7 @@ impl OpenLog {
         })
     }
 
-    /// The next record of the bytes that were read; None where they have no more.
+    /// The next record in the bytes of the piece; None if they have no more.
     fn take(&mut self) -> Result<Option<Record>, LogFault>
         ensures core { self.new.reader.core ≡ self.old.reader.core }
         ensures cores { self.new.reader.cores ≡ self.old.reader.cores }
@@ -79,7 +79,7 @@ impl OpenLog {
         Ok(logged)
     }
 
-    /// Reads a piece in place of the one that was fed, and answers how many bytes it has.
+    /// Reads a piece in place of the used one, and answers how many bytes it has.
     fn fill<S: ByteSource>(&mut self, source: &mut S) -> Result<usize, ReadFailed>
         ensures reader { self.new.reader ≡ self.old.reader }
         ensures filled { MatchResult result
@@ -95,8 +95,8 @@ impl OpenLog {
         Ok(count)
     }
 
-    /// The next record of the log; None where it has ended, whole. Else its first fault, or Read where
-    /// the source failed.
+    /// The next record of the log; None if it has ended and is whole. Otherwise its first fault, or
+    /// Read if the source failed.
     fn next<S: ByteSource>(&mut self, source: &mut S) -> Result<Option<Record>, LogFault>
         requires { IsFaultless self.old.reader }
         ensures core { self.new.reader.core ≡ self.old.reader.core }
@@ -108,8 +108,8 @@ impl OpenLog {
             Failed (S.failed source.old) (S.failed source.new) }
         ensures quiet { ¬ IsErrOf result LogFault.Read → S.failed source.new ≡ S.failed source.old }
     {
-        // The proof alone looks at this count: each read but the last gives a byte, and a log has fewer than
-        // 2^27 of them, so the loop ends.
+        // Only the proof uses this count: each read but the last gives a byte, and a log has fewer than 2^27
+        // bytes, so the loop ends.
         let mut reads: usize = 0;
         loop {
             let logged = self.take()?;

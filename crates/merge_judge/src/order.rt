@@ -1,4 +1,4 @@
-//! What becomes of the ids of an order.
+//! Writers of the ids of an order.
 
 ghost use Rattle.std.specs.Prelude.{◌++◌, List, ℕ, [], IsErrOf};
 ghost use Rattle.log_file.specs.Devices.{TellsFailure};
@@ -10,7 +10,7 @@ use mem_op::OpId;
 
 /// Takes the ids of an order, one after another, and writes their lines.
 pub(crate) trait Order<W: ByteSink>: Drop {
-    /// The lines that weren't written yet.
+    /// The unwritten lines.
     ghost kept: { Self → List ℕ };
 
     /// Adds an id.
@@ -19,7 +19,7 @@ pub(crate) trait Order<W: ByteSink>: Drop {
             result (kept self.new) }
         ensures failures { TellsFailure (IsErrOf result WriteFault.Write) (W.failed out.old) (W.failed out.new) };
 
-    /// Adds the last line, which has the number of ids, and writes all that wasn't written.
+    /// Adds the last line, which has the number of ids, and writes all unwritten lines.
     fn end(self, out: &mut W, count: u64) -> Result<(), WriteFault>
         ensures written { IsWritten (W.contents out.old) (W.contents out.new) (kept self ++ end_line count)
             result [] }

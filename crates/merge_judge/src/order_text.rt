@@ -12,11 +12,10 @@ use mem_op::OpId;
 use std::alloc::{AllocError, Global};
 use std::marker::Model;
 
-/// How many bytes are written at once, or a line more.
+/// How many bytes fill a piece. A write has at most a line more.
 const ORDER_PIECE_BYTES: usize = 65_536;
 
-/// The lines of an order that weren't written yet. They are written where they are enough for a piece, and
-/// at the end.
+/// The unwritten lines of an order. It writes them when they fill a piece, and at the end.
 #[derive(Drop)]
 pub(crate) struct OrderText {
     text: String,
@@ -30,21 +29,21 @@ impl Model for OrderText {
     ghost view = { λ order. string_bytes order.text };
 }
 
-/// Puts the line of an id behind a text.
+/// Adds the line of an id to a text.
 fn push_id(text: &mut String, id: OpId) -> Result<(), AllocError>
     ensures { OnOk result (string_bytes text.new ≡ string_bytes text.old ++ id_line id) }
 {
     writeln!(text, "{id}")
 }
 
-/// Puts the last line behind a text.
+/// Adds the last line to a text.
 fn push_end(text: &mut String, count: u64) -> Result<(), AllocError>
     ensures { OnOk result (string_bytes text.new ≡ string_bytes text.old ++ end_line count) }
 {
     writeln!(text, "end {count}")
 }
 
-/// The text of an order. Err where memory was refused.
+/// The text of an order. Err if memory was refused.
 pub fn print_order(alloc: Global, order: &[OpId]) -> Result<String, AllocError>
     ensures { IfOk result (λ text. string_bytes text ≡ order_text order.now) }
 {
@@ -57,7 +56,7 @@ pub fn print_order(alloc: Global, order: &[OpId]) -> Result<String, AllocError>
 }
 
 impl OrderText {
-    /// No line. Err where memory was refused.
+    /// No lines yet. Err if memory was refused.
     pub(crate) fn new(alloc: Global) -> Result<OrderText, AllocError>
         ensures { IfOk result (λ order. order ≡ []) }
     {

@@ -1,4 +1,4 @@
-//! The judge of logs whose records are there.
+//! The judge of logs whose records are in memory.
 
 ghost use Rattle.std.specs.Prelude.{◌≡◌, ◌↔◌, ◌⊎◌, All, IsErrOf, MatchResult, length};
 ghost use Rattle.verdict.specs.Counts.{IsOutOfRange};
@@ -14,10 +14,10 @@ use super::record_slice::{OpenSlice, RecordSlice, Recorded};
 use std::alloc::Global;
 use verdict::{JudgeFault, Verdict, check_counts};
 
-/// The verdict on the set of these logs, source `k` that of core `k` of as many cores as there are sources, in
-/// memory that doesn't grow with the logs.
+/// The verdict on the set of these logs. Source `k` is that of core `k`, and there are as many cores as
+/// sources. The memory it takes doesn't grow with the logs.
 ///
-/// Refusals: 6 BadConfig where the number of logs isn't 1..64; 10 OutOfMemory where a growth was refused.
+/// Refusals: 6 BadConfig if the number of logs isn't 1..64; 10 OutOfMemory if a growth was refused.
 pub fn records_verdict<T: Recorded>(
     alloc: Global,
     sources: &mut [RecordSlice<T>],

@@ -1,4 +1,4 @@
-//! The log of a core whose records are there.
+//! The log of a core whose records are in memory.
 
 ghost use Rattle.std.specs.Prelude.{◌≡◌, ◌<◌, IfSome, length, map, slice_get, false};
 ghost use Rattle.log_record.specs.declared.format.Format.TheVariants.{Two};
@@ -14,24 +14,24 @@ use mem_op::CoreId;
 use std::alloc::{AllocError, Global};
 use std::marker::Model;
 
-/// What has the numbers of a record.
+/// A type that has the numbers of a record.
 pub trait Recorded: Copy {
     /// The record.
     ghost recorded: { Self → Record };
 
-    /// The record of numbers that are in range.
+    /// The record, if the numbers are in range.
     fn to_record(&self) -> Record
         requires { FitsIn Two (recorded self.now) }
         ensures { result ≡ recorded self.now };
 }
 
-/// The source of the log of a core that has these records. It hands them over to the log at once.
+/// The source of a core's log with these records. It hands them all to the log at once.
 #[derive(Drop)]
 pub struct RecordSlice<'a, T: Recorded> {
     core: CoreId,
     cores: u64,
     records: &'a [T],
-    /// Whether they were handed over.
+    /// Whether it handed them over.
     given: bool,
 }
 
@@ -45,7 +45,7 @@ impl<'a, T: Recorded> Model for RecordSlice<'a, T> {
 }
 
 impl<'a, T: Recorded> RecordSlice<'a, T> {
-    /// The log of this core of `cores`.
+    /// The source of the log of this core of `cores`.
     pub fn new(core: CoreId, cores: u64, records: &'a [T]) -> RecordSlice<'a, T>
         ensures { result ≡ record { core = core; cores = cores; records = map T.recorded records.entry.now; given = false } }
     {
@@ -58,7 +58,7 @@ impl<'a, T: Recorded> RecordSlice<'a, T> {
     }
 }
 
-/// The log of a core of which so many records were given.
+/// The log of a core, and how many of its records it gave.
 #[derive(Drop)]
 pub(crate) struct OpenSlice<'a, T: Recorded> {
     core: CoreId,

@@ -1,4 +1,4 @@
-//! What gives the records of a log.
+//! Sources of the records of a log.
 
 ghost use Rattle.std.specs.Prelude.{◌≡◌, ◌<◌, ◌≤◌, ℕ, List, [], Option, IfOk, IsErrOf};
 ghost use Rattle.log_record.specs.declared.record.Record.{Record};
@@ -12,24 +12,24 @@ use log_record::Record;
 use mem_op::CoreId;
 use std::alloc::{AllocError, Global};
 
-/// How far a log was read.
+/// How far a log is read.
 pub(crate) trait Reading: Drop {
-    /// What was read of the text of the log, and what was answered.
+    /// How far the log's text is read, and which records it gave.
     ghost kept: { Self → KeptLog };
 }
 
-/// What gives the records of a log, one after another.
+/// A source of the records of a log, one after another.
 pub(crate) trait RecordSource<L: Reading> {
-    /// What it tells of the text of the log from here on.
+    /// The text of the log from here on, if the source tells it.
     ghost remaining: { Self → Option (List ℕ) };
 
     /// How many reads have failed.
     ghost failed: { Self → ℕ };
 
-    /// It gives the log of this core of so many cores.
+    /// Whether it gives the log of this core of so many cores.
     ghost fits: { ℕ → ℕ → Self → Type 0 };
 
-    /// Opens the log of this core of `cores`, and gives no record yet. Err where memory was refused.
+    /// Opens the log of this core of `cores`, and gives no record yet. Err if memory was refused.
     fn open(&mut self, alloc: Global, core: CoreId, cores: u64) -> Result<L, AllocError>
         requires core { core < cores }
         requires cores { cores ≤ 64 }
@@ -38,8 +38,8 @@ pub(crate) trait RecordSource<L: Reading> {
             FollowsOn core cores (remaining self.old) (remaining self.new) (L.kept log) []) }
         ensures quiet { failed self.new ≡ failed self.old };
 
-    /// The next record of the log; None where it has ended, whole. Else its first fault, or Read where
-    /// the source failed.
+    /// The next record of the log; None if it has ended and is whole. Otherwise its first fault, or
+    /// Read if the source failed.
     fn next(&mut self, log: &mut L) -> Result<Option<Record>, LogFault>
         requires { IsFaultless (L.kept log.old).log.reader }
         ensures next { (core cores : ℕ) (first : Option (List ℕ)) (records : List Record)

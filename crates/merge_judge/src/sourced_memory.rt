@@ -1,4 +1,4 @@
-//! The words of memory along the order of keys, and the check of what is read against them.
+//! The words of memory along the order of keys, which check each read.
 
 ghost use Rattle.std.specs.Prelude.{◌≡◌, ◌<◌, ℕ, [], ◌∷◌, ◌++◌, List, IfOk, Some, length, slice_get, slice_index, vec_len};
 ghost use Rattle.mem_op.specs.declared.id.Source.TheVariants.{Init};
@@ -14,7 +14,7 @@ use std::alloc::{AllocError, Global};
 /// How many words a memory has: one for each address.
 const MEMORY_WORDS: usize = 65_536;
 
-/// The words of memory, and where they come from.
+/// The words of memory, and the source of each.
 #[derive(Drop)]
 pub(crate) struct SourcedMemory {
     values: Vec<Word>,
@@ -40,7 +40,7 @@ fn zeros(alloc: Global, many: usize) -> Result<Vec<Word>, AllocError>
     vec![in alloc; 0; many]
 }
 
-/// So many times the source of an initial word.
+/// The source of an initial word, so many times.
 fn origins(alloc: Global, many: usize) -> Result<Vec<Source>, AllocError>
     ensures many { IfOk result (λ sources. length sources.items ≡ many) }
     ensures init { IfOk result (λ sources. (k : ℕ) → k < many → slice_get sources.items k ≡ Some Init) }
@@ -49,7 +49,7 @@ fn origins(alloc: Global, many: usize) -> Result<Vec<Source>, AllocError>
 }
 
 impl SourcedMemory {
-    /// The words at first, each the initial 0. Err where memory was refused.
+    /// The words at first, each the initial 0. Err if memory was refused.
     pub(crate) fn new(alloc: Global) -> Result<SourcedMemory, AllocError>
         ensures { IfOk result (λ words. Holds words.values.items words.sources.items []) }
     {
@@ -59,7 +59,7 @@ impl SourcedMemory {
         })
     }
 
-    /// What an operation breaks by the word of its address.
+    /// The rule that an operation breaks, by the word at its address.
     fn fault_of(&self, entry: &Entry) -> Option<AddressFault>
         requires { IsMemory self.now.values.items self.now.sources.items }
         ensures { (done : List Entry) → Holds self.now.values.items self.now.sources.items done
@@ -74,7 +74,7 @@ impl SourcedMemory {
         }
     }
 
-    /// Answers what a load or a swap breaks, and writes what a store or a swap writes.
+    /// Answers the rule that a load or a swap breaks, and writes the word of a store or a swap.
     pub(crate) fn perform(&mut self, entry: &Entry) -> Option<AddressFault>
         requires { IsMemory self.old.values.items self.old.sources.items }
         ensures whole { IsMemory self.new.values.items self.new.sources.items }

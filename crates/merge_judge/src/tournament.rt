@@ -7,12 +7,12 @@ use std::alloc::{AllocError, Global};
 use std::marker::Model;
 
 /// At most 64 numbers, and which is the least. A tree of matches, each between the winners of two
-/// others, finds it: where a number changes, only its own matches are played again.
+/// others, finds it. When a number changes, only its own matches are played again.
 #[derive(Drop)]
 pub(crate) struct Tournament {
     numbers: Vec<u128>,
-    /// Place `p` has who won between those that came to places `2p` and `2p + 1`; place 0 has nobody.
-    /// The numbers themselves stand behind the matches.
+    /// Place `p` has the winner between those that came to places `2p` and `2p + 1`; place 0 has
+    /// nobody. The numbers themselves come to the places after the matches.
     winners: Vec<usize>,
 }
 
@@ -40,7 +40,7 @@ fn comer(winners: &[usize], place: usize) -> usize
     }
 }
 
-/// Which of two numbers wins a match: the lesser, and the first where they tie.
+/// Which of two numbers wins a match: the lesser, or the first if they tie.
 fn winner(numbers: &[u128], a: usize, b: usize) -> usize
     requires a { a < length numbers.now }
     requires b { b < length numbers.now }
@@ -50,7 +50,7 @@ fn winner(numbers: &[u128], a: usize, b: usize) -> usize
     if numbers[b] < numbers[a] { b } else { a }
 }
 
-/// Plays the match at a place, all later ones having been played.
+/// Plays the match at a place, after all later ones.
 fn play(numbers: &[u128], winners: &[usize], place: usize) -> usize
     requires few { length numbers.now ≤ 64 }
     requires many { length winners.now ≡ length numbers.now }
@@ -92,7 +92,7 @@ fn play_all(numbers: &[u128], winners: &mut [usize])
 }
 
 impl Tournament {
-    /// These numbers, at least one and at most 64. Err where memory was refused.
+    /// These numbers, at least one and at most 64. Err if memory was refused.
     pub(crate) fn new(alloc: Global, numbers: Vec<u128>) -> Result<Tournament, AllocError>
         requires some { 0 < vec_len numbers }
         requires few { vec_len numbers ≤ 64 }

@@ -1,9 +1,9 @@
-//! What a private cache answers.
+//! The answers of a private cache.
 
 use line_stamps::{Message, Rank, Stamp};
 use mem_op::{Source, Word};
 
-/// What a load answers.
+/// The answer to a load.
 #[derive(Clone, Copy, Debug, PartialEq, Eq)]
 pub enum Load {
     /// The word with its source, and the stamp and rank of the load.
@@ -17,7 +17,7 @@ pub enum Load {
     Miss(Message),
 }
 
-/// What a store answers.
+/// The answer to a store.
 #[derive(Clone, Copy, Debug, PartialEq, Eq)]
 pub enum Store {
     /// The stamp and rank of the store.
@@ -26,7 +26,7 @@ pub enum Store {
     Miss(Message),
 }
 
-/// What a swap answers.
+/// The answer to a swap.
 #[derive(Clone, Copy, Debug, PartialEq, Eq)]
 pub enum Swap {
     /// The word that was there before with its source, and the stamp and rank of the swap.
@@ -40,13 +40,13 @@ pub enum Swap {
     Miss(Message),
 }
 
-/// What an eviction answers.
+/// The answer to an eviction.
 #[derive(Clone, Copy, Debug, PartialEq, Eq)]
 pub enum Evicted {
     /// The line wasn't there.
     Nothing,
-    /// The line was Shared, and is dropped.
+    /// The line was Shared, and the core drops it.
     Dropped,
-    /// The line was Exclusive, and is to be given back by this message: FLUSH_REP.
+    /// The line was Exclusive, and the core must give it back by this message: FLUSH_REP.
     GiveBack(Message),
 }

@@ -18,7 +18,7 @@ use std::alloc::{AllocError, Global};
 use std::marker::Model;
 use std::num::NonZeroUsize;
 
-/// The lines of a core, with the order in which they were used last.
+/// The lines of a core, with the order in which it last used them.
 #[derive(Drop)]
 pub struct PrivateCache {
     lines: LruCache<Addr, Held>,
@@ -49,7 +49,7 @@ impl PrivateCache {
     ghost use Rattle.private_cache.specs.Steps.{empty_cache, line_at, used, kept, without, after_operation, after_recall, has_room, fill_line, least_recently_used, IsLeastExclusive};
     ghost use Rattle.private_cache.specs.Answers.{hit_fault, give_fault, load_answer, store_answer, swap_answer, recall_answer, evict_answer};
 
-    /// An empty cache of as many lines as the configuration says.
+    /// An empty cache of as many lines as the configuration says. Err if memory was refused.
     pub fn new(alloc: Global, config: &Config) -> Result<PrivateCache, AllocError>
         ensures { IfOk result (λ cache. cache ≡ empty_cache config.now.cache_lines) }
     {
@@ -59,14 +59,14 @@ impl PrivateCache {
         })
     }
 
-    /// The line of the address, if it is there. No memory.
+    /// The line of the address, if it is there. Takes no memory.
     pub fn line(&self, addr: Addr) -> Option<&Held>
         ensures { option_copied result ≡ line_at self.now addr }
     {
         self.lines.peek(&addr)
     }
 
-    // The address, which is there or has room, gets this line and becomes the most recently used.
+    // Puts this line at the address, and makes it the most recently used. The address must be there or have room.
     fn put(&mut self, addr: Addr, held: &Held) -> Result<(), FillFault>
         requires { IsTrue (has_room self.old addr) }
         ensures ok { OnOk result (self.new ≡ used self.old addr held.now) }
@@ -80,7 +80,7 @@ impl PrivateCache {
         }
     }
 
-    // The address, which is there, gets this line, and the order of use stays.
+    // Puts this line at the address, which must be there, and leaves the order of use.
     fn replace_line(&mut self, addr: Addr, held: &Held)
         requires { IsSome (line_at self.old addr) }
         ensures { self.new ≡ kept self.old addr held.now }
@@ -116,7 +116,7 @@ impl PrivateCache {
         Some(*oldest)
     }
 
-    /// What a load at `addr` would answer. No memory.
+    /// The answer that a load at `addr` would get. Takes no memory.
     #[inline(always)]
     pub fn peek_load(&self, addr: Addr, pts: Stamp, r: Rank) -> Result<Load, StampFault>
         ensures { let held = line_at self.now addr in
@@ -151,7 +151,7 @@ impl PrivateCache {
 
     /// Loads the word at `addr` for a core of stamp `pts` and rank `r`. A hit makes the line the
     /// most recently used; a miss answers the request to send and changes nothing. 5 RankLimit
-    /// where the load's rank is above the limit. No memory.
+    /// if the load's rank is above the limit. Takes no memory.
     pub fn load(&mut self, addr: Addr, pts: Stamp, r: Rank) -> Result<Load, StampFault>
         ensures answer { let held = line_at self.old addr in
             let hit = load_hit pts r held in
@@ -169,7 +169,7 @@ impl PrivateCache {
         Ok(load)
     }
 
-    /// What a store at `addr` would answer, whatever it stores. No memory.
+    /// The answer that a store at `addr` would get, whatever it stores. Takes no memory.
     #[inline(always)]
     pub fn peek_store(&self, addr: Addr, pts: Stamp, r: Rank) -> Result<Store, StampFault>
         ensures { (value : ℕ) (source : Source) → let held = line_at self.now addr in
@@ -184,10 +184,10 @@ impl PrivateCache {
         }
     }
 
-    /// Stores a word at `addr` for a core of stamp `pts` and rank `r`; `id` is the store's own. A
+    /// Stores a word at `addr` for a core of stamp `pts` and rank `r`; `id` is the store's id. A
     /// hit makes the line the most recently used; a miss answers the request to send and changes
-    /// nothing. 4 StampLimit or 5 RankLimit where the store's stamp or rank is above its limit.
-    /// No memory.
+    /// nothing. 4 StampLimit or 5 RankLimit if the store's stamp or rank is above its limit.
+    /// Takes no memory.
     pub fn store(
         &mut self,
         addr: Addr,
@@ -212,7 +212,7 @@ impl PrivateCache {
         Ok(store)
     }
 
-    /// What a swap at `addr` would answer, whatever it stores. No memory.
+    /// The answer that a swap at `addr` would get, whatever it stores. Takes no memory.
     #[inline(always)]
     pub fn peek_swap(&self, addr: Addr, pts: Stamp, r: Rank) -> Result<Swap, StampFault>
         ensures { (value : ℕ) (source : Source) → let held = line_at self.now addr in
@@ -238,9 +238,9 @@ impl PrivateCache {
     }
 
     /// Reads the word at `addr` and stores another in its place, for a core of stamp `pts` and rank
-    /// `r`; `id` is the swap's own. A hit answers the word that was there, and makes the line the
+    /// `r`; `id` is the swap's id. A hit answers the word that was there, and makes the line the
     /// most recently used; a miss answers the request to send and changes nothing. 4 StampLimit or
-    /// 5 RankLimit where the swap's stamp or rank is above its limit. No memory.
+    /// 5 RankLimit if the swap's stamp or rank is above its limit. Takes no memory.
     pub fn swap(
         &mut self,
         addr: Addr,
@@ -266,7 +266,7 @@ impl PrivateCache {
     }
 
     // Reads the line of the address by a load of this stamp, which hits: an owner extends the lease
-    // to it, and the line becomes the most recently used. Nothing where no line is there.
+    // to the stamp, and the line becomes the most recently used. Does nothing if no line is there.
     fn read(&mut self, addr: Addr, stamp: Stamp)
         ensures { MatchOption (line_at self.old addr)
             (self.new ≡ self.old)
@@ -278,7 +278,7 @@ impl PrivateCache {
     }
 
     // Writes the line of the address by the store or swap `id` of this stamp and rank, which hits:
-    // the line becomes the most recently used. Nothing where no line is there.
+    // the line becomes the most recently used. Does nothing if no line is there.
     fn write(&mut self, addr: Addr, value: Word, id: OpId, stamp: Stamp, rank: Rank)
         ensures { MatchOption (line_at self.old addr)
             (self.new ≡ self.old)
@@ -292,8 +292,8 @@ impl PrivateCache {
         }
     }
 
-    /// The least recently used line, which has to go before `addr` can be filled; none where `addr`
-    /// is there, or there is room for it. No memory.
+    /// The address of the least recently used line, which must go before a reply can fill `addr`;
+    /// none if `addr` is there, or there is room for it. Takes no memory.
     pub fn victim(&self, addr: Addr) -> Option<Addr>
         ensures none { IsNone result ↔ IsTrue (has_room self.now addr) }
         ensures least { IfSome result (λ victim. least_recently_used self.now ≡ Some victim) }
@@ -305,7 +305,7 @@ impl PrivateCache {
         self.oldest()
     }
 
-    /// The least address whose line is Exclusive; none where no line is. No memory.
+    /// The least address whose line is Exclusive; none if no line is. Takes no memory.
     pub fn least_exclusive(&self) -> Option<Addr>
         ensures { IsLeastExclusive self.now result }
     {
@@ -321,8 +321,8 @@ impl PrivateCache {
         least
     }
 
-    /// Takes the line of `addr` out: a Shared one is dropped, an Exclusive one is to be given back.
-    /// No memory.
+    /// Takes the line of `addr` out. The core drops a Shared one, and must give an Exclusive one
+    /// back. Takes no memory.
     pub fn evict(&mut self, addr: Addr) -> Evicted
         ensures answer { result ≡ evict_answer addr (line_at self.old addr) }
         ensures after { self.new ≡ without self.old addr }
@@ -336,7 +336,7 @@ impl PrivateCache {
         }
     }
 
-    /// What a recall would answer. No memory.
+    /// The answer that a recall would get. Takes no memory.
     pub fn peek_recall(&self, recall: &Recall, lease: u64) -> Result<Option<Message>, StampFault>
         ensures { let given = recalled recall.now lease (line_at self.now recall.now.addr) in
             MatchResult result
@@ -358,10 +358,11 @@ impl PrivateCache {
         }
     }
 
-    /// Gives an Exclusive line back, as the recall asks: the message to send, or none where the line
-    /// isn't there as Exclusive, and then nothing changes. A write-back keeps the line as Shared and
-    /// leaves the order of use; a flush takes the line out. The recall's owner isn't looked at.
-    /// 4 StampLimit where the `rts` of a write-back is above the limit. No memory.
+    /// Gives an Exclusive line back, as the recall asks. Answers the message to send, or none if the
+    /// line isn't there as Exclusive, and then nothing changes. A write-back keeps the line as
+    /// Shared and leaves the order of use; a flush takes the line out. It doesn't look at the
+    /// recall's owner. 4 StampLimit if the `rts` of a write-back is above the limit. Takes no
+    /// memory.
     pub fn recall(&mut self, recall: &Recall, lease: u64) -> Result<Option<Message>, StampFault>
         ensures answer { let given = recalled recall.now lease (line_at self.old recall.now.addr) in
             MatchResult result
@@ -382,16 +383,16 @@ impl PrivateCache {
         Ok(message)
     }
 
-    /// Whether the reply fits the line of `addr`, and there is room for it. No memory.
+    /// Whether the reply fits the line of `addr`, and there is room for it. Takes no memory.
     pub fn fits(&self, addr: Addr, reply: &Reply) -> bool
         ensures { IsTrue result ↔ IsSome (fill_line self.now addr reply.now) }
     {
         self.has_room(addr) && filled(self.line(addr), reply).is_some()
     }
 
-    /// Fills a reply in at `addr`, and makes its line the most recently used. 14 BadReply where the
-    /// reply doesn't fit the line, or a new line finds the cache full. 10 OutOfMemory only where the
-    /// line isn't there. A refusal changes nothing.
+    /// Fills the line of `addr` from a reply, and makes it the most recently used. 14 BadReply if
+    /// the reply doesn't fit the line, or a new line finds the cache full. 10 OutOfMemory only if
+    /// the line isn't there. A refusal changes nothing.
     pub fn fill(&mut self, addr: Addr, reply: &Reply) -> Result<(), FillFault>
         ensures ok { OnOk result (IsSomeAnd (fill_line self.old addr reply.now)
             (λ held. self.new ≡ used self.old addr held)) }
@@ -411,7 +412,7 @@ impl PrivateCache {
     }
 }
 
-// The stamp and the rank of a store or swap, at a line that its core owns.
+// The stamp and the rank of a store or a swap at a line that its core owns.
 #[inline(always)]
 fn store_time(
     modified: bool,

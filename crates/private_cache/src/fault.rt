@@ -1,14 +1,14 @@
-//! Why a reply isn't filled in.
+//! Why a reply doesn't fill a line.
 
 use mem_op::FaultName;
 use std::fmt;
 use std::fmt::Display;
 use thiserror::Error;
 
-/// Why a reply isn't filled in.
+/// Why a reply doesn't fill a line.
 #[derive(Clone, Copy, Debug, PartialEq, Eq, Error)]
 pub enum FillFault {
-    /// No memory for a line that isn't there yet.
+    /// Memory was refused for a line that isn't there yet.
     OutOfMemory,
     /// The reply doesn't fit the line, or there is no room for a new line.
     BadReply,

@@ -9,9 +9,9 @@ use line_stamps::{Line, Reply, Stamp};
 /// A line of a private cache, and what its core may do with it.
 #[derive(Clone, Copy, Debug, PartialEq, Eq)]
 pub enum Held {
-    /// The core may read it, as long as its lease lasts.
+    /// The core may read the line as long as its lease lasts.
     Shared(Line),
-    /// The core owns it; `modified` says whether it has written it since it got it.
+    /// The core owns the line; `modified` says whether the core has written it since it got it.
     Exclusive { modified: bool, line: Line },
 }
 
@@ -26,14 +26,14 @@ impl Held {
         }
     }
 
-    /// Whether it may be read alone.
+    /// Whether the core may only read it.
     pub(crate) fn is_shared(&self) -> bool
         ensures { result ≡ is_shared self.now }
     {
         matches!(self, Held::Shared(_))
     }
 
-    /// The line after a load of stamp `t`: an owner extends the lease to it.
+    /// The line after a load of stamp `t`: an owner extends the lease to `t`.
     pub(crate) fn read_at(&self, t: Stamp) -> Held
         ensures { result ≡ read_at self.now t }
     {
@@ -47,7 +47,7 @@ impl Held {
     }
 }
 
-/// The `wts` of the copy that a request tells of.
+/// The `wts` of the copy, which a request carries; none without a copy.
 pub(crate) fn copy_of(held: Option<&Held>) -> Option<Stamp>
     ensures { result ≡ copy_of (option_copied held.entry) }
 {
@@ -57,14 +57,14 @@ pub(crate) fn copy_of(held: Option<&Held>) -> Option<Stamp>
     }
 }
 
-// The copy with its lease up to `rts`; none where it was written after that.
+// The copy with its lease up to `rts`; none if it was written after that.
 fn renewed(line: &Line, rts: Stamp) -> Option<Line>
     ensures { result ≡ renewed line.now rts }
 {
     Some(line.with_stamps(line.stamps().with_rts(rts)?))
 }
 
-/// The line after a reply; none where the reply doesn't fit it.
+/// The line after a reply; none if the reply doesn't fit it.
 pub(crate) fn filled(held: Option<&Held>, reply: &Reply) -> Option<Held>
     ensures { result ≡ filled (option_copied held.entry) reply.now }
 {

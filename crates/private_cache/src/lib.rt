@@ -1,5 +1,5 @@
-//! The private cache of a core: its lines in order of use, and what each operation, eviction, recall
-//! and reply makes of them.
+//! The private cache of a core: its lines in order of use, and how each operation, eviction, recall
+//! and reply changes them.
 #![tactic(auto)]
 
 mod answer;

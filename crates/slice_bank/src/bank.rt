@@ -16,20 +16,20 @@ use std::hint::spin_loop;
 use std::marker::Model;
 use std::sync::{Mutex, MutexGuard, Wait};
 
-/// So often a thread tries the lock of a slice before it sleeps for it. A service takes less than a microsecond, and to wake a
-/// thread takes tens of them.
+/// How often a thread tries the lock of a slice before it sleeps for it. A service takes less than a microsecond, and waking a
+/// thread takes tens of microseconds.
 const LOCK_TRIES_BEFORE_SLEEP: u32 = 400;
 
-/// So many pauses of the processor come after a try that failed, since each try takes the lock's cache line from its holder.
+/// How many times the processor pauses after a failed try, since each try takes the lock's cache line from its holder.
 const PAUSES_BETWEEN_LOCK_TRIES: u32 = 6;
 
-/// The slices of a machine, each under a lock of its own, for any number of threads. Contracts see the configuration alone: of a
-/// slice under its lock no more is known than its type keeps, which is that its state is the replay of its history.
+/// The slices of a machine, each under a lock of its own, for any number of threads. Contracts see only the configuration: about
+/// a slice under its lock they know only its type's invariant, which is that its state is the replay of its history.
 #[derive(Drop)]
 pub struct SliceBank {
     config: Config,
     slices: Vec<Mutex<CachePadded<ManagerSlice>>>,
-    // Empty, with room for the slices, so that to give them back takes no memory.
+    // Empty, with room for the slices, so that giving them back takes no memory.
     room: Vec<ManagerSlice>,
 }
 
@@ -47,7 +47,7 @@ impl Model for SliceBank {
 }
 
 impl SliceBank {
-    /// As many empty slices as the configuration says; 10 OutOfMemory alone is refused.
+    /// As many empty slices as the configuration says. Only 10 OutOfMemory may come.
     pub fn new(alloc: Global, config: &Config) -> Result<SliceBank, SliceFault>
         ensures config { IfOk result (λ bank. bank ≡ config.now) }
         ensures refused { IfErr result (λ fault. fault ≡ OutOfMemory) }
@@ -93,7 +93,7 @@ impl SliceBank {
     }
 }
 
-// Takes the lock of a slice. A thread sleeps for it only where many tries have failed.
+// Takes the lock of a slice. A thread sleeps for it only after many failed tries.
 fn take_lock<'a, R: Wait>(
     rt: &R,
     slice: &'a Mutex<CachePadded<ManagerSlice>>,
@@ -114,7 +114,7 @@ fn pause() {
     }
 }
 
-/// A bank beside the runtime by which its locks are waited for.
+/// A bank, with the runtime by which threads wait for its locks.
 #[derive(Drop)]
 pub struct BankPort<'a, R: Wait> {
     /// The runtime.

@@ -1,4 +1,4 @@
-//! The slices that threads share, each under a lock of its own, and the ports through which a core's messages reach them.
+//! The slices that threads share, each under a lock of its own, and the ports by which a core's messages reach them.
 #![tactic(auto)]
 
 mod bank;

@@ -15,7 +15,7 @@ use mem_op::CoreId;
 use std::alloc::Global;
 use std::marker::Model;
 
-/// The slices of a machine without locks, in the hands of one thread.
+/// The slices of a machine without locks, for one thread.
 #[derive(Drop)]
 pub struct LocalPort {
     config: Config,
@@ -38,7 +38,7 @@ impl Model for LocalPort {
 }
 
 impl LocalPort {
-    /// As many empty slices as the configuration says; 10 OutOfMemory alone is refused.
+    /// As many empty slices as the configuration says. Only 10 OutOfMemory may come.
     pub fn new(alloc: Global, config: &Config) -> Result<LocalPort, SliceFault>
         ensures opening { IfOk result (λ port. port ≡ record {
           config = config.now;

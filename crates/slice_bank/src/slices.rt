@@ -1,4 +1,4 @@
-//! What a slice does about a message.
+//! How a slice serves a message.
 
 ghost use Rattle.std.specs.Prelude.{◌≡◌, OnErr};
 ghost use Rattle.slice_bank.specs.Serving.{IsServed, IsServedBySome};

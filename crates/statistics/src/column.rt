@@ -1,4 +1,4 @@
-//! The columns of the table: what each of them is called, and what it counts.
+//! The columns of the table: the name of each, and what it counts.
 
 ghost use Rattle.std.specs.Prelude.{◌≡◌, ◌<◌};
 ghost use Rattle.statistics.specs.Columns.{column_at, column_name, counts, is_of_slices};
@@ -98,7 +98,7 @@ impl Column {
         }
     }
 
-    /// Whether it has a number of each slice. Any other has one of each core.
+    /// Whether it has a number for each slice. Any other column has one for each core.
     pub(crate) fn is_of_slices(self) -> bool
         ensures { result ≡ is_of_slices self }
     {
@@ -108,7 +108,7 @@ impl Column {
         }
     }
 
-    /// Whether it counts what is seen. A stamp or a rank counts nothing.
+    /// Whether it counts this sight. The columns of stamps and ranks count nothing.
     pub(crate) fn counts(self, sight: &Sight) -> bool
         ensures { result ≡ counts self sight.now }
     {

@@ -2,13 +2,13 @@
 
 ghost use Rattle.statistics.specs.Laws.{LogsAreCounted, SumsAgree};
 
-/// A core's operations are as many as its log has records, and each is a load, a store or a swap.
+/// A core has as many operations as its log has records, and each is a load, a store or a swap.
 pub fn logs_are_counted()
     ensures { LogsAreCounted }
 {}
 
-/// Where transcripts and histories agree, as an audit finds of a run, the replies of any kind that a core took from a slice are as many as
-/// the messages that this slice served of that core with such replies.
+/// If transcripts and histories agree, which an audit checks for a run, a core took as many replies of any kind from a slice as that slice
+/// served messages of the core with such replies.
 pub fn sums_agree()
     ensures { SumsAgree }
 {}

@@ -1,4 +1,4 @@
-//! What a run cost, in numbers: what each core's transcript and each slice's history count, and their text.
+//! The cost of a run, in numbers: the counts of each core's transcript and of each slice's history, and their text.
 #![tactic(auto)]
 
 mod column;

@@ -14,10 +14,10 @@ use core_unit::{CoreUnit, Transcript};
 use log_record::Record;
 use manager_slice::{HistoryEntry, ManagerSlice};
 
-/// The numbers of a core or of a slice: what it did so far.
+/// The numbers of a core or of a slice, which count what it has done so far.
 #[derive(Clone, Copy, Debug, PartialEq, Eq)]
 pub struct Numbers {
-    /// How much each column counts.
+    /// The count of each column.
     pub(crate) counts: [u32; COLUMN_COUNT],
     /// The core's stamp.
     pub(crate) pts: u64,
@@ -55,7 +55,7 @@ impl Numbers {
     }
 }
 
-/// How much each column counts of a transcript and its log.
+/// The count of each column over a transcript and its log.
 fn count_entries(transcript: &Transcript, log: &[Record], period: u64) -> [u32; COLUMN_COUNT]
     requires { 1 ≤ period }
     ensures { result ≡ columns.counted (seen_back period log.now (reverse transcript.now.entries)) }
@@ -79,7 +79,7 @@ fn count_entries(transcript: &Transcript, log: &[Record], period: u64) -> [u32; 
     counts
 }
 
-/// How much each column counts of a history.
+/// The count of each column over a history.
 fn count_services(history: &[HistoryEntry]) -> [u32; COLUMN_COUNT]
     requires { length history.now ≤ entry_limit }
     ensures { result ≡ columns.counted (map (λ e. Sight.Slice e) history.now) }
@@ -91,7 +91,7 @@ fn count_services(history: &[HistoryEntry]) -> [u32; COLUMN_COUNT]
     counts
 }
 
-/// Counts what is seen in each column that counts it.
+/// Counts a sight in each column that counts it.
 fn count(counts: &mut [u32; COLUMN_COUNT], sight: &Sight)
     requires { (seen : List Sight) × IsCounted counts.old seen × (length seen < 4294967295) }
     ensures { (seen : List Sight) → IsCounted counts.old seen → IsCounted counts.new (seen ++ sight.now ∷ []) }

@@ -27,7 +27,7 @@ impl Model for RunCounts {
 }
 
 impl RunCounts {
-    /// The numbers of so many cores and slices of a run, or of all where there are fewer.
+    /// The numbers of so many cores and slices of a run, or of all if there are fewer. Err if memory was refused.
     pub fn of<R: RunParts>(
         alloc: Global,
         run: &R,
@@ -47,7 +47,7 @@ impl RunCounts {
         })
     }
 
-    /// Those of its cores, that of core 0 first.
+    /// The numbers of its cores, core 0's first.
     pub fn cores(&self) -> &[Numbers]
         ensures value { result.now ≡ self.now.cores }
         ensures few { length self.now.cores ≤ 64 }
@@ -55,7 +55,7 @@ impl RunCounts {
         &self.cores
     }
 
-    /// Those of its slices, that of slice 0 first.
+    /// The numbers of its slices, slice 0's first.
     pub fn slices(&self) -> &[Numbers]
         ensures value { result.now ≡ self.now.slices }
         ensures few { length self.now.slices ≤ 64 }

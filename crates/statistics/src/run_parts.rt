@@ -14,7 +14,7 @@ use mem_op::CoreId;
 use std::alloc::{AllocError, Global};
 use tardis_core::Core;
 
-/// What tells the cores and slices of a run.
+/// A run that shows its cores and slices.
 pub trait RunParts {
     /// The units, core 0's first.
     ghost units: { Self → List UnitParts };
@@ -61,7 +61,7 @@ impl RunParts for RunEnd {
     }
 }
 
-/// The numbers of so many cores, or of all where there are fewer.
+/// The numbers of so many cores, or of all if there are fewer. Err if memory was refused.
 pub fn counts_of_cores<R: RunParts>(
     alloc: Global,
     of: &R,
@@ -80,7 +80,7 @@ pub fn counts_of_cores<R: RunParts>(
     Ok(counts)
 }
 
-/// The numbers of so many slices, or of all where there are fewer.
+/// The numbers of so many slices, or of all if there are fewer. Err if memory was refused.
 pub fn counts_of_slices<R: RunParts>(
     alloc: Global,
     of: &R,

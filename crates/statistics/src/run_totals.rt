@@ -7,10 +7,10 @@ use super::column::{COLUMN_COUNT, Column};
 use super::numbers::Numbers;
 use super::run_counts::RunCounts;
 
-/// Totals: the sum of what is counted, and of stamps and ranks the greatest.
+/// Totals: the sums of counts, and the greatest stamps and rank.
 #[derive(Clone, Copy, Debug, PartialEq, Eq)]
 pub struct RunTotals {
-    /// How much each column counts.
+    /// The sum of each column.
     counts: [u64; COLUMN_COUNT],
     /// The greatest stamp of a core.
     pts: u64,
@@ -34,7 +34,7 @@ impl RunTotals {
         }
     }
 
-    /// Adds the numbers of one more run, where there were fewer than 2^20.
+    /// Adds the numbers of one more run. There must be fewer than 2^20 runs before it.
     pub fn add_run(&mut self, run: &RunCounts)
         requires { (n : ℕ) × (n < 2 ^ 20) × totals.IsBounded n self.old }
         ensures totals { self.new ≡ totals.with_run self.old run.now }
@@ -63,7 +63,7 @@ impl RunTotals {
         totals
     }
 
-    /// The number in a column, which stands at this place.
+    /// The number in a column, whose place is `place`.
     pub(crate) fn number(&self, place: usize, column: Column) -> u64
         requires { place < COLUMN_COUNT }
         ensures { result ≡ totals.number_in column place self.now }

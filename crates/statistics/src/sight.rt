@@ -1,4 +1,5 @@
-//! What the columns look at: the entries of a core's transcript with what they need of its past, and those of a slice's history.
+//! The sights that the columns count: the entries of a core's transcript, with what the columns need of its past, and those of a
+//! slice's history.
 
 ghost use Rattle.std.specs.Prelude.{◌≡◌, ◌<◌, ◌||◌, get_or, length, not};
 ghost use Rattle.manager_slice.specs.Messages.{is_request};
@@ -10,7 +11,7 @@ use line_stamps::Message;
 use log_record::{Act, Record};
 use manager_slice::HistoryEntry;
 
-/// A kind of operations.
+/// A kind of operation.
 #[derive(Clone, Copy, Debug, PartialEq, Eq)]
 pub(crate) enum Kind {
     Load,
@@ -18,10 +19,11 @@ pub(crate) enum Kind {
     Swap,
 }
 
-/// What a column looks at.
+/// A sight that columns count.
 #[derive(Clone, Copy, Debug, PartialEq, Eq)]
 pub(crate) enum Sight {
-    /// A core performed an operation. `came` says whether a line came since the one before, and `due` whether a period ended with it.
+    /// A core performed an operation. `came` says whether a line came since the operation before, and `due` whether a period ended
+    /// with it.
     Operation { kind: Kind, came: bool, due: bool },
     /// Another entry of a core.
     Core(CoreEntry),
@@ -44,7 +46,7 @@ impl Sight {
         }
     }
 
-    /// Whether it is an operation that needed no line since the one before.
+    /// Whether it is an operation for which no line came since the operation before.
     pub(crate) fn is_hit(&self) -> bool
         ensures { result ≡ is_hit self.now }
     {
@@ -79,7 +81,7 @@ impl Sight {
     }
 }
 
-/// The kind of the operation at a place of a log. A log has a record for each operation, as `logs_are_counted` tells.
+/// The kind of the operation at a place of a log. A log has a record for each operation, by `logs_are_counted`.
 pub(crate) fn kind_at(log: &[Record], place: usize) -> Kind
     ensures { result ≡ kind_at log.now place }
 {
@@ -100,7 +102,7 @@ pub(crate) fn is_operation(entry: &CoreEntry) -> bool
     matches!(entry, CoreEntry::Performed)
 }
 
-/// Whether an entry is the reply to a request. That to a line given back brings none.
+/// Whether an entry is the reply to a request. The reply to a give-back brings no line.
 fn brings_line(entry: &CoreEntry) -> bool
     ensures { result ≡ brings_line entry.now }
 {
@@ -113,14 +115,14 @@ fn brings_line(entry: &CoreEntry) -> bool
     }
 }
 
-/// Whether a line has come after this entry, where one had come before it or not.
+/// Whether a line has come once this entry is made. `before` says whether one had come before it.
 pub(crate) fn has_come(entry: &CoreEntry, before: bool) -> bool
     ensures { result ≡ (brings_line entry.now || before) }
 {
     if brings_line(entry) { true } else { before }
 }
 
-/// The entry at a place where there is one.
+/// The entry at a place within the transcript.
 pub(crate) fn entry_there(transcript: &Transcript, place: usize) -> CoreEntry
     requires { place < length transcript.now.entries }
     ensures { result ≡ get_or transcript.now.entries place result }

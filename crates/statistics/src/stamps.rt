@@ -34,7 +34,7 @@ fn stamp_after(log: &[Record], period: u64) -> u64
     ts
 }
 
-/// How often the core incremented its stamp of its own accord since its last operation.
+/// How often the core has incremented its stamp of its own accord since its last operation.
 fn count_increments_since(transcript: &Transcript) -> u32
     ensures count { result ≡ increments_since (reverse transcript.now.entries) }
     ensures limit { result ≤ entry_limit }

@@ -25,7 +25,7 @@ pub(crate) enum Whose {
 }
 
 impl Whose {
-    /// What the line begins with.
+    /// The first cell of the line.
     #[tactic(auto, using(decimal_text::proofs::Printing::numeral_decimal))]
     fn name(self, alloc: Global) -> Result<String, AllocError>
         ensures { IfOk result (λ name. string_bytes name ≡ text.whose_name self) }
@@ -107,7 +107,7 @@ fn write_row(
     write_line(writer, &row_cells(alloc, whose, totals)?)
 }
 
-/// A table that has its first line.
+/// A table that has only its first line.
 fn begin_table(alloc: Global) -> Result<Writer<Vec<u8>>, AllocError>
     ensures fresh { IfOk result (λ writer. IsFresh writer) }
     ensures text { IfOk result (λ writer. written writer ≡ Some (cells_line text.header_cells)) }
@@ -117,7 +117,7 @@ fn begin_table(alloc: Global) -> Result<Writer<Vec<u8>>, AllocError>
     Ok(writer)
 }
 
-/// Writes the lines of cores, that of core 0 first.
+/// Writes the lines of cores, core 0's first.
 fn write_cores(
     alloc: Global,
     writer: &mut Writer<Vec<u8>>,
@@ -138,7 +138,7 @@ fn write_cores(
     Ok(())
 }
 
-/// Writes the lines of slices, that of slice 0 first.
+/// Writes the lines of slices, slice 0's first.
 fn write_slices(
     alloc: Global,
     writer: &mut Writer<Vec<u8>>,
@@ -159,8 +159,8 @@ fn write_slices(
     Ok(())
 }
 
-/// The text of the numbers of cores, of which there are at most 64, and of slices: comma-separated values, a line for the columns, one
-/// for each core, one for all cores, and one for each slice. Err where memory was refused.
+/// The text of the numbers of at most 64 cores, and of slices: comma-separated values, a line for the columns, one for each core, one
+/// for all cores, and one for each slice. Err if memory was refused.
 pub fn print_statistics(
     alloc: Global,
     cores: &[Numbers],
@@ -181,7 +181,7 @@ pub fn print_statistics(
     text_of(writer)
 }
 
-/// The text of the totals over runs: comma-separated values, a line for the columns and one for all runs. Err where memory was refused.
+/// The text of the totals over runs: comma-separated values, a line for the columns and one for all runs. Err if memory was refused.
 pub fn print_totals(alloc: Global, totals: &RunTotals) -> Result<Vec<u8>, AllocError>
     ensures { IfOk result (λ made. made.items ≡ text.totals_text totals.now) }
 {

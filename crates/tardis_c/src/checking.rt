@@ -1,4 +1,4 @@
-//! The judge over logs in memory.
+//! The judge of logs in memory.
 
 ghost use Rattle.std.specs.Prelude.{◌≡◌, ◌↔◌, ◌≤◌, ℕ, IsErrOf, length};
 ghost use Rattle.mem_op.specs.Consistency.{IsConsistent};
@@ -21,13 +21,13 @@ use merge_judge::{merged_verdict, records_verdict};
 use std::alloc::Global;
 use verdict::{JudgeFault, Verdict, check_counts};
 
-/// The status of a call whose ends aren't those of the buffer's logs.
+/// The status of a call whose ends don't cut its buffer into logs.
 pub(crate) const BAD_ENDS: u8 = 5;
 
 /// The status of a call with too few or too many logs.
 pub(crate) const BAD_COUNT: u8 = 3;
 
-/// The verdict on the set of logs that lie in the buffer.
+/// The verdict on the set of logs in the buffer.
 fn text_verdict(alloc: Global, bytes: &[u8], ends: &[usize]) -> Result<Verdict, JudgeFault>
     requires { AreEnds bytes.now ends.now }
     ensures files { status_of result ≡ 3 ↔ IsOutOfRange (length ends.now) }
@@ -39,13 +39,13 @@ fn text_verdict(alloc: Global, bytes: &[u8], ends: &[usize]) -> Result<Verdict, 
     merged_verdict(alloc, sources.as_mut_slice())
 }
 
-/// Judges a set of logs that lie behind each other in one buffer: log `k`, that of core `k` of as many
-/// cores as there are ends, ends where `ends[k]` says, and begins where the one before it ends. Answers the
-/// status, and tells the rest in `out`:
+/// Judges a set of logs that lie one after another in one buffer. Log `k` is that of core `k`, and there
+/// are as many cores as ends. It ends where `ends[k]` says, and begins where the log before it ends.
+/// Answers the status, and puts the rest in `out`:
 ///
 /// 0: yes, and `count`. 1: no, and `core`, `index`, `rule`. 2: a log has a fault, and `file`, `line`,
 /// `number`. 3: the number of logs isn't 1..64, and `number` 6. 4: memory was refused, and `number` 10.
-/// 5: the ends fall somewhere, or the last isn't the length of the buffer.
+/// 5: an end is less than the one before it, or the last isn't the length of the buffer.
 #[unsafe(no_mangle)]
 pub extern "C" fn tardis_check(
     alloc: Global,
@@ -53,15 +53,15 @@ pub extern "C" fn tardis_check(
     ends: &[usize],
     out: &mut TardisVerdict,
 ) -> u8
-    // 5 comes exactly where the ends aren't those of logs that fill the buffer, and 3 exactly where they
-    // are, and are too few or too many.
+    // 5 comes exactly if the ends don't cut the whole buffer into logs, and 3 exactly if they do, and
+    // there are too few or too many.
     ensures ends { result ≡ 5 ↔ ¬ AreEnds bytes.now ends.now }
     ensures logs { result ≡ 3 ↔ (AreEnds bytes.now ends.now × IsOutOfRange (length ends.now)) }
     ensures refused { IsToldOfEnds result out.new }
-    // What is told is the verdict on the set that the texts in the buffer spell, or their first fault; only
+    // The answer is the verdict on the set that the texts in the buffer spell, or their first fault. Only
     // lack of memory may come instead.
     ensures exact { AreEnds bytes.now ends.now → IsToldTo (parts_of bytes.now ends.now) result out.new }
-    // Where the status is 0, the texts in the buffer spell a set whose operations have one order that keeps
+    // If the status is 0, the texts in the buffer spell a set whose operations have one order that keeps
     // each core's program order and in which each load answers the last earlier store to its address, or 0.
     ensures sound { result ≡ 0 → SpellConsistentSet (parts_of bytes.now ends.now) }
 {
@@ -74,7 +74,7 @@ pub extern "C" fn tardis_check(
     status_of(&answer)
 }
 
-/// The verdict on the set of logs of the operations, or why they are none.
+/// The verdict on the set of logs of the operations, or why they aren't such a set.
 fn operations_verdict(
     alloc: Global,
     operations: &[TardisOperation],
@@ -93,12 +93,12 @@ fn operations_verdict(
 }
 
 /// Judges a set of logs in numbers: the operations of core 0 in program order, then those of core 1, and so on, each
-/// core's up to its end. Answers the status, and tells the rest in `out`:
+/// core's up to its end. Answers the status, and puts the rest in `out`:
 ///
-/// 0: yes, and `count`. 1: no, and `core`, `index`, `rule`. 2: an operation is none, and `core`, `index`, `number`:
-/// 22 where a number is out of range, 23 where the core has more than 1,048,576. 3: the number of cores isn't 1..64,
-/// and `number` 6. 4: memory was refused, and `number` 10. 5: the ends fall somewhere, or the last isn't the number of
-/// operations.
+/// 0: yes, and `count`. 1: no, and `core`, `index`, `rule`. 2: an operation isn't valid, and `core`, `index`,
+/// `number`: 22 if one of its numbers is out of range, 23 if the core has more than 1,048,576 operations. 3: the
+/// number of cores isn't 1..64, and `number` 6. 4: memory was refused, and `number` 10. 5: an end is less than the one
+/// before it, or the last isn't the number of operations.
 #[unsafe(no_mangle)]
 pub extern "C" fn tardis_check_operations(
     alloc: Global,
@@ -109,11 +109,11 @@ pub extern "C" fn tardis_check_operations(
     ensures ends { result ≡ 5 ↔ ¬ AreEnds operations.now ends.now }
     ensures cores { result ≡ 3 ↔ (AreEnds operations.now ends.now × IsOutOfRange (length ends.now)) }
     ensures refused { IsToldOfEnds result out.new }
-    // What is told is the verdict on the records of the operations, or the first that is none; only lack of memory
-    // may come instead.
+    // The answer is the verdict on the records of the operations, or the first operation that isn't valid. Only
+    // lack of memory may come instead.
     ensures exact { AreEnds operations.now ends.now → IsInRange (length ends.now)
         → AreToldOf (parts_of operations.now ends.now) result out.new }
-    // Where the status is 0, the operations have one order that keeps each core's program order and in which each
+    // If the status is 0, the operations have one order that keeps each core's program order and in which each
     // load answers the last earlier store to its address, or 0.
     ensures sound { result ≡ 0
         → IsConsistent (operations_of (logs_of (parts_of operations.now ends.now))) }

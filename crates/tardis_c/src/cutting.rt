@@ -1,4 +1,4 @@
-//! The logs of a set that lie behind each other in one buffer.
+//! The logs of a set that lie one after another in one buffer.
 
 ghost use Rattle.std.specs.Prelude.{◌≡◌, ◌↔◌, ◌≤◌, IfOk, IsTrue, length, map};
 ghost use Rattle.log_file.specs.InMemory.{rest_of};

@@ -1,4 +1,4 @@
-//! What a search finds.
+//! The findings of a search.
 
 ghost use Rattle.std.specs.Prelude.{List, IfOk};
 ghost use Rattle.mem_op.specs.Consistency.{Operation};
@@ -9,18 +9,18 @@ use merge_judge::print_order;
 use refutation::Answer;
 use std::alloc::{AllocError, Global};
 
-/// What a search finds, with a text that shows it.
+/// The finding of a search, with a text that shows it.
 #[derive(Drop)]
 pub enum Finding {
     /// The operations are consistent, by the order of this text.
     Order(String),
-    /// They aren't, by the refutation of this text.
+    /// They aren't consistent, by the refutation of this text.
     Refutation(String),
-    /// Neither was found.
+    /// The search found neither.
     Undecided,
 }
 
-/// An answer with its text, which shows of all operations what the answer shows.
+/// The finding of an answer, with its text. It shows the same about the operations as the answer.
 pub(crate) fn finding_of(alloc: Global, answer: &Answer) -> Result<Finding, AllocError>
     ensures { IfOk result (λ finding. (cores : List (List Operation)) → IsShown cores answer.now → Shows cores finding) }
 {

@@ -7,10 +7,10 @@ ghost use Rattle.tardis_c.specs.Parts.{AreEnds, parts_of};
 use super::in_numbers::InNumbers;
 use super::operations_fault::OperationsFault;
 
-/// How many operations a core has at most.
+/// The most operations of a core.
 const MOST_OPERATIONS: usize = 1_048_576;
 
-/// The index of the first that is no operation.
+/// The index of the first operation that isn't in range.
 fn first_bad<T: InNumbers>(operations: &[T]) -> Option<usize>
     ensures { MatchOption result (All T.in_range operations.now) (IsFirstBad T.in_range operations.now) }
 {
@@ -22,7 +22,7 @@ fn first_bad<T: InNumbers>(operations: &[T]) -> Option<usize>
     None
 }
 
-/// Ok where a core may have done these operations.
+/// Ok if these can be the operations of a core.
 fn check_part<T: InNumbers>(core: usize, operations: &[T]) -> Result<(), OperationsFault>
     ensures { MatchResult result (λ _. AreOperations T.in_range operations.now) (IsFaultOf T.in_range core operations.now) }
 {
@@ -35,7 +35,7 @@ fn check_part<T: InNumbers>(core: usize, operations: &[T]) -> Result<(), Operati
     }
 }
 
-/// Ok where each core may have done its operations. It takes no memory.
+/// Ok if each part can be the operations of its core. Takes no memory.
 pub(crate) fn check_parts<T: InNumbers>(
     operations: &[T],
     ends: &[usize],

@@ -1,21 +1,21 @@
-//! Why operations are no set of logs.
+//! Why operations aren't a set of logs.
 
 ghost use Rattle.std.specs.Prelude.{◌≡◌};
 ghost use Rattle.tardis_c.specs.declared.operations_fault.OperationsFault.TheVariants.{OutOfMemory};
 
 use std::alloc::AllocError;
 
-/// Why operations are no set of logs.
+/// Why operations aren't a set of logs.
 #[derive(Clone, Copy)]
 pub enum OperationsFault {
     /// A growth was refused.
     OutOfMemory,
-    /// A core has too many.
+    /// A core has too many operations.
     TooMany {
         /// The core.
         core: usize,
     },
-    /// A number of an operation is out of range.
+    /// An operation has a number out of range.
     OutOfRange {
         /// Its core.
         core: usize,

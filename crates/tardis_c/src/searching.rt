@@ -1,4 +1,4 @@
-//! The search of operations in memory.
+//! The search for an order of operations in memory.
 
 ghost use Rattle.std.specs.Prelude.{◌≡◌, ◌↔◌, ◌≤◌, All, IfOk, length, map};
 ghost use Rattle.flat_replay.specs.Accesses.{operation_lists};
@@ -65,7 +65,7 @@ fn trace_of(alloc: Global, operations: &[TardisAccess], ends: &[usize]) -> Resul
     }
 }
 
-/// What a search of the operations finds in so many steps. Err where memory was refused.
+/// The finding of a search of the operations in at most so many steps. Err if memory was refused.
 fn find_order(
     alloc: Global,
     operations: &[TardisAccess],
@@ -82,7 +82,7 @@ fn find_order(
     finding_of(alloc, &answer)
 }
 
-/// The same, or why the operations are none.
+/// The same, or why the operations aren't valid.
 #[tactic(auto, using(crate::proofs::Found::refused, crate::proofs::Found::taken, crate::proofs::Found::memory_refused))]
 fn find(
     alloc: Global,
@@ -105,15 +105,15 @@ fn find(
     }
 }
 
-/// Searches an order of operations that have no times: those of core 0 in program order, then those of core 1, and so on,
-/// each core's up to its end. Makes `budget` steps at most. Answers the status, tells the rest in `out`, and puts the text
-/// that shows a yes or a no at the front of the buffer `text`. Where the buffer has no room for its `out.length` bytes, it
-/// stays as it was, and the answer holds all the same:
+/// Searches for an order of operations that have no times: those of core 0 in program order, then those of core 1, and so
+/// on, each core's up to its end. Makes at most `budget` steps. Answers the status, puts the rest in `out`, and puts the
+/// text that shows a yes or a no at the front of the buffer `text`. If the buffer has no room for its `out.length` bytes,
+/// it stays as it was, and the answer holds all the same:
 ///
-/// 0: yes, by the order of this text. 1: no, by the refutation of this text. 2: an operation is none, and `core`,
-/// `index`, `number`: 22 where its kind is none, 23 where the core has more than 1,048,576. 3: the number of cores isn't
-/// 1..64, and `number` 6. 4: the search gave up, and `number` 44, or memory was refused, and `number` 10. 5: the ends fall
-/// somewhere, or the last isn't the number of operations.
+/// 0: yes, by the order of this text. 1: no, by the refutation of this text. 2: an operation isn't valid, and `core`,
+/// `index`, `number`: 22 if its kind isn't 0, 1 or 2, 23 if the core has more than 1,048,576 operations. 3: the number of
+/// cores isn't 1..64, and `number` 6. 4: the search gave up, and `number` 44, or memory was refused, and `number` 10. 5:
+/// an end is less than the one before it, or the last isn't the number of operations.
 #[unsafe(no_mangle)]
 pub extern "C" fn tardis_search_operations(
     alloc: Global,
@@ -126,15 +126,15 @@ pub extern "C" fn tardis_search_operations(
     ensures ends { result ≡ 5 ↔ ¬ AreEnds operations.now ends.now }
     ensures cores { result ≡ 3 ↔ (AreEnds operations.now ends.now × IsOutOfRange (length ends.now)) }
     ensures refused { IsFoundOfEnds result out.new }
-    // 2 comes exactly where the ends and their number are right, and what a core is said to have done is none.
+    // 2 comes exactly if the ends and their number are right, and some core's operations aren't valid.
     ensures malformed { result ≡ 2 ↔ (AreEnds operations.now ends.now × IsInRange (length ends.now)
         × ¬ All (AreOperations accesses.IsAccess) (parts_of operations.now ends.now)) }
-    // What is told, in numbers and in the buffer, is an order of the operations or a refutation of them, or that neither
-    // was found, or the first that is none; only lack of memory may come instead.
+    // The answer, in numbers and in the buffer, is an order of the operations or a refutation of them, or that the
+    // search found neither, or the first operation that isn't valid. Only lack of memory may come instead.
     ensures exact { AreEnds operations.now ends.now → IsInRange (length ends.now)
         → AreFoundOf (parts_of operations.now ends.now) text.old text.new result out.new }
-    // Where the status is 0, the operations have one order that keeps each core's program order and in which each load
-    // answers the last earlier store to its address, or 0; where it is 1, they have none.
+    // If the status is 0, the operations have one order that keeps each core's program order and in which each load
+    // answers the last earlier store to its address, or 0. If it is 1, they have none.
     ensures sound { result ≡ 0 → IsConsistent (accesses.trace_of (parts_of operations.now ends.now)) }
     ensures refuted { result ≡ 1 → ¬ IsConsistent (accesses.trace_of (parts_of operations.now ends.now)) }
     // After any other status the buffer is as it was.

@@ -14,11 +14,11 @@ const _: () = prove!(size_of::<TardisAccess>() == 32);
 pub struct TardisAccess {
     /// The address of the word.
     pub addr: u64,
-    /// The word that was loaded or stored; of a swap the one that it stored.
+    /// The word that it loaded or stored; of a swap, the one that it stored.
     pub value: u64,
-    /// Of a swap: the word that it read. Else anything.
+    /// Of a swap: the word that it read. Otherwise anything.
     pub read: u64,
-    /// 0 a load, 1 a store, 2 a swap.
+    /// 0 is a load, 1 a store, 2 a swap.
     pub kind: u8,
 }
 

@@ -1,4 +1,4 @@
-//! What a search finds, in numbers and bytes.
+//! The finding of a search, in numbers and bytes.
 
 ghost use Rattle.std.specs.Prelude.{◌≡◌};
 ghost use Rattle.tardis_c.specs.Found.{finding_status, finding_told, nothing_found, text_of, with_text};
@@ -8,21 +8,21 @@ use super::operations_fault::OperationsFault;
 
 const _: () = prove!(size_of::<TardisFinding>() == 32);
 
-/// What a search finds beside the status. A field that the answer doesn't have is 0.
+/// The finding of a search, besides the status. A field that the answer doesn't have is 0.
 #[repr(C)]
 #[derive(Clone, Copy)]
 pub struct TardisFinding {
-    /// With a Yes or a No: how many bytes its text has.
+    /// With a yes or a no: how many bytes its text has.
     pub length: u64,
-    /// Where an operation is none: its core.
+    /// If an operation isn't valid: its core.
     pub core: u64,
-    /// Where an operation is none: its index.
+    /// If an operation isn't valid: its index.
     pub index: u64,
     /// With a refusal: its number.
     pub number: u32,
 }
 
-/// Nothing at all.
+/// All fields are 0.
 const NOTHING: TardisFinding = TardisFinding {
     length: 0,
     core: 0,
@@ -30,14 +30,14 @@ const NOTHING: TardisFinding = TardisFinding {
     number: 0,
 };
 
-/// What is told of a number alone.
+/// A finding with this number, and otherwise 0.
 pub(crate) fn numbered(number: u32) -> TardisFinding
     ensures { result ≡ record nothing_found { number = number } }
 {
     TardisFinding { number, ..NOTHING }
 }
 
-/// The status of what was found.
+/// The status of a finding, or of a fault.
 pub(crate) fn finding_status(answer: &Result<Finding, OperationsFault>) -> u8
     ensures { result ≡ finding_status answer.now }
 {
@@ -49,7 +49,7 @@ pub(crate) fn finding_status(answer: &Result<Finding, OperationsFault>) -> u8
     }
 }
 
-/// What is told of it beside its status.
+/// A finding or a fault, besides its status.
 pub(crate) fn finding_told(answer: &Result<Finding, OperationsFault>) -> TardisFinding
     ensures { result ≡ finding_told answer.now }
 {
@@ -75,7 +75,7 @@ pub(crate) fn finding_told(answer: &Result<Finding, OperationsFault>) -> TardisF
     }
 }
 
-/// The bytes of the text that was found.
+/// The bytes of the text in the finding; none without a text.
 fn text_of(answer: &Result<Finding, OperationsFault>) -> &[u8]
     ensures { result.now ≡ text_of answer.now }
 {
@@ -85,7 +85,7 @@ fn text_of(answer: &Result<Finding, OperationsFault>) -> &[u8]
     }
 }
 
-/// Puts the text that was found at the front of a buffer that has room for it.
+/// Puts the text in the finding at the front of a buffer, if it has room for the text.
 pub(crate) fn put_text(answer: &Result<Finding, OperationsFault>, buffer: &mut [u8])
     ensures { buffer.new ≡ with_text (text_of answer.now) buffer.old }
 {

@@ -18,38 +18,38 @@ const LAST_ADDRESS: u64 = 65_535;
 /// The last stamp.
 const LAST_STAMP: u64 = 281_474_976_710_656;
 
-/// The core of a source that is none: the word is the initial 0.
+/// The core of a source that isn't a store: the word is the initial 0.
 const INITIAL: u8 = 255;
 
-/// How many cores a set has at most.
+/// The most cores of a set.
 const MOST_CORES: u8 = 64;
 
-/// How many operations a core has at most.
+/// The most operations of a core.
 const MOST_OPERATIONS: u32 = 1_048_576;
 
 /// An operation of a core. Its fields are those of a record's line.
 #[repr(C)]
 #[derive(Clone, Copy)]
 pub struct TardisOperation {
-    /// The word that was loaded or stored; of a swap the one that it stored.
+    /// The word that it loaded or stored; of a swap, the one that it stored.
     pub value: u64,
-    /// Of a swap: the word that it read. Else anything.
+    /// Of a swap: the word that it read. Otherwise anything.
     pub read: u64,
     /// When the operation took place, 0 to 2^48.
     pub ts: u64,
-    /// Its order among those of its stamp.
+    /// Its place among the operations of its stamp.
     pub rank: u32,
     /// Of a load or a swap from a store: the index of that store in its core's log, 0 to 1,048,575.
     pub source_index: u32,
     /// The address of the word, 0 to 65,535.
     pub addr: u64,
-    /// 0 a load, 1 a store, 2 a swap.
+    /// 0 is a load, 1 a store, 2 a swap.
     pub kind: u8,
-    /// Of a load or a swap: the core of the store that it read, 0 to 63; 255 where it read the initial 0.
+    /// Of a load or a swap: the core of the store that it read, 0 to 63; 255 if it read the initial 0.
     pub source_core: u8,
 }
 
-/// Whether the source that an operation names can be one.
+/// Whether the source that an operation names is in range.
 #[tactic(auto, using(crate::proofs::Numbers::initial_fits, crate::proofs::Numbers::store_fits, crate::proofs::Numbers::core_of_store, crate::proofs::Numbers::index_of_store))]
 fn has_source(operation: &TardisOperation) -> bool
     ensures { IsTrue result ↔ SourceFits (source_of operation.now) }
@@ -100,7 +100,7 @@ fn source_of(operation: &TardisOperation) -> Source
     Source::Store(OpId { core, index })
 }
 
-/// What an operation did.
+/// The act of an operation.
 #[tactic(auto, using(crate::proofs::Numbers::load_source, crate::proofs::Numbers::swap_source))]
 fn act_of(operation: &TardisOperation) -> Act
     requires { ActFits (act_of operation.now) }

@@ -1,4 +1,4 @@
-//! What the judge answers, in numbers.
+//! The judge's answers, in numbers.
 
 ghost use Rattle.std.specs.Prelude.{◌≡◌, Ok};
 ghost use Rattle.tardis_c.specs.Told.{number_of, operations_status, operations_told, rule_number, status_of, told_of};
@@ -9,15 +9,15 @@ use verdict::{JudgeFault, Rule, Verdict};
 
 const _: () = prove!(size_of::<TardisVerdict>() == 48);
 
-/// What the judge answers beside the status. A field that the answer doesn't have is 0.
+/// The judge's answer, besides the status. A field that the answer doesn't have is 0.
 #[repr(C)]
 #[derive(Clone, Copy)]
 pub struct TardisVerdict {
     /// With a Yes: how many operations the set has.
     pub count: u64,
-    /// With a No: the core whose operation breaks a rule. Where an operation is none: its core.
+    /// With a No: the core whose operation breaks a rule. If an operation isn't valid: its core.
     pub core: u64,
-    /// With a No: the operation's index in its core's log, from 0. Where an operation is none: its index.
+    /// With a No: the operation's index in its core's log, from 0. If an operation isn't valid: its index.
     pub index: u64,
     /// With a fault of a log: which log, from 0.
     pub file: u64,
@@ -29,7 +29,7 @@ pub struct TardisVerdict {
     pub number: u32,
 }
 
-/// Nothing at all.
+/// All fields are 0.
 const NOTHING: TardisVerdict = TardisVerdict {
     count: 0,
     core: 0,
@@ -90,7 +90,7 @@ pub(crate) fn status_of(answer: &Result<Verdict, JudgeFault>) -> u8
     }
 }
 
-/// What is told of an answer beside its status.
+/// An answer besides its status.
 pub(crate) fn told_of(answer: &Result<Verdict, JudgeFault>) -> TardisVerdict
     ensures { result ≡ told_of answer.now }
 {
@@ -138,7 +138,7 @@ pub(crate) fn operations_status(answer: &Result<Verdict, OperationsFault>) -> u8
     }
 }
 
-/// What is told of an answer to operations beside its status.
+/// An answer to operations besides its status.
 pub(crate) fn operations_told(answer: &Result<Verdict, OperationsFault>) -> TardisVerdict
     ensures { result ≡ operations_told answer.now }
 {
@@ -163,7 +163,7 @@ pub(crate) fn operations_told(answer: &Result<Verdict, OperationsFault>) -> Tard
     }
 }
 
-/// What is told where the ends aren't those of the buffer's logs.
+/// The answer if the ends don't cut the buffer into logs: all fields are 0.
 pub(crate) fn nothing() -> TardisVerdict
     ensures { result ≡ NOTHING }
 {

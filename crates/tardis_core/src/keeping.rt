@@ -15,7 +15,7 @@ impl Core {
     }
 
     /// The events that it has performed since it was asked to keep them, those without effect among
-    /// them; none where it wasn't asked, or where memory for one of them was refused.
+    /// them; none if it wasn't asked, or if memory for one of them was refused.
     pub fn events(&self) -> Option<&[Event]> {
         match &self.events {
             Some(events) => Some(events.as_slice()),
@@ -23,7 +23,7 @@ impl Core {
         }
     }
 
-    // Keeps an event. A refused growth ends the keeping, as it may not refuse the event.
+    // Keeps an event. A refused growth ends the keeping, since it may not refuse the event.
     pub(crate) fn keep(&mut self, event: &Event)
         ensures { self.new ≡ self.old }
     {

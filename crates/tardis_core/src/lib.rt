@@ -1,4 +1,4 @@
-//! The core machine: core units and manager slices, and what any list of events makes of them.
+//! The core machine: core units and manager slices, and how any list of events runs on them.
 #![tactic(auto)]
 
 mod keeping;

@@ -13,8 +13,8 @@ use manager_slice::ManagerSlice;
 use mem_op::CoreId;
 use std::marker::Model;
 
-/// Core units and manager slices, with the reply that is kept for each core, once its message in hand
-/// is served. Where it was asked to, it keeps the events that it performs, of which contracts say nothing.
+/// Core units and manager slices. For each core whose message in hand is served, it keeps the reply. If it
+/// was asked to, it also keeps the events that it performs, but the contracts say nothing about these.
 #[derive(Drop)]
 pub struct Core {
     pub(crate) config: Config,
@@ -61,22 +61,22 @@ impl Core {
         self.slices.get(number)
     }
 
-    /// Does nothing: it tells that some list of events leads to this machine from the start of its
-    /// programs.
+    /// Does nothing: its contract says that some list of events leads to this machine from the
+    /// start of its programs.
     pub fn replays(&self)
         ensures { IsReached self.now }
     {
         let _ = &self.config;
     }
 
-    /// Does nothing: it tells what the type keeps.
+    /// Does nothing: its contract is the type's invariant.
     pub(crate) fn keeps(&self)
         ensures { IsMachine self.now }
     {
         let _ = &self.config;
     }
 
-    /// The reply that is kept for a core until it takes it, if there is one.
+    /// The reply that the machine keeps for a core until the core takes it, if there is one.
     pub fn kept(&self, core: CoreId) -> Option<&Reply>
         ensures { option_copied result ≡ option_and_then (λ s. s.kept) (slice_get self.now.seats core) }
     {

@@ -1,4 +1,4 @@
-//! The machine as it starts.
+//! The machine at its start.
 
 ghost use Rattle.std.specs.Prelude.{◌≡◌, true, IfOk, IfErr, map, vec_len};
 ghost use Rattle.core_machine.specs.Machine.{opening};
@@ -17,8 +17,8 @@ use mem_op::CoreId;
 use std::alloc::{AllocError, Global};
 
 impl Core {
-    /// The machine with each core at the start of its program and all slices empty; 10 OutOfMemory
-    /// alone is refused.
+    /// The machine with each core at the start of its program and all slices empty. Only 10
+    /// OutOfMemory may come.
     pub fn new(alloc: Global, programs: &ProgramSet, config: &Config) -> Result<Core, CoreFault>
         ensures parts { IfOk result (λ m. m ≡ opening_parts programs.now.programs config.now) }
         ensures opening { IfOk result (λ m. world m ≡ opening programs.now.programs config.now.slices) }
@@ -36,7 +36,7 @@ impl Core {
     }
 }
 
-/// A unit for each core at the start of its program, core 0 first; 10 OutOfMemory alone is refused.
+/// A unit for each core at the start of its program, core 0 first. Only 10 OutOfMemory may come.
 pub fn opening_units(
     alloc: Global,
     programs: &ProgramSet,

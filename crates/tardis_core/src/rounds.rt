@@ -1,4 +1,4 @@
-//! Rounds: how a core's operations are performed one after another, each by the events that are due.
+//! Rounds: they perform a core's operations one after another, each by the events that are due.
 
 mod draw;
 mod fault;

@@ -1,4 +1,4 @@
-//! Runs.
+//! Runs of the machine.
 
 ghost use Rattle.std.specs.Prelude.{◌≡◌, false, Some, IfOk, IfErr};
 ghost use Rattle.core_machine.specs.Machine.{Run, opening};
@@ -19,12 +19,12 @@ use std::fmt;
 use std::fmt::Display;
 use thiserror::Error;
 
-/// Which event of a run is refused, counted from 0, and why.
+/// Which event of a run was refused, counted from 0, and why.
 #[derive(Clone, Copy, Debug, PartialEq, Eq, Error)]
 pub struct RunFault {
     /// The index of the event.
     pub at: usize,
-    /// Why it is refused.
+    /// Why it was refused.
     pub fault: CoreFault,
 }
 
@@ -39,9 +39,10 @@ impl Display for RunFault {
     }
 }
 
-/// Runs the machine from its start over these events. Where one of them is refused, its index and the
-/// cause are told; 0 and 10 OutOfMemory where there is no memory for the machine itself. The logs that
-/// it has made get Yes, whatever the events were: their operations are sequentially consistent.
+/// Runs the machine from its start over these events. If one of them is refused, the fault has its
+/// index and the cause; it has 0 and 10 OutOfMemory if there is no memory for the machine itself. The
+/// logs that the machine has made get Yes, whatever the events were: their operations are sequentially
+/// consistent.
 pub fn run(
     alloc: Global,
     programs: &ProgramSet,
@@ -53,10 +54,10 @@ pub fn run(
     ensures reached { IfOk result
         (λ m. run_from (opening_parts programs.now.programs config.now) events.now ≡ Some m) }
     ensures refused { IfErr result (λ r. IsRunFault programs.now.programs config.now events.now r) }
-    // The logs get Yes, and where all programs have ended against these too.
+    // The logs get Yes, and, if all programs have ended, they get it against these too.
     ensures yes { IfOk result (λ m. GetYes (logs_of (world m))) }
     ensures ended { IfOk result (λ m. HaveEnded (world m) → GetYesBy programs.now.programs (logs_of (world m))) }
-    // No event is refused with 14 BadReply or 11 NotOwner.
+    // It refuses no event with 14 BadReply or 11 NotOwner.
     ensures passes { IfErr result (λ r. is_protocol_fault r.fault ≡ false) }
 {
     runs_get_yes();

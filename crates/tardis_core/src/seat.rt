@@ -11,7 +11,7 @@ use core_unit::{CoreUnit, Outcome, UnitFault};
 use line_stamps::{Message, Reply};
 use std::marker::Model;
 
-/// A core, and the reply to the message in its hand, once that is served.
+/// A core, and the reply to its message in hand, once a slice has served it.
 #[derive(Drop)]
 pub(crate) struct Seat {
     /// The core.
@@ -36,7 +36,7 @@ impl Model for Seat {
 }
 
 impl Seat {
-    /// An event of the core alone.
+    /// Performs an event of the core alone.
     #[inline(always)]
     pub(crate) fn step(&mut self, event: &Event) -> Result<Outcome, UnitFault>
         requires own { core_event event.now ≡ Some self.old.unit.core }
@@ -58,7 +58,7 @@ impl Seat {
         }
     }
 
-    /// The message in the core's hand, where it has no reply yet.
+    /// The message in the core's hand, if it has no reply yet.
     pub(crate) fn asking(&self) -> Option<&Message>
         ensures { option_copied result ≡ asked_by self.now.unit.hand self.now.kept }
     {
@@ -68,7 +68,7 @@ impl Seat {
         }
     }
 
-    // The core takes the reply that is kept for it.
+    // The core takes its kept reply, if there is one.
     #[inline(always)]
     fn take(&mut self) -> Result<Outcome, UnitFault>
         ensures outcome { SeatOutcomeLeads (seat_outcome (Event.Take self.old.unit.core) self.old) result self.old self.new }

@@ -1,4 +1,5 @@
-//! One event. Where it is known which, little is left of a step: so it and what it calls for a core are inlined.
+//! One event. When the caller knows which event it is, little is left of a step, so the step and its calls for a core are
+//! inlined.
 
 ghost use Rattle.std.specs.Prelude.{◌≡◌, true, false, Some, IfErr};
 ghost use Rattle.core_machine.specs.Machine.{core_event, is_alone};
@@ -15,35 +16,35 @@ use machine_laws::verdicts::{ended_runs_get_yes, runs_get_yes};
 use mem_op::{Addr, CoreId};
 
 impl Core {
-    /// Performs an event: its outcome, or NoEffect where it doesn't apply, and then nothing changes.
-    /// It doesn't apply where the core isn't there, a message in hand bars it, or Serve finds no
-    /// message without a reply, Take no reply, Recall no Exclusive line, Evict no line or Spill no
-    /// Shared line.
+    /// Performs an event, and answers its outcome, or NoEffect if it doesn't apply, and then nothing
+    /// changes. It doesn't apply if the core isn't there, a message in hand bars it, or Serve finds
+    /// no message without a reply, Take no reply, Recall no Exclusive line, Evict no line or Spill
+    /// no Shared line.
     ///
-    /// The refusals, in this order: of a core 13 TranscriptFull where an entry is due and doesn't fit,
-    /// 4 StampLimit or 5 RankLimit of the operation or the recall, 4 StampLimit of the self-increment,
-    /// 10 OutOfMemory; of a slice 4 StampLimit, 12 HistoryFull, 10 OutOfMemory. They change nothing.
+    /// The refusals, in this order: of a core, 13 TranscriptFull if an entry is due and doesn't fit, 4
+    /// StampLimit or 5 RankLimit of the operation or the recall, 4 StampLimit of the self-increment,
+    /// 10 OutOfMemory; of a slice, 4 StampLimit, 12 HistoryFull, 10 OutOfMemory. They change nothing.
     ///
-    /// Before and after each event the logs that the cores have made get Yes: their operations are
-    /// sequentially consistent. Where every program has ended, they get Yes against the programs.
+    /// Before and after each event, the logs that the cores have made get Yes: their operations
+    /// are sequentially consistent. If every program has ended, they get Yes against the programs.
     #[inline(always)]
     pub fn step(&mut self, event: Event) -> Result<Outcome, CoreFault>
-        // The event leads there by the relation of the machine, and NoEffect comes exactly where it
-        // doesn't apply.
+        // The event leads to the new state by the machine's relation, and NoEffect comes exactly if
+        // the event doesn't apply.
         ensures leads { MachineLeads event self.old result self.new }
 
-        // Which line goes follows from the order of use and of service. Each refusal comes exactly
-        // where it is due; 10 comes only instead of a step, and for Serve and Spill it is the
-        // slice's, else the core's.
+        // The orders of use and of service settle which line goes. Each refusal comes exactly when
+        // it is due; 10 comes only instead of a step. For Serve and Spill it is the slice's,
+        // otherwise the core's.
         ensures outcome { OutcomeLeads (step_outcome self.old event) result self.old self.new }
 
         // The logs so far get Yes.
         ensures before { GetYes (logs_of (world self.old)) }
         ensures after { GetYes (logs_of (world self.new)) }
-        // Where every program has ended then, they get it against the programs too.
+        // If every program has ended then, they get it against the programs too.
         ensures ended { HaveEnded (world self.new) → GetYesBy (programs_of self.old) (logs_of (world self.new)) }
 
-        // No event is refused with 14 BadReply or 11 NotOwner.
+        // It refuses no event with 14 BadReply or 11 NotOwner.
         ensures passes { IfErr result (λ fault. is_protocol_fault fault ≡ false) }
     {
         runs_get_yes();
@@ -53,7 +54,7 @@ impl Core {
         self.apply(event)
     }
 
-    // Makes an event, which no law is needed for, and keeps it where events are kept.
+    // Makes an event, for which it needs no law, and keeps it if the machine keeps events.
     #[inline(always)]
     fn apply(&mut self, event: Event) -> Result<Outcome, CoreFault>
         ensures leads { MachineLeads event self.old result self.new }
@@ -83,7 +84,7 @@ impl Core {
         }
     }
 
-    // An event of a core alone.
+    // Makes an event of a core alone.
     #[inline(always)]
     fn alone(&mut self, core: CoreId, event: &Event) -> Result<Outcome, CoreFault>
         requires own { core_event event.now ≡ Some core }
@@ -122,7 +123,7 @@ impl Core {
         Ok(Outcome::Served(*reply))
     }
 
-    // A slice evicts the line of an address, where it is Shared.
+    // A slice evicts the line of an address, if it is Shared.
     fn spill(&mut self, addr: Addr) -> Result<Outcome, CoreFault>
         ensures outcome { OutcomeLeads (step_outcome self.old (Event.Spill addr)) result self.old self.new }
         ensures leads { MachineLeads (Event.Spill addr) self.old result self.new }
@@ -134,7 +135,7 @@ impl Core {
     }
 }
 
-// What a spill tells: whether a line went to memory.
+// The outcome of a spill, by whether a line went to memory.
 fn spill_told(went: bool) -> Outcome
     ensures { result ≡ spill_told went }
 {

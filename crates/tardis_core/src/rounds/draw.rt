@@ -8,7 +8,7 @@ use rand_core::utils::NextWord;
 use rand_pcg::Pcg32;
 
 /// Draws one of these cores: the generator's next word, modulo their count, is its place among them.
-/// The generator moves one word on, with one core left too.
+/// The generator moves one word on, even if there is only one core.
 pub fn pick(generator: &mut Pcg32, cores: &[CoreId]) -> CoreId
     requires some { 0 < length cores.now }
     ensures core { IsPick generator.old cores.now result }

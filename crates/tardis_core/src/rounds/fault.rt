@@ -1,4 +1,4 @@
-//! Why a round, an operation or a program isn't ended.
+//! Why a round, an operation or a program didn't end.
 
 use core_machine::CoreFault;
 use mem_op::{CoreId, FaultName};
@@ -6,12 +6,12 @@ use std::fmt;
 use std::fmt::Display;
 use thiserror::Error;
 
-/// Why a round, an operation or a program isn't ended.
+/// Why a round, an operation or a program didn't end.
 #[derive(Clone, Copy, Debug, PartialEq, Eq, Error)]
 pub enum RoundCause {
     /// The core made 1,000 rounds for one operation.
     GaveUp,
-    /// An event is refused.
+    /// The machine refused an event.
     Core(CoreFault),
 }
 
@@ -29,10 +29,10 @@ impl Display for RoundCause {
     }
 }
 
-/// Whose event or operation it is that isn't ended, and why.
+/// Whose event or operation didn't end, and why.
 #[derive(Clone, Copy, Debug, PartialEq, Eq, Error)]
 pub struct RoundFault {
-    /// The core whose event is refused, or that gave up.
+    /// The core whose event was refused, or that gave up.
     pub core: CoreId,
     /// Why.
     pub fault: RoundCause,

@@ -1,4 +1,4 @@
-//! What a core has in hand and before it.
+//! What a core has in hand, and whether it has operations left.
 
 ghost use Rattle.std.specs.Prelude.{◌≡◌};
 ghost use Rattle.core_machine.specs.Parts.{world};
@@ -8,7 +8,7 @@ ghost use Rattle.tardis_core.specs.Hands.{hand_at};
 use crate::machine::Core;
 use mem_op::CoreId;
 
-/// What a core has in hand.
+/// The state of a core's hand.
 #[derive(Clone, Copy, Debug, PartialEq, Eq)]
 pub(crate) enum Hand {
     /// The core isn't there.
@@ -21,7 +21,7 @@ pub(crate) enum Hand {
     Answered,
 }
 
-/// What a core has in hand.
+/// The state of a core's hand.
 pub(crate) fn hand_at(machine: &Core, core: CoreId) -> Hand
     ensures { result ≡ hand_at (world machine.now) core }
 {
@@ -38,7 +38,7 @@ pub(crate) fn hand_at(machine: &Core, core: CoreId) -> Hand
     }
 }
 
-/// Whether an operation of a core is left. None is where its program has ended or it isn't there.
+/// Whether a core has an operation left. It has none if its program has ended or the core isn't there.
 pub fn has_next(machine: &Core, core: CoreId) -> bool
     ensures { result ≡ has_next (world machine.now) core }
 {

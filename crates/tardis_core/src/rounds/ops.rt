@@ -1,4 +1,4 @@
-//! Rounds until an operation is performed, or all are.
+//! Rounds until a core has performed an operation, or all of them.
 
 ghost use Rattle.std.specs.Prelude.{◌≡◌, true, MatchResult};
 ghost use Rattle.core_machine.specs.Parts.{world};
@@ -11,17 +11,18 @@ use super::stages::make_round;
 use crate::machine::Core;
 use mem_op::CoreId;
 
-/// How many rounds are made for one operation at most.
+/// The most rounds for one operation.
 pub const MAX_ROUNDS_PER_OPERATION: u16 = 1_000;
 
-/// Makes a round of a core: a turn where it has no message in hand; then, where it has one without a
-/// reply, that is served; then, where it has one with its reply, the reply is taken; and where that
-/// was Busy, the recall comes to its owner, who may be this core too, and where the owner gives the
-/// line back, that is served and the reply taken. Each looks at the state after the one before, so
-/// after a turn that performs an operation there is no more. A core that isn't there does nothing.
+/// Makes a round of a core. If it has no message in hand, it makes a turn. Then, if it has a message
+/// without a reply, the slice serves it. Then, if it has a message with its reply, it takes the
+/// reply. If that was Busy, the recall goes to the owner, which may be this core too. If the owner
+/// gives the line back, the slice serves that, and the owner takes the reply. Each stage looks at
+/// the state after the one before, so after a turn that performs an operation nothing more happens.
+/// A core that isn't there does nothing.
 ///
-/// Where an event is refused, the core whose event it was is told with the cause, and the machine is
-/// where the events before led.
+/// If an event is refused, the fault names the core whose event it was, and the cause. The machine
+/// is where the events before led.
 pub fn round(machine: &mut Core, core: CoreId) -> Result<(), RoundFault>
     ensures round { MatchResult result
         (λ _. IsRound core machine.old machine.new)
@@ -32,11 +33,11 @@ pub fn round(machine: &mut Core, core: CoreId) -> Result<(), RoundFault>
     Ok(())
 }
 
-/// Makes rounds of a core until it has performed one more operation. Where its program has ended,
-/// even if a give-back is in hand, or the core isn't there, nothing is done.
+/// Makes rounds of a core until it has performed one more operation. Does nothing if the core's
+/// program has ended, even if a give-back is in hand, or if the core isn't there.
 ///
-/// Where 1,000 rounds weren't enough, 30 GaveUp is told with this core; where an event is refused, the
-/// core whose event it was and the cause. The machine is where the events before led.
+/// If 1,000 rounds weren't enough, the fault is 30 GaveUp with this core. If an event is refused, it
+/// names the core whose event it was, and the cause. The machine is where the events before led.
 pub fn op(machine: &mut Core, core: CoreId) -> Result<(), RoundFault>
     ensures op { MatchResult result
         (λ _. IsOpIfLeft core machine.old machine.new)
@@ -49,8 +50,8 @@ pub fn op(machine: &mut Core, core: CoreId) -> Result<(), RoundFault>
     perform_next(machine, core)
 }
 
-/// Makes rounds of a core until its program has ended, which takes at most 4,096 operations. The
-/// refusals are those of one of its operations, 30 GaveUp among them.
+/// Makes rounds of a core until its program has ended, which takes at most 4,096 operations.
+/// Its refusals are those of one of its operations, 30 GaveUp among them.
 pub fn finish(machine: &mut Core, core: CoreId) -> Result<(), RoundFault>
     ensures finish { MatchResult result
         (λ _. IsFinished core machine.old machine.new)
@@ -63,7 +64,7 @@ pub fn finish(machine: &mut Core, core: CoreId) -> Result<(), RoundFault>
     Ok(())
 }
 
-// Makes rounds of a core that has an operation left until it has performed that.
+// Makes rounds of a core, which has an operation left, until it has performed that.
 fn perform_next(machine: &mut Core, core: CoreId) -> Result<(), RoundFault>
     requires { has_next (world machine.old) core ≡ true }
     ensures op { MatchResult result

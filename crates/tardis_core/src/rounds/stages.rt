@@ -15,20 +15,20 @@ use core_unit::Outcome;
 use line_stamps::Recall;
 use mem_op::CoreId;
 
-/// What a round looks at in an outcome.
+/// The part of an outcome that a round uses.
 #[derive(Clone, Copy, Debug, PartialEq, Eq)]
 pub(crate) enum Told {
-    /// An operation was performed.
+    /// The core performed an operation.
     Performed,
-    /// The request is refused for now, and this recall is to be offered.
+    /// The slice can't serve the request yet, and the round should offer this recall.
     Busy(Recall),
-    /// A line was given back.
+    /// The core gave a line back.
     Gave,
-    /// Any other.
+    /// Any other outcome.
     Other,
 }
 
-// What a round looks at in an outcome.
+// The part of an outcome that a round uses.
 fn told_by(outcome: &Outcome) -> Told
     ensures { result ≡ told_by outcome.now }
 {
@@ -40,7 +40,7 @@ fn told_by(outcome: &Outcome) -> Told
     }
 }
 
-// Makes an event of a core, and tells what a round looks at in its outcome.
+// Makes an event of a core, and answers the part of its outcome that a round uses.
 #[inline(always)]
 fn step_told(machine: &mut Core, core: CoreId, event: Event) -> Result<Told, RoundFault>
     requires own { core_event event ≡ Some core }
@@ -58,7 +58,7 @@ fn step_told(machine: &mut Core, core: CoreId, event: Event) -> Result<Told, Rou
     }
 }
 
-// Where no message is in hand, a turn; else nothing. Whether an operation was performed.
+// Makes a turn if no message is in hand, otherwise does nothing. Answers whether the core performed an operation.
 fn turn(machine: &mut Core, core: CoreId) -> Result<bool, RoundFault>
     ensures { MatchResult result
         (λ performed. IsPart core ToTurn machine.old machine.new ToServe
@@ -74,7 +74,7 @@ fn turn(machine: &mut Core, core: CoreId) -> Result<bool, RoundFault>
     }
 }
 
-// Where a message without its reply is in hand, its slice serves it; else nothing.
+// Has the slice serve the message in hand if it has no reply yet, otherwise does nothing.
 fn serve(machine: &mut Core, core: CoreId) -> Result<(), RoundFault>
     ensures { MatchResult result
         (λ _. IsPart core ToServe machine.old machine.new ToTake)
@@ -89,7 +89,7 @@ fn serve(machine: &mut Core, core: CoreId) -> Result<(), RoundFault>
     }
 }
 
-// Where a message with its reply is in hand, the core takes it; else nothing.
+// Takes the reply to the message in hand if it has one, otherwise does nothing.
 fn take(machine: &mut Core, core: CoreId) -> Result<Told, RoundFault>
     ensures { MatchResult result
         (λ told. IsPart core ToTake machine.old machine.new (stage_of told))
@@ -104,7 +104,8 @@ fn take(machine: &mut Core, core: CoreId) -> Result<Told, RoundFault>
     }
 }
 
-// The recall at its owner, who serves and takes what it gives back, in whichever core's round.
+// Offers the recall to its owner, in whichever core's round. If the owner gives the line back, the slice serves that, and the
+// owner takes the reply.
 fn offer(machine: &mut Core, recall: &Recall) -> Result<(), RoundFault>
     ensures { MatchResult result
         (λ _. (c : ℕ) → IsPart c (ToRecall recall.now) machine.old machine.new Over)
@@ -121,8 +122,8 @@ fn offer(machine: &mut Core, recall: &Recall) -> Result<(), RoundFault>
     }
 }
 
-/// Makes a round of a core. Whether it performed an operation: with that it ends, as no message is in
-/// hand then.
+/// Makes a round of a core. Answers whether it performed an operation. That ends the round, since no
+/// message is in hand then.
 pub(crate) fn make_round(machine: &mut Core, core: CoreId) -> Result<bool, RoundFault>
     ensures { MatchResult result
         (λ performed. IsRound core machine.old machine.new
