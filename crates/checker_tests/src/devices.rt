@@ -93,7 +93,7 @@ fn long_log(alloc: Global) -> Result<String, Fail> {
     Ok(text)
 }
 
-/// How many records a log is read as where a read fails after so many others, and how many reads have failed then.
+/// How many records a log is read as if a read fails after this many others, and how many reads have failed then.
 fn length_where_one_fails(
     alloc: Global,
     text: &str,

@@ -1,4 +1,5 @@
-//! Drawn traces, each of which the search decides. What it finds and isn't shown would be a bug of it, which `search` answers as undecided.
+//! Drawn traces, each of which the search decides. An answer that doesn't pass its check would be a bug of the search, and `search` gives
+//! undecided for it.
 
 use mem_op::CoreId;
 use rand_core::SeedableRng;
@@ -15,8 +16,8 @@ fn draw(generator: &mut Pcg32) -> u64 {
     u64::from(generator.next_word()) % 4
 }
 
-/// Twelve operations of four cores at most, which use two addresses. What is read is the word that was stored there last, or one that
-/// was drawn, so of the traces some are consistent and some aren't.
+/// Twelve operations of four cores at most, which use two addresses. An operation reads the word that was stored there last, or one that was drawn,
+/// so some of the traces are consistent and some aren't.
 fn drawn_trace(alloc: Global, seed: u64) -> Result<Trace, Fail> {
     let mut generator = Pcg32::seed_from_u64(seed);
     let mut trace = Trace::new(alloc);

@@ -5,7 +5,7 @@ use std::sync::atomic::{AtomicUsize, Ordering};
 use std::test::Fail;
 use verdict::{Gate, Phase, judge};
 
-/// A gate that keeps each worker until so many have entered the phase, for at most 100,000,000 looks. The addresses come after all cores.
+/// A gate that keeps each worker until this many have entered the phase, for at most 100,000,000 looks. The addresses come after all cores.
 #[derive(Drop)]
 struct Meeting {
     wanted: usize,

@@ -1,5 +1,5 @@
-//! Calls of which the program makes none, or not in this way, each once. Where a growth is refused, a call answers 10 and nothing else:
-//! `refuse-growths` refuses each in turn, and none is refused here.
+//! Calls that the program doesn't make, or not in this way, each once. A call whose growth is refused answers 10 and nothing else: `refuse-growths`
+//! refuses each in turn, and none is refused here.
 
 ghost use Rattle.std.specs.Prelude.{◌<◌};
 

@@ -1,4 +1,4 @@
-//! Refutations as texts and as pictures: of sets of states too, which the search finds where it finds nothing else.
+//! Refutations as texts and as pictures, also those by sets of states, which the search finds if it finds nothing else.
 
 use pictures::draw_refutation;
 use refutation::Refutation;
@@ -6,7 +6,7 @@ use std::test::Fail;
 use telling::tell;
 use trace::Trace;
 
-/// A trace, a refutation of it, what is told of that, and what its picture has, a part a line; after a `-` what it hasn't.
+/// A trace, a refutation of it, what is told of that, and what its picture has, one part a line; what comes after a `-` isn't there.
 #[derive(Clone, Copy)]
 struct Case {
     trace: &'static [u8],
@@ -15,7 +15,7 @@ struct Case {
     parts: &'static str,
 }
 
-// Of store buffering. What isn't shown isn't in the legend either.
+// Store buffering. What isn't shown isn't in the legend either.
 const BUFFERED: Case = Case {
     trace: b"0: M[0] := 1\n0: M[1] == 0\n1: M[1] := 1\n1: M[0] == 0\n",
     steps: b"tardis-refutation 1\nread 0.1 : init\nfrom-read 0 1.0 :\nread 1.1 : init\nfrom-read 2 0.0 :\ncycle : 3 1\nend 5\n",
@@ -37,7 +37,7 @@ class=\"arrow program red\" marker-end=\"url(#red)\"
 -cases",
 };
 
-// Two cores count by swaps, and both count from 1 to 2. Told is where the cores stand in the first of those states in which most is performed.
+// Two cores count by swaps, and both count from 1 to 2. The text tells where the cores stand in the first of the states in which most is performed.
 const LOST_UPDATE: Case = Case {
     trace: b"0: { M[0] == 0; M[0] := 1 }\n0: { M[0] == 1; M[0] := 2 }\n1: M[0] == 1\n1: { M[0] == 1; M[0] := 2 }\n",
     steps: b"tardis-refutation 1\nstates 0 | 0 0 : 0 | 1 1 : 1 | 1 2 : 2 ! 2 1 : 2 : 2 1\nend 1\n",
@@ -53,7 +53,7 @@ but no order of the operations at address 0 comes to its end, as 4 states show; 
 -class=\"arrow program red\"",
 };
 
-// A state that is dead, since nothing stores a 2: core 1 isn't at the load of it yet, and core 0 waits for nothing.
+// A dead state, since nothing stores a 2: core 1 isn't at the load of it yet, and core 0 waits for nothing.
 const DEAD_STATE: Case = Case {
     trace: b"0: M[0] := 1\n0: M[1] := 1\n1: M[1] == 1\n1: M[0] == 2\n",
     steps: b"tardis-refutation 1\nstates 0 1 ! 0 0 : 0 0 : 2 1\nend 1\n",

@@ -21,7 +21,7 @@ pub fn new_writer(alloc: Global) -> Writer<Vec<u8>>
         .from_writer(Vec::new(alloc))
 }
 
-/// Adds a number's cell.
+/// Adds a number's cell. Err if memory was refused.
 pub fn push_number(alloc: Global, cells: &mut StringRecord, number: u64) -> Result<(), AllocError>
     ensures { OnOk result (fields_of cells.new ≡ fields_of cells.old ++ numeral number ∷ []) }
 {
@@ -30,7 +30,7 @@ pub fn push_number(alloc: Global, cells: &mut StringRecord, number: u64) -> Resu
     Ok(())
 }
 
-/// Adds a cell that has nothing in it.
+/// Adds a cell that has nothing in it. Err if memory was refused.
 pub fn push_blank(cells: &mut StringRecord) -> Result<(), AllocError>
     ensures { OnOk result (fields_of cells.new ≡ fields_of cells.old ++ [] ∷ []) }
 {
@@ -38,7 +38,7 @@ pub fn push_blank(cells: &mut StringRecord) -> Result<(), AllocError>
     Ok(())
 }
 
-/// Writes a line of these cells.
+/// Writes a line of these cells. Err if memory was refused.
 pub fn write_line(writer: &mut Writer<Vec<u8>>, cells: &StringRecord) -> Result<(), AllocError>
     requires { IsPlainRow (fields_of cells.now) }
     ensures text { OnOk result (IsFresh writer.old
@@ -51,7 +51,7 @@ pub fn write_line(writer: &mut Writer<Vec<u8>>, cells: &StringRecord) -> Result<
     }
 }
 
-/// The text that a writer has written.
+/// The text that a writer has written. Err if memory was refused.
 pub fn text_of(writer: Writer<Vec<u8>>) -> Result<Vec<u8>, AllocError>
     ensures { IfOk result (λ text. written writer ≡ Some text.items) }
 {

@@ -1,5 +1,4 @@
-//! Numbers in decimal, as the texts of Brickarnica have them: `0`, or digits, the first of them not 0, of any
-//! length.
+//! Numbers in decimal, as the texts of Brickarnica have them: `0`, or digits of which the first isn't 0, of any length.
 #![tactic(auto)]
 
 mod number;

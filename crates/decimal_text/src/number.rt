@@ -5,7 +5,7 @@ ghost use Rattle.std.specs.Prelude.{◌≡◌, ℕ, ◌+◌, ◌-◌, ◌*◌, �
 ghost use Rattle.decimal_text.specs.Numbers.{as_u64};
 ghost use Rattle.decimal_text.specs.Reading.{is_digit, onward, number_at, after, field_at, last_number, front_now, front_map};
 
-/// The number with one more digit, where 64 bits hold it.
+/// The number with one more digit, if 64 bits hold it.
 fn with_digit(value: Option<u64>, digit: u8) -> Option<u64>
     requires { IsTrue (is_digit digit) }
     ensures { (n : ℕ) → value ≡ as_u64 n → result ≡ as_u64 (n * 10 + (digit - 48)) }
@@ -13,7 +13,7 @@ fn with_digit(value: Option<u64>, digit: u8) -> Option<u64>
     value?.checked_mul(10)?.checked_add(u64::from(digit - b'0'))
 }
 
-/// The number that the digits at the front go on to, of any size, and the bytes after them.
+/// The number, of any size, that goes on from `start` with the digits at the front, and the bytes after them.
 #[cold]
 fn long_number(start: u64, bytes: &[u8]) -> (Option<u64>, &[u8])
     ensures value { result.0 ≡ as_u64 (onward start bytes.now).0 }
@@ -28,8 +28,8 @@ fn long_number(start: u64, bytes: &[u8]) -> (Option<u64>, &[u8])
     (value, rest)
 }
 
-/// The number that the digits at the front go on to, and the bytes after them. Below 10^18 another digit fits
-/// 64 bits; from there on each is looked at.
+/// The number that goes on from `start` with the digits at the front, and the bytes after them. Below 10^18 another digit
+/// fits 64 bits; from there on each is checked.
 #[inline(always)]
 fn digits(start: u64, bytes: &[u8]) -> (Option<u64>, &[u8])
     requires { start < 10 }
@@ -93,7 +93,7 @@ pub(crate) fn field(end: u8, bytes: &[u8]) -> Option<(Option<u64>, &[u8])>
     Some((value, rest))
 }
 
-/// A number that is all there is.
+/// A number, and nothing after it.
 #[tactic(auto, unfolding(crate::specs::Reading::last_number))]
 pub(crate) fn last(bytes: &[u8]) -> Option<Option<u64>>
     ensures { result ≡ option_map as_u64 (last_number bytes.now) }

@@ -6,8 +6,8 @@ ghost use Rattle.decimal_text.specs.Reading.{is_digit, number_at, after, field_a
 
 use super::number::{behind_text, field, last, number};
 
-/// The longest number at the front, and the bytes after it; None where there is no number. After a 0 no
-/// further digit is part of the number. A number that 64 bits don't hold is None.
+/// The longest number at the front, and the bytes after it; None if there is no number. After a 0 no further digit is part
+/// of the number. A number that 64 bits don't hold is None.
 #[inline(always)]
 #[tactic(auto, using(crate::proofs::Meaning::number_found, crate::proofs::Meaning::number_none))]
 pub fn read_number(bytes: &[u8]) -> Option<(Option<u64>, &[u8])>
@@ -20,8 +20,8 @@ pub fn read_number(bytes: &[u8]) -> Option<(Option<u64>, &[u8])>
     number(bytes)
 }
 
-/// The number at the front, and the bytes after the byte that ends it; None where no number with that byte
-/// after it is there. A number that 64 bits don't hold is None.
+/// The number at the front, and the bytes after the byte that ends it; None if there is no number with that byte after it. A
+/// number that 64 bits don't hold is None.
 #[inline(always)]
 #[tactic(auto, using(crate::proofs::Meaning::field_found, crate::proofs::Meaning::field_none))]
 pub fn read_field(end: u8, bytes: &[u8]) -> Option<(Option<u64>, &[u8])>
@@ -35,7 +35,7 @@ pub fn read_field(end: u8, bytes: &[u8]) -> Option<(Option<u64>, &[u8])>
     field(end, bytes)
 }
 
-/// The number that the bytes are; None where they aren't one. A number that 64 bits don't hold is None.
+/// The number that the bytes are; None if they aren't one. A number that 64 bits don't hold is None.
 #[tactic(auto, using(crate::proofs::Meaning::last_found, crate::proofs::Meaning::last_none))]
 pub fn read_last(bytes: &[u8]) -> Option<Option<u64>>
     ensures found { IfSome result (λ read. (n : ℕ) × (read ≡ as_u64 n) × (bytes.now ≡ numeral n)) }
@@ -46,7 +46,7 @@ pub fn read_last(bytes: &[u8]) -> Option<Option<u64>>
     last(bytes)
 }
 
-/// The bytes after this text; None where they don't begin with it.
+/// The bytes after this text; None if they don't begin with it.
 #[inline(always)]
 #[tactic(auto, using(crate::proofs::Meaning::text_found, crate::proofs::Meaning::text_none))]
 pub fn after_text<'a>(text: &[u8], bytes: &'a [u8]) -> Option<&'a [u8]>

@@ -5,26 +5,26 @@ use numbered_trace::{NONE, Place, START, Tried, at, put};
 use std::alloc::Global;
 use std::iter::successors;
 
-/// As many places are looked at in a step.
+/// How many places of a core one step of the budget covers.
 pub(crate) const PLACES: u64 = 16;
 
-/// A place that was come to, by a fact from one that had been come to before.
+/// A place that the search reached, by a fact from a place that it had reached before.
 #[derive(Clone, Copy)]
 struct Hop {
     place: Place,
-    /// The place of the same core from which on all had been come to.
+    /// The place of the same core from which on all had been reached, or are too late to lead to the end.
     until: Place,
-    /// The fact, or NONE where the way begins.
+    /// The fact that leads here, or NONE where the way begins.
     fact: u32,
-    /// The number of the hop from which the fact leads, or NONE.
+    /// The number of the hop from which that fact leads, or NONE.
     from: u32,
 }
 
-/// A look for a way from one operation to another, by facts and along program order, shortest chains first.
+/// A search for a way from one operation to another, by facts and along program order, shortest chains first.
 #[derive(Drop)]
 struct Way {
     hops: Vec<Hop>,
-    /// Of each core the place from which on all were come to, or that is too late to lead to the end.
+    /// For each core, the place from which on all have been reached, or are too late to lead to the end.
     reached: Vec<Place>,
     end_core: u32,
     /// Facts of this number and above aren't used.
@@ -58,7 +58,7 @@ impl Knowledge<'_> {
         Ok(None)
     }
 
-    /// Goes on by the facts that lead from the places of a hop. Says whether the end was reached.
+    /// Follows the facts that lead on from the places of a hop. Says whether it reached the end.
     fn go_from(&self, way: &mut Way, from: u32, hop: Hop) -> Tried<bool> {
         let facts = &self.facts;
         let led = (hop.place..hop.until).flat_map(|place| {
@@ -76,7 +76,7 @@ impl Knowledge<'_> {
 }
 
 impl Way {
-    /// Comes to a place of a core by a fact, where it wasn't come to. Says whether it leads to the end.
+    /// Reaches a place of a core by a fact, unless it was reached before. Says whether it leads to the end.
     fn hop(&mut self, place: Place, core: u32, fact: u32, from: u32) -> Tried<bool> {
         let until = at(&self.reached, core);
         if place >= until {

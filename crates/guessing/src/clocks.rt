@@ -3,7 +3,7 @@
 use numbered_trace::{CoreSet, Operations, Place, Stop, Tried, at};
 use std::alloc::Global;
 
-/// Of each operation and each core a place: the core's operations below it are the operation itself or before it.
+/// For each operation and each core, a place: the core's operations below it are before the operation, or are the operation itself.
 #[derive(Drop)]
 pub(crate) struct Clocks {
     cores: u32,
@@ -11,7 +11,7 @@ pub(crate) struct Clocks {
 }
 
 impl Clocks {
-    /// Clocks that know of no order but of each operation itself.
+    /// Clocks that know nothing but program order, and that START comes first.
     pub(crate) fn new(alloc: Global, operations: &Operations) -> Tried<Clocks> {
         let cores = operations.cores().end;
         let length = operations.all.len().saturating_mul(cores as usize);
@@ -41,7 +41,7 @@ impl Clocks {
         self.entries.get(row..end).unwrap_or(&[])
     }
 
-    /// What is before one operation is before another: gives the cores whose entries rose.
+    /// Puts one operation, and what is before it, before another. Gives the cores whose entries rose.
     pub(crate) fn join(&mut self, earlier: Place, later: Place) -> Tried<CoreSet> {
         let (from, to) = (self.row(earlier), self.row(later));
         let mut risen = CoreSet::NONE;

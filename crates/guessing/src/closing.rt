@@ -8,7 +8,7 @@ use std::alloc::Global;
 /// How much memory the states of a set may take, in bytes.
 const MEMORY: usize = 400_000_000;
 
-/// How much a state takes, beside 8 bytes for each index, limit and word.
+/// How many bytes a state takes, beside 8 for each index, limit and word.
 const STATE: usize = 200;
 
 /// A search for a closed set.
@@ -17,24 +17,24 @@ pub(crate) struct Closing<'a> {
     pub(crate) alloc: Global,
     pub(crate) operations: &'a Operations,
     pub(crate) classes: &'a Classes,
-    /// What is known to be before what, in order.
+    /// What is known to be before what, sorted.
     pub(crate) known: &'a [Precedence],
-    /// Which part of the steps that are left may be made for a set of some addresses: the half of them, where this is 2.
+    /// The search for a set of some addresses may take one part in this many of the steps that are left: half of them, if this is 2.
     pub(crate) share: u64,
 }
 
 /// A closed set.
 #[derive(Drop)]
 pub(crate) struct Closed {
-    /// The step of a refutation by it.
+    /// The step that refutes a trace by it.
     pub(crate) step: Step,
     /// The facts under which it is closed.
     pub(crate) facts: Vec<u32>,
 }
 
 impl Closing<'_> {
-    /// A closed set, if one is found. What has no order at some addresses has none at all: first those are tried at
-    /// which the walk came deepest, of more and more operations, and then all.
+    /// A closed set, if it finds one. A trace that has no order at some addresses has none at all, so it tries first the
+    /// addresses at which the walk came deepest, more and more of them, and then all.
     pub(crate) fn close<W: SearchWatch>(
         &self,
         walk: &mut Walk,
@@ -56,7 +56,7 @@ impl Closing<'_> {
         self.attempt(addresses, budget, watch)
     }
 
-    /// A closed set of the operations at these addresses, or at some of them, if one is found.
+    /// A closed set of the operations at these addresses, or at some of them, if it finds one.
     fn attempt<W: SearchWatch>(
         &self,
         addresses: Vec<u32>,
@@ -72,7 +72,7 @@ impl Closing<'_> {
         }
     }
 
-    /// How many states a set of so many addresses may have.
+    /// How many states a set of this many addresses may have.
     fn most(&self, addresses: usize) -> usize {
         let cores = self.operations.starts.len();
         let numbers = cores.saturating_mul(2).saturating_add(addresses);
@@ -80,8 +80,8 @@ impl Closing<'_> {
         MEMORY.checked_div(bytes).unwrap_or(0)
     }
 
-    /// The states that can be reached of the operations at these addresses, with the facts that are needed for it, where none is final, and they
-    /// are no more than so many.
+    /// The states that the operations at these addresses can reach, with the facts that it takes to show this; none if one of the states is final, or
+    /// there are more than `most`.
     fn set<W: SearchWatch>(
         &self,
         addresses: &[u32],
@@ -96,7 +96,7 @@ impl Closing<'_> {
         Ok(is_closed.then_some((set.states, set.used)))
     }
 
-    /// The closed set, after addresses were left out, one after the other, without which it is closed with no more states.
+    /// The closed set after leaving out, one by one, each address without which the set stays closed and has no more states.
     fn smaller<W: SearchWatch>(
         &self,
         addresses: &[u32],
@@ -120,7 +120,7 @@ impl Closing<'_> {
         Ok(Closed { step, facts })
     }
 
-    /// The step of a refutation by these states.
+    /// The step that refutes a trace by these states.
     fn step(&self, addresses: &[u32], states: Vec<State>) -> Tried<Step> {
         let names = &self.classes.addresses;
         let addresses = addresses.iter().map(|address| names

@@ -28,7 +28,7 @@ struct Cases {
 }
 
 impl Knowledge<'_> {
-    /// Concludes what follows. Where there is a conflict it gives the proof of it: its lines, last one first.
+    /// Concludes what follows. If that ends in a conflict, gives its proof: the lines, last one first.
     pub(crate) fn refute<W: SearchWatch>(&mut self, watch: &W) -> Tried<Option<Vec<Line>>> {
         match self.saturate(watch) {
             Ok(()) => Ok(None),
@@ -102,8 +102,8 @@ impl Knowledge<'_> {
         })
     }
 
-    /// Puts before a proof the cases of a read, each of which begins with a fact of this number: those of all candidates
-    /// but the range that is kept, with the steps that close them by facts before it, and the one of that range.
+    /// Puts the cases of a read before a proof. Each case begins with a fact of this number. One case is the range that is
+    /// kept; the others have all other candidates, and come with the steps that close them by earlier facts.
     fn close_read(
         &mut self,
         proof: &mut Proof,
@@ -127,8 +127,8 @@ impl Knowledge<'_> {
         Ok(proof.reversed.push(Line::Read(read, cases.ranges, fact))?)
     }
 
-    /// Closes the cases of one core's candidates: a range for all that are after the read, and one for each run of others that are
-    /// hidden from it, before those that are kept and behind them. What hides the last one of a run hides them all.
+    /// Closes the cases of one core's candidates: one range for those after the read, and one for each run of those hidden from it, before the kept
+    /// ones and behind them. What hides the last one of a run hides them all.
     fn close_core(&mut self, cases: &mut Cases, core: u32) -> Tried<()> {
         let operation = self.operations.get(cases.read);
         let stores = self
@@ -152,7 +152,7 @@ impl Knowledge<'_> {
         kept.is_some_and(|(first, last)| self.lies_in(store, first, last))
     }
 
-    /// How many of one core's candidates, the first ones, aren't the read itself and aren't known to be after it.
+    /// How many of one core's first candidates are neither the read itself nor known to be after it.
     fn count_not_after(&mut self, cases: &Cases, stores: &[Place]) -> Tried<usize> {
         let (mut low, mut high) = (0, stores.len());
         for _ in 0..usize::BITS {
@@ -170,7 +170,7 @@ impl Knowledge<'_> {
         Ok(low)
     }
 
-    /// Closes the cases of one core's candidates that are after the read, but for those that are kept and for the read itself.
+    /// Closes the cases of one core's candidates that are after the read, except the kept ones and the read itself.
     fn close_after(&mut self, cases: &mut Cases, stores: &[Place]) -> Tried<()> {
         let (mut first, mut last) = (cases.read, cases.read);
         for store in stores {
@@ -190,7 +190,7 @@ impl Knowledge<'_> {
         Ok(())
     }
 
-    /// Closes the cases of one core's candidates of which the last is hidden from the read.
+    /// Closes the cases of a run of one core's candidates, if the last of them is hidden from the read.
     fn close_hidden(&mut self, cases: &mut Cases, stores: &[Place]) -> Tried<()> {
         if let [first, ..] = stores
             && let [.., last] = stores
@@ -218,8 +218,8 @@ impl Knowledge<'_> {
         Ok(least)
     }
 
-    /// The last store of a core, up to this one, that hides another from the read by facts that were known then: the clocks
-    /// may have risen since.
+    /// The last store of a core, up to this one, that hides another from the read by facts that the cases may use: the
+    /// clocks may have risen since.
     fn hiding(&mut self, cases: &Cases, hidden: Place, last: Place) -> Tried<Option<Hiding>> {
         let core = self.operations.core(last);
         let mut store = last;

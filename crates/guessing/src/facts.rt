@@ -7,7 +7,7 @@ use std::alloc::Global;
 /// Why a fact holds.
 #[derive(Clone, Copy)]
 pub(crate) enum Reason {
-    /// The source of the later operation, a read, lies from the earlier one to this one of the same core.
+    /// The source of the later operation, a read, lies in the range from the earlier one to this one of the same core.
     Source(Place),
     /// By a rule, from the fact of this number, which says where the source of a read lies.
     Rule(u32),
@@ -18,7 +18,7 @@ pub(crate) enum Reason {
 pub(crate) struct Fact {
     pub(crate) earlier: Place,
     pub(crate) later: Place,
-    /// The fact made last before this one whose earlier operation is the same, or NONE.
+    /// The last fact before this one that has the same earlier operation, or NONE.
     pub(crate) next: u32,
     pub(crate) reason: Reason,
 }
@@ -27,11 +27,11 @@ pub(crate) struct Fact {
 #[derive(Drop)]
 pub(crate) struct Facts {
     pub(crate) all: Vec<Fact>,
-    /// Of each operation the last fact in which it is the earlier one, or NONE.
+    /// For each operation, the last fact in which it is the earlier one, or NONE.
     latest: Vec<u32>,
-    /// Of each read the fact that says which its source is, or NONE.
+    /// For each read, the fact that says which its source is, or NONE.
     pub(crate) sources: Vec<u32>,
-    /// Of each read, as far as the list goes, the last fact that says in which range its source is, or NONE.
+    /// For each read, as far as the list goes, the last fact that says in which range its source is, or NONE.
     ranges: Vec<u32>,
 }
 
@@ -46,17 +46,17 @@ impl Facts {
         })
     }
 
-    /// The fact of a number, behind this number.
+    /// The fact of a number, with this number.
     pub(crate) fn get(&self, number: u32) -> Option<(u32, Fact)> {
         Some((number, *self.all.get(number as usize)?))
     }
 
-    /// The last fact in which an operation is the earlier one, behind its number. The others follow by `next`.
+    /// The last fact in which an operation is the earlier one, with its number. The others follow by `next`.
     pub(crate) fn latest(&self, earlier: Place) -> Option<(u32, Fact)> {
         self.get(at(&self.latest, earlier))
     }
 
-    /// What is known of where a read's source lies: the number of the fact, the first and the last place.
+    /// What is known about where a read's source lies: the number of the fact, the first and the last place.
     pub(crate) fn source(&self, read: Place) -> Option<(u32, Place, Place)> {
         let exact = self.get(at(&self.sources, read));
         let (number, fact) = exact.or(self.get(at(&self.ranges, read)))?;
@@ -66,14 +66,14 @@ impl Facts {
         }
     }
 
-    /// A fact of this number says in which range a read's source is.
+    /// Notes that the fact of this number says in which range a read's source is.
     pub(crate) fn set_range(&mut self, read: Place, number: u32) -> Tried<()> {
         let length = (read as usize).saturating_add(1).max(self.ranges.len());
         self.ranges.resize(length, NONE)?;
         put(&mut self.ranges, read, number)
     }
 
-    /// What the facts say to be before what, in order.
+    /// What is before what, as the facts say, sorted.
     pub(crate) fn precedences(&self, alloc: Global) -> Tried<Vec<Precedence>> {
         let facts = self.all.iter().zip(0..=u32::MAX);
         let precedences = facts.map(|(fact, number)| Precedence {

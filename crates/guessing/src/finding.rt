@@ -1,4 +1,4 @@
-//! What is found of a trace: the ways to search are tried one after the other.
+//! Finds an order of a trace, or a refutation: tries the ways to search one after the other.
 
 use super::closing::{Closed, Closing};
 use super::knowledge::Knowledge;
@@ -13,13 +13,13 @@ use state_walk::{Precedence, Walked};
 use std::alloc::{AllocError, Global};
 use trace::Trace;
 
-/// How many steps the walk that knows of no fact may make: so many, and so many more for each operation, and half of all at most.
+/// How many steps the walk without facts may make: this many and `FIRST_EACH` more for each operation, but half of all at most.
 const FIRST: u64 = 4_000_000;
 
 const FIRST_EACH: u64 = 40;
 
-/// An order of a trace's operations or a refutation, which nobody has confirmed; undecided where neither was found in so
-/// many steps. A watch is told how far the search is. Err where memory was refused.
+/// An order of a trace's operations or a refutation, which nobody has confirmed yet; undecided if it finds neither within
+/// this many steps. It tells a watch how far it is. Err if memory was refused.
 pub fn guess<W: SearchWatch>(
     alloc: Global,
     trace: &Trace,
@@ -38,7 +38,7 @@ fn find<W: SearchWatch>(alloc: Global, trace: &Trace, budget: Budget, watch: &W)
     find_numbered(alloc, trace, &operations, &classes, budget, watch)
 }
 
-/// The same. Where words repeat, a walk comes first that knows of no fact.
+/// The same. If many words repeat, a walk without facts comes first.
 fn find_numbered<'a, W: SearchWatch>(
     alloc: Global,
     trace: &'a Trace,
@@ -66,7 +66,7 @@ fn find_numbered<'a, W: SearchWatch>(
     finding.run(watch)
 }
 
-/// Whether nearly each read has one candidate: of eight no more than one has others.
+/// Whether nearly every read has one candidate: no more than one read in eight has several.
 fn are_distinct(operations: &Operations, classes: &Classes) -> bool {
     let (mut reads, mut open) = (0usize, 0usize);
     for operation in operations.all.iter().filter(|operation| operation.reads()) {
@@ -86,13 +86,14 @@ struct Finding<'a> {
     operations: &'a Operations,
     classes: &'a Classes,
     walks: Walks<'a>,
-    /// What is known to be before each operation; empty where nothing is.
+    /// What is known to be before each operation; empty if nothing is known.
     clocks: Vec<Place>,
     budget: Budget,
 }
 
 impl Finding<'_> {
-    /// Goes on after a walk that knew of no fact. What follows without cases comes first; then the walk goes on with all facts.
+    /// Goes on after the walk without facts: concludes what follows without cases, walks on with all facts, looks for a closed set of states, and
+    /// walks on to the end.
     fn run<W: SearchWatch>(&mut self, watch: &W) -> Tried<Answer> {
         if self.walks.walked != Walked::Order
             && let Some(answer) = self.by_rules(watch)?
@@ -110,7 +111,7 @@ impl Finding<'_> {
         self.order()
     }
 
-    /// Walks on for so many steps, at most, unless it is known what the walk comes to.
+    /// Walks on for at most this many steps, unless the walk has come to its end.
     fn walk<W: SearchWatch>(&mut self, steps: u64, watch: &W) -> Tried<()> {
         self.budget.allow(steps);
         self.walks.run(&mut self.clocks, &mut self.budget, watch)?;
@@ -118,7 +119,7 @@ impl Finding<'_> {
         Ok(())
     }
 
-    /// A refutation by what follows without cases, if there is one. It may take half of the steps to find it.
+    /// A refutation by what follows without cases, if there is one. This may take half of the steps that are left.
     fn by_rules<W: SearchWatch>(&mut self, watch: &W) -> Tried<Option<Answer>> {
         self.budget.allow(self.budget.left() / 2);
         let mut known = Knowledge::new(self.alloc, self.operations, self.classes, self.budget)?;
@@ -140,7 +141,7 @@ impl Finding<'_> {
         Ok(None)
     }
 
-    /// A refutation by a closed set of states, if one is found where the walk stopped: without facts, or else with them.
+    /// A refutation by a closed set of states, if it finds one where the walk stopped: without facts, or else with them.
     fn by_states<W: SearchWatch>(&mut self, watch: &W) -> Tried<Option<Answer>> {
         if let Some(Closed { step, .. }) = self.close(&[], watch)? {
             let steps = vec![in self.alloc; step]?;
@@ -158,7 +159,7 @@ impl Finding<'_> {
         }
     }
 
-    /// A refutation by a closed set of states under what is known, if one is found.
+    /// A refutation by a closed set of states under what is known, if it finds one.
     fn by_facts<W: SearchWatch>(
         &mut self,
         known: &mut Knowledge,
@@ -177,8 +178,8 @@ impl Finding<'_> {
         Ok(Some(Answer::Refutation(Refutation::new(steps))))
     }
 
-    /// A closed set of states, where moves wait for what is known, if one is found. Where the walk came to all states nothing else is left to be
-    /// done.
+    /// A closed set of states in which moves wait for what is known, if it finds one. If the walk came to all states, nothing else is left to try, so
+    /// this gets more of the steps.
     fn close<W: SearchWatch>(&mut self, known: &[Precedence], watch: &W) -> Tried<Option<Closed>> {
         let is_closed = self.walks.walked == Walked::Closed;
         let closing = Closing {

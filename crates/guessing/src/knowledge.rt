@@ -23,7 +23,7 @@ pub(crate) struct Knowledge<'a> {
     pub(crate) stores: Stores,
     pub(crate) clocks: Clocks,
     pub(crate) facts: Facts,
-    /// Of each core the place at which its operations that have not come in begin.
+    /// For each core, the place of its first operation that hasn't come in.
     pub(crate) entered: Vec<Place>,
     /// The reads that came in with more than one candidate.
     pub(crate) open: Vec<Place>,
@@ -64,7 +64,7 @@ impl<'a> Knowledge<'a> {
         self.clocks.entry(later, self.operations.core(earlier)) > earlier
     }
 
-    /// The last store of a core to the address of an operation at a place that is known to be before it.
+    /// A core's last store to the address of an operation that is known to be before that operation.
     pub(crate) fn last_store(&self, place: Place, core: u32) -> Option<Place> {
         let entry = self.clocks.entry(place, core);
         let stores = self.stores.active(self.operations.get(place).address, core);
@@ -72,19 +72,19 @@ impl<'a> Knowledge<'a> {
         stores.get(..count)?.last().copied()
     }
 
-    /// Of each core that has one the last store to a read's address that is before it.
+    /// Each core's last store to a read's address that is known to be before the read, if it has one.
     pub(crate) fn last_stores(&self, read: Place) -> Tried<Vec<Place>> {
         let cores = self.operations.cores();
         let last = cores.filter_map(|core| self.last_store(read, core));
         Ok(last.collect(self.alloc)?)
     }
 
-    /// Whether one store is after another, so that it hides it from what comes later.
+    /// Whether one store is known to be after another, so that it hides it from what comes later.
     pub(crate) fn hides(&self, hiding: Place, hidden: Place) -> bool {
         hiding != hidden && self.is_before(hidden, hiding)
     }
 
-    /// Whether a place lies from one to another, which is of the same core unless the first one is the START.
+    /// Whether a place lies in the range from one place to another. Both are of the same core, unless the first is START.
     pub(crate) fn lies_in(&self, place: Place, first: Place, last: Place) -> bool {
         let is_of_core = self.operations.core(place) == self.operations.core(last);
         place == first || is_of_core && first <= place && place <= last
@@ -97,7 +97,7 @@ impl<'a> Knowledge<'a> {
         Ok(number)
     }
 
-    /// Adds that one operation is another, or is before it, where that isn't known: by a rule, from a fact of this number.
+    /// Adds that one operation is before another, by a rule, from a fact of this number; adds nothing if they are one, or if this is known.
     pub(crate) fn learn(&mut self, earlier: Place, later: Place, source: u32) -> Tried<()> {
         if !self.is_before(earlier, later) {
             self.add(earlier, later, Reason::Rule(source))?;
@@ -105,8 +105,8 @@ impl<'a> Knowledge<'a> {
         Ok(())
     }
 
-    /// What is before one operation is before another, by a fact. The case is closed where the second is before the
-    /// first.
+    /// Puts one operation, and what is before it, before another, by a fact. The case is closed if the second is before the
+    /// first, or is the first.
     pub(crate) fn flow(&mut self, earlier: Place, later: Place, fact: u32) -> Tried<()> {
         if self.is_before(later, earlier) {
             return Err(Stop::Closed(Conflict::Cycle(fact)));
@@ -114,7 +114,7 @@ impl<'a> Knowledge<'a> {
         self.raise(earlier, later)
     }
 
-    /// What is before one operation is before another.
+    /// Puts one operation, and what is before it, before another.
     pub(crate) fn raise(&mut self, earlier: Place, later: Place) -> Tried<()> {
         let cores = self.clocks.join(earlier, later)?;
         self.note(later, cores)

@@ -1,4 +1,4 @@
-//! The body of the search: an order of a trace's operations or a refutation, which nobody has confirmed.
+//! The body of the search: an order of a trace's operations or a refutation, which nobody has confirmed yet.
 #![tactic(auto)]
 
 mod chains;

@@ -1,4 +1,4 @@
-//! A proof that no order exists as a refutation, whose facts are named by their places among those in force.
+//! Turns a proof that no order exists into a refutation, which names facts by their places among those in force.
 
 use super::proof::{Derived, Line, Rule};
 use mem_op::OpId;
@@ -6,7 +6,7 @@ use numbered_trace::{Operations, Place, START, Stop, Tried, at, id};
 use refutation::{Path, Point, Range, Ranges, Step};
 use std::alloc::Global;
 
-/// What the steps of a refutation are made with.
+/// What it takes to make the steps of a refutation.
 #[derive(Drop)]
 struct Numbering<'a> {
     alloc: Global,
@@ -19,7 +19,7 @@ struct Numbering<'a> {
     waiting: Vec<(u32, usize)>,
 }
 
-/// The steps of a refutation that the lines of a proof are, last one first.
+/// The steps of a refutation that these lines of a proof make. The lines stand last one first.
 pub(crate) fn steps(
     alloc: Global,
     operations: &Operations,
@@ -38,7 +38,7 @@ pub(crate) fn steps(
 }
 
 impl Numbering<'_> {
-    /// The step that a line is. It goes on to the facts that are in force after it.
+    /// The step that a line makes. Goes on to the facts that are in force after it.
     fn step(&mut self, line: &Line) -> Tried<Step> {
         let step = match line {
             Line::Derived(derived) => return self.derived(derived),
@@ -61,13 +61,13 @@ impl Numbering<'_> {
         Ok(step)
     }
 
-    /// Lets so many cases wait, each of which begins with a fact of this number.
+    /// Lets this many cases wait, each of which begins with a fact of this number.
     fn wait(&mut self, cases: usize, fact: u32) -> Tried<()> {
         let waiting = self.waiting.len().saturating_add(cases);
         Ok(self.waiting.resize(waiting, (fact, self.facts.len()))?)
     }
 
-    /// The step of from-read or of write-order. It goes on to the facts that are in force after it.
+    /// The step of from-read or of write-order. Goes on to the facts that are in force after it.
     fn derived(&mut self, derived: &Derived) -> Tried<Step> {
         let source = self.number(derived.source)?;
         let write = self.id(derived.store)?;

@@ -37,7 +37,7 @@ pub(crate) enum Line {
     Cycle(Vec<u32>),
 }
 
-/// The lines that close a case, last one first, and the facts that they need and that aren't shown by them.
+/// The lines that close a case, last one first, and the facts that they need but don't show.
 #[derive(Drop)]
 pub(crate) struct Proof {
     pub(crate) reversed: Vec<Line>,
@@ -45,7 +45,7 @@ pub(crate) struct Proof {
 }
 
 impl Proof {
-    /// No line, no need.
+    /// A proof without lines, which needs nothing.
     pub(crate) fn new(alloc: Global) -> Proof {
         Proof {
             reversed: Vec::new(alloc),
@@ -53,31 +53,31 @@ impl Proof {
         }
     }
 
-    /// Puts another proof, of which nothing is left, before this one.
+    /// Puts another proof before this one, and leaves nothing in the other.
     pub(crate) fn prepend_proof(&mut self, other: &mut Proof) -> Tried<()> {
         self.needs.append(&mut other.needs)?;
         Ok(self.reversed.append(&mut other.reversed)?)
     }
 
-    /// Puts a step of from-read or of write-order before the others, which needs its path.
+    /// Puts a step of from-read or of write-order before the others. The step needs its path.
     pub(crate) fn derive(&mut self, derived: Derived) -> Tried<()> {
         self.need(&derived.path)?;
         Ok(self.reversed.push(Line::Derived(derived))?)
     }
 
-    /// Closes a case by a fact in it and a path that leads back, which is needed.
+    /// Closes a case by a fact in it and a path that leads back. The step needs the path.
     pub(crate) fn close(&mut self, fact: u32, mut path: Vec<u32>) -> Tried<()> {
         self.need(&path)?;
         path.insert(0, fact)?;
         Ok(self.reversed.push(Line::Cycle(path))?)
     }
 
-    /// Needs facts.
+    /// Adds facts to those that are needed.
     pub(crate) fn need(&mut self, facts: &[u32]) -> Tried<()> {
         Ok(self.needs.extend(facts)?)
     }
 
-    /// Takes the last fact that is needed away.
+    /// Takes away the last fact that is needed.
     pub(crate) fn take_need(&mut self) -> Option<u32> {
         self.needs.pop_last()
     }

@@ -6,8 +6,8 @@ use super::stores::count_first;
 use numbered_trace::{CoreSet, Place, START, Tried, put};
 
 impl Knowledge<'_> {
-    /// Gives a read its source, after which the first store of each core comes after the read. All is to be concluded from
-    /// the read.
+    /// Gives a read its source. The first store of each core after that source comes after the read. Notes that everything
+    /// is to be concluded from the read.
     pub(crate) fn set_source(&mut self, read: Place, source: Place) -> Tried<()> {
         let number = self.add(source, read, Reason::Source(source))?;
         put(&mut self.facts.sources, read, number)?;
@@ -15,7 +15,8 @@ impl Knowledge<'_> {
         self.note(read, CoreSet::ALL)
     }
 
-    /// A read's source lies from one store to another of the same core. All is to be concluded from the read.
+    /// Adds that a read's source lies in the range from one store to another of the same core. Notes that everything is to be concluded from the
+    /// read.
     pub(crate) fn set_range(&mut self, read: Place, first: Place, last: Place) -> Tried<()> {
         let number = self.add(first, read, Reason::Source(last))?;
         self.facts.set_range(read, number)?;
@@ -23,7 +24,7 @@ impl Knowledge<'_> {
         self.note(read, CoreSet::ALL)
     }
 
-    /// The first store of each core after the last one that a read's source may be comes after the read, by this fact.
+    /// Adds, by this fact, that the first store of each core after the last one that may be a read's source comes after the read.
     pub(crate) fn order_stores_after(&mut self, read: Place, fact: u32, last: Place) -> Tried<()> {
         for core in self.operations.cores() {
             if let Some(store) = self.first_store_after(last, core, read) {
@@ -46,7 +47,7 @@ impl Knowledge<'_> {
         later.find(|store| *store != source && *store != read)
     }
 
-    /// The stores before a read whose clock rose for some cores are before its source.
+    /// Adds that these cores' stores before a read are before its source. The read's clock rose for these cores.
     pub(crate) fn order_stores_before(&mut self, read: Place, cores: CoreSet) -> Tried<()> {
         let Some((number, _, source)) = self.facts.source(read) else {
             return Ok(());
@@ -61,8 +62,9 @@ impl Knowledge<'_> {
         Ok(())
     }
 
-    /// The reads of the stores before a store whose clock rose for some cores are before it. Each core's last store before it
-    /// stands for the others, and the own core's for those before that one, to which the rule was applied already.
+    /// Adds that what reads these cores' stores before a store is before that store, whose clock rose for these cores. Each
+    /// core's last store before it stands for the others, and the own core's for those before that one, to which the rule
+    /// was applied already.
     pub(crate) fn order_reads_before(&mut self, store: Place, cores: CoreSet) -> Tried<()> {
         let operation = self.operations.get(store);
         if !operation.stores() {
@@ -79,7 +81,7 @@ impl Knowledge<'_> {
         Ok(())
     }
 
-    /// The reads of one store are before another, which is after it.
+    /// Adds that what reads one store is before another, which is after that one.
     fn order_readers(&mut self, source: Place, store: Place) -> Tried<()> {
         let mut next = self.facts.latest(source);
         for _ in 0..self.facts.all.len() {

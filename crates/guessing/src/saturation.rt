@@ -8,15 +8,15 @@ use numbered_trace::{
 /// How many operations of a core come in before the next core's.
 const TURN: u32 = 4;
 
-/// As many pairs of cores are looked at in a step, where an open read is looked at.
+/// How many pairs of cores one step of the budget covers when it looks at an open read.
 const PAIRS: u64 = 20;
 
-/// Where the candidates of a read lie that aren't excluded.
+/// Where those candidates of a read lie that aren't excluded.
 #[derive(Clone, Copy)]
 enum Left {
     /// There is none.
     Nothing,
-    /// From one to another of the same core; the first may be the START.
+    /// In the range from one to another of the same core; the first may be START.
     Range(Place, Place),
     /// In several cores.
     Several,
@@ -34,7 +34,7 @@ impl Knowledge<'_> {
         self.settle_sources(watch)
     }
 
-    /// Lets some operations of each core come in that don't wait for their source. Says whether any came.
+    /// Lets some operations of each core come in, those that don't wait for their source. Says whether any came.
     fn enter_turn(&mut self) -> Tried<bool> {
         let mut came = false;
         for turn in 0..self.operations.cores().end.saturating_mul(TURN) {
@@ -48,7 +48,7 @@ impl Knowledge<'_> {
         Ok(came)
     }
 
-    /// Lets the next operation of some core come in, where all of them wait: there is a cycle, which will show.
+    /// Lets the next operation of some core come in when all of them wait: there is a cycle, which will show. Says whether one came.
     fn enter_any(&mut self) -> Tried<bool> {
         let mut cores = self.operations.cores();
         let next = cores.find_map(|core| self.operations.next(&self.entered, core));
@@ -102,7 +102,7 @@ impl Knowledge<'_> {
         Err(Stop::GivenUp)
     }
 
-    /// What follows for the others from an operation whose clock rose for some cores.
+    /// Concludes for the other operations what follows from one whose clock rose for some cores.
     fn conclude_from(&mut self, place: Place, cores: CoreSet) -> Tried<()> {
         let next = place.saturating_add(1);
         if next < at(&self.entered, self.operations.core(place)) {
@@ -121,7 +121,7 @@ impl Knowledge<'_> {
         self.order_reads_before(place, cores)
     }
 
-    /// Gives each open read its source of which all candidates but one are excluded, until there is none.
+    /// Settles the open reads, one after the other, until none of them brings a new fact.
     fn settle_sources<W: SearchWatch>(&mut self, watch: &W) -> Tried<()> {
         let count = self.open.len().max(1);
         let mut idle = 0usize;
@@ -142,7 +142,7 @@ impl Knowledge<'_> {
         Ok(())
     }
 
-    /// Gives an open read its source, where all candidates but one are excluded. Says whether it did.
+    /// Gives an open read its source if all candidates but one are excluded, or else the range of the others. Says whether that brought a new fact.
     fn settle(&mut self, read: Place) -> Tried<bool> {
         if at(&self.facts.sources, read) != NONE {
             return Ok(false);
@@ -158,7 +158,7 @@ impl Knowledge<'_> {
         Ok(self.facts.all.len() > facts)
     }
 
-    /// A read's source lies in a range. Where that was known the rules are applied again.
+    /// Adds that a read's source lies in a range. If that was known, applies the rule for the stores after it again.
     fn narrow(&mut self, read: Place, first: Place, last: Place) -> Tried<()> {
         match self.facts.source(read) {
             Some((number, from, to)) if (from, to) == (first, last) => {
@@ -168,7 +168,7 @@ impl Knowledge<'_> {
         }
     }
 
-    /// Where the candidates of a read lie that aren't excluded.
+    /// Where those candidates of a read lie that aren't excluded.
     fn left(&self, read: Place) -> Tried<Left> {
         let hiding = self.last_stores(read)?;
         let mut left = Left::Nothing;
@@ -185,7 +185,7 @@ impl Knowledge<'_> {
         Ok(left)
     }
 
-    /// The candidates of a read that are a core's and aren't excluded, where these are the last stores before the read.
+    /// A core's candidates of a read that aren't excluded, if `hiding` are the last stores before the read.
     fn left_of(&self, read: Place, core: u32, hiding: &[Place]) -> &[Place] {
         let operation = self.operations.get(read);
         let stores = self
@@ -199,7 +199,7 @@ impl Knowledge<'_> {
     }
 }
 
-/// The places of a list from one number up to another; none where it has not so many.
+/// The places of a list from one number up to another; none if the list doesn't have them all.
 pub(crate) fn cut(places: &[Place], from: usize, to: usize) -> &[Place] {
     places.get(from..to).unwrap_or(&[])
 }

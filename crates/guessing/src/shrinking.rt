@@ -1,6 +1,6 @@
 //! Shorter proofs: what refutes a few of the operations refutes them all.
 //!
-//! With each read that is kept all its candidates are kept, so what the small trace can't have the large one can't.
+//! A small trace keeps all candidates of each read that it keeps. So if it has no order, the large one has none.
 
 use super::knowledge::Knowledge;
 use super::proof::Line;
@@ -14,12 +14,12 @@ use trace::Access;
 /// How many operations a small trace has at most.
 const LIMIT: usize = 3000;
 
-/// How many steps the search of a small trace may make: so many, and so many more for each operation.
+/// How many steps the search of a small trace may make: this many, and `STEPS_EACH` more for each operation.
 const STEPS: u64 = 2000;
 
 const STEPS_EACH: u64 = 20;
 
-/// A shortest proof so far, of a trace of which some operations are tried.
+/// The shortest proof so far that a trace has no order, and what it takes to find a shorter one.
 #[derive(Drop)]
 struct Shrinking<'a> {
     alloc: Global,
@@ -31,12 +31,12 @@ struct Shrinking<'a> {
     best: Vec<Line>,
     /// The operations that the lines name by their numbers in this list.
     places: Vec<Place>,
-    /// Those that are named, but for those of ranges.
+    /// Those that the lines name, except in ranges.
     named: Vec<Place>,
 }
 
-/// A proof that isn't longer than this one, of the trace of these cores: its lines, last one first, and the list by whose
-/// numbers they name operations.
+/// A proof no longer than this one for the trace of these cores: its lines, last one first, and the list by whose numbers
+/// they name operations.
 pub(crate) fn shrink<W: SearchWatch>(
     cores: &[Vec<Access>],
     known: &mut Knowledge,
@@ -63,7 +63,7 @@ pub(crate) fn shrink<W: SearchWatch>(
     Ok((shrinking.best, shrinking.places))
 }
 
-/// The operations that a proof names by their numbers in a list, but for those of ranges.
+/// The operations that a proof names by their numbers in a list, except in ranges.
 fn named(alloc: Global, proof: &[Line], places: &[Place]) -> Tried<Vec<Place>> {
     let mut named = Vec::new(alloc);
     for line in proof {
@@ -79,8 +79,8 @@ fn named(alloc: Global, proof: &[Line], places: &[Place]) -> Tried<Vec<Place>> {
 }
 
 impl Shrinking<'_> {
-    /// Leaves out each operation that is named, where the rest has a proof that isn't longer; first it leaves out
-    /// all that aren't named. Says whether some proof was shorter.
+    /// Leaves out all operations that aren't named, and then each named one, whenever the rest has a proof that isn't
+    /// longer. Says whether a proof got shorter; no if the steps ran out.
     fn leave_out_each<W: SearchWatch>(&mut self, watch: &W) -> Tried<bool> {
         let length = self.best.len();
         let before = self.named.to_vec(self.alloc)?;
@@ -98,7 +98,7 @@ impl Shrinking<'_> {
         Ok(self.best.len() < length)
     }
 
-    /// Takes a proof that some operations have no order, with all candidates of their reads, if one is found that
+    /// Takes over a proof that some operations, with all candidates of their reads, have no order, if it finds one that
     /// isn't longer.
     fn attempt(&mut self, kept: &[Place]) -> Tried<()> {
         let places = self.with_candidates(kept)?;
@@ -126,7 +126,7 @@ impl Shrinking<'_> {
         }
     }
 
-    /// What comes before all operations, and some of them with all candidates of their reads, in the order of places.
+    /// START, and some operations with all candidates of their reads, in the order of places.
     fn with_candidates(&self, kept: &[Place]) -> Tried<Vec<Place>> {
         let mut places = kept.to_vec(self.alloc)?;
         places.push(START)?;
@@ -139,7 +139,7 @@ impl Shrinking<'_> {
         Ok(places)
     }
 
-    /// The trace of the operations at these places. A swap that isn't kept is there for what it stores alone.
+    /// The trace of the operations at these places. A swap that isn't kept becomes a store of its word.
     fn small_trace(&self, places: &[Place], kept: &[Place]) -> Tried<Vec<Vec<Access>>> {
         let none = self.cores.iter().map(|_| Vec::new(self.alloc));
         let mut trace: Vec<Vec<Access>> = none.collect(self.alloc)?;

@@ -15,7 +15,7 @@ pub(crate) struct Stores {
 }
 
 impl Stores {
-    /// The stores of these operations, to so many addresses. None is active.
+    /// The stores of these operations, to this many addresses. None is active.
     pub(crate) fn new(alloc: Global, operations: &Operations, addresses: u32) -> Tried<Stores> {
         let all = 0..short(operations.all.len())?;
         let stored = all.filter(|place| operations.get(*place).stores());
@@ -59,12 +59,12 @@ impl Stores {
     }
 }
 
-/// The slot of an address and a core, where there are so many cores.
+/// The slot of an address and a core, if there are this many cores.
 fn slot(cores: u32, address: u32, core: u32) -> u32 {
     address.saturating_mul(cores).saturating_add(core)
 }
 
-/// How many of the first of these places are such, where those that are stand first. It looks from the end on.
+/// How many of these places are such, if those that are stand first. Looks from the end on.
 pub(crate) fn count_first<F: Fn(Place) -> bool>(places: &[Place], is_such: F) -> usize
     requires { F.IsAlwaysCallable is_such }
 {

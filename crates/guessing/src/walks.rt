@@ -4,7 +4,7 @@ use numbered_trace::{Budget, Classes, Operations, Place, SearchWatch, Tried};
 use state_walk::{Walk, Walked, groups_of};
 use std::alloc::Global;
 
-/// The groups that are left, and the order that was found of the others.
+/// The groups that are left, and the order found for the others.
 #[derive(Drop)]
 pub(crate) struct Walks<'a> {
     alloc: Global,
@@ -14,13 +14,13 @@ pub(crate) struct Walks<'a> {
     are_distinct: bool,
     /// The walk that stopped before it came to an order.
     pub(crate) stopped: Option<Walk<'a>>,
-    /// What was come to.
+    /// What the walks have come to.
     pub(crate) walked: Walked,
     pub(crate) order: Vec<Place>,
 }
 
 impl<'a> Walks<'a> {
-    /// No group was walked.
+    /// Walks of which none has begun.
     pub(crate) fn new(
         alloc: Global,
         operations: &'a Operations,
@@ -39,7 +39,7 @@ impl<'a> Walks<'a> {
         })
     }
 
-    /// Walks on, until there is an order of all or one walk stops. Operations come after what these clocks tell, which may be none.
+    /// Walks on, until there is an order of all or one walk stops. Each operation comes after what these clocks put before it; they may be empty.
     pub(crate) fn run<W: SearchWatch>(
         &mut self,
         clocks: &mut Vec<Place>,
@@ -66,7 +66,7 @@ impl<'a> Walks<'a> {
         Ok(())
     }
 
-    /// Has the walk that stopped begin anew: where more is known, other states follow each other.
+    /// Makes the walk that stopped begin anew: with more known, the states follow each other differently.
     pub(crate) fn restart(&mut self) -> Tried<()> {
         if let Some(walk) = self.stopped.take() {
             self.groups.push(walk.cores().to_vec(self.alloc)?)?;

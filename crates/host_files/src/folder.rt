@@ -14,15 +14,15 @@ pub trait Folder {
     /// A file that was opened, at its first byte.
     type Source: ByteSource + Drop;
 
-    /// Opens the file of a name, whose bytes are those that the folder tells; 28 Read where the folder refuses it, whose name is kept, and
-    /// 10 where a growth was refused.
+    /// Opens the file of a name, whose bytes are those that the folder tells. It answers 28 Read if the folder refuses the file, and keeps the file's
+    /// name then; and 10 if memory was refused.
     fn open_file(&mut self, name: &str) -> Result<Self::Source, ReadFault>
         ensures opened { IfOk result (λ source. IfSome ((files self.old).told name.now)
             (λ bytes. Self.Source.remaining source ≡ Some bytes)) }
         ensures refused { IsOpened name.now result (files self.old) (files self.new) };
 
-    /// Puts a file of these bytes under a name, in place of any that is there; 29 Write where that
-    /// fails, which is counted. What the folder tells of other names stays.
+    /// Puts a file of these bytes under a name, in place of any that is there. It answers 29 Write if that fails, and counts
+    /// the failure. What the folder tells of other names stays.
     fn put(&mut self, name: &str, bytes: &[u8]) -> Result<(), WriteFailed>
         ensures bytes { OnOk result (Tells ((files self.new).told name.now) bytes.now) }
         ensures others { (other : List ℕ) → other ≢ name.now

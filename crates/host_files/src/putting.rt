@@ -5,9 +5,9 @@ use std::fs;
 use std::fs::File;
 use std::io::Write;
 
-/// Puts a file of these bytes under a name, in place of any that is there. It is written beside that, under the name with `.new`, and then takes
-/// its place, so a write that fails leaves the name as it was. Only what isn't a plain file, as a device, a pipe or a link, and a name beside
-/// which no file can be made, is written to as it stands.
+/// Puts a file of these bytes under a name, in place of any that is there. It writes the file beside that, under the name with `.new`, and then lets
+/// it take the place, so a write that fails leaves the name as it was. It writes straight to what isn't a plain file, such as a device, a pipe or a
+/// link, to a read-only file, and to a name beside which no file can be made.
 pub(crate) fn put(rt: &HostRuntime, name: &str, bytes: &[u8]) -> Result<(), WriteFailed> {
     let Ok(beside) = format!(in rt.alloc(); "{name}.new") else {
         return Err(WriteFailed);
@@ -33,7 +33,7 @@ fn is_replaceable(rt: &HostRuntime, name: &str) -> bool {
     }
 }
 
-/// What a put that went so answers.
+/// The answer of a put that worked, or of one that failed.
 fn written(is_put: bool) -> Result<(), WriteFailed> {
     if is_put { Ok(()) } else { Err(WriteFailed) }
 }

@@ -21,7 +21,7 @@ impl RefusedNames {
         }
     }
 
-    /// One name more. Err where a growth was refused.
+    /// Adds a name. Err if memory was refused.
     pub fn push(&mut self, alloc: Global, name: &str) -> Result<(), AllocError>
         ensures ok { OnOk result (names_in self.new ≡ names_in self.old ++ name.now ∷ []) }
         ensures err { OnErr result (names_in self.new ≡ names_in self.old) }

@@ -18,8 +18,8 @@ pub enum HostSource<F, I> {
     Input(FromRead<I>),
 }
 
-/// Opens the file of a name. `/dev/stdin` is the standard input itself, since whoever may read that may still be refused to open it by
-/// its name.
+/// Opens the file of a name; Err if the host refuses it. `/dev/stdin` is the standard input itself, since the host may refuse to open that by its
+/// name to someone who may read it.
 pub fn open(rt: &HostRuntime, name: &str) -> Result<HostSource<File, Stdin>, ReadFailed>
     ensures { OnErr result (IsTrue (is_on_disk name.now)) }
 {

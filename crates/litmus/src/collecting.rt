@@ -1,4 +1,4 @@
-//! What tables of all kinds of runs share.
+//! What the tables of all kinds of runs share.
 
 ghost use Rattle.std.specs.Prelude.{◌≡◌, ◌↔◌, ℕ, List, IfErr, IfOk, IsOk, MatchResult, length};
 ghost use Rattle.litmus.specs.Collecting.{AreRowsOf, IsRunCount};
@@ -40,7 +40,7 @@ pub(crate) struct Kept {
     pub(crate) counts: RunCounts,
 }
 
-/// What is kept of a run that has ended, whose logs get Yes.
+/// What is kept of a run that has ended, if its logs get Yes.
 pub(crate) fn keep<R: Threads + Sync, E: Ended + RunParts>(
     rt: &R,
     alloc: Global,
@@ -59,7 +59,7 @@ pub(crate) fn keep<R: Threads + Sync, E: Ended + RunParts>(
     Ok(Kept { outcome, counts })
 }
 
-/// Whether a table is made of this number of runs.
+/// Ok if a table may have this number of runs; otherwise BadRuns.
 pub(crate) fn check_runs(runs: u64) -> Result<(), CollectFault>
     ensures ok { IsOk result ↔ IsRunCount runs }
     ensures err { IfErr result (λ fault. fault ≡ BadRuns) }
@@ -70,7 +70,7 @@ pub(crate) fn check_runs(runs: u64) -> Result<(), CollectFault>
     Ok(())
 }
 
-/// The table of outcomes that are counted.
+/// The table of the outcomes that were counted.
 pub(crate) fn table_of(
     alloc: Global,
     test: &Litmus,

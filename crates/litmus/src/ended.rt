@@ -18,7 +18,7 @@ pub trait Ended {
     /// The machine, as the relation of its events sees it.
     ghost at_end: { Self → World };
 
-    /// The records of a core; none where it isn't there.
+    /// The records of a core; none if it isn't there.
     fn log(&self, core: CoreId) -> &[Record]
         ensures records { result.now ≡ log_at (at_end self.now) core }
         ensures few { length result.now ≤ operation_limit };

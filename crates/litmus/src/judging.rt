@@ -25,7 +25,7 @@ use std::alloc::Global;
 use std::thread::Threads;
 use verdict::{JudgeFault, OpenGate, Verdict, judge_run};
 
-/// The text of the log of a core, of `cores`.
+/// The text of the log of one of `cores` cores.
 fn log_text(
     alloc: Global,
     core: CoreId,
@@ -45,7 +45,7 @@ fn log_text(
     Ok(sink.bytes().to_vec(alloc)?)
 }
 
-/// The texts of the logs of so many cores.
+/// The texts of the logs of this many cores.
 fn log_texts<E: Ended>(alloc: Global, end: &E, cores: usize) -> Result<Vec<Vec<u8>>, RunCause>
     requires { cores ≤ 64 }
     ensures texts { IfOk result (λ texts.
@@ -77,8 +77,8 @@ fn sources_of<'a>(alloc: Global, texts: &'a [Vec<u8>]) -> Result<Vec<SliceSource
     Ok(sources)
 }
 
-/// The verdict on the logs that these texts spell, by one worker, the calling thread. As no count is out
-/// of range, no text has a fault and no source fails, it is refused for lack of memory alone.
+/// The verdict on the logs that these texts spell, by one worker, the calling thread. No count is out of range, no text has
+/// a fault and no source fails, so this is refused only for lack of memory.
 fn judge_texts<R: Threads + Sync>(
     rt: &R,
     alloc: Global,
@@ -94,7 +94,7 @@ fn judge_texts<R: Threads + Sync>(
     judge_run(rt, alloc, programs, sources.as_mut_slice(), 1, &OpenGate)
 }
 
-/// Ok where the verdict is Yes.
+/// Ok if the verdict is Yes; otherwise the fault that it names.
 fn check_yes(verdict: &Verdict) -> Result<(), RunCause>
     ensures { MatchResult result (λ _. IsYes verdict.now) (λ cause. IsNo verdict.now cause) }
 {
@@ -104,7 +104,7 @@ fn check_yes(verdict: &Verdict) -> Result<(), RunCause>
     }
 }
 
-/// Judges the logs of a run that has ended: Ok where they get Yes.
+/// Judges the logs of a run that has ended: Ok if they get Yes.
 fn judge_end<R: Threads + Sync, E: Ended>(
     rt: &R,
     alloc: Global,
@@ -124,7 +124,7 @@ fn judge_end<R: Threads + Sync, E: Ended>(
     }
 }
 
-/// The outcome of a run that has ended, whose logs get Yes.
+/// The outcome of a run that has ended, if its logs get Yes.
 pub(crate) fn judged_outcome<R: Threads + Sync, E: Ended>(
     rt: &R,
     alloc: Global,

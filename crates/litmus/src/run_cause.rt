@@ -17,7 +17,7 @@ pub enum RunCause {
     Threads(ThreadsFault),
     /// Its logs get No: this record breaks a rule.
     No(Fault),
-    /// A growth was refused: in its run, or where its logs were written and judged.
+    /// Memory was refused: in its run, or when its logs were written and judged.
     OutOfMemory,
 }
 

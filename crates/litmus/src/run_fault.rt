@@ -17,7 +17,7 @@ pub enum CollectFault {
     BadRuns,
     /// The first run that has no outcome that counts, and why.
     Run { run: u64, cause: RunCause },
-    /// A growth was refused.
+    /// Memory was refused.
     OutOfMemory,
 }
 

@@ -20,7 +20,7 @@ use std::collections::BTreeMap;
 use std::thread::Threads;
 use tardis_core::Core;
 
-/// The machine where the run of this seed has ended.
+/// The machine at the end of the run of this seed.
 fn simulate_run(alloc: Global, test: &Litmus, config: &Config, seed: u64) -> Result<Core, RunCause>
     ensures { MatchResult result
         (λ machine. IsSeededRun test.now config.now seed machine)
@@ -33,7 +33,7 @@ fn simulate_run(alloc: Global, test: &Litmus, config: &Config, seed: u64) -> Res
     Ok(machine)
 }
 
-/// What is kept of the run of this seed, whose logs get Yes.
+/// What is kept of the run of this seed; its logs get Yes.
 fn run_seeded<R: Threads + Sync>(
     rt: &R,
     alloc: Global,
@@ -46,15 +46,15 @@ fn run_seeded<R: Threads + Sync>(
         (λ cause. IsRunCause test.now config.now seed cause) }
     ensures yes { IfErr result (λ cause. ¬ (SaysNo cause)) }
 {
-    // The set tells with its length that it has 64 programs at most.
+    // The length of the set tells that it has 64 programs at most.
     test.programs().len();
     let machine = simulate_run(alloc, test, config, seed)?;
     keep(rt, alloc, test, config, &machine)
 }
 
-/// Runs a test so many times, 1..100,000, counts the outcomes, and adds up the runs' numbers. Run `k`, from 0, is by the rounds
-/// that the seed `seed + k`, wrapping, draws; its logs are judged against the test's programs, and get
-/// Yes. The first run that doesn't come to its end is answered in place of the table and the totals.
+/// Runs a test `runs` times, 1..100,000, counts the outcomes, and adds up the runs' numbers. Run `k`, from 0, goes by the
+/// rounds that the seed `seed + k`, wrapping, draws. Its logs are judged against the test's programs, and get Yes. If a run
+/// doesn't come to its end, the answer is the first such run in place of the table and the totals.
 pub fn collect_seeded<R: Threads + Sync>(
     rt: &R,
     alloc: Global,
@@ -63,14 +63,14 @@ pub fn collect_seeded<R: Threads + Sync>(
     runs: u64,
     seed: u64,
 ) -> Result<Collected, CollectFault>
-    // There are runs, one for each number, whose outcomes the table counts and whose numbers the totals add up, or a first one that
-    // has no outcome.
+    // There are runs, one for each number: the table counts their outcomes, and the totals add up their numbers. Or there is a
+    // first one that has no outcome.
     ensures runs { MatchResult result
         (λ collected. IsSeededTable test.now config.now runs seed collected)
         (λ fault. IsCollectFault test.now config.now runs seed fault) }
-    // No run is told whose logs get No: those of every run get Yes.
+    // It tells of no run whose logs get No: those of every run get Yes.
     ensures yes { IfErr result (λ fault. ¬ (TellsNo fault)) }
-    // 6 comes exactly where the number of runs is out of range.
+    // 6 comes exactly if the number of runs is out of range.
     ensures range { IsErrOf result BadRuns ↔ IsBadRunCount runs }
 {
     check_runs(runs)?;

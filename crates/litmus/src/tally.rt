@@ -32,7 +32,7 @@ pub(crate) fn count_outcome(
     Ok(())
 }
 
-/// The rows of a tally: an outcome each, in ascending order.
+/// The rows of a tally, one for each outcome, in ascending order.
 pub(crate) fn rows_of(
     alloc: Global,
     test: &Litmus,

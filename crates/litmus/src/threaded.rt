@@ -29,7 +29,7 @@ impl Pace for Unpaced {
     }
 }
 
-/// What is kept of a run by threads, whose logs get Yes.
+/// What is kept of a run by threads; its logs get Yes.
 fn run_threaded<R: Threads + Wait + Sync>(
     rt: &R,
     alloc: Global,
@@ -47,9 +47,9 @@ fn run_threaded<R: Threads + Wait + Sync>(
     }
 }
 
-/// Runs a test so many times, 1..100,000, counts the outcomes, and adds up the runs' numbers. Each run has a thread for each
-/// core, and comes to its end by the order in which these happen to go on; its logs are judged against the test's
-/// programs, and get Yes. The first run that doesn't come to its end is answered in place of the table and the totals. May wait for its threads.
+/// Runs a test `runs` times, 1..100,000, counts the outcomes, and adds up the runs' numbers. Each run has a thread for each core, and comes to its
+/// end by the order in which these happen to go on. Its logs are judged against the test's programs, and get Yes. If a run doesn't come to its end,
+/// the answer is the first such run in place of the table and the totals. May wait for its threads.
 pub fn collect_threaded<R: Threads + Wait + Sync>(
     rt: &R,
     alloc: Global,
@@ -57,14 +57,14 @@ pub fn collect_threaded<R: Threads + Wait + Sync>(
     config: &Config,
     runs: u64,
 ) -> Result<Collected, CollectFault>
-    // There are runs, one for each number, whose outcomes the table counts and whose numbers the totals add up, or a first one that
-    // has no outcome.
+    // There are runs, one for each number: the table counts their outcomes, and the totals add up their numbers. Or there is a
+    // first one that has no outcome.
     ensures runs { MatchResult result
         (λ collected. IsThreadTable test.now config.now runs collected)
         (λ fault. IsThreadFault test.now config.now runs fault) }
-    // No run is told whose logs get No: those of every run get Yes.
+    // It tells of no run whose logs get No: those of every run get Yes.
     ensures yes { IfErr result (λ fault. ¬ (TellsNo fault)) }
-    // 6 comes exactly where the number of runs is out of range.
+    // 6 comes exactly if the number of runs is out of range.
     ensures range { IsErrOf result BadRuns ↔ IsBadRunCount runs }
 {
     check_runs(runs)?;

@@ -10,7 +10,7 @@ use decimal_text::after_text;
 use std::alloc::{AllocError, Global};
 use text_lines::next_line;
 
-/// The most outcomes that are forbidden.
+/// The most outcomes that a test forbids.
 const FORBID_LIMIT: usize = 16;
 
 /// What the lines after the sections say.
@@ -31,7 +31,7 @@ pub(crate) struct Forbids {
     pub(crate) taken: usize,
 }
 
-/// Whether bytes are there that begin neither with `core ` nor with `show `.
+/// Whether there are bytes, and they begin neither with `core ` nor with `show `.
 fn begins_instruction(bytes: &[u8]) -> bool
     ensures { MatchBool result (BeginsInstruction bytes.now) (BeginsInstruction bytes.now → ⊥) }
 {
@@ -40,7 +40,7 @@ fn begins_instruction(bytes: &[u8]) -> bool
         && after_text(b"show ", bytes).is_none()
 }
 
-/// The fault of a line that is wrong where sections may go on, of which so many have begun.
+/// The fault of a wrong line where sections may go on, after this many have begun.
 pub(crate) fn wrong_line(line: u64, begun: u64, bytes: &[u8]) -> LitmusFault
     ensures { IsWrongLine line begun bytes.now result }
 {
@@ -51,7 +51,7 @@ pub(crate) fn wrong_line(line: u64, begun: u64, bytes: &[u8]) -> LitmusFault
     }
 }
 
-/// The forbidden outcomes, of so many registers, whose lines bytes begin with, 16 at most.
+/// The forbidden outcomes, 16 at most and each of this many registers, whose lines the bytes begin with.
 fn read_forbids(alloc: Global, count: usize, text: &[u8]) -> Result<Forbids, AllocError>
     ensures { IfOk result (AreForbidsOf count text.now) }
 {

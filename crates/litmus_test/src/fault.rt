@@ -16,14 +16,14 @@ use thiserror::Error;
 pub enum LitmusFault {
     /// At this line: it is no instruction line, and isn't as the format says, or it is missing.
     BadLitmusLine(u64),
-    /// At this line: it is an instruction line that isn't an instruction's.
+    /// At this line: it is an instruction line that spells no instruction.
     BadLine(u64),
     /// At this line: it is the 4,097th instruction of its section.
     TooLong(u64),
-    /// At this line: it is a jump further than to just past the last instruction of its program. No
-    /// line is bad or too long.
+    /// At this line: it is a jump that goes further than just past the last instruction of its program. No line is bad or
+    /// too long.
     SkipPastEnd(u64),
-    /// A growth was refused.
+    /// Memory was refused.
     OutOfMemory,
 }
 

@@ -27,14 +27,14 @@ pub(crate) struct Header<'a> {
     pub(crate) cores: u64,
 }
 
-/// Whether a byte is one of a name.
+/// Whether a byte may stand in a name.
 fn is_name_byte(byte: u8) -> bool
     ensures { result ≡ is_name_byte byte }
 {
     matches!(byte, b'0'..=b'9' | b'A'..=b'Z' | b'a'..=b'z' | b'+' | b'-')
 }
 
-/// How many bytes of a name come first.
+/// How many of the first bytes may stand in a name.
 fn name_len(bytes: &[u8]) -> usize
     ensures value { result ≡ name_len bytes.now }
     ensures within { result ≤ length bytes.now }
@@ -87,7 +87,7 @@ fn format_at(line: &[u8]) -> Option<(ProgramFormat, &[u8])>
     }
 }
 
-/// What a first line tells; None where it isn't one.
+/// What a first line tells; None if it isn't one.
 #[tactic(auto, unfolding(crate::specs::inner::Reading::head_of))]
 fn header_of(line: &[u8]) -> Option<Header<'_>>
     ensures { option_map head result ≡ head_of line.now }
@@ -102,7 +102,7 @@ fn header_of(line: &[u8]) -> Option<Header<'_>>
     })
 }
 
-/// What the first line tells, and the bytes after it; None where it isn't as it should be.
+/// What the first line tells, and the bytes after it; None if it isn't as it should be.
 pub(crate) fn after_header(text: &[u8]) -> Option<(Header<'_>, &[u8])>
     ensures found { IfSome result (λ read. ItemInFront head_text IsHead (head read.0) text.now read.1.now) }
     ensures none { IsNone result → NoItemInFront head_text IsHead text.now }

@@ -54,9 +54,9 @@ impl Litmus {
     /// instructions of the format for each core, a line of the shown registers, the lines of the forbidden outcomes, `end`, each line ended
     /// by a line feed, and nothing after.
     ///
-    /// The first line that isn't so, or is missing, is told: BadLine where it is an instruction line,
-    /// TooLong where it is a section's 4,097th instruction, else BadLitmusLine. Where there is none,
-    /// SkipPastEnd at the first jump past the end of its program.
+    /// It refuses the text at the first line that isn't so, or is missing: with BadLine if that is an instruction line, with
+    /// TooLong if it is a section's 4,097th instruction, and otherwise with BadLitmusLine. If there is no such line, it
+    /// refuses with SkipPastEnd at the first jump past the end of its program. OutOfMemory comes if memory was refused.
     pub fn parse(alloc: Global, text: &[u8]) -> Result<Litmus, LitmusFault>
         ensures { MatchResult result
             (λ test. Spells text.now test × AllByRecursion IsProgram test.programs)

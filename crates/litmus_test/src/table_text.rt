@@ -63,9 +63,9 @@ fn print_table(alloc: Global, table: &Table) -> Result<Vec<u8>, AllocError>
     text_of(writer)
 }
 
-/// Writes a table as comma-separated values: a line of the shown registers, `count` and `forbidden`,
-/// and then a line for each row. Its text is made first: 10 where memory ran out. 29 comes where a
-/// write failed; what the sink took by then is a beginning of the text.
+/// Writes a table as comma-separated values: a line of the shown registers, `count` and `forbidden`, and then a line for
+/// each row. It makes the text first: 10 comes if memory ran out. 29 comes if a write failed; what the sink took by then is
+/// a beginning of the text.
 pub fn write_table<W: ByteSink>(
     alloc: Global,
     sink: &mut W,
@@ -75,12 +75,12 @@ pub fn write_table<W: ByteSink>(
         (Appends (W.contents sink.old) (W.contents sink.new) (table_text table.now)) }
     ensures begun { (n : ℕ) × (n ≤ length (table_text table.now))
         × Appends (W.contents sink.old) (W.contents sink.new) (take n (table_text table.now)) }
-    // A failed write is answered only where the sink failed in this call.
+    // It answers that a write failed only if the sink failed in this call.
     ensures failed { IsErrOf result WriteFault.Write →
         Failed (W.failed sink.old) (W.failed sink.new) }
-    // Where there was no memory for the text, nothing was written.
+    // If there was no memory for the text, it wrote nothing.
     ensures unmade { IsErrOf result WriteFault.OutOfMemory → sink.new ≡ sink.old }
-    // And no failed write is passed over.
+    // And it passes over no failed write.
     ensures quiet { ¬ IsErrOf result WriteFault.Write → W.failed sink.new ≡ W.failed sink.old }
 {
     let text = print_table(alloc, table)?;

@@ -26,8 +26,7 @@ impl Model for Shown {
     ghost inverse = { λ shown. record { core = shown.core; register = shown.register } };
 }
 
-/// A litmus test: programs of 1..64 cores, 1..8 registers that are shown, and at most 16 outcomes that
-/// are forbidden.
+/// A litmus test: programs of 1..64 cores, 1..8 registers that it shows, and at most 16 outcomes that it forbids.
 #[derive(Drop)]
 pub struct Litmus {
     name: Vec<u8>,

@@ -14,10 +14,10 @@ use mem_op::CoreId;
 use std::alloc::{AllocError, Global};
 use text_lines::{ends_word, next_line, read_spaced};
 
-/// The most registers that are shown.
+/// The most registers that a test shows.
 const SHOWN_LIMIT: usize = 8;
 
-/// The core of this number, where it is below `cores`, and below 64.
+/// The core of this number, if it is below `cores`, and below 64.
 fn core_of(cores: u64, number: u64) -> Option<CoreId>
     ensures { result ≡ below (min cores 64) number }
 {
@@ -37,7 +37,7 @@ fn shown_field(cores: u64, bytes: &[u8]) -> Option<(CoreId, Register, &[u8])>
     ends_word(rest).then_some((core, register, rest))
 }
 
-/// Adds the register that bytes begin with, where they begin with one, and answers the bytes after it.
+/// Adds the register that the bytes begin with, if they begin with one, and gives the bytes after it.
 fn push_shown<'a>(
     cores: u64,
     shown: &mut Vec<Shown>,
@@ -55,7 +55,7 @@ fn push_shown<'a>(
     Ok(Some(rest))
 }
 
-/// Whether no bytes are left, and so many registers may be shown.
+/// Whether no bytes are left, and a test may show this many registers.
 fn are_registers(rest: &[u8], found: usize) -> bool
     ensures { MatchBool result
         ((rest.now ≡ []) × (1 ≤ found) × (found ≤ 8))
@@ -71,7 +71,7 @@ fn are_values(rest: &[u8], found: usize, count: usize) -> bool
     rest.is_empty() && found == count
 }
 
-/// The registers whose line this is; none where it isn't one.
+/// The registers whose line this is; none if it isn't such a line.
 pub(crate) fn read_show(
     alloc: Global,
     cores: u64,
@@ -97,7 +97,7 @@ pub(crate) fn read_show(
     }
 }
 
-/// The outcome of so many registers whose line is the first, and the bytes after it; none where it isn't such a line.
+/// The outcome of this many registers that the first line tells, and the bytes after that line; none if it isn't such a line.
 pub(crate) fn read_forbid<'a>(
     alloc: Global,
     count: usize,

@@ -1,5 +1,5 @@
-//! The worked rows of `docs/protocol`, call by call. A call whose growth is refused answers 10 and changes nothing; made again with
-//! memory it answers as in the row. None is refused here: `refuse-growths` refuses each in turn.
+//! The worked rows of `docs/protocol`, call by call. A call whose growth is refused answers 10 and changes nothing; made again with memory, it
+//! answers as in the row. No growth is refused here: `refuse-growths` refuses each in turn.
 
 ghost use Rattle.std.specs.Prelude.{◌<◌};
 
@@ -31,7 +31,7 @@ fn store(cache: &mut PrivateCache, value: u64, index: usize, pts: u32) -> Result
     cache.store(addr(0), value, id(index), stamp(pts), Rank::ZERO)
 }
 
-/// What a store answers that hits at this stamp.
+/// What a store that hits at this stamp answers.
 fn hit(at: u32, rank: Rank) -> Result<Store, StampFault> {
     let stamp = stamp(at);
     Ok(Store::Hit { stamp, rank })
@@ -141,7 +141,7 @@ fn came(machine: &mut Core, event: &Event) -> Result<Outcome, CoreFault> {
     first
 }
 
-/// The slice wants the core's own line back.
+/// The recall by which the slice wants the core's own line back.
 fn own() -> Recall {
     recall(0, 0, RecallKind::Flush, 0)
 }
@@ -185,7 +185,7 @@ fn events() -> [Event; 17] {
     ]
 }
 
-/// These events come to what the row says.
+/// Checks that these events come to what the row says.
 fn come(rt: &impl Abort, machine: &mut Core, events: &[Event]) {
     let stamps = LineStamps::at(stamp(1), Rank::ZERO);
     let given = flushed(0, Line::new(1, Source::Store(id(0)), stamps));

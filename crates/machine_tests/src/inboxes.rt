@@ -1,4 +1,4 @@
-//! The inbox of a core, and slices that are served through ports.
+//! The inbox of a core, and slices that are asked through ports.
 
 use super::values::*;
 use inbox::Inbox;
@@ -36,7 +36,7 @@ fn recalls_wait_in_an_inbox(rt: HostRuntime) -> Result<(), Fail> {
     Ok(())
 }
 
-/// Messages of two cores to two slices, with a lease of 10: the second line is then another's.
+/// Messages of two cores to two slices, with a lease of 10: the second line then belongs to another core.
 fn answers(rt: &impl Abort, port: &mut impl Port) {
     let busy = Reply::Busy(recall(1, 1, RecallKind::WriteBack, 12));
     let (zero, one) = (core(0), core(1));
@@ -50,7 +50,7 @@ fn answers(rt: &impl Abort, port: &mut impl Port) {
     }
 }
 
-/// Each slice has its own number, and served one message.
+/// Checks that each slice has its own number, and served one message.
 fn served(rt: &impl Abort, slices: &[ManagerSlice]) {
     assert_eq!(rt; slices.len(), 2);
     for (number, slice) in slices.iter().enumerate() {

@@ -5,11 +5,11 @@ use mem_op::CoreId;
 use std::sync::atomic::{AtomicU64, Ordering};
 use std::thread;
 
-/// As often as a pace looks for what it waits for: fifty seconds or more, and longer where other programs want the processors.
+/// How often a pace looks for what it waits for: for fifty seconds or more, and longer if other programs want the processors.
 const LOOKS: u64 = 100_000_000;
 
-/// Looks until something has come to this number, or says Stop. Between two looks other threads may have the processor, so that
-/// what is waited for comes where there is only one.
+/// Looks until something has come to this number, and says Stop if it never does. Between two looks other threads may have
+/// the processor, so that what it waits for comes even if there is only one.
 fn wait_for(seen: &AtomicU64, number: u64) -> Go {
     for _ in 0..LOOKS {
         if seen.load(Ordering::SeqCst) >= number {
@@ -43,8 +43,8 @@ impl Pace for StopsCore0 {
     }
 }
 
-/// A pace that keeps core 0 after its first operation until core 1 has begun so many turns for its second one, and core 1 after its
-/// first until core 0 has performed its own.
+/// A pace that keeps core 0 after its first operation until core 1 has begun this many turns for its second one, and core 1 after its first until
+/// core 0 has performed its own.
 #[derive(Drop)]
 pub(super) struct Kept {
     turns: u64,

@@ -20,7 +20,7 @@ use std::test::Fail;
 use std::thread::Threads;
 use verdict::{OpenGate, Verdict, judge};
 
-/// What a run in threads comes to, on so many slices and with so many turns for an operation.
+/// What a run in threads comes to, on this many slices and with this many turns for an operation.
 fn ran<P: Pace + Sync, R: Threads + Wait + Sync>(
     rt: &R,
     alloc: Global,
@@ -58,7 +58,7 @@ fn as_many_cores_and_slices_as_there_may_be(rt: HostRuntime) -> Result<(), Fail>
     Ok(())
 }
 
-/// Stores whose addresses don't ascend, nor descend.
+/// Stores whose addresses neither ascend nor descend.
 const SCATTERED: &[u8] = b"tardis-programs 1 cores 1\ncore 0\nst 5 1\nst 9 1\nst 2 1\nend\n";
 
 /// The core gets the line of an address as its owner.
@@ -108,7 +108,7 @@ fn fault_of<P: Pace + Sync, R: Threads + Wait + Sync>(
     }
 }
 
-/// The text of the log of a core of two.
+/// The text of the log of one of two cores.
 fn log_text(alloc: Global, number: usize, units: &[CoreUnit]) -> Result<Vec<u8>, Fail> {
     let records = units.get(number).ok_or("the core is there")?.log();
     if number >= 2 || records.len() > 2 {
@@ -120,7 +120,7 @@ fn log_text(alloc: Global, number: usize, units: &[CoreUnit]) -> Result<Vec<u8>,
     Ok(Vec::from_slice(alloc, text.bytes())?)
 }
 
-// Core 0 stops after its first operation. Core 1 goes on to its end, and what both did is consistent. The slice that both asked is left.
+// Core 0 stops after its first operation. Core 1 goes on to its end, and what both did is consistent. The fault has the slice that both asked.
 #[test]
 fn a_core_that_is_stopped(rt: HostRuntime) -> Result<(), Fail> {
     let fault = fault_of(&rt, rt.alloc(), CROSSING, 10_000_000, &StopsCore0)?;

@@ -32,7 +32,7 @@ pub(super) fn id(index: usize) -> OpId
     }
 }
 
-/// A line of value 0 and no store.
+/// A line with the value 0, which no store gave it.
 pub(super) fn initial(wts: u32, rts: u32) -> Line {
     let stamps = LineStamps::at(stamp(wts), Rank::ZERO);
     Line::new(0, Source::Init, stamps.leased_to(stamp(rts)))

@@ -6,16 +6,16 @@ ghost use Rattle.numbered_trace.specs.Steps.{Steps};
 use super::stop::{Stop, Tried};
 use std::marker::Model;
 
-/// How many steps are made, at least, between two calls of a watch.
+/// How many steps, at least, a search makes between two calls of a watch.
 const STEPS: u64 = 4096;
 
-/// What watches a search while it lasts. But that it may stop the search it changes nothing of it.
+/// What watches a search while it lasts. It may stop the search, and changes nothing else about it.
 pub trait SearchWatch {
-    /// Called each few thousand steps: the search has made so many of so many. It gives up where the answer is false.
+    /// Called every few thousand steps: the search has made `made` of its `budget` steps. It gives up if the answer is false.
     fn steps(&self, made: u64, budget: u64) -> bool
         requires { made ≤ budget };
 
-    /// Called when the search is over, before anything is told of what it found.
+    /// Called when the search is over, before anyone hears what it found.
     fn found(&self);
 }
 
@@ -36,9 +36,9 @@ impl SearchWatch for Unwatched {
 pub struct Budget {
     all: u64,
     left: u64,
-    /// How many have to be left for what comes later.
+    /// How many must be left for what comes later.
     kept: u64,
-    /// How many steps the watch was told that the search has made.
+    /// How many steps the search had made when the watch was last told.
     told: u64,
 }
 
@@ -56,7 +56,7 @@ impl Model for Budget {
 }
 
 impl Budget {
-    /// So many steps.
+    /// A budget of this many steps.
     pub fn new(steps: u64) -> Budget
         ensures { result ≡ record { all = steps; left = steps; kept = 0; told = 0 } }
     {
@@ -68,21 +68,21 @@ impl Budget {
         }
     }
 
-    /// How many steps may be made still.
+    /// How many steps may still be made.
     pub fn left(&self) -> u64
         ensures { result ≡ self.now.left - self.now.kept }
     {
         self.left.saturating_sub(self.kept)
     }
 
-    /// Keeps all but so many of the steps that are left for what comes later.
+    /// Allows this many of the steps that are left, and keeps the others for what comes later.
     pub fn allow(&mut self, steps: u64)
         ensures { self.new ≡ record self.old { kept = self.old.left - steps } }
     {
         self.kept = self.left.saturating_sub(steps);
     }
 
-    /// Makes steps. The search gives up where not so many may be made.
+    /// Makes these steps. The search gives up if it may not make as many.
     pub fn spend(&mut self, steps: u64) -> Tried<()>
         ensures made { OnOk result (self.new ≡ record self.old { left = self.old.left - steps }) }
         ensures within { OnOk result (steps ≤ self.old.left - self.old.kept) }
@@ -96,7 +96,7 @@ impl Budget {
         Ok(())
     }
 
-    /// Makes as many of these steps as may be made.
+    /// Makes these steps, or as many of them as may be made.
     pub fn use_up(&mut self, steps: u64)
         ensures few { self.old.left - self.new.left ≤ steps }
         ensures within { self.old.left - self.new.left ≤ self.old.left - self.old.kept }
@@ -105,8 +105,7 @@ impl Budget {
         self.left = self.left.saturating_sub(steps.min(self.left()));
     }
 
-    /// Tells a watch how many steps were made, where these are a few thousand more than it was told. The search gives up where the
-    /// watch asks for it.
+    /// Tells a watch how many steps were made, if these are a few thousand more than it was last told. The search gives up if the watch asks for it.
     pub fn tell<W: SearchWatch>(&mut self, watch: &W) -> Tried<()>
         ensures { self.new ≡ record self.old { told = self.new.told } }
     {

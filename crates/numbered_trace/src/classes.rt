@@ -13,15 +13,15 @@ pub struct Classes {
     starts: Vec<u32>,
     /// The stores, class by class, those of a class in the order of their places.
     stores: Vec<Place>,
-    /// Of each address its class of the word 0.
+    /// For each address, its class of the word 0.
     pub zeros: Vec<u32>,
-    /// What each address is.
+    /// The address that each number stands for.
     pub addresses: Vec<Address>,
     /// The word of each class.
     pub words: Vec<Word>,
 }
 
-/// A word that an operation read at an address, or stored there. The order is that of addresses, words and places.
+/// A word that an operation read at an address, or stored there. Touches are ordered by address, word and place.
 #[derive(Clone, Copy, PartialEq, Eq, PartialOrd, Ord)]
 struct Touch {
     addr: Address,
@@ -74,7 +74,7 @@ fn touches(alloc: Global, cores: &[Vec<Access>]) -> Tried<Vec<Touch>> {
 }
 
 impl Classes {
-    /// The stores of a class, what comes before all operations among them where the word is 0.
+    /// The stores of a class; START is one of them if the word is 0.
     pub fn stores_of(&self, class: u32) -> &[Place] {
         let (starts, next) = (&self.starts, class.saturating_add(1));
         part(&self.stores, at(starts, class), at(starts, next))
@@ -85,7 +85,7 @@ impl Classes {
         operation.read().map_or(&[], |class| self.stores_of(class))
     }
 
-    /// Those of them that are a core's.
+    /// The candidates of an operation that belong to one core.
     pub fn candidates_of(
         &self,
         operation: &Operation,

@@ -1,6 +1,6 @@
 //! Sets of cores.
 
-/// A set of cores, of which there are at most 64: a bit for each.
+/// A set of cores: a bit for each, of at most 64.
 #[derive(Clone, Copy, PartialEq, Eq)]
 pub struct CoreSet(u64);
 

@@ -1,4 +1,4 @@
-//! What every way to search an order stands on: a trace whose addresses and words are numbered, and a budget of steps.
+//! What every search for an order stands on: a trace whose addresses and words are numbered, and a budget of steps.
 #![tactic(auto)]
 
 mod budget;

@@ -6,7 +6,7 @@ use std::alloc::Global;
 use std::ops::Range;
 use trace::Access;
 
-/// What a search knows of an operation. A class is an address with a word. It takes 16 bytes.
+/// What a search knows of an operation, in 16 bytes. A class is an address with a word.
 #[derive(Clone, Copy)]
 pub struct Operation {
     /// The number of its address among those of the trace.
@@ -71,17 +71,17 @@ impl Operation {
     }
 }
 
-/// The operations of all cores, behind what comes before them.
+/// START and the operations of all cores.
 #[derive(Drop)]
 pub struct Operations {
-    /// What comes before them all, and then each.
+    /// START, and then each operation.
     pub all: Vec<Operation>,
-    /// Where each core's begin.
+    /// Where the operations of each core begin.
     pub starts: Vec<Place>,
 }
 
 impl Operations {
-    /// The operations of these cores, of which nothing but the core is told yet.
+    /// The operations of these cores, each with nothing but its core so far.
     pub(crate) fn new(alloc: Global, cores: &[Vec<Access>]) -> Tried<Operations> {
         let mut all = vec![in alloc; BEGINNING; 1]?;
         let mut starts = Vec::new(alloc);
@@ -93,7 +93,7 @@ impl Operations {
         Ok(Operations { all, starts })
     }
 
-    /// The same operations, of which those at other addresses than these neither read nor store.
+    /// The same operations, but those at other addresses than these neither read nor store. The addresses are sorted.
     pub fn only(&self, alloc: Global, addresses: &[u32]) -> Tried<Operations> {
         let operations = self.all.iter().map(|operation| {
             match addresses.binary_search(&operation.address) {
@@ -115,12 +115,12 @@ impl Operations {
         0..u32::try_from(self.starts.len()).unwrap_or(0)
     }
 
-    /// The operation at a place. Where none is, what comes before them all.
+    /// The operation at a place; START if there is none.
     pub fn get(&self, place: Place) -> Operation {
         self.all.get(place as usize).copied().unwrap_or(BEGINNING)
     }
 
-    /// The operations from one place up to another; none where there aren't so many.
+    /// The operations from one place up to another; none if the list doesn't have them all.
     pub fn part(&self, from: Place, to: Place) -> &[Operation] {
         self.all.get(from as usize..to as usize).unwrap_or(&[])
     }
@@ -136,13 +136,13 @@ impl Operations {
         next.unwrap_or(u32::try_from(self.all.len()).unwrap_or(0))
     }
 
-    /// The core of the operation at a place, and which of its core it is, from 0.
+    /// The core of the operation at a place, and its number among that core's, from 0.
     pub fn position(&self, place: Place) -> (u32, u32) {
         let core = self.core(place);
         (core, place.saturating_sub(at(&self.starts, core)))
     }
 
-    /// The operation of a core that comes next where each core is at its place in a list, with this place.
+    /// A core's next operation with its place, if each core is at its place in a list; none if the core has none left.
     pub fn next(&self, places: &[Place], core: u32) -> Option<(Place, Operation)> {
         let place = at(places, core);
         let operation = self.all.get(place as usize).copied()?;

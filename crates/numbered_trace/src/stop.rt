@@ -8,10 +8,10 @@ pub type Place = u32;
 /// The place of what comes before every operation and stores a 0 to each address. It counts as the first of core 0.
 pub const START: Place = 0;
 
-/// The number of nothing: of no fact, of no class.
+/// The number that stands for no fact, or for no class.
 pub const NONE: u32 = u32::MAX;
 
-/// Why no order has all that is known.
+/// Why no order agrees with all that is known.
 #[derive(Clone, Copy)]
 pub enum Conflict {
     /// The fact of this number leads from one operation to another that is before it.
@@ -23,7 +23,7 @@ pub enum Conflict {
 /// Why a step of a search wasn't made.
 #[derive(Clone, Copy)]
 pub enum Stop {
-    /// The case that is looked at is closed.
+    /// The case that the search looks at is closed.
     Closed(Conflict),
     /// The search gives up.
     GivenUp,
@@ -46,23 +46,23 @@ impl<T: Drop> From<AllocFailed<T>> for Stop {
     }
 }
 
-/// The entry of a list at a place; NONE where there is none.
+/// The entry of a list at a place; NONE if there is none.
 pub fn at(list: &[u32], place: u32) -> u32 {
     list.get(place as usize).copied().unwrap_or(NONE)
 }
 
-/// Writes the entry of a list at a place. The search gives up where there is none.
+/// Writes the entry of a list at a place. The search gives up if there is none.
 pub fn put(list: &mut [u32], place: u32, entry: u32) -> Tried<()> {
     *list.get_mut(place as usize).ok_or(Stop::GivenUp)? = entry;
     Ok(())
 }
 
-/// The entries of a list from one place up to another; none where the list doesn't have them all.
+/// The entries of a list from one place up to another; none if the list doesn't have them all.
 pub fn part(list: &[u32], from: u32, to: u32) -> &[u32] {
     list.get(from as usize..to as usize).unwrap_or(&[])
 }
 
-/// A length as a place. The search gives up where it has no 32 bits.
+/// A length as a place. The search gives up if it doesn't fit in 32 bits.
 pub fn short(length: usize) -> Tried<u32> {
     u32::try_from(length).ok().ok_or(Stop::GivenUp)
 }

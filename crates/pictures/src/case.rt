@@ -7,7 +7,7 @@ use refuted_cases::{Hop, Link, link_at};
 use std::alloc::{AllocError, Global};
 use std::fmt;
 
-/// What stands behind an operation in its box.
+/// What stands after an operation in its box.
 #[derive(Clone, Copy)]
 pub(crate) enum Note {
     Nothing,
@@ -54,7 +54,7 @@ impl<'a> Case<'a> {
         }
     }
 
-    /// Of each fact in force whether those of the path rest on it.
+    /// For each fact in force, whether those of the path rest on it.
     fn needed(&self) -> Result<Vec<bool>, AllocError> {
         let mut needed = vec![in self.alloc; false; self.facts.len()]?;
         mark_all(&mut needed, self.path());
@@ -66,7 +66,7 @@ impl<'a> Case<'a> {
         Ok(needed)
     }
 
-    /// Needs the facts that a step rests on.
+    /// Marks the facts that a step rests on as needed.
     fn mark_reasons(&self, needed: &mut Vec<bool>, place: usize) {
         match self.steps.get(place) {
             Some(Step::FromRead { source, path, .. })
@@ -109,7 +109,7 @@ impl<'a> Case<'a> {
         Ok(operations)
     }
 
-    /// Adds the arrow of a fact, where it is of two operations: red, where it goes round.
+    /// Adds the arrow of a fact, if it is about two of these operations. It is red if the fact goes round.
     pub(crate) fn push_arrow(
         &self,
         arrows: &mut Vec<Arrow>,
@@ -139,7 +139,7 @@ impl<'a> Case<'a> {
         }
     }
 
-    /// Whether a fact is what a case takes for granted: where the source of a read lies, of several ranges.
+    /// Whether a case takes a fact for granted: in which of several ranges the source of a read lies.
     pub(crate) fn is_assumed(&self, fact: &Link) -> bool {
         match self.steps.get(fact.step) {
             Some(Step::Read { ranges, .. }) => ranges.as_slice().len() > 1,
@@ -160,12 +160,12 @@ pub(crate) fn note_initial(operations: &mut Vec<Noted>, reasons: &[Reason]) {
     }
 }
 
-/// The place of a point among operations, where it is one of them.
+/// The place of a point among operations, if it is one of them.
 fn place_of(operations: &[Noted], point: &Point) -> Option<usize> {
     operations.iter().position(|it| Point::At(it.0) == *point)
 }
 
-/// The arrows of program order between these operations, of which those of the way round are red.
+/// The arrows of program order between these operations; those on the way round are red.
 pub(crate) fn program_arrows(
     alloc: Global,
     operations: &[Noted],
@@ -209,7 +209,7 @@ fn is_down_to(point: &Point, id: &OpId) -> bool {
     }
 }
 
-/// Needs the facts of a path.
+/// Marks the facts of a path as needed.
 fn mark_all(needed: &mut Vec<bool>, path: &[usize]) {
     for number in path {
         if let Some(there) = needed.get_mut(*number) {
@@ -218,7 +218,7 @@ fn mark_all(needed: &mut Vec<bool>, path: &[usize]) {
     }
 }
 
-/// Adds an operation that isn't there.
+/// Adds an operation, unless it is there.
 fn add(operations: &mut Vec<Noted>, point: &Point) -> Result<(), AllocError> {
     match point {
         Point::At(id) if place_of(operations, point).is_none() => {

@@ -14,9 +14,9 @@ use mem_op::OpId;
 use std::alloc::{AllocError, Global};
 use verdict::Rule;
 
-/// The picture of an explanation, in SVG: a title and a sentence, a column for each core, downward the operations in the order
-/// of their keys, with an arrow from each to the loads and swaps that name it, and a legend. None where there is too much to
-/// be drawn.
+/// The picture of an explanation, in SVG: a title and a sentence, a column for each core with its operations downward in the
+/// order of their keys, an arrow from each to the loads and swaps that name it, and a legend. None if there is too much to
+/// draw. Err if memory was refused.
 pub fn draw_explanation(
     alloc: Global,
     title: &str,
@@ -41,7 +41,7 @@ pub fn draw_explanation(
     Ok(Some(paint(alloc, &scene)?))
 }
 
-/// The boxes of what is shown, and below them that of what was due.
+/// The boxes of what is shown, and below them the box of what was due.
 fn cards(alloc: Global, shown: &Shown, why: &Explanation) -> Result<Vec<Card>, AllocError> {
     let mut cards = Vec::new(alloc);
     for row in &shown.rows {
@@ -93,7 +93,7 @@ fn card_of(alloc: Global, row: &Entry, faulty: Option<OpId>) -> Result<Card, All
     })
 }
 
-/// The arrows between what is shown, which come by their lengths.
+/// The arrows between what is shown, the shortest first.
 fn arrows(alloc: Global, shown: &Shown, why: &Explanation) -> Result<Vec<Arrow>, AllocError> {
     let mut arrows = Vec::new(alloc);
     let rows = shown.rows.as_slice();
@@ -149,7 +149,7 @@ fn push_pointed(
     }
 }
 
-/// Adds an arrow between two operations, where both are shown.
+/// Adds an arrow between two operations, if both are shown.
 fn push_arrow(
     arrows: &mut Vec<Arrow>,
     rows: &[Entry],
@@ -170,7 +170,7 @@ fn push_arrow(
     Ok(())
 }
 
-/// The row of an operation, where it is shown.
+/// The row of an operation, if it is shown.
 fn place(rows: &[Entry], id: Option<OpId>) -> Option<usize> {
     place_of(rows, id?)
 }

@@ -29,7 +29,7 @@ const CAPTION: usize = 46;
 /// From a line of the legend to the next.
 const LEGEND_STEP: usize = 22;
 
-/// From a column to the next, where each is as wide as its boxes.
+/// From a column to the next, if each is as wide as its boxes.
 const GAP: usize = 24;
 
 /// From a column to the next at least: room for its name.
@@ -38,10 +38,10 @@ const LEAST_STEP: usize = 56;
 /// From a box to the nearest lane, and from a lane to the next.
 const LANE: usize = 14;
 
-/// How many lanes are left room for, at most.
+/// For how many lanes there is room, at most.
 const MOST_LANES: usize = 16;
 
-/// How wide a picture is at most, where its boxes and notes leave room for the names of the columns.
+/// How wide a picture is at most, if its boxes and notes leave room for the names of the columns.
 const MOST_WIDTH: usize = 1600;
 
 /// A scene, and where its parts stand.
@@ -49,7 +49,7 @@ const MOST_WIDTH: usize = 1600;
 pub(crate) struct Layout<'a> {
     pub(crate) alloc: Global,
     pub(crate) scene: &'a Scene<'a>,
-    /// How wide the column of each core is, as its widest box; 0 where it has none.
+    /// How wide the column of each core is: as wide as its widest box; 0 if it has none.
     pub(crate) widths: [usize; 64],
     /// The left side of each column, where its boxes begin.
     pub(crate) lefts: [usize; 64],
@@ -64,7 +64,7 @@ fn wide_of(card: &Card) -> usize {
     card.text.len().saturating_mul(LETTER).saturating_add(20)
 }
 
-/// How wide the widest box of each core is; 0 where it has none.
+/// How wide the widest box of each core is; 0 if it has none.
 fn widths_of(scene: &Scene<'_>) -> [usize; 64] {
     let mut widths = [0; 64];
     for card in &scene.cards {
@@ -76,7 +76,7 @@ fn widths_of(scene: &Scene<'_>) -> [usize; 64] {
     widths
 }
 
-/// The left side of each column, of these widths. The first is here, and none is further from the next than so.
+/// The left side of each column, for these widths. The first column is at `left`, and none is further than `share` from the next.
 fn lefts_of(widths: &[usize; 64], left: usize, share: usize) -> [usize; 64] {
     let mut lefts = [0; 64];
     let mut next = left;
@@ -90,8 +90,8 @@ fn lefts_of(widths: &[usize; 64], left: usize, share: usize) -> [usize; 64] {
     lefts
 }
 
-/// How far a column may be from the next at most, so that a picture with so much around its columns isn't too wide: its boxes then run
-/// over the columns beside them.
+/// How far a column may be from the next, at most, so that a picture with this much around its columns isn't too wide. Its boxes may then run over
+/// the columns beside them.
 fn share(widths: &[usize; 64], around: usize) -> usize {
     let (mut all, mut widest, mut steps) = (0usize, 0usize, 0usize);
     for core in 0..64usize {
@@ -108,7 +108,7 @@ fn share(widths: &[usize; 64], around: usize) -> usize {
     (room / steps.saturating_sub(1).max(1)).max(LEAST_STEP)
 }
 
-/// How wide the longest note is, with the gap beside it; 0 where there is none.
+/// How wide the longest note is, with the gap beside it; 0 if there is none.
 fn note_width(scene: &Scene<'_>) -> usize {
     let mut longest = 0;
     for card in &scene.cards {
@@ -148,7 +148,7 @@ fn ends_of(
     Ok(ends)
 }
 
-/// The lanes of the arrows, which come by their lengths: right of all that stands in the rows over which an arrow leads, which ends here.
+/// The lanes of the arrows, which come shortest first. A lane is right of all that stands in its arrow's rows; `ends` has where they end.
 fn lanes_of(
     alloc: Global,
     arrows: &[Arrow],
@@ -166,7 +166,7 @@ fn lanes_of(
     Ok(lanes)
 }
 
-/// The greatest of the numbers from a place up to another.
+/// The greatest of the numbers from one place to another, both included.
 fn greatest(numbers: &[usize], span: (usize, usize)) -> usize {
     let mut greatest = 0;
     for (place, number) in numbers.iter().enumerate() {
@@ -177,7 +177,7 @@ fn greatest(numbers: &[usize], span: (usize, usize)) -> usize {
     greatest
 }
 
-/// Sets the numbers from a place up to another.
+/// Sets the numbers from one place to another, both included.
 fn set_all(numbers: &mut Vec<usize>, span: (usize, usize), number: usize) {
     for (place, there) in numbers.iter_mut().enumerate() {
         if span.0 <= place && place <= span.1 {
@@ -187,7 +187,7 @@ fn set_all(numbers: &mut Vec<usize>, span: (usize, usize), number: usize) {
 }
 
 impl<'a> Layout<'a> {
-    /// The sizes for what is shown.
+    /// The layout of a scene.
     pub(crate) fn new(alloc: Global, scene: &'a Scene<'a>) -> Result<Layout<'a>, AllocError> {
         let bent = scene.arrows.iter().filter(|arrow| arrow.is_bent()).count();
         let left = note_width(scene).saturating_add(MARGIN);
@@ -208,7 +208,7 @@ impl<'a> Layout<'a> {
         })
     }
 
-    /// The size of the picture, with so many lines below the boxes.
+    /// The size of the picture, with this many lines below the boxes.
     pub(crate) fn size(&self, lines: usize) -> Spot {
         Spot(self.width.saturating_add(MARGIN), self.legend(lines).1)
     }
@@ -290,8 +290,8 @@ fn height_of(arrows: &[Arrow], row: usize, number: usize) -> usize {
     HIGH.saturating_mul(above) / count.max(1)
 }
 
-/// What decides which ends at the side of a row's box stand above others: those of arrows that go up do, and of these the shorter ones, and
-/// of those that go down the longer ones.
+/// The order of the ends at the side of a row's box, from above: first those of arrows that go up, the shorter ones first, and then those of arrows
+/// that go down, the longer ones first.
 fn order_at(arrow: &Arrow, row: usize) -> (bool, usize) {
     let (upper, lower) = arrow.span();
     let other = if upper == row { lower } else { upper };

@@ -3,13 +3,13 @@
 use super::scene::Arrow;
 use std::alloc::{AllocError, Global};
 
-/// The row of each of so many operations: each has its own, below those from which arrows lead to it, as far as that can be.
+/// The row of each of this many operations: each has its own, below the operations from which arrows lead to it, as far as that can be.
 pub(crate) fn rows_of(
     alloc: Global,
     count: usize,
     arrows: &[Arrow],
 ) -> Result<Vec<usize>, AllocError> {
-    // One without a row has the number behind the last.
+    // An operation without a row has the number after the last row.
     let mut rows = vec![in alloc; count; count]?;
     let mut waits = waits_of(alloc, count, arrows)?;
     for row in 0..count {
@@ -44,7 +44,7 @@ fn release(waits: &mut Vec<usize>, from: usize, arrows: &[Arrow]) {
     }
 }
 
-/// The first operation without a row to which no arrow comes from others; where none is, the first without a row.
+/// The first operation without a row to which no arrow comes from others; if there is none, the first without a row.
 fn next(rows: &[usize], waits: &[usize]) -> usize {
     let mut first = rows.len();
     for (place, row) in rows.iter().enumerate() {

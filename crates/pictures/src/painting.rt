@@ -11,7 +11,7 @@ use std::alloc::{AllocError, Global};
 /// What stands for operations that are left out.
 const LEFT_OUT: char = '\u{22ee}';
 
-/// The picture of a scene, whose arrows come by their lengths.
+/// The picture of a scene, whose arrows come shortest first.
 pub(crate) fn paint(alloc: Global, scene: &Scene<'_>) -> Result<String, AllocError>
     ensures { IfOk result (λ svg. IsPicture (string_bytes svg)) }
 {
@@ -67,7 +67,7 @@ impl<'a> Layout<'a> {
         Ok(())
     }
 
-    /// An arrow: straight down where a core did one after the other, and else in its lane.
+    /// An arrow: straight down for program order, and otherwise in its lane.
     fn arrow(&self, svg: &mut Svg, number: usize, arrow: &Arrow) -> Result<(), AllocError> {
         if !arrow.is_bent() {
             let (from, to) = (self.foot(arrow.from, true), self.foot(arrow.to, false));
@@ -99,7 +99,7 @@ impl<'a> Layout<'a> {
         self.left_out(svg, Spot(x, y.saturating_add(43)), card.left_out.1)
     }
 
-    /// A mark that so many operations are left out, where some are.
+    /// A mark that this many operations are left out, if there are any.
     fn left_out(&self, svg: &mut Svg, at: Spot, count: usize) -> Result<(), AllocError> {
         if count == 0 {
             return Ok(());

@@ -14,8 +14,8 @@ use std::alloc::{AllocError, Global};
 use std::fmt;
 use trace::{Access, Trace};
 
-/// The picture of a refutation of a trace, which is told in these words, in SVG: a column for each core, downward its operations that the
-/// first case rests on, with an arrow for each reason why one comes before another. Those that go round are red.
+/// The picture of a refutation of a trace, in SVG, with these words: a column for each core with those of its operations, downward, on which the
+/// first case rests, and an arrow for each reason why one comes before another. The arrows that go round are red. Err if memory was refused.
 pub fn draw_refutation(
     alloc: Global,
     words: &str,
@@ -86,7 +86,7 @@ fn caption(case: &Case<'_>, arrows: &[Arrow]) -> Result<Vec<String>, AllocError>
     Ok(caption)
 }
 
-/// The operations that are shown, core by core, their rows, and the arrows from row to row, which come by their lengths.
+/// The operations that are shown, core by core, their rows, and the arrows from row to row, the shortest first.
 #[derive(Drop)]
 struct Shown {
     operations: Vec<Noted>,
@@ -112,7 +112,7 @@ fn cycle(case: &Case<'_>) -> Result<Shown, AllocError> {
     })
 }
 
-/// The arrows between these operations, without that of the last of these facts.
+/// The arrows between these operations, except that of the last of these facts.
 fn arrows(
     case: &Case<'_>,
     operations: &[Noted],
@@ -127,7 +127,7 @@ fn arrows(
     Ok(arrows)
 }
 
-/// Has arrows lead from row to row, and puts them by their lengths.
+/// Makes arrows lead from row to row, and puts the shortest first.
 fn put_in_rows(arrows: &mut Vec<Arrow>, rows: &[usize]) {
     for arrow in arrows.iter_mut() {
         arrow.from = rows.get(arrow.from).copied().unwrap_or(0);
@@ -136,7 +136,7 @@ fn put_in_rows(arrows: &mut Vec<Arrow>, rows: &[usize]) {
     arrows.sort_unstable_by_key(|arrow| arrow.length());
 }
 
-/// What is shown of a set of states: in the furthest of them what each core did last, and below it where it waits.
+/// What is shown of a set of states: what each core did last in the furthest of them, and below that where it waits.
 fn states(trace: &Trace, case: &Case<'_>) -> Result<Shown, AllocError> {
     let mut operations = Vec::new(case.alloc);
     if let Some(Step::States { addresses, set }) = case.last {
@@ -168,7 +168,7 @@ fn push_stand(operations: &mut Vec<Noted>, stand: &Stand) -> Result<(), AllocErr
 }
 
 impl Shown {
-    /// The boxes, from above.
+    /// The boxes, from top to bottom.
     fn cards(&self, alloc: Global, trace: &Trace) -> Result<Vec<Card>, AllocError> {
         let mut cards = Vec::new(alloc);
         for row in 0..self.rows.len() {
@@ -202,8 +202,8 @@ impl Shown {
         })
     }
 
-    /// How many operations of a core come before the one at a place, and after the one shown before it; and how many come after it, where
-    /// it is the last that is shown of the core.
+    /// How many operations of a core are left out between the one shown before and the one at a place; and how many come after it, if it is the last
+    /// one shown of the core.
     fn left_out(&self, trace: &Trace, place: usize, id: OpId) -> (usize, usize) {
         let index = id.index.get() as usize;
         let first = match self.index_at(place.wrapping_sub(1), id.core) {
@@ -221,7 +221,7 @@ impl Shown {
         )
     }
 
-    /// The index of the operation at a place, where it is of a core.
+    /// The index of the operation at a place, if it is of a core.
     fn index_at(&self, place: usize, core: CoreId) -> Option<usize> {
         let id = self.operations.get(place)?.0;
         (id.core == core).then_some(id.index.get() as usize)
@@ -274,7 +274,7 @@ impl<'a> fmt::Display for Givers<'a> {
     }
 }
 
-/// What a case takes for granted: which store gave each read its word, where there were several.
+/// What a case takes for granted: which store gave each read its word, if there were several.
 #[derive(Clone, Copy)]
 struct Assumed<'a>(&'a Case<'a>);
 

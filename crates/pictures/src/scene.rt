@@ -1,9 +1,9 @@
-//! What a picture shows: boxes from above to below, each in the column of a core, with arrows between them.
+//! What a picture shows: boxes from top to bottom, each in the column of a core, with arrows between them.
 
 use mem_op::CoreId;
 use std::alloc::{AllocError, Global};
 
-/// What a box is of, or an arrow says, as the legend has it.
+/// What a box stands for, or what an arrow says, as the legend has it.
 #[derive(Clone, Copy, PartialEq)]
 pub(crate) enum Kind {
     Store,
@@ -22,7 +22,7 @@ pub(crate) enum Kind {
     Before,
 }
 
-/// A line of the legend: a kind, and what is said of it.
+/// A line of the legend: a kind, and what the legend says of it.
 pub(crate) type Sign = (Kind, &'static str);
 
 /// The lines of the legend, in their order.
@@ -71,7 +71,7 @@ impl Kind {
         }
     }
 
-    /// Whether it is of boxes.
+    /// Whether it is a kind of box.
     pub(crate) fn is_box(self) -> bool {
         matches!(
             self,
@@ -92,12 +92,12 @@ pub(crate) struct Card {
     pub(crate) core: CoreId,
     pub(crate) kind: Kind,
     pub(crate) is_red: bool,
-    /// Whether it is of the operation that breaks a rule.
+    /// Whether it is the box of the operation that breaks a rule.
     pub(crate) is_wrong: bool,
     pub(crate) text: String,
     /// What stands at the side of its row.
     pub(crate) note: String,
-    /// How many operations of the core are left out before it; and after it, where it is the last one of its core.
+    /// How many operations of the core are left out before it; and after it, if it is the last one of its core.
     pub(crate) left_out: (usize, usize),
 }
 
@@ -121,7 +121,7 @@ impl Arrow {
         self.from.abs_diff(self.to)
     }
 
-    /// Whether it goes aside: all do, except those of program order.
+    /// Whether it goes through a lane: all do, except those of program order.
     pub(crate) fn is_bent(&self) -> bool {
         self.kind != Kind::Program
     }

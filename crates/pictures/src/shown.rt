@@ -12,7 +12,7 @@ use mem_op::{CoreId, OpId};
 use std::alloc::{AllocError, Global};
 use verdict::Rule;
 
-/// What an operation that breaks a rule is shown beside.
+/// The operation beside which a picture shows the one that breaks a rule.
 #[derive(Clone, Copy)]
 pub enum Wanted {
     /// The operation that it should read.
@@ -28,13 +28,13 @@ pub struct Shown {
     pub rows: Vec<Entry>,
     /// The operation that breaks a rule.
     pub faulty: Option<OpId>,
-    /// The operation that it is shown beside.
+    /// The operation beside which it is shown.
     pub wanted: Option<Wanted>,
     /// The core whose program has something due.
     pub due: Option<CoreId>,
 }
 
-/// What the picture of an explanation shows; None where there is too much to be drawn. Err where there is no memory.
+/// What the picture of an explanation shows; None if there is too much to draw. Err if memory was refused.
 pub fn shown_of(alloc: Global, explanation: &Explanation) -> Result<Option<Shown>, AllocError>
     ensures drawn { IfOk result (λ shown. IsSome shown ↔ IsDrawn explanation.now) }
     ensures shows { IfOk result (λ shown. IfSome shown (λ shown. IsShownOf explanation.now shown)) }
@@ -91,7 +91,7 @@ pub(crate) fn pointed_by(found: &WrongRead) -> Option<Entry>
     }
 }
 
-/// Adds an operation, where there is one and none has its id.
+/// Adds an operation, if there is one and no other has its id.
 fn add(rows: &mut Vec<Entry>, entry: &Option<Entry>) -> Result<(), AllocError>
     ensures { OnOk result (rows.new.items ≡ with_one entry.now rows.old.items) }
 {
@@ -128,7 +128,7 @@ fn of_departure(alloc: Global, departure: &Departure) -> Result<Shown, AllocErro
     })
 }
 
-/// The id of an operation, where there is one.
+/// The id of an operation, if there is one.
 pub(crate) fn id_of(entry: &Option<Entry>) -> Option<OpId>
     ensures { result ≡ option_map (λ e. e.id) entry.now }
 {

@@ -7,7 +7,7 @@ use super::scene::{Arrow, Kind};
 use std::alloc::{AllocError, Global};
 use std::fmt;
 
-/// The colours on white, and on dark where the reader asks for it.
+/// The colours on white, and on dark if the reader asks for it.
 const STYLE: &str = "<style>\
 text{font:13px monospace;fill:#1b1f24}\
 .title{font:bold 14px sans-serif}\
@@ -58,7 +58,7 @@ const CORNER: usize = 8;
 pub(crate) struct Spot(pub(crate) usize, pub(crate) usize);
 
 impl Spot {
-    /// The spot so far to the right and below.
+    /// The spot this far to the right and below.
     pub(crate) fn plus(self, right: usize, below: usize) -> Spot {
         Spot(self.0.saturating_add(right), self.1.saturating_add(below))
     }
@@ -101,7 +101,7 @@ impl fmt::Display for Stroke {
     }
 }
 
-/// A picture that is written.
+/// A picture that is being written.
 #[derive(Drop)]
 pub(crate) struct Svg {
     text: String,
@@ -189,7 +189,7 @@ impl Svg {
         write!(self.text, "<path {stroke} d=\"M{from} L{to}\"/>\n")
     }
 
-    /// An arrow that goes to the right up to a lane, along it, and back to the left.
+    /// An arrow that goes right to a lane, along it, and back to the left.
     pub(crate) fn bent(
         &mut self,
         arrow: &Arrow,
@@ -211,7 +211,7 @@ impl Svg {
         write!(self.text, "Q{back} {end} H{}\"/>\n", to.0)
     }
 
-    /// The text of the picture, with what each begins with and ends with.
+    /// The text of the picture, with the beginning and the end that every picture has.
     pub(crate) fn finish(self, alloc: Global) -> Result<String, AllocError>
         ensures { IfOk result (λ svg. IsPicture (string_bytes svg)) }
     {
@@ -223,7 +223,7 @@ impl Svg {
     }
 }
 
-/// A little way from one number to another.
+/// A number that is a little way from one number towards another.
 fn towards(from: usize, to: usize) -> usize {
     if from < to {
         from.saturating_add(CORNER)

@@ -20,8 +20,8 @@ pub enum Answer {
     Undecided,
 }
 
-/// The answer where what is to show it does, else Undecided. Whoever made it isn't trusted. Err where memory was
-/// refused.
+/// The answer, if what comes with it shows it; otherwise Undecided. This doesn't trust whoever made the answer. Err if
+/// memory was refused.
 pub fn confirm(alloc: Global, trace: &Trace, claim: Answer) -> Result<Answer, AllocError>
     ensures right { IfOk result (IsRight trace.now) }
     ensures shown { IfOk result (IsShown trace.now) }

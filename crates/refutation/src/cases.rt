@@ -8,7 +8,7 @@ use super::fact::Known;
 use std::alloc::{AllocError, Global};
 use std::marker::Model;
 
-/// A case that waits: how many of the facts in force it keeps, and its own.
+/// A case that waits: how many of the facts in force it keeps, and its own fact.
 #[derive(Clone, Copy, Debug)]
 struct Waiting {
     kept: usize,
@@ -25,7 +25,7 @@ impl Model for Waiting {
     ghost inverse = { λ w. record { kept = w.kept; fact = w.fact } };
 }
 
-/// The cases that are open, of which there is one: the facts in force in the first, and the others, which wait.
+/// The open cases, at least one: the facts in force in the first, and the others, which wait.
 #[derive(Drop)]
 pub(crate) struct Cases {
     facts: Vec<Known>,
@@ -43,7 +43,7 @@ impl Model for Cases {
     ghost invariant = { λ c. AreNested (length c.facts.items) (reverse c.waiting.items) };
 }
 
-/// Has a case wait for each of these facts. The first of them is taken up first.
+/// Adds a waiting case for each of these facts. The first of them is taken up first.
 fn add_cases(
     waiting: &mut Vec<Waiting>,
     kept: usize,
@@ -75,7 +75,7 @@ impl Cases {
         &self.facts
     }
 
-    /// The cases that are left when the first is split into those of these facts. None where none is.
+    /// The cases that are left when the first is split into one for each of these facts; None if none is left.
     pub(crate) fn split(self, given: Vec<Known>) -> Result<Option<Cases>, AllocError>
         ensures { IfOk result (λ left. let now = split self.facts given.items ++ self.others in
             MatchOption left (now ≡ []) (λ next. now ≡ next.facts ∷ next.others)) }

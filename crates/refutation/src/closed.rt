@@ -16,7 +16,7 @@ use mem_op::{OpId, Word};
 use std::alloc::{AllocError, Global};
 use trace::{Access, Address, Trace};
 
-/// Whether the state of these indices and words is seen, once all is performed that passes.
+/// Whether the state of these indices and words is seen, once everything that passes is performed.
 fn is_in(
     alloc: Global,
     trace: &Trace,
@@ -31,7 +31,7 @@ fn is_in(
     Ok(seen.has(far, words))
 }
 
-/// Whether the state behind an operation is seen.
+/// Whether the state after an operation is seen.
 fn leads_into(
     alloc: Global,
     trace: &Trace,
@@ -112,7 +112,7 @@ fn is_right(
     }
 }
 
-/// So many zeros.
+/// This many zeros.
 fn zeros(alloc: Global, count: usize) -> Result<Vec<u64>, AllocError>
     ensures { IfOk result (λ zeros. zeros.items ≡ replicate count 0) }
 {

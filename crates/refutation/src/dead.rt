@@ -27,7 +27,7 @@ fn none_stores_of(operations: &[Access], from: u64, to: u64, addr: Address, word
     true
 }
 
-/// The same, where the operations store the word there at this index last.
+/// The same, if `last` is the index at which the operations store the word there last.
 fn none_stores_up_to(
     operations: &[Access],
     last: Option<u64>,
@@ -59,7 +59,7 @@ fn none_stores(trace: &Indexed, next: &[u64], limits: &[u64], addr: Address, wor
     true
 }
 
-/// Whether a read waits: another word is there, and none stores its word before the limits.
+/// Whether a read waits: another word is there, and no operation stores its word before the limits.
 fn waits(
     trace: &Indexed,
     addresses: &[Address],

@@ -12,7 +12,7 @@ use std::marker::Model;
 pub(crate) enum Fact {
     /// One point is before another.
     Before(Point, Point),
-    /// The source of a read lies in a range, so the first point of that is before the read.
+    /// The source of a read lies in a range, so the first point of that range is before the read.
     Source(OpId, Range),
 }
 

@@ -14,7 +14,7 @@ use thiserror::Error;
 pub enum CertificateFault {
     /// This line, counted from 1, is the first that isn't as it should be.
     BadCertificate { line: u64 },
-    /// A growth was refused.
+    /// Memory was refused.
     OutOfMemory,
 }
 

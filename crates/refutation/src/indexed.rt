@@ -10,7 +10,7 @@ use std::collections::HashMap;
 use std::marker::Model;
 use trace::{Access, Address, Trace};
 
-/// A trace, and of each core, by address and word, the index at which it stores that word there last.
+/// A trace, and for each core, by address and word, the index at which it stores that word there last.
 #[derive(Drop)]
 pub(crate) struct Indexed<'a> {
     trace: &'a Trace,
@@ -29,7 +29,7 @@ impl<'a> Model for Indexed<'a> {
     ghost invariant = { λ i. HasLastsOf i.trace.now i.lasts.items };
 }
 
-/// By address and word the index at which these operations store that word there last.
+/// By address and word, the index at which these operations store that word there last.
 fn lasts_of(
     alloc: Global,
     operations: &[Access],
@@ -46,7 +46,7 @@ fn lasts_of(
     Ok(lasts)
 }
 
-/// Those of each core.
+/// The same for each core.
 fn all_lasts(alloc: Global, trace: &Trace) -> Result<Vec<HashMap<(Address, Word), u64>>, AllocError>
     ensures { IfOk result (λ lasts. HasLastsOf trace.now lasts.items) }
 {
@@ -73,7 +73,7 @@ impl<'a> Indexed<'a> {
         self.trace
     }
 
-    /// The index at which a core stores a word to an address last.
+    /// The index at which a core stores a word to an address last, if it does.
     pub(crate) fn last(&self, core: usize, addr: Address, word: Word) -> Option<u64>
         ensures { (operations : List Operation) → slice_get self.now core ≡ Some operations → AreUpTo operations (length operations) addr word result }
     {

@@ -13,7 +13,7 @@ use mem_op::OpId;
 use std::alloc::{AllocError, Global};
 use text_lines::read_spaced;
 
-/// The ranges that the bytes are, each with a space before it; None where they aren't such.
+/// The ranges that the bytes spell, each with a space before it; None if the bytes are something else.
 fn read_ranges(alloc: Global, bytes: &[u8]) -> Result<Option<Ranges>, AllocError>
     ensures { IfOk result (TellsWords range_text RangeFits bytes.now) }
 {
@@ -30,7 +30,7 @@ fn read_ranges(alloc: Global, bytes: &[u8]) -> Result<Option<Ranges>, AllocError
     }
 }
 
-/// The path whose numbers the bytes are, each with a space before it; None where they aren't such.
+/// The path whose numbers the bytes spell, each with a space before it; None if the bytes are something else.
 fn read_path(alloc: Global, bytes: &[u8]) -> Result<Option<Path>, AllocError>
     ensures { IfOk result (TellsWords numeral (λ number. number < 2 ^ 64) bytes.now) }
 {
@@ -55,7 +55,7 @@ struct Reason {
     path: Path,
 }
 
-/// The number of a fact, the write and the path that the bytes are; None where they aren't such.
+/// The number of a fact, the write and the path that the bytes spell; None if the bytes are something else.
 fn read_reason(alloc: Global, bytes: &[u8]) -> Result<Option<Reason>, AllocError>
     ensures { IfOk result (TellsReason bytes.now) }
 {
@@ -75,7 +75,7 @@ fn read_reason(alloc: Global, bytes: &[u8]) -> Result<Option<Reason>, AllocError
     }
 }
 
-/// The step whose fields these are, of those that split by a read's source.
+/// The step that splits by a read's source and has these fields; None if there is no such step.
 fn read_read(alloc: Global, fields: &[u8]) -> Result<Option<Step>, AllocError>
     ensures { IfOk result (TellsStep (codes "read ") fields.now) }
 {
@@ -88,7 +88,7 @@ fn read_read(alloc: Global, fields: &[u8]) -> Result<Option<Step>, AllocError>
     }
 }
 
-/// The step whose fields these are, of those of from-read.
+/// The step of from-read that has these fields; None if there is no such step.
 #[tactic(auto, unfolding(crate::specs::Grammar::fields_text))]
 fn read_from_read(alloc: Global, fields: &[u8]) -> Result<Option<Step>, AllocError>
     ensures { IfOk result (TellsStep (codes "from-read ") fields.now) }
@@ -103,7 +103,7 @@ fn read_from_read(alloc: Global, fields: &[u8]) -> Result<Option<Step>, AllocErr
     }
 }
 
-/// The step whose fields these are, of those of write-order.
+/// The step of write-order that has these fields; None if there is no such step.
 #[tactic(auto, unfolding(crate::specs::Grammar::fields_text))]
 fn read_write_order(alloc: Global, fields: &[u8]) -> Result<Option<Step>, AllocError>
     ensures { IfOk result (TellsStep (codes "write-order ") fields.now) }
@@ -118,7 +118,7 @@ fn read_write_order(alloc: Global, fields: &[u8]) -> Result<Option<Step>, AllocE
     }
 }
 
-/// The step whose fields these are, of those that close a case by a cycle.
+/// The step that closes a case by a cycle and has these fields; None if there is no such step.
 #[tactic(auto, unfolding(crate::specs::Grammar::fields_text))]
 fn read_cycle(alloc: Global, fields: &[u8]) -> Result<Option<Step>, AllocError>
     ensures { IfOk result (TellsStep (codes "cycle :") fields.now) }
@@ -129,7 +129,7 @@ fn read_cycle(alloc: Global, fields: &[u8]) -> Result<Option<Step>, AllocError>
     }
 }
 
-/// The step whose line this is, without its line feed; None where it isn't a step's.
+/// The step whose line this is, without its line feed; None if it isn't the line of a step.
 pub(crate) fn read_step(alloc: Global, line: &[u8]) -> Result<Option<Step>, AllocError>
     ensures { IfOk result (TellsLine line.now) }
 {

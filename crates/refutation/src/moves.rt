@@ -14,7 +14,7 @@ use mem_op::{CoreId, OpId, OpIndex, Word};
 use std::alloc::{AllocError, Global};
 use trace::{Access, Address, Trace};
 
-/// Where an address stands among those that are looked at.
+/// Where an address stands among the addresses of a set.
 fn slot_of(addresses: &[Address], addr: Address) -> Option<usize>
     ensures { result ≡ position_from (λ a. a == addr) 0 addresses.now }
 {
@@ -28,7 +28,7 @@ fn number_at(numbers: &[u64], place: usize) -> Option<u64>
     numbers.get(place).copied()
 }
 
-/// Puts a number at a place, where there is one.
+/// Puts a number at a place, if there is one.
 #[tactic(auto, using(std::proofs::lemmas::List::set_past))]
 fn set(numbers: &mut Vec<u64>, place: usize, number: u64)
     ensures { numbers.new.items ≡ slice_set numbers.old.items place number }
@@ -38,7 +38,7 @@ fn set(numbers: &mut Vec<u64>, place: usize, number: u64)
     }
 }
 
-/// The word at an address, where it is looked at.
+/// The word at an address, if it is an address of the set.
 #[tactic(auto, using(crate::proofs::Settled::word_by_slot))]
 pub(crate) fn word_of(addresses: &[Address], words: &[Word], addr: Address) -> Option<Word>
     ensures { result ≡ word_of addresses.now words.now addr }
@@ -68,7 +68,7 @@ pub(crate) fn put_word(
     Ok(put)
 }
 
-/// Whether an operation is looked at, and reads no word or the one that is there.
+/// Whether an operation is at an address of the set, and reads no word or the one that is there.
 fn fits(word: Option<Word>, access: &Access) -> bool
     ensures { result ≡ fits word access.now }
 {
@@ -79,7 +79,7 @@ fn fits(word: Option<Word>, access: &Access) -> bool
     }
 }
 
-/// Whether an operation isn't looked at, or reads the word that is there and leaves it.
+/// Whether an operation is at no address of the set, or reads the word that is there and leaves it.
 fn passes(word: Option<Word>, access: &Access) -> bool
     ensures { result ≡ passes word access.now }
 {
@@ -113,7 +113,7 @@ fn settled_index(operations: &[Access], from: u64, addresses: &[Address], words:
     index
 }
 
-/// Of each core the index of its next operation, once all is performed that passes.
+/// For each core, the index of its next operation, once everything that passes is performed.
 pub(crate) fn settle(
     alloc: Global,
     trace: &Trace,
@@ -131,14 +131,14 @@ pub(crate) fn settle(
     Ok(far)
 }
 
-/// The number of a core: 0, where there is none.
+/// The number of a core; 0 if there is none.
 pub(crate) fn number_of(numbers: &[u64], core: usize) -> u64
     ensures { result ≡ slice_index numbers.now core }
 {
     numbers.get(core).copied().unwrap_or(0)
 }
 
-/// The id and the operation of a core whose index is its number.
+/// The id of a core's operation at the index that the numbers give the core, and the operation; None if there is none.
 pub(crate) fn next_operation(trace: &Trace, numbers: &[u64], core: usize) -> Option<(OpId, Access)>
     ensures { MatchOption result
         (operation_at trace.now (next_id numbers.now core) ≡ None)
@@ -164,7 +164,7 @@ fn was_performed(next: &[u64], point: &Point) -> bool
     }
 }
 
-/// Whether a fact is of another operation, or what it says is before this one was performed.
+/// Whether a fact is about another operation, or what it puts before this one was performed.
 fn allows(next: &[u64], id: &OpId, fact: &Known) -> bool
     ensures { result ≡ allows next.now id.now fact.now }
 {

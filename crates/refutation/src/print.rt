@@ -1,4 +1,4 @@
-//! The text of a refutation, printed.
+//! Prints the text of a refutation.
 
 ghost use Rattle.std.specs.Prelude.{◌≡◌, ◌++◌, ◌∷◌, [], IfOk, OnOk, Some, flat_map, length, string_bytes};
 ghost use Rattle.decimal_text.specs.Numbers.{numeral};
@@ -43,7 +43,7 @@ impl fmt::Display for Range {
     }
 }
 
-/// Puts ranges behind a text.
+/// Appends ranges to a text.
 fn push_ranges(text: &mut String, ranges: &[Range]) -> Result<(), AllocError>
     ensures { OnOk result (string_bytes text.new ≡ string_bytes text.old ++ spaced range_text ranges.now) }
 {
@@ -53,7 +53,7 @@ fn push_ranges(text: &mut String, ranges: &[Range]) -> Result<(), AllocError>
     Ok(())
 }
 
-/// Puts the numbers of a path behind a text.
+/// Appends the numbers of a path to a text.
 fn push_path(text: &mut String, path: &[usize]) -> Result<(), AllocError>
     ensures { OnOk result (string_bytes text.new ≡ string_bytes text.old ++ spaced numeral path.now) }
 {
@@ -63,7 +63,7 @@ fn push_path(text: &mut String, path: &[usize]) -> Result<(), AllocError>
     Ok(())
 }
 
-/// Puts a number behind a text.
+/// Appends a number to a text.
 #[tactic(auto, using(decimal_text::proofs::Printing::numeral_decimal))]
 fn push_number(text: &mut String, number: u64) -> Result<(), AllocError>
     ensures { OnOk result (string_bytes text.new ≡ string_bytes text.old ++ 32 ∷ numeral number) }
@@ -71,7 +71,7 @@ fn push_number(text: &mut String, number: u64) -> Result<(), AllocError>
     write!(text, " {number}")
 }
 
-/// Puts a state behind a text.
+/// Appends a state to a text.
 #[tactic(auto, unfolding(crate::specs::Grammar::state_text))]
 fn push_state(text: &mut String, state: &State) -> Result<(), AllocError>
     ensures { OnOk result (string_bytes text.new ≡ string_bytes text.old ++ state_text state.now) }
@@ -93,7 +93,7 @@ fn push_state(text: &mut String, state: &State) -> Result<(), AllocError>
     }
 }
 
-/// Puts a sign and numbers behind a text.
+/// Appends a sign and numbers to a text.
 fn push_named(text: &mut String, sign: &str, numbers: &Numbers) -> Result<(), AllocError>
     ensures { OnOk result (string_bytes text.new ≡ string_bytes text.old ++ (sign.now ++ spaced numeral numbers.now)) }
 {
@@ -101,7 +101,7 @@ fn push_named(text: &mut String, sign: &str, numbers: &Numbers) -> Result<(), Al
     push_numbers(text, numbers.as_slice())
 }
 
-/// Puts numbers behind a text.
+/// Appends numbers to a text.
 fn push_numbers(text: &mut String, numbers: &[u64]) -> Result<(), AllocError>
     ensures { OnOk result (string_bytes text.new ≡ string_bytes text.old ++ spaced numeral numbers.now) }
 {
@@ -111,7 +111,7 @@ fn push_numbers(text: &mut String, numbers: &[u64]) -> Result<(), AllocError>
     Ok(())
 }
 
-/// Puts states behind a text.
+/// Appends states to a text.
 fn push_states(text: &mut String, states: &[State]) -> Result<(), AllocError>
     ensures { OnOk result (string_bytes text.new ≡ string_bytes text.old ++ flat_map state_text states.now) }
 {
@@ -121,7 +121,7 @@ fn push_states(text: &mut String, states: &[State]) -> Result<(), AllocError>
     Ok(())
 }
 
-/// Puts the number of a fact and a space behind a text.
+/// Appends the number of a fact and a space to a text.
 #[tactic(auto, using(decimal_text::proofs::Printing::numeral_decimal))]
 fn push_source(text: &mut String, source: usize) -> Result<(), AllocError>
     ensures { OnOk result (string_bytes text.new ≡ string_bytes text.old ++ (numeral source ++ 32 ∷ [])) }
@@ -129,7 +129,7 @@ fn push_source(text: &mut String, source: usize) -> Result<(), AllocError>
     write!(text, "{source} ")
 }
 
-/// Puts the number of a fact, a write and a path behind a text.
+/// Appends the number of a fact, a write and a path to a text.
 #[tactic(auto, unfolding(crate::specs::Grammar::reason_text))]
 fn push_reason(
     text: &mut String,
@@ -145,7 +145,7 @@ fn push_reason(
     push_path(text, path.as_slice())
 }
 
-/// Puts a read and its ranges behind a text.
+/// Appends a read and its ranges to a text.
 #[tactic(auto, unfolding(crate::specs::Grammar::fields_text))]
 fn push_read(text: &mut String, read: &OpId, ranges: &Ranges) -> Result<(), AllocError>
     ensures { OnOk result (string_bytes text.new ≡ string_bytes text.old ++ step_text (Step.Read read.now ranges.now)) }
@@ -155,7 +155,7 @@ fn push_read(text: &mut String, read: &OpId, ranges: &Ranges) -> Result<(), Allo
     push_ranges(text, ranges.as_slice())
 }
 
-/// Puts a step behind a text.
+/// Appends a step to a text.
 #[tactic(auto, unfolding(crate::specs::Grammar::fields_text))]
 fn push_step(text: &mut String, step: &Step) -> Result<(), AllocError>
     ensures { OnOk result (string_bytes text.new ≡ string_bytes text.old ++ step_text step.now) }
@@ -190,7 +190,7 @@ fn push_step(text: &mut String, step: &Step) -> Result<(), AllocError>
     }
 }
 
-/// Puts the line of a step behind a text.
+/// Appends the line of a step to a text.
 fn push_line(text: &mut String, step: &Step) -> Result<(), AllocError>
     ensures { OnOk result (string_bytes text.new ≡ string_bytes text.old ++ (step_text step.now ++ 10 ∷ [])) }
 {
@@ -199,7 +199,7 @@ fn push_line(text: &mut String, step: &Step) -> Result<(), AllocError>
     Ok(())
 }
 
-/// Puts the last line behind a text.
+/// Appends the last line to a text.
 #[tactic(auto, using(decimal_text::proofs::Printing::numeral_decimal))]
 fn push_end(text: &mut String, count: usize) -> Result<(), AllocError>
     ensures { OnOk result (string_bytes text.new ≡ string_bytes text.old ++ end_line count) }
@@ -208,7 +208,7 @@ fn push_end(text: &mut String, count: usize) -> Result<(), AllocError>
 }
 
 impl Refutation {
-    /// Its text. Err where memory was refused.
+    /// Its text. Err if memory was refused.
     pub fn print(&self, alloc: Global) -> Result<String, AllocError>
         ensures { IfOk result (λ text. string_bytes text ≡ refutation_text self.now) }
     {

@@ -47,7 +47,7 @@ pub(crate) fn is_same(one: &Point, other: &Point) -> bool
     }
 }
 
-/// The range from a point to the one that the bytes begin with, which is another.
+/// The range from a point to a different one, which the bytes begin with, and the bytes after it.
 #[tactic(auto, unfolding(crate::specs::inner::Reading::last_at))]
 fn last(first: Point, bytes: &[u8]) -> Option<(Range, &[u8])>
     ensures { front_now result ≡ last_at first bytes.now }

@@ -10,16 +10,16 @@ use super::step::Refutation;
 use std::alloc::{AllocError, Global};
 use trace::Trace;
 
-/// The first of so many steps that comes after the last case was closed, if there is one.
+/// The first of `count` steps that comes after the last case was closed, if there is one.
 fn step_too_many(next: usize, count: usize) -> Option<usize>
     ensures { MatchOption result (count ≤ next) (λ place. (place ≡ next) × (next < count)) }
 {
     if next < count { Some(next) } else { None }
 }
 
-/// The place of the first step that isn't right or comes after the last case was closed; the number of steps where
-/// cases are left after the last; None where the steps are a refutation of the trace. Whoever made them isn't trusted.
-/// Err where memory was refused.
+/// The place of the first step that isn't right or comes after the last case was closed; the number of steps if cases are
+/// left after the last step; None if the steps are a refutation of the trace. This doesn't trust whoever made them. Err if
+/// memory was refused.
 pub fn first_wrong_step(
     alloc: Global,
     trace: &Trace,
@@ -44,8 +44,8 @@ pub fn first_wrong_step(
     Ok(Some(steps.len()))
 }
 
-/// Whether the steps are a refutation of the trace. Then it isn't consistent. Whoever made the steps isn't trusted. Err
-/// where memory was refused.
+/// Whether the steps are a refutation of the trace. If they are, the trace isn't consistent. This doesn't trust whoever made
+/// the steps. Err if memory was refused.
 pub fn refutes(alloc: Global, trace: &Trace, refutation: &Refutation) -> Result<bool, AllocError>
     ensures exact { IfOk result (λ refuted. IsTrue refuted ↔ IsRefutation trace.now refutation.now) }
     ensures sound { IfOk result (λ refuted. IsTrue refuted → ¬ IsConsistent trace.now) }

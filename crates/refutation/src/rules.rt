@@ -39,7 +39,7 @@ fn sources(alloc: Global, read: &OpId, ranges: &[Range]) -> Result<Vec<Known>, A
     facts.collect(alloc)
 }
 
-/// The cases of a split by a read's source. None where it may lie outside of the ranges.
+/// The cases of a split by a read's source. None if this is no read, or its source may lie outside of the ranges.
 fn by_source(
     alloc: Global,
     trace: &Trace,
@@ -113,7 +113,7 @@ fn one_case(alloc: Global, fact: Option<Known>) -> Result<Option<Vec<Known>>, Al
     Ok(Some(vec![in alloc; fact]?))
 }
 
-/// No case, where a set of states shows that there is no order.
+/// No case, if a set of states shows that there is no order; None if it doesn't.
 fn by_states(
     alloc: Global,
     trace: &Trace,
@@ -126,7 +126,7 @@ fn by_states(
     Ok(is_closed(alloc, trace, facts, addresses, set)?.then_some(Vec::new(alloc)))
 }
 
-/// The facts of the cases that a step gives, where these are in force. None where the step isn't right.
+/// The facts of the cases that a step gives with these facts in force; None if the step isn't right.
 pub(crate) fn given(
     alloc: Global,
     trace: &Trace,

@@ -28,7 +28,7 @@ impl Seen {
         Ok(Seen { keys })
     }
 
-    /// Whether the state of these is among them.
+    /// Whether the state of these indices and words is among them.
     pub(crate) fn has(&self, next: Vec<u64>, words: Vec<u64>) -> bool
         ensures { result ≡ is_among self.now.keys next.items words.items }
     {

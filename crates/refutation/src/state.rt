@@ -35,30 +35,30 @@ impl Numbers {
     }
 }
 
-/// How far each core is, and what memory holds at the addresses that are looked at.
+/// How far each core is, and what memory holds at the addresses of a set.
 #[derive(Debug, Drop)]
 pub enum State {
     /// Each move from it leads to a state of the set.
     Open {
-        /// Of each core the index of its next operation.
+        /// For each core, the index of its next operation.
         next: Numbers,
-        /// Of each address its word.
+        /// For each address, its word.
         words: Numbers,
     },
     /// It leads to no end: each core that has an operation at its limit waits there for a word that no operation before
     /// the limits stores.
     Dead {
-        /// Of each core the index of its next operation.
+        /// For each core, the index of its next operation.
         next: Numbers,
-        /// Of each address its word.
+        /// For each address, its word.
         words: Numbers,
-        /// Of each core the index of the read that it can't perform, or how many operations it has.
+        /// For each core, the index of the read that it can't perform, or how many operations it has.
         limits: Numbers,
     },
 }
 
 impl State {
-    /// Of each core the index of its next operation.
+    /// For each core, the index of its next operation.
     pub fn next(&self) -> &[u64]
         ensures { result.now ≡ next_of self.now }
     {
@@ -68,7 +68,7 @@ impl State {
         }
     }
 
-    /// Of each address that is looked at its word.
+    /// For each address of the set, its word.
     pub fn words(&self) -> &[u64]
         ensures { result.now ≡ words_of self.now }
     {

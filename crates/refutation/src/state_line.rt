@@ -10,8 +10,8 @@ use decimal_text::after_text;
 use std::alloc::{AllocError, Global};
 use text_lines::{ends_word, read_spaced};
 
-/// The numbers after a sign, each with a space before it, and the bytes after them; None where the bytes don't begin
-/// with the sign, or a word goes on after the numbers.
+/// The numbers after a sign, each with a space before it, and the bytes after them; None if the bytes don't begin with the
+/// sign, or a word goes on after the numbers.
 fn read_part<'a>(
     alloc: Global,
     sign: &[u8],
@@ -65,7 +65,7 @@ fn read_state(alloc: Global, bytes: &[u8]) -> Result<Option<(State, &[u8])>, All
     Ok(Some((state, rest)))
 }
 
-/// The step whose fields these are, of those that close a case by a set of states.
+/// The step that closes a case by a set of states and has these fields; None if there is no such step.
 pub(crate) fn read_states(alloc: Global, fields: &[u8]) -> Result<Option<Step>, AllocError>
     ensures { IfOk result (TellsStep (codes "states") fields.now) }
 {

@@ -15,7 +15,7 @@ pub enum Point {
     At(OpId),
 }
 
-/// The points from one to another in program order, these included. `init` is before everything.
+/// The points from one to another in program order, both included. `init` is before everything.
 #[derive(Clone, Copy, Debug, PartialEq, Eq)]
 pub struct Range {
     /// The first one.
@@ -24,7 +24,7 @@ pub struct Range {
     pub last: Point,
 }
 
-/// The ranges in one of which the source of a read lies.
+/// Ranges, one of which holds the source of a read.
 #[derive(Debug, Drop)]
 pub struct Ranges {
     ranges: Vec<Range>,
@@ -85,7 +85,7 @@ impl Path {
     }
 }
 
-/// A step of a refutation. A fact is named by its place, from 0, among those in force.
+/// A step of a refutation. It names a fact by its place, from 0, among those in force.
 #[derive(Debug, Drop)]
 pub enum Step {
     /// The source of a load or a swap lies in one of these ranges: a case for each.
@@ -118,16 +118,16 @@ pub enum Step {
         /// From the point back to it, by one fact or more.
         path: Path,
     },
-    /// No state of a set leads to an end, and the first state is one of it, so this case can't be: it is closed.
+    /// No state of a set leads to an end, and the first state is in the set, so this case can't be: it is closed.
     States {
-        /// The addresses that are looked at.
+        /// The addresses of the set: it leaves operations at others aside.
         addresses: Numbers,
         /// The set.
         set: StateSet,
     },
 }
 
-/// A list of steps that is to show that a trace isn't consistent.
+/// A list of steps meant to show that a trace isn't consistent.
 #[derive(Debug, Drop)]
 pub struct Refutation {
     steps: Vec<Step>,

@@ -15,7 +15,7 @@ use std::alloc::{AllocError, Global};
 use text_lines::next_line;
 use trace::Trace;
 
-/// Adds the step whose line is the first, where it is a step's, and answers the bytes after it.
+/// Adds the step of the first line, if that is the line of a step, and gives the bytes after it.
 fn push_step<'a>(
     alloc: Global,
     steps: &mut Vec<Step>,
@@ -35,7 +35,7 @@ fn push_step<'a>(
     Ok(Some(rest))
 }
 
-/// The line of the text at which its end is wrong: these bytes should be the `end` line of so many steps.
+/// The line at which the end of a text is wrong, if it is: these bytes should be the `end` line of this many steps, and nothing more.
 fn bad_end(rest: &[u8], count: u64) -> Option<u64>
     requires { count < 2 ^ 63 }
     ensures { TellsEnd rest.now count result }
@@ -47,7 +47,7 @@ fn bad_end(rest: &[u8], count: u64) -> Option<u64>
     }
 }
 
-/// The bytes after the `end` line of so many steps; None where they don't begin with it.
+/// The bytes after the `end` line of this many steps; None if these bytes don't begin with it.
 fn after_end(rest: &[u8], count: u64) -> Option<&[u8]>
     ensures found { IfSome result (λ more. rest.now ≡ end_line count ++ more.now) }
     ensures none { IsNone result → (more : List ℕ) → rest.now ≢ end_line count ++ more }
@@ -87,7 +87,7 @@ fn read(alloc: Global, text: &[u8]) -> Result<Front, AllocError>
 }
 
 impl Refutation {
-    /// The list of steps whose text this is. BadCertificate at the first line that isn't of its shape.
+    /// The list of steps whose text this is. BadCertificate at the first line that isn't of its shape; OutOfMemory if memory was refused.
     pub fn parse(alloc: Global, text: &[u8]) -> Result<Refutation, CertificateFault>
         ensures { MatchResult result (λ refutation. Spells text.now refutation) (λ fault. IsFault text.now fault) }
     {
@@ -99,9 +99,9 @@ impl Refutation {
     }
 }
 
-/// The first line of a text that isn't of a refutation's shape, or whose step isn't right or comes after the last
-/// case was closed, or the `end` line where cases are left. None where it is the text of a refutation of the trace.
-/// Err where memory was refused.
+/// The first line of a text that isn't of a refutation's shape, or whose step isn't right or comes after the last case was
+/// closed, or the `end` line if cases are left. None if the text is that of a refutation of the trace. Err if memory was
+/// refused.
 pub fn first_bad_line(alloc: Global, trace: &Trace, text: &[u8]) -> Result<Option<u64>, AllocError>
     ensures { IfOk result (λ bad. MatchOption bad
         (SpellsRefutation trace.now text.now)

@@ -9,13 +9,13 @@ use trace::{Access, Address, Trace};
 /// How a core goes on from a state.
 #[derive(Clone, Copy)]
 pub enum Course {
-    /// It performed all.
+    /// It performed all its operations.
     Done,
     /// It may go on.
     Free,
-    /// This operation of it waits for the word that it reads: at its address is this one.
+    /// This operation of the core waits for the word that it reads; its address holds this word.
     Seeks(OpId, Word),
-    /// This operation of it waits for this point, which comes before it.
+    /// This operation of the core waits for this point, which comes before it.
     Awaits(OpId, Point),
 }
 
@@ -26,13 +26,13 @@ pub struct Stand {
     pub core: CoreId,
     /// How many operations it performed.
     pub next: u64,
-    /// The last one of them at the addresses that are looked at; `init` where there is none.
+    /// The last one of them at the addresses of the set; `init` if there is none.
     pub last: Point,
     /// How it goes on.
     pub course: Course,
 }
 
-/// A state of a trace at some addresses, where facts are in force.
+/// A state of a trace at some addresses, with facts in force.
 #[derive(Clone, Copy)]
 struct Standing<'a> {
     trace: &'a Trace,
@@ -41,8 +41,8 @@ struct Standing<'a> {
     state: &'a State,
 }
 
-/// Where each core stands that has operations at these addresses, where these facts are in force: in the state of a set in which most
-/// is performed, the first of these.
+/// Where each core that has operations at these addresses stands, with these facts in force: in the state of a set in which most is performed, the
+/// first of them if there are several. Err if memory was refused.
 pub fn stands(
     alloc: Global,
     trace: &Trace,
@@ -66,7 +66,7 @@ pub fn stands(
     Ok(stands)
 }
 
-/// The state in which most is performed, the first of these.
+/// The state in which most is performed, the first of them if there are several.
 fn furthest(states: &[State]) -> Option<&State> {
     let mut furthest = states.first()?;
     for state in states {
@@ -87,7 +87,7 @@ fn performed(state: &State) -> u64 {
 }
 
 impl<'a> Standing<'a> {
-    /// Adds where a core stands that has these operations, where some are at the addresses.
+    /// Adds where the core with these operations stands, if some are at the addresses.
     fn push(
         &self,
         stands: &mut Vec<Stand>,
@@ -122,7 +122,7 @@ impl<'a> Standing<'a> {
         }
     }
 
-    /// How a core waits, where it does: in a dead state at its limit.
+    /// How a core waits, if it does; in a dead state it waits at its limit.
     fn wait(&self, core: CoreId) -> Option<Course> {
         let index = match self.state {
             State::Open { next, .. } => number_at(next.as_slice(), core),
@@ -136,7 +136,7 @@ impl<'a> Standing<'a> {
         }
     }
 
-    /// The word at an address, where it is looked at.
+    /// The word at an address, if it is one of the addresses.
     fn word_at(&self, addr: Address) -> Option<Word> {
         let slot = self.addresses.iter().position(|other| *other == addr)?;
         self.state.words().get(slot).copied()
@@ -149,7 +149,7 @@ impl<'a> Standing<'a> {
         Some((id, self.trace.operation(&id)?))
     }
 
-    /// The last of a core's first operations that is at one of the addresses; `init` where none is.
+    /// The last of a core's first operations that is at one of the addresses; `init` if there is none.
     fn last_of(&self, core: CoreId, first: &[Access]) -> Point {
         for place in (0..first.len()).rev() {
             if self.addresses.contains(&first[place].addr())
@@ -180,7 +180,7 @@ impl<'a> Standing<'a> {
     }
 }
 
-/// The number of a core.
+/// The number of a core; 0 if there is none.
 fn number_at(numbers: &[u64], core: CoreId) -> u64 {
     numbers.get(core.get() as usize).copied().unwrap_or(0)
 }

@@ -9,15 +9,15 @@ use std::alloc::{AllocError, Global};
 pub struct Link {
     /// The one that is before the other.
     pub earlier: Point,
-    /// The other one: the read, where a read's source is known.
+    /// The other one: the read, if the fact is about a read's source.
     pub later: Point,
-    /// The last point that a read's source may be; else the later one.
+    /// The last point that a read's source may be; otherwise the later one.
     pub last: Point,
     /// The place of the step that gave it.
     pub step: usize,
 }
 
-/// Whether a step closes the case that is looked at.
+/// Whether a step closes the present case.
 pub fn closes(step: &Step) -> bool {
     match step {
         Step::Cycle { .. } | Step::States { .. } => true,
@@ -26,7 +26,7 @@ pub fn closes(step: &Step) -> bool {
     }
 }
 
-/// The fact of a number. (Each step that is right names facts that are in force.)
+/// The fact of a number; from `init` to `init` if there is none. (Each step that is right names facts that are in force.)
 pub fn link_at(facts: &[Link], number: usize) -> Link {
     match facts.get(number) {
         Some(link) => *link,
@@ -43,7 +43,7 @@ pub fn link_at(facts: &[Link], number: usize) -> Link {
 #[derive(Drop)]
 pub struct Walk {
     facts: Vec<Link>,
-    /// Of each how many of the facts in force it keeps, in how many splits it stands, and its own fact.
+    /// For each, how many of the facts in force it keeps, in how many splits it stands, and its own fact.
     waiting: Vec<(usize, usize, Link)>,
     depth: usize,
     place: usize,
@@ -70,8 +70,8 @@ impl Walk {
         self.depth
     }
 
-    /// Goes on to what is known after the next step. Whether another case is looked at from then on, whose fact is the
-    /// last one in force.
+    /// Goes on to what is known after the next step. Says whether another case begins there, whose fact is the last one in
+    /// force. Err if memory was refused.
     pub fn follow(&mut self, step: &Step) -> Result<bool, AllocError> {
         let is_split = match step {
             Step::Read { ranges, .. } => ranges.as_slice().len() != 1,
@@ -88,7 +88,7 @@ impl Walk {
         Ok(is_split)
     }
 
-    /// Has a case wait for each fact that the next step gives, in so many splits; the first of them comes next.
+    /// Adds a waiting case, in this many splits, for each fact that the next step gives; the first of them comes next.
     fn give(&mut self, step: &Step, depth: usize) -> Result<(), AllocError> {
         match step {
             Step::Read { read, ranges } => self.give_sources(read, ranges.as_slice(), depth),
@@ -104,7 +104,7 @@ impl Walk {
         }
     }
 
-    /// Has a case wait for each of these ranges, in which the source of a read lies.
+    /// Adds a waiting case for each of these ranges, in which the source of a read may lie.
     fn give_sources(
         &mut self,
         read: &OpId,
@@ -123,7 +123,7 @@ impl Walk {
         link_at(&self.facts, number)
     }
 
-    /// Has a case wait whose fact the next step gives.
+    /// Adds a waiting case whose fact the next step gives.
     fn wait(
         &mut self,
         earlier: &Point,
@@ -153,7 +153,7 @@ pub struct Hop {
     pub by_program: bool,
 }
 
-/// Goes on to a point, where that is another one than the last, or than the start.
+/// Goes on to a point, unless that is the last one, or the start if there is no last one.
 fn go_on(
     hops: &mut Vec<Hop>,
     start: &Point,
@@ -172,7 +172,7 @@ fn go_on(
     Ok(())
 }
 
-/// The pieces of the path by these facts from a point to another.
+/// The pieces of the path by these facts from one point to another. Err if memory was refused.
 pub fn hops(
     alloc: Global,
     facts: &[Link],
@@ -190,7 +190,7 @@ pub fn hops(
     Ok(hops)
 }
 
-/// The pieces of a path that comes back to where its first fact ends: there it begins and ends.
+/// The pieces of a path that comes back to where its first fact ends: there it begins and ends. Err if memory was refused.
 pub fn round(alloc: Global, facts: &[Link], path: &[usize]) -> Result<Vec<Hop>, AllocError> {
     let [number, rest @ ..] = path else {
         return Ok(Vec::new(alloc));

@@ -5,9 +5,9 @@ use std::alloc::{AllocError, AllocFailed};
 /// Why a text isn't rows.
 #[derive(Clone, Copy, Debug, PartialEq, Eq)]
 pub enum RowFault {
-    /// A line isn't one of rows, or doesn't fit where it stands.
+    /// A line isn't a line of rows, or doesn't fit where it stands.
     BadLine,
-    /// A growth was refused.
+    /// Memory was refused.
     OutOfMemory,
 }
 

@@ -15,7 +15,7 @@ pub struct File {
 }
 
 impl File {
-    /// A file of this name and these bytes; 10 where a growth was refused.
+    /// A file of this name and these bytes; 10 if memory was refused.
     pub fn new(alloc: Global, name: &str, bytes: &[u8]) -> Result<File, AllocError>
         ensures name { IfOk result (λ file. string_bytes file.name ≡ name.now) }
         ensures bytes { IfOk result (λ file. file.bytes.items ≡ bytes.now) }
@@ -27,7 +27,7 @@ impl File {
     }
 }
 
-/// The last file of a name, where there is one.
+/// The last file of a name, if there is one.
 pub fn find<'a>(files: &'a [File], name: &str) -> Option<&'a File>
     ensures { option_map (λ file. file.now.bytes.items) result ≡ told_in files.entry.now name.now }
 {

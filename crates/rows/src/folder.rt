@@ -23,7 +23,8 @@ pub struct Given<'a> {
     pub room: usize,
 }
 
-/// A folder in memory: it tells the bytes of each of its files, and of one that was put those that were put last. What was put in it isn't opened.
+/// A folder in memory. It tells the bytes of each of its files, and for one that was put, the bytes that were put last. It doesn't open what was put
+/// in it.
 #[derive(Drop)]
 pub struct MemoryFolder<'a> {
     alloc: Global,
@@ -55,7 +56,7 @@ impl<'a> MemoryFolder<'a> {
         put
     }
 
-    /// A source of the file of a name; none where there is no such file, or it was put.
+    /// A source of the file of a name; none if there is no such file, or it was put.
     fn source(&self, name: &str) -> Option<MemSource<'a>>
         ensures some { IfSome result (λ source. told_of self.now.given.files.now self.now.put.items name.now ≡ Some (bytes_left source)) }
         ensures none { IfNone result (IsTrue (may_refuse_of self.now.given.files.now self.now.put.items name.now)) }
@@ -71,7 +72,7 @@ impl<'a> MemoryFolder<'a> {
         Some(MemSource::new(file.bytes.as_slice(), steps))
     }
 
-    /// Takes a file, where there is room and memory for it.
+    /// Takes a file, if there is room and memory for it.
     fn take(&mut self, name: &str, bytes: &[u8]) -> Result<(), WriteFailed>
         ensures ok { OnOk result ((file : File) × (string_bytes file.name ≡ name.now) × (file.bytes.items ≡ bytes.now)
             × (self.new.put.items ≡ self.old.put.items ++ file ∷ [])) }

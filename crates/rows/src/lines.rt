@@ -9,27 +9,27 @@ pub enum Line<'a> {
     Row,
     /// A file begins.
     File(&'a str),
-    /// So many files begin, whose names are the numbers from 0 on.
+    /// This many files begin; their names are the numbers from 0 on.
     Files(u64),
-    /// The folder takes so many files.
+    /// The folder takes this many files.
     Room(usize),
     /// A line of the files that were begun last, or of the file that a call put.
     Text(&'a str),
     /// The same without its line feed.
     Part(&'a str),
-    /// So many lines, each with its number in place of `%`.
+    /// This many lines, each with its number in place of `%`.
     Lines(u64, &'a str),
     /// Bytes in hexadecimal.
     Bytes(&'a str),
     /// The words of a call.
     Call(&'a str),
-    /// A line of what it prints.
+    /// A line that the call prints.
     Printed(&'a str),
-    /// A line of what it tells on standard error.
+    /// A line that the call tells on standard error.
     Told(&'a str),
-    /// Its status.
+    /// The call's status.
     Status(u8),
-    /// A file that it puts.
+    /// A file that the call puts.
     Put(&'a str),
 }
 
@@ -49,7 +49,7 @@ fn lines_in(rest: &str) -> Option<Line<'_>> {
     Some(Line::Lines(count.parse().ok()?, text))
 }
 
-/// Reads a line; none where it isn't one of rows.
+/// Reads a line; none if it isn't a line of rows.
 pub fn read(line: &str) -> Option<Line<'_>> {
     let (head, rest) = line.split_once(' ').unwrap_or((line, ""));
     match head {

@@ -6,7 +6,7 @@ use super::lines::Line;
 use super::wanted::Wanted;
 use std::alloc::{AllocError, Global};
 
-/// How many files a folder takes where nothing is said of it.
+/// How many files a folder takes if its row doesn't say.
 const ROOM: usize = 64;
 
 /// The files of a row, and the call that is being read.
@@ -15,11 +15,11 @@ pub struct Row {
     alloc: Global,
     /// The files.
     pub files: Vec<File>,
-    // From which file on the lines go to.
+    // The first of the files to which lines go.
     begun: usize,
     /// How many files the folder takes.
     pub room: usize,
-    /// The call that is being read, where there is one.
+    /// The call that is being read, if there is one.
     pub wanted: Option<Wanted>,
 }
 
@@ -43,7 +43,7 @@ impl Row {
         Ok(())
     }
 
-    /// Begins so many files, whose names are the numbers from 0 on.
+    /// Begins this many files; their names are the numbers from 0 on.
     fn begin_all(&mut self, count: u64) -> Result<(), AllocError> {
         let begun = self.files.len();
         for number in 0..count {
@@ -54,7 +54,7 @@ impl Row {
         Ok(())
     }
 
-    /// Keeps a file, in place of one of its name.
+    /// Keeps a file, in place of any of its name. Err if memory was refused.
     pub fn keep(&mut self, file: File) -> Result<(), AllocError> {
         for kept in self.files.iter_mut() {
             if kept.name.as_str() == file.name.as_str() {
@@ -66,8 +66,8 @@ impl Row {
         Ok(())
     }
 
-    /// Puts bytes to the end of the file that the call puts last, or else of the files that were begun last; there `%` is
-    /// the number of the file, where there are several.
+    /// Appends bytes to the file that the call puts last, or, without a call, to the files that were begun last; there `%`
+    /// is the number of the file, if there are several.
     fn write(&mut self, text: &str) -> Result<(), RowFault> {
         if let Some(wanted) = &mut self.wanted {
             return wanted.write(text);
@@ -84,7 +84,7 @@ impl Row {
         Ok(())
     }
 
-    /// Puts so many lines to the end of the files.
+    /// Appends this many lines to the files.
     fn write_lines(&mut self, count: u64, text: &str) -> Result<(), RowFault> {
         for number in 0..count {
             let line = numbered(self.alloc, text, number)?;
@@ -94,7 +94,7 @@ impl Row {
         Ok(())
     }
 
-    /// Puts bytes to the end of the file that was begun last.
+    /// Appends bytes to the file that was begun last.
     fn write_bytes(&mut self, digits: &str) -> Result<(), RowFault> {
         let file = self.files.last_mut().ok_or(RowFault::BadLine)?;
         for pair in digits.split(' ') {
@@ -109,7 +109,7 @@ impl Row {
         self.wanted.as_mut().ok_or(RowFault::BadLine)
     }
 
-    /// Takes a line, which has this number.
+    /// Takes a line, which has this number. BadLine if it doesn't fit here; OutOfMemory if memory was refused.
     pub fn take(&mut self, at: usize, line: Line<'_>) -> Result<(), RowFault> {
         match line {
             Line::Nothing => {}

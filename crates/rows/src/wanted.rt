@@ -55,7 +55,7 @@ impl Wanted {
         Ok(())
     }
 
-    /// Puts bytes to the end of the file that it puts last.
+    /// Appends bytes to the file that it puts last.
     pub(crate) fn write(&mut self, text: &str) -> Result<(), RowFault> {
         let file = self.put.last_mut().ok_or(RowFault::BadLine)?;
         file.bytes.extend_from_slice(text.as_bytes())?;

@@ -2,7 +2,7 @@
 
 use std::alloc::{AllocError, Global};
 
-/// A line before a range of numbers, its first and its last, and the line after it.
+/// What stands in a line before a range of numbers, the first and the last number, and what stands after them.
 fn range_in(line: &str) -> Option<(&str, u64, u64, &str)> {
     let (before, rest) = line.split_once('{')?;
     let (range, after) = rest.split_once('}')?;
@@ -10,7 +10,7 @@ fn range_in(line: &str) -> Option<(&str, u64, u64, &str)> {
     Some((before, first.parse().ok()?, last.parse().ok()?, after))
 }
 
-/// The calls that a line stands for: where it has `{A..B}` one for each number from `A` to `B`.
+/// The calls that a line stands for: if it has `{A..B}`, one for each number from `A` to `B`. Err if memory was refused.
 pub fn calls_of(alloc: Global, line: &str) -> Result<Vec<String>, AllocError> {
     let mut calls = Vec::new(alloc);
     match range_in(line) {
@@ -30,7 +30,7 @@ fn ends_of(word: &str) -> Option<(u64, u64)> {
     Some((first.parse().ok()?, last.parse().ok()?))
 }
 
-/// The words of a call; `A...B` are all numbers from `A` to `B`.
+/// The words of a call; `A...B` stands for all numbers from `A` to `B`. Err if memory was refused.
 pub fn words_of(alloc: Global, line: &str) -> Result<Vec<String>, AllocError> {
     let mut words = Vec::new(alloc);
     for word in line.split_whitespace() {

@@ -12,10 +12,10 @@ use thiserror::Error;
 /// Why bytes aren't a schedule.
 #[derive(Clone, Copy, Debug, PartialEq, Eq, Error)]
 pub enum ScheduleFault {
-    /// This line, counted from 1, is the first that isn't a command's, that names a core that isn't
-    /// there, or that has no line feed.
+    /// This line, counted from 1, is the first that is no command, that names a core that isn't there, or that has no line
+    /// feed.
     BadScheduleLine { line: u64 },
-    /// A growth was refused.
+    /// Memory was refused.
     OutOfMemory,
 }
 

@@ -2,13 +2,13 @@
 
 ghost use Rattle.schedule.specs.Laws.{SpelledIsRead, AtMostOneFault};
 
-/// A schedule's text is that of no other, and it has no fault: `parse` gives that schedule, and
-/// refuses it for lack of memory alone.
+/// The text of a schedule belongs to no other, and it has no fault: `parse` gives that schedule, and refuses it only for
+/// lack of memory.
 pub fn spelled_is_read()
     ensures { SpelledIsRead }
 {}
 
-/// Bytes that aren't a schedule's text have one first bad line.
+/// Bytes have at most one fault, lack of memory aside: one first bad line.
 pub fn one_fault()
     ensures { AtMostOneFault }
 {}

@@ -11,7 +11,7 @@ use decimal_text::{after_text, read_field, read_last};
 use line_stamps::{Recall, RecallKind, Stamp};
 use mem_op::{Addr, CoreId};
 
-/// The core of this number, where it is below `cores`, and below 64.
+/// The core of this number, if it is below `cores`, and below 64.
 fn core_of(cores: usize, number: u64) -> Option<CoreId>
     ensures { result ≡ below (min cores 64) number }
 {
@@ -41,7 +41,7 @@ fn addr_field(bytes: &[u8]) -> Option<(Addr, &[u8])>
     Some((Addr::new(number?).ok()?, rest))
 }
 
-/// How a line is recalled with a space after it, and the bytes after them.
+/// How a recall wants a line back, with a space after it, and the bytes after them.
 #[tactic(auto, unfolding(crate::specs::inner::Reading::kind_at, decimal_text::specs::Reading::after))]
 fn kind_field(bytes: &[u8]) -> Option<(RecallKind, &[u8])>
     ensures { front_now result ≡ kind_at bytes.now }
@@ -53,7 +53,7 @@ fn kind_field(bytes: &[u8]) -> Option<(RecallKind, &[u8])>
     }
 }
 
-/// A core that is all there is.
+/// A core, and nothing after it.
 #[tactic(auto, unfolding(text_lines::specs::Fields::last_below))]
 fn last_core(cores: usize, bytes: &[u8]) -> Option<CoreId>
     ensures { result ≡ last_core cores bytes.now }
@@ -61,7 +61,7 @@ fn last_core(cores: usize, bytes: &[u8]) -> Option<CoreId>
     core_of(cores, read_last(bytes)??)
 }
 
-/// An address that is all there is.
+/// An address, and nothing after it.
 #[tactic(auto, unfolding(text_lines::specs::Fields::last_below))]
 fn last_addr(bytes: &[u8]) -> Option<Addr>
     ensures { result ≡ last_addr bytes.now }
@@ -69,7 +69,7 @@ fn last_addr(bytes: &[u8]) -> Option<Addr>
     Addr::new(read_last(bytes)??).ok()
 }
 
-/// A stamp that is all there is.
+/// A stamp, and nothing after it.
 #[tactic(auto, unfolding(text_lines::specs::Fields::last_below))]
 fn last_stamp(bytes: &[u8]) -> Option<Stamp>
     ensures { result ≡ last_stamp bytes.now }
@@ -111,7 +111,7 @@ fn evict(cores: usize, fields: &[u8]) -> Option<Command>
     Some(Command::Evict(core, last_addr(rest)?))
 }
 
-/// The command whose line this is, without its line feed, where there are `cores` cores.
+/// The command whose line this is, without its line feed, if there are `cores` cores.
 #[tactic(auto, unfolding(crate::specs::inner::Reading::command_of))]
 pub(crate) fn read_command(cores: usize, line: &[u8]) -> Option<Command>
     ensures { result ≡ command_of cores line.now }

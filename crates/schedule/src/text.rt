@@ -9,9 +9,9 @@ use super::reading::read_command;
 use std::alloc::Global;
 use text_lines::next_line;
 
-/// The commands whose text this is, one a line, each line ended by a line feed, for this number of cores,
-/// at most 64. BadScheduleLine at the first line that isn't a command's, that names a core that isn't there, or
-/// that has no line feed.
+/// The commands whose text this is, one a line, each line ended by a line feed, for this number of cores, at most 64.
+/// BadScheduleLine at the first line that is no command, that names a core that isn't there, or that has no line feed;
+/// OutOfMemory if memory was refused.
 pub fn parse(alloc: Global, text: &[u8], cores: usize) -> Result<Vec<Command>, ScheduleFault>
     ensures { MatchResult result
         (λ commands. Spells cores text.now commands.items)
@@ -31,8 +31,7 @@ pub fn parse(alloc: Global, text: &[u8], cores: usize) -> Result<Vec<Command>, S
     Ok(commands)
 }
 
-/// The command whose line is the first, and the bytes after it; None where the first line isn't a
-/// command's, or has no line feed.
+/// The command whose line is the first, and the bytes after it; None if the first line is no command, or has no line feed.
 fn next_command(cores: usize, text: &[u8]) -> Option<(Command, &[u8])>
     ensures found { IfSome result (λ read. CommandInFront cores read.0 text.now read.1.now) }
     ensures none { IsNone result → NoCommandInFront cores text.now }

@@ -44,7 +44,7 @@ fn obey(machine: &mut Core, command: &Command) -> Result<(), SimulationFault>
     }
 }
 
-/// Makes an event of a core, which a refusal names.
+/// Makes an event of a core. A refusal names the core.
 fn step_core(machine: &mut Core, core: CoreId, event: Event) -> Result<(), SimulationFault>
     requires own { core_event event ≡ Some core }
     ensures { MatchResult result
@@ -60,7 +60,7 @@ fn step_core(machine: &mut Core, core: CoreId, event: Event) -> Result<(), Simul
     }
 }
 
-/// Spills the line of an address, where it is Shared.
+/// Spills the line of an address, if it is Shared.
 fn spill(machine: &mut Core, addr: Addr) -> Result<(), SimulationFault>
     ensures { MatchResult result
         (λ _. EventLeadsAnyhow machine.old (Event.Spill addr) machine.new)

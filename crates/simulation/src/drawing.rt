@@ -34,8 +34,7 @@ pub(crate) fn draw_out(alloc: Global, machine: &mut Core, seed: u64) -> Result<(
     Ok(())
 }
 
-/// Makes a round of a core that was drawn: 30 GaveUp where it is its 1,000th since its last
-/// operation and brings none.
+/// Makes a round of a core that was drawn: 30 GaveUp if it is the core's 1,000th since its last operation, and brings none.
 fn drawn_round(machine: &mut Core, core: CoreId, waits: &mut [u16; 64]) -> Result<(), RoundFault>
     ensures round { OnOk result (IsRound core machine.old machine.new) }
     ensures waits { OnOk result
@@ -87,7 +86,7 @@ fn list_cores_left(alloc: Global, machine: &Core) -> Result<Vec<CoreId>, AllocEr
     Ok(left)
 }
 
-/// Strikes a core off a list where it has ended.
+/// Strikes a core off a list if it has ended.
 fn strike_if_ended(machine: &Core, core: CoreId, left: &mut Vec<CoreId>)
     ensures { left.new.items ≡ (if has_next (world machine.now) core then left.old.items
         else without core left.old.items) }

@@ -18,7 +18,7 @@ use schedule::Command;
 use std::alloc::{AllocError, Global};
 use tardis_core::Core;
 
-/// The columns: the event, what came of it, and after it the line concerned in the cache of the event's core and in its slice, the
+/// The columns: the event, what came of it, and then, as they are after it, the line concerned in the cache of the event's core and in its slice, the
 /// stamp and the rank of the slice's memory, and those of the core.
 const COLUMNS: [&str; 18] = [
     "number",
@@ -53,8 +53,8 @@ struct Step<'a> {
     machine: &'a Core,
 }
 
-/// The table of the events that a machine of these programs has kept from its start on: comma-separated values, a line for the
-/// columns and one for each event. Err where memory was refused, also before, when an event was to be kept.
+/// The table of the events that a machine of these programs has kept from its start on: comma-separated values, a line for
+/// the columns and one for each event. Err if memory was refused, now or before, when an event was to be kept.
 pub fn print_events(
     alloc: Global,
     programs: &ProgramSet,
@@ -125,7 +125,7 @@ fn step_cells(alloc: Global, step: &Step<'_>) -> Result<StringRecord, AllocError
     Ok(cells)
 }
 
-/// Adds the cells of a line, where it is one that an event concerns.
+/// Adds the cells of the line that an event concerns; blank ones if it concerns none.
 fn push_line(
     alloc: Global,
     cells: &mut StringRecord,
@@ -205,7 +205,7 @@ fn push_text(cells: &mut StringRecord, text: &String) -> Result<(), AllocError> 
     cells.push_field(text.as_str())
 }
 
-/// Adds so many cells that have nothing in them.
+/// Adds this many cells that have nothing in them.
 fn push_blanks(cells: &mut StringRecord, count: usize) -> Result<(), AllocError> {
     for _ in 0..count {
         push_blank(cells)?;
@@ -213,7 +213,7 @@ fn push_blanks(cells: &mut StringRecord, count: usize) -> Result<(), AllocError>
     Ok(())
 }
 
-/// The command of a schedule that makes just this event, where a recall comes to the owner that it names.
+/// The command of a schedule that makes just this event, if a recall comes to the owner that it names.
 fn command_of(event: &Event) -> Command
     ensures { IsAtOwner event.now → (p q : CoreParts) → CommandLeads p result q → EventLeadsAnyhow p event.now q }
 {
@@ -228,7 +228,7 @@ fn command_of(event: &Event) -> Command
     }
 }
 
-/// The core of an event, if it is one of a core that is there.
+/// The core of an event, if it has one, and that is there.
 fn unit_of<'a>(machine: &'a Core, event: &Event) -> Option<&'a CoreUnit> {
     match event {
         Event::Spill(_) => None,
@@ -254,7 +254,7 @@ fn made_by<'a>(unit: Option<&'a CoreUnit>, outcome: &Outcome) -> Option<&'a Reco
     }
 }
 
-/// The address of the line that an event concerns: that which it names, or that of its operation or message. A bump concerns none.
+/// The address of the line that an event concerns: the one that it names, or that of its operation or message. A bump concerns none.
 fn addr_of(step: &Step<'_>, made: Option<&Record>) -> Option<Addr> {
     match step.event {
         Event::Increment(_) => None,

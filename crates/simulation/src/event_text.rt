@@ -15,7 +15,7 @@ pub(crate) struct OutcomeText<'a> {
     pub(crate) made: Option<&'a Record>,
 }
 
-/// Its name, and what it tells: of an operation its id and its record as a log has it.
+/// Its name, and what it tells: for an operation, its id and its record as a log has it.
 impl<'a> Display for OutcomeText<'a> {
     fn fmt<W: fmt::Write>(&self, f: &mut fmt::Formatter<W>) -> fmt::Result {
         match self.outcome {

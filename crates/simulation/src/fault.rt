@@ -1,4 +1,4 @@
-//! Why a simulation isn't ended.
+//! Why a simulation doesn't come to its end.
 
 ghost use Rattle.std.specs.Prelude.{◌≡◌};
 ghost use Rattle.simulation.specs.declared.fault.SimulationFault.TheVariants.{Core, OutOfMemory};
@@ -11,14 +11,14 @@ use std::fmt::Display;
 use tardis_core::rounds::RoundFault;
 use thiserror::Error;
 
-/// Why a simulation isn't ended.
+/// Why a simulation doesn't come to its end.
 #[derive(Clone, Copy, Debug, PartialEq, Eq, Error)]
 pub enum SimulationFault {
-    /// An event of a core is refused, or 30 GaveUp: 1,000 rounds of it brought no operation.
+    /// An event of a core is refused, or 30 GaveUp: 1,000 rounds of the core brought no operation.
     Core(RoundFault),
-    /// The spill of a slice of this number is refused.
+    /// A spill of the slice of this number is refused.
     Slice { number: usize, fault: SliceFault },
-    /// A growth was refused beside the machine.
+    /// Memory was refused outside of the machine.
     OutOfMemory,
 }
 

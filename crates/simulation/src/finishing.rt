@@ -1,4 +1,4 @@
-//! The cores finished in their order.
+//! Finishes the cores in their order.
 
 ghost use Rattle.std.specs.Prelude.{MatchResult};
 ghost use Rattle.simulation.specs.Finishing.{FinishesAll, IsUnfinished};

@@ -14,9 +14,8 @@ use schedule::Command;
 use std::alloc::Global;
 use tardis_core::Core;
 
-/// Does what the commands say, and then takes all cores to the ends of their programs: by rounds of
-/// cores that are drawn with a seed, or without one core 0 first, then core 1, and so on. The first
-/// refusal ends it, and what was done before stays done.
+/// Does what the commands say, and then takes all cores to the ends of their programs: with a seed by rounds of drawn cores,
+/// and without one core 0 first, then core 1, and so on. The first refusal ends it, and what was done before stays done.
 pub fn simulate(
     alloc: Global,
     machine: &mut Core,
@@ -27,7 +26,7 @@ pub fn simulate(
         (λ _. IsSimulated commands.now seed machine.old machine.new)
         (λ fault. IsSimulationFault commands.now seed machine.old machine.new fault) }
     ensures ended { OnOk result (NoneIsLeft (world machine.new)) }
-    // What was done is one run of the core machine: by just the events of the commands and the rounds.
+    // What was done is one run of the core machine, made of just the events of the commands and the rounds.
     ensures events { OnOk result (IsSimulatedByRun commands.now seed machine.old machine.new) }
     // What was done before a refusal is one too.
     ensures run { IsRunTo machine.old machine.new }

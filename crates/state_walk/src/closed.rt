@@ -1,4 +1,4 @@
-//! Sets of states that are closed: no state of them is final, and what can be reached from one is one of them.
+//! Closed sets of states: none of their states is final, and whatever can be reached from one of them is in the set, too.
 
 use super::dead::Dead;
 use super::state::State;
@@ -23,23 +23,23 @@ pub struct Precedence {
 pub struct ClosedSet<'a> {
     alloc: Global,
     classes: &'a Classes,
-    /// The addresses that are looked at.
+    /// The addresses of the set.
     addresses: &'a [u32],
-    /// What is known to be before what, in order.
+    /// What is known to be before what, sorted.
     known: &'a [Precedence],
     state: State<'a>,
     visited: Visited,
-    /// The moves that weren't made: how many operations led to the state from which it leads, and its core.
+    /// The moves that weren't made yet: how many operations led to the state that a move starts from, and its core.
     moves: Vec<(usize, u32)>,
-    /// The states, as a refutation tells them.
+    /// The states, as a refutation has them.
     pub states: Vec<refutation::State>,
-    /// The facts by which some core couldn't go on from them.
+    /// The facts that kept some core from going on from them.
     pub used: Vec<u32>,
 }
 
 impl<'a> ClosedSet<'a> {
-    /// A walk over the states of operations of which those at other addresses than these neither read nor store. What may change memory
-    /// waits for what is known to be before it, as this list tells in order.
+    /// A walk over the states of operations; those at other addresses than these neither read nor store. Whatever may change memory waits for what is
+    /// known to be before it by this list, which is sorted.
     pub fn new(
         alloc: Global,
         operations: &'a Operations,
@@ -61,7 +61,7 @@ impl<'a> ClosedSet<'a> {
         })
     }
 
-    /// Comes to all states that can be reached. Says whether they are no more than so many, and none is final; else it may stop before.
+    /// Comes to all states that can be reached. Says whether there are at most `most`, none is final and the budget lasts; if not, it may stop early.
     pub fn close<W: SearchWatch>(
         &mut self,
         most: usize,
@@ -89,7 +89,7 @@ impl<'a> ClosedSet<'a> {
         Ok(true)
     }
 
-    /// Enters the state, to which a store led that wrote over a class, unless it was entered, and its moves, unless it is dead.
+    /// Enters the state, unless it was entered, and its moves, unless it is dead. The store that led to it wrote over this class, if over any.
     fn enter(&mut self, ruined: Option<u32>) -> Tried<()> {
         if !self.visited.insert(self.state.number)? {
             return Ok(());
@@ -138,7 +138,7 @@ impl<'a> ClosedSet<'a> {
         awaited.map(|known| known.fact)
     }
 
-    /// The words at the addresses that are looked at.
+    /// The words at the addresses of the set.
     fn words(&self) -> Tried<Numbers> {
         let words = self.addresses.iter().map(|address| {
             let class = at(&self.state.memory, *address);
@@ -147,14 +147,14 @@ impl<'a> ClosedSet<'a> {
         Ok(Numbers::new(words.collect(self.alloc)?))
     }
 
-    /// Of each core the index of its next operation.
+    /// For each core, the index of its next operation.
     fn next(&self) -> Tried<Numbers> {
         let cores = self.state.cores.iter();
         let next = cores.map(|core| self.index(*core, at(&self.state.positions, *core)));
         Ok(Numbers::new(next.collect(self.alloc)?))
     }
 
-    /// Of each core the index at which it waits in a state that is dead, or how many operations it has.
+    /// For each core, the index at which it waits in a dead state, or how many operations it has.
     fn limits(&self, dead: Dead) -> Tried<Numbers> {
         let cores = self.state.cores.iter();
         let limits = cores.map(|core| self.index(*core, self.state.limit(dead, *core)));

@@ -1,4 +1,4 @@
-//! States from which nothing leads to the end, as a look at what is left tells.
+//! States from which nothing leads to the end, as a look at what is left shows.
 
 use super::state::State;
 use numbered_trace::{CoreSet, Place, at};
@@ -8,18 +8,18 @@ use numbered_trace::{CoreSet, Place, at};
 pub(crate) enum Dead {
     /// The word of this read was written over, and nothing stores it from here on.
     Starved(Place),
-    /// These cores wait for words which none but they store from here on.
+    /// These cores wait for words that only they store from here on.
     Deadlocked(CoreSet),
 }
 
 impl State<'_> {
-    /// Why nothing leads from here to the end, after a class was written over, where something tells it.
+    /// Why nothing leads from here to the end, after a class was written over; None if nothing shows that.
     pub(crate) fn dead(&self, ruined: Option<u32>) -> Option<Dead> {
         let starved = ruined.and_then(|class| self.starved(class));
         starved.or_else(|| self.deadlocked())
     }
 
-    /// The place at which a core waits in a state that is dead, or where its operations end.
+    /// The place at which a core waits in a dead state, or where its operations end.
     pub(crate) fn limit(&self, dead: Dead, core: u32) -> Place {
         match dead {
             Dead::Starved(read) if self.operations.core(read) == core => read,
@@ -28,7 +28,7 @@ impl State<'_> {
         }
     }
 
-    /// A read of a class that memory doesn't have, where nothing stores it from here on.
+    /// A read, still to come, of a class that memory doesn't have, if nothing stores that class from here on.
     fn starved(&self, class: u32) -> Option<Dead> {
         let mut read = None;
         let mut next = self.touches.first(class);
@@ -48,7 +48,7 @@ impl State<'_> {
         read
     }
 
-    /// Some cores that wait for words which none but these cores store from here on.
+    /// Some cores that wait for words that only these cores store from here on.
     fn deadlocked(&self) -> Option<Dead> {
         let mut waiting = CoreSet::NONE;
         for core in &self.cores {
@@ -66,7 +66,7 @@ impl State<'_> {
         (waiting != CoreSet::NONE).then_some(Dead::Deadlocked(waiting))
     }
 
-    /// Takes the cores out of a set that wait for a word which others store from here on.
+    /// Takes out of a set the cores that wait for a word that others store from here on.
     fn release(&self, waiting: &mut CoreSet) {
         for core in &self.cores {
             if waiting.contains(*core)

@@ -3,7 +3,7 @@
 use numbered_trace::{NONE, Operations, Tried, at, put};
 use std::alloc::Global;
 
-/// The cores in groups: no core of one shares an address with a core of another, if through others. There are so many addresses.
+/// The cores in groups: two cores are in one group if they share an address, or are linked by others that do. There are this many addresses.
 pub fn groups_of(alloc: Global, operations: &Operations, addresses: u32) -> Tried<Vec<Vec<u32>>> {
     let group_of = group_of_each(alloc, operations, addresses)?;
     let mut groups = Vec::new(alloc);
@@ -19,7 +19,7 @@ pub fn groups_of(alloc: Global, operations: &Operations, addresses: u32) -> Trie
     Ok(groups)
 }
 
-/// Of each core the first core of its group.
+/// For each core, the first core of its group.
 fn group_of_each(alloc: Global, operations: &Operations, addresses: u32) -> Tried<Vec<u32>> {
     let mut group_of: Vec<u32> = operations.cores().collect(alloc)?;
     let mut first_of = vec![in alloc; NONE; addresses as usize]?;
@@ -35,7 +35,7 @@ fn group_of_each(alloc: Global, operations: &Operations, addresses: u32) -> Trie
     Ok(group_of)
 }
 
-/// The cores of one group are another's, too.
+/// Puts the cores of one group into another.
 fn join(group_of: &mut [u32], least: u32, most: u32) {
     for group in group_of {
         if *group == most {

@@ -3,26 +3,26 @@
 use super::state::State;
 use numbered_trace::{Operation, at};
 
-/// How many operations of a core are looked at for a touch of an address.
+/// How many of a core's next operations are searched for a touch of an address.
 const SOON: u32 = 32;
 
 impl State<'_> {
-    /// A core's next operations, at most so many.
+    /// A core's next operations, at most this many.
     pub(crate) fn ahead(&self, core: u32, count: u32) -> &[Operation] {
         let from = at(&self.positions, core);
         let to = self.operations.end(core).min(from.saturating_add(count));
         self.operations.part(from, to)
     }
 
-    /// Whether a core's next operation is a store that harms nobody: neither what it writes over nor what it stores is read any
-    /// more.
+    /// Whether a core's next operation is a store that harms nobody: neither what it writes over nor what it stores is read
+    /// after it.
     pub(crate) fn is_harmless(&self, core: u32, store: &Operation) -> bool {
         let over = at(&self.memory, store.address);
         let stored = store.stored().unwrap_or(over);
         !self.is_read_after(core, stored) && !self.is_read_after(core, over)
     }
 
-    /// Whether a class is read from here on, but by a core's next operation.
+    /// Whether a class is read from here on by anything but a core's next operation.
     fn is_read_after(&self, core: u32, class: u32) -> bool {
         let mut next = self.touches.first(class);
         for _ in 0..self.positions.len() {
@@ -39,8 +39,8 @@ impl State<'_> {
         false
     }
 
-    /// How long a core's next operation, a store, keeps others from its address: how many operations have to be performed, as far as that is
-    /// known, until a core has read for the last time what it stores. None where what it writes over is still read.
+    /// How long a core's next operation, a store, keeps others from its address: how many operations have to be performed, as far as that is known,
+    /// until what it stores is read for the last time. None if what it writes over is still read.
     pub(crate) fn hold(&self, core: u32, store: &Operation) -> Option<u32> {
         if self.is_read_after(core, at(&self.memory, store.address)) {
             return None;
@@ -57,15 +57,15 @@ impl State<'_> {
         Some(hold)
     }
 
-    /// Whether a core's next operation, a store, seems to harm nobody: no other core touches its address soon, but to read
-    /// another word than the one that is there.
+    /// Whether a core's next operation, a store, seems to harm nobody: no other core touches its address soon, except to
+    /// read another word than the one that is there.
     pub(crate) fn seems_harmless(&self, core: u32, store: &Operation) -> bool {
         let word = at(&self.memory, store.address);
         let mut others = self.cores.iter();
         !others.any(|other| *other != core && self.wants(*other, store.address, word))
     }
 
-    /// Whether a core soon touches an address, and not to read another word than this one.
+    /// Whether a core soon touches an address, other than to read another word than this one.
     fn wants(&self, core: u32, address: u32, word: u32) -> bool {
         let mut ahead = self.ahead(core, SOON).iter();
         let touch = ahead.find(|next| next.address == address);

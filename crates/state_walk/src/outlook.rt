@@ -3,23 +3,23 @@
 use super::state::State;
 use numbered_trace::{Operation, Place, at};
 
-/// How many operations of a core are looked at.
+/// How many of a core's next operations count.
 const AHEAD: u32 = 12;
 
-/// What a read that is so far ahead counts where memory has its word, and where it doesn't: the logarithms, times 100, of
-/// how likely that is in a run, beside how likely it is by chance.
+/// What a read this far ahead counts if memory has its word, and if it doesn't: 100 times the logarithm of how likely that
+/// is in a run, compared with how likely it is by chance.
 const FITS: [u64; 12] = [121, 103, 88, 74, 62, 51, 42, 34, 27, 22, 18, 14];
 
 const MISFITS: [u64; 12] = [151, 93, 64, 46, 34, 25, 19, 15, 11, 9, 7, 5];
 
-/// The longest wait that is counted.
+/// The longest wait that counts.
 const LONG: u32 = 50;
 
-/// The outlook of a state of which nothing is told.
+/// The outlook of a state about which nothing is known.
 pub(crate) const EVEN: u64 = 1 << 50;
 
 impl State<'_> {
-    /// How likely a state leads to the end: the more the likelier.
+    /// How likely a state is to lead to the end: the more, the likelier.
     pub(crate) fn outlook(&self) -> u64 {
         let mut outlook = EVEN;
         for core in &self.cores {
@@ -31,7 +31,7 @@ impl State<'_> {
         outlook
     }
 
-    /// How many operations a core lags behind its part of all that were performed.
+    /// How many operations a core lags behind its share of all that were performed.
     fn lag(&self, core: u32) -> u64 {
         let (start, end) = (at(&self.operations.starts, core), self.operations.end(core));
         let own = u64::from(end.saturating_sub(start));
@@ -42,7 +42,7 @@ impl State<'_> {
         due.unwrap_or(0).saturating_sub(u64::from(done))
     }
 
-    /// An outlook with what a core's next reads add to it, the first of each address.
+    /// An outlook with what a core's next reads add to it. A read counts if it is the core's first operation at its address.
     fn with_reads(&self, core: u32, outlook: u64) -> u64 {
         let next = self.ahead(core, AHEAD);
         let mut sum = outlook;
@@ -55,7 +55,7 @@ impl State<'_> {
         sum
     }
 
-    /// An outlook with what an operation adds to it that is so far ahead of its core.
+    /// An outlook with what an operation adds to it that is this far ahead in its core.
     fn with_read(&self, core: u32, far: usize, operation: &Operation, outlook: u64) -> u64 {
         let Some(read) = operation.read() else {
             return outlook;
@@ -96,7 +96,7 @@ impl State<'_> {
     }
 }
 
-/// The less of two distances, of which the first may be none.
+/// The lesser of two distances; the first may be none.
 fn nearer(one: Option<Place>, other: Place) -> Option<Place> {
     match one {
         Some(one) if one < other => Some(one),

@@ -4,7 +4,7 @@ use super::touches::Touches;
 use numbered_trace::{Classes, Operation, Operations, Place, Stop, Tried, at, put};
 use std::alloc::Global;
 
-/// As many pairs of cores are looked at in a step, where it is asked how a state looks.
+/// How many pairs of cores one step of the budget covers in a look at a state.
 const PAIRS: usize = 20;
 
 /// How far each core is and what memory holds. It is changed in place.
@@ -17,25 +17,25 @@ pub(crate) struct State<'a> {
     pub(crate) cores: Vec<u32>,
     /// How many operations these have.
     pub(crate) total: usize,
-    /// Of each core the place of its next operation.
+    /// For each core, the place of its next operation.
     pub(crate) positions: Vec<Place>,
-    /// Of each address the class of its word.
+    /// For each address, the class of its word.
     pub(crate) memory: Vec<u32>,
     /// The operations that were performed.
     pub(crate) order: Vec<Place>,
-    /// Of each store among them the class of the word that it found.
+    /// For each store among them, the class of the word that it found.
     found: Vec<u32>,
-    /// Of each operation, one after the other, and each core a place: the core's operations below it come before the operation.
-    /// Empty where nothing is known.
+    /// For each operation, one after the other, and each core, a place: the core's operations below it come before the
+    /// operation. Empty if nothing is known.
     pub(crate) clocks: Vec<Place>,
-    /// Equal states have one number, and others nearly never have it too.
+    /// Equal states have the same number, and different ones almost never do.
     pub(crate) number: u64,
-    /// How many operations were ever performed, and how many steps were made beside.
+    /// How many operations were ever performed, plus the steps that looks at states took.
     pub(crate) performed: u64,
 }
 
 impl<'a> State<'a> {
-    /// The state in which nothing was performed, of the operations of some cores.
+    /// The state of some cores' operations in which none was performed.
     pub(crate) fn new(
         alloc: Global,
         operations: &'a Operations,
@@ -75,7 +75,7 @@ impl<'a> State<'a> {
         self.operations.next(&self.positions, core)
     }
 
-    /// A core's next operation, where it can be performed: memory has its word, and all that has to come before it was performed.
+    /// A core's next operation, if it can be performed: memory has its word, and all that has to come before it was performed.
     pub(crate) fn able(&self, core: u32) -> Option<Operation> {
         let (place, next) = self.next(core)?;
         (self.has_word(&next) && !self.waits(place)).then_some(next)
@@ -86,22 +86,22 @@ impl<'a> State<'a> {
         operation.fits(at(&self.memory, operation.address))
     }
 
-    /// Whether something that is known to be before a core's next operation wasn't performed. The own core's entry of its clock
-    /// alone is right behind it.
+    /// Whether something that is known to be before a core's next operation wasn't performed. In the operation's clock, only
+    /// its own core's entry is right behind it.
     fn waits(&self, place: Place) -> bool {
         let own = place.wrapping_add(1);
         let mut entries = self.clock(place).iter().zip(&self.positions);
         entries.any(|(entry, position)| entry > position && *entry != own)
     }
 
-    /// What is known to be before the operation at a place: of each core a place, if of any.
+    /// What is known to be before the operation at a place: a place for each core; empty if nothing is known.
     fn clock(&self, place: Place) -> &[Place] {
         let count = self.positions.len();
         let row = (place as usize).wrapping_mul(count);
         self.clocks.get(row..row.wrapping_add(count)).unwrap_or(&[])
     }
 
-    /// How many operations weren't performed up to a core's at this place: those of its core, and those that are known to be before it.
+    /// How many operations are still to be performed up to a core's at this place: those of its core, and those that are known to be before it.
     pub(crate) fn count_up_to(&self, core: u32, place: Place) -> u32 {
         let position = at(&self.positions, core);
         if place < position {
@@ -113,7 +113,7 @@ impl<'a> State<'a> {
         known.max(place.saturating_sub(position).saturating_add(1))
     }
 
-    /// Counts a look at how the state looks, which takes longer the more cores there are.
+    /// Counts a look at the state, which takes longer the more cores there are.
     pub(crate) fn count_look(&mut self) {
         let pairs = self.cores.len().saturating_mul(self.cores.len()) / PAIRS;
         self.performed = self.performed.wrapping_add(pairs as u64);
@@ -134,7 +134,7 @@ impl<'a> State<'a> {
         put(&mut self.positions, core, place.wrapping_add(1))
     }
 
-    /// Takes operations back until so many are left.
+    /// Takes operations back until this many are left.
     pub(crate) fn undo(&mut self, length: usize) -> Tried<()> {
         for _ in length..self.order.len() {
             let Some(place) = self.order.pop() else {
@@ -159,8 +159,8 @@ impl<'a> State<'a> {
         put(&mut self.positions, core, place)
     }
 
-    /// Performs what leaves memory as it is, as long as something can be performed: nothing is lost by it, and what is known to be before
-    /// needn't be looked at.
+    /// Performs what leaves memory as it is, as long as it can: nothing is lost by that, and such operations needn't wait for what is known to be
+    /// before them.
     pub(crate) fn settle(&mut self) -> Tried<()> {
         for place in 0..self.cores.len() {
             let core = self.cores.get(place).copied().unwrap_or(0);
@@ -169,7 +169,7 @@ impl<'a> State<'a> {
         Ok(())
     }
 
-    /// Performs what leaves memory as it is of a core.
+    /// Performs those of a core's next operations that leave memory as it is.
     fn settle_core(&mut self, core: u32) -> Tried<()> {
         for _ in 0..u32::MAX {
             match self.next(core) {
@@ -180,8 +180,7 @@ impl<'a> State<'a> {
         Ok(())
     }
 
-    /// Performs what leaves memory as it is, and stores that harm nobody, as long as something can be performed: nothing is lost by that,
-    /// either.
+    /// Performs what leaves memory as it is, and stores that harm nobody, as long as it can: nothing is lost by that, either.
     pub(crate) fn go_on(&mut self) -> Tried<()> {
         self.settle()?;
         let count = self.cores.len();
@@ -199,7 +198,7 @@ impl<'a> State<'a> {
         Ok(())
     }
 
-    /// Performs a core's stores that harm nobody, and what leaves memory as it is behind them. Says whether there was one.
+    /// Performs a core's stores that harm nobody, and after them what leaves memory as it is. Says whether it performed any.
     fn store_harmlessly(&mut self, core: u32) -> Tried<bool> {
         let before = self.order.len();
         for _ in 0..u32::MAX {
@@ -224,17 +223,17 @@ impl<'a> State<'a> {
     }
 }
 
-/// A number of how far a core is.
+/// A number for how far a core is.
 fn of_place(core: u32, place: Place) -> u64 {
     mixed(u64::from(place) | u64::from(core).wrapping_add(1).wrapping_shl(32))
 }
 
-/// A number of a word in memory.
+/// A number for a word in memory.
 fn of_class(class: u32) -> u64 {
     mixed(u64::from(class))
 }
 
-/// A number that looks drawn.
+/// A number that looks random.
 fn mixed(seed: u64) -> u64 {
     let seed = (seed ^ (seed >> 30) ^ 0x9e37_79b9).wrapping_mul(0xbf58_476d_1ce4_e5b9);
     let seed = (seed ^ (seed >> 27)).wrapping_mul(0x94d0_49bb_1331_11eb);

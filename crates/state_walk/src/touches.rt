@@ -3,7 +3,7 @@
 use numbered_trace::{NONE, Operations, Place, START, Stop, Tried, at, put, short};
 use std::alloc::Global;
 
-/// A class that a core touches: the places of its last read and of its last store of it, or the START.
+/// A class that a core touches: the places of its last read and of its last store of it, or START.
 #[derive(Clone, Copy)]
 pub(crate) struct Touched {
     pub(crate) core: u32,
@@ -17,12 +17,12 @@ pub(crate) struct Touched {
 #[derive(Drop)]
 pub(crate) struct Touches {
     all: Vec<Touched>,
-    /// Of each class the number of a touch of it, or NONE.
+    /// For each class, the number of a touch of it, or NONE.
     latest: Vec<u32>,
 }
 
 impl Touches {
-    /// Which of so many classes these cores touch, as far as they are read.
+    /// Which of this many classes these cores touch, of those that they read.
     pub(crate) fn new(
         alloc: Global,
         operations: &Operations,
@@ -40,7 +40,7 @@ impl Touches {
         Ok(touches)
     }
 
-    /// Enters what a core touches, after all others, of these classes.
+    /// Enters the classes that a core reads, and those of `are_read` that it stores.
     fn enter(&mut self, operations: &Operations, core: u32, are_read: &[bool]) -> Tried<()> {
         for place in at(&operations.starts, core)..operations.end(core) {
             let operation = operations.get(place);
@@ -56,7 +56,7 @@ impl Touches {
         Ok(())
     }
 
-    /// The last touch of a class, by a core that comes after all others that touch it.
+    /// The touch of a class by the core that is entered now, after all others. It is made if there is none.
     fn of_core(&mut self, class: u32, core: u32) -> Tried<&mut Touched> {
         let next = at(&self.latest, class);
         if self.get(next).is_none_or(|last| last.core != core) {
@@ -88,7 +88,7 @@ impl Touches {
     }
 }
 
-/// Of so many classes whether one of these cores reads them.
+/// For each of this many classes, whether one of these cores reads it.
 fn are_read(
     alloc: Global,
     operations: &Operations,

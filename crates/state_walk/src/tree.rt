@@ -1,4 +1,4 @@
-//! The states that were come to, as a tree.
+//! The states that the walk came to, as a tree.
 
 use super::outlook::EVEN;
 use numbered_trace::{NONE, Stop, Tried, at, put, short};
@@ -6,7 +6,7 @@ use std::alloc::Global;
 use std::cmp::Reverse;
 use std::collections::BinaryHeap;
 
-/// A state that was come to by a store from the state that is its parent. It takes 16 bytes.
+/// A state that the walk came to by a store from its parent, in 16 bytes.
 #[derive(Clone, Copy)]
 pub(crate) struct Node {
     pub(crate) parent: u32,
@@ -20,7 +20,7 @@ pub(crate) struct Node {
     pub(crate) is_half: bool,
 }
 
-/// The states to which so many stores lead.
+/// The states to which the same number of stores leads.
 #[derive(Drop)]
 struct Layer {
     depth: u32,
@@ -38,18 +38,18 @@ pub(crate) struct Tree {
     /// How many stores led to the deepest node.
     depth: u32,
     layers: Vec<Layer>,
-    /// Of each depth the number of its layer, or NONE.
+    /// For each depth, the number of its layer, or NONE.
     numbers: Vec<u32>,
-    /// The layers with open states, foremost ones first: a layer stands back by one for each state that was left in it.
+    /// The layers with open states, the foremost first: a layer falls back by one for each of its states that the walk went on from.
     queue: BinaryHeap<(u64, u32)>,
-    /// States whose likeliest child was taken and that are open again, deepest last, as long as they aren't in their layers.
+    /// States that are open again after their likeliest child was taken, the deepest last, until they come into their layers.
     halves: Vec<u32>,
-    /// The state from which the walk goes on before any of them.
+    /// The state from which the walk goes on before any other.
     next: Option<u32>,
 }
 
 impl Tree {
-    /// A tree of the state that is the root, to which so many operations led.
+    /// A tree of its root alone, a state to which this many operations led.
     pub(crate) fn new(alloc: Global, length: u32) -> Tried<Tree> {
         let mut tree = Tree {
             alloc,
@@ -72,7 +72,7 @@ impl Tree {
         Ok(tree)
     }
 
-    /// The node of a number. The search gives up where there is none.
+    /// The node of a number. The search gives up if there is none.
     pub(crate) fn node(&self, number: u32) -> Tried<Node> {
         self.nodes
             .get(number as usize)
@@ -85,7 +85,7 @@ impl Tree {
         self.depth <= depth
     }
 
-    /// Adds a state that looks so likely, and gives its number.
+    /// Adds a state with this outlook, and gives its number.
     pub(crate) fn add(&mut self, node: Node, outlook: u64) -> Tried<u32> {
         let layer = self.layer_of(node.depth)?;
         let number = self.push(node)?;
@@ -93,7 +93,7 @@ impl Tree {
         Ok(number)
     }
 
-    /// Adds a state that is its parent's likeliest child, and gives its number. The walk goes on from it where no state is as deep.
+    /// Adds a state that is its parent's likeliest child, and gives its number. The walk goes on from it if no other state is as deep.
     pub(crate) fn add_only(&mut self, node: Node) -> Tried<u32> {
         if node.depth <= self.depth {
             return self.add(node, EVEN);
@@ -111,7 +111,7 @@ impl Tree {
         Ok(number)
     }
 
-    /// Opens a state again whose likeliest child is taken: behind all others of its layer, unless it is deeper than all that were opened so.
+    /// Opens a state again after its likeliest child was taken: behind all others of its layer, or among the halves if it is deeper than they are.
     pub(crate) fn halve(&mut self, number: u32) -> Tried<()> {
         let node = self.nodes.get_mut(number as usize).ok_or(Stop::GivenUp)?;
         node.is_half = true;
@@ -126,7 +126,7 @@ impl Tree {
         Ok(self.halves.push(number)?)
     }
 
-    /// The number of the layer of a depth, which is made where there is none. Where a state is so deep, the walk went on from it.
+    /// The number of a depth's layer, which is made if there is none. Then, if some state is as deep, the walk has gone on from one.
     fn layer_of(&mut self, depth: u32) -> Tried<u32> {
         let number = at(&self.numbers, depth);
         if number != NONE {
@@ -156,7 +156,7 @@ impl Tree {
         Ok(())
     }
 
-    /// Takes the open state from which the walk goes on: the likeliest one of the foremost layer. None where no state is open.
+    /// Takes the open state from which the walk goes on: the likeliest one of the foremost layer. None if no state is open.
     pub(crate) fn take(&mut self) -> Tried<Option<u32>> {
         if let Some(number) = self.next.take() {
             return Ok(Some(number));
@@ -168,7 +168,7 @@ impl Tree {
         }
     }
 
-    /// Puts the states that are open again into their layers, behind all others, as long as one may be foremost.
+    /// Puts the halves into their layers, behind all others, as long as one of them may be foremost.
     fn open_halves(&mut self) -> Tried<()> {
         for _ in 0..self.halves.len() {
             let Some(half) = self.halves.last().copied() else {
@@ -202,7 +202,7 @@ impl Tree {
     }
 }
 
-/// How far in front a layer of a depth is, so many of whose states were left: the more the farther.
+/// How far in front a layer of this depth is after the walk went on from this many of its states. The greater, the farther.
 fn foremost(depth: u32, left: u32) -> u64 {
     EVEN.saturating_add(u64::from(depth))
         .saturating_sub(u64::from(left))

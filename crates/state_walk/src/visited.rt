@@ -3,13 +3,13 @@
 use numbered_trace::{Stop, Tried};
 use std::alloc::Global;
 
-/// A table of numbers, at most three of four of whose slots are taken; a slot that isn't has 0.
+/// A table of numbers. At most three of four slots are taken; a free slot has 0.
 #[derive(Drop)]
 pub(crate) struct Visited {
     alloc: Global,
     slots: Vec<u64>,
     count: usize,
-    /// Numbers that weren't there, and aren't put into the table before it is asked for one.
+    /// Numbers that are new, and come into the table only when it is asked for one.
     latest: Vec<u64>,
 }
 
@@ -63,7 +63,7 @@ impl Visited {
     }
 }
 
-/// Puts a number into the first slot from its own on that has it or nothing. Says whether it had nothing.
+/// Puts a number into the first slot, from its own on, that has it or is free. Says whether that was free.
 fn take_slot(slots: &mut [u64], number: u64) -> Tried<bool> {
     let mask = (slots.len() as u64).wrapping_sub(1);
     for step in 0..slots.len() as u64 {

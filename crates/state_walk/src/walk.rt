@@ -8,7 +8,7 @@ use numbered_trace::{Budget, Classes, Operation, Operations, Place, SearchWatch,
 use std::alloc::Global;
 use std::mem::swap;
 
-/// How many nodes a tree has at most: so many, and so many more for each operation.
+/// How many nodes a tree has at most: this many, and `NODES_EACH` more for each operation.
 const NODES: usize = 4_000_000;
 
 const NODES_EACH: usize = 4;
@@ -18,7 +18,7 @@ const NODES_EACH: usize = 4;
 pub enum Walked {
     /// An order.
     Order,
-    /// Every state that can be reached was visited, and in none all operations were performed.
+    /// Every state that can be reached was visited, and in none of them were all operations performed.
     Closed,
     /// It may make no more steps, or keep no more states.
     GivenUp,
@@ -29,20 +29,20 @@ pub enum Walked {
 pub struct Walk<'a> {
     state: State<'a>,
     tree: Tree,
-    /// The node whose state it is.
+    /// The node of this state.
     at: u32,
     visited: Visited,
     /// The nodes on the way down to a node.
     path: Vec<u32>,
     /// The node to which the most operations lead.
     deepest: u32,
-    /// Whether nearly each word is stored once.
+    /// Whether nearly every word is stored once.
     are_distinct: bool,
 }
 
 impl<'a> Walk<'a> {
-    /// A walk over the states of the operations of these cores, which share no address with others. It does better where it is told
-    /// whether nearly each word is stored once.
+    /// A walk over the states of these cores' operations. The cores share no address with others. The walk does better if it is told whether nearly
+    /// every word is stored once.
     pub fn new(
         alloc: Global,
         operations: &'a Operations,
@@ -65,30 +65,30 @@ impl<'a> Walk<'a> {
         })
     }
 
-    /// The operations that were performed in the order that was found.
+    /// The operations that were performed, in the order in which the walk performed them.
     pub fn order(&self) -> &[Place] {
         &self.state.order
     }
 
-    /// The cores whose operations they are.
+    /// The cores whose operations the walk performs.
     pub fn cores(&self) -> &[u32] {
         &self.state.cores
     }
 
-    /// The numbers, in order, of the addresses that each core touches by its next operations, at most so many, in the state to which the
-    /// most stores lead.
+    /// The numbers, sorted, of the addresses that each core touches by its next operations, at most this many, in the state to which the most
+    /// operations lead.
     pub fn deepest_addresses(&mut self, alloc: Global, count: u32) -> Tried<Vec<u32>> {
         self.go_to(self.deepest)?;
         self.addresses_ahead(alloc, count)
     }
 
-    /// The numbers, in order, of all addresses that are touched from the first state on.
+    /// The numbers, sorted, of all addresses that are touched from the first state on.
     pub fn all_addresses(&mut self, alloc: Global) -> Tried<Vec<u32>> {
         self.go_to(0)?;
         self.addresses_ahead(alloc, u32::MAX)
     }
 
-    /// The numbers, in order, of the addresses that each core touches by its next operations, at most so many.
+    /// The numbers, sorted, of the addresses that each core touches by its next operations, at most this many.
     fn addresses_ahead(&self, alloc: Global, count: u32) -> Tried<Vec<u32>> {
         let mut addresses = Vec::new(alloc);
         for core in &self.state.cores {
@@ -100,13 +100,13 @@ impl<'a> Walk<'a> {
         Ok(addresses)
     }
 
-    /// Exchanges what is known to be before each operation: of each, one after the other, a place for each core. No list is needed
-    /// where nothing is known.
+    /// Exchanges what is known to be before each operation: for each, one after the other, a place for each core. The list may be empty if nothing is
+    /// known.
     pub fn exchange_clocks(&mut self, clocks: &mut Vec<Place>) {
         swap(&mut self.state.clocks, clocks);
     }
 
-    /// Walks until there is an order, or no state is left, or the budget is spent. It can go on where it stopped.
+    /// Walks until there is an order, or no state is left, or the budget is spent, or the tree is full. It can go on where it stopped.
     pub fn run<W: SearchWatch>(&mut self, budget: &mut Budget, watch: &W) -> Tried<Walked> {
         if self.state.is_final() {
             return Ok(Walked::Order);
@@ -171,13 +171,13 @@ impl<'a> Walk<'a> {
         Ok(from)
     }
 
-    /// Performs a core's store, and all by which nothing is lost then.
+    /// Performs a core's store, and then all by which nothing is lost.
     fn step(&mut self, core: u32) -> Tried<()> {
         self.state.perform(core)?;
         self.state.go_on()
     }
 
-    /// Adds the children of a node, at whose state the walk is: the likeliest one first, where one stands out. Says whether one of them is
+    /// Adds the children of a node whose state the walk is in: at first the likeliest one alone, if one stands out. Says whether one of them is
     /// final.
     fn expand(&mut self, number: u32) -> Tried<bool> {
         if !self.tree.node(number)?.is_half
@@ -200,7 +200,7 @@ impl<'a> Walk<'a> {
         Ok(false)
     }
 
-    /// The core whose store is tried first: it seems to harm nobody. None where none stands out.
+    /// The core whose store is tried first, since it seems to do the least harm. None if none stands out.
     fn likely(&self) -> Option<u32> {
         let mut likely = None;
         let mut least = u32::MAX;
@@ -215,7 +215,7 @@ impl<'a> Walk<'a> {
         likely
     }
 
-    /// How much harm a core's next operation, a store, seems to do; None where it is too much for a first choice.
+    /// How much harm a core's next operation, a store, seems to do; None if that is too much for a first choice.
     fn harm(&self, core: u32, store: &Operation) -> Option<u32> {
         if self.are_distinct {
             self.state.hold(core, store)
@@ -224,8 +224,8 @@ impl<'a> Walk<'a> {
         }
     }
 
-    /// Adds the state behind a core's store, unless it was visited. Says whether it is final. The walk stays there if it is the only
-    /// child.
+    /// Adds the state after a core's store, unless it was visited, is dead, or is final. Says whether it is final. The walk stays there if it is the
+    /// only child.
     fn visit(&mut self, parent: u32, core: u32, is_only: bool) -> Tried<bool> {
         let Node { length, depth, .. } = self.tree.node(parent)?;
         let ruined = self.state.ruined_by(core);
@@ -249,8 +249,8 @@ impl<'a> Walk<'a> {
         Ok(false)
     }
 
-    /// Notes that the state was visited, to which the likeliest store led from one of this depth, or another. Says whether it is new, as one is that is
-    /// deeper than all others.
+    /// Notes that the state was visited. A store led to it from a state of this depth, the likeliest one or another. Says whether the state is new;
+    /// it is if the likeliest store led deeper than all others.
     fn is_new(&mut self, depth: u32, is_likeliest: bool) -> Tried<bool> {
         if is_likeliest && self.tree.is_deepest(depth) {
             self.visited.add(self.state.number)?;

@@ -1,13 +1,13 @@
-//! What is told after a call: to a terminal where to read on, and of a file that can't be read what the system says.
+//! What the program tells after a call: it tells a terminal where to read on, and says what the system says of a file that can't be read.
 
 use log_file::{ByteSink, WriteFailed};
 use std::fs;
 use std::io::{ErrorKind, IsTerminal};
 
-/// The exit status of a call that was refused since a file has a fault.
+/// The exit status of a call that was refused because a file has a fault.
 const FAULT: u8 = 2;
 
-/// The exit status of a call that was refused since a file can't be read, among others.
+/// The exit status of a call that was refused because a file can't be read, or for some other reasons.
 const FAILED: u8 = 4;
 
 /// What was told on a sink, by its beginning.
@@ -81,8 +81,8 @@ impl<W: ByteSink> ByteSink for Noted<W> {
     }
 }
 
-/// Tells a terminal where to read on after a call with these words that ended with this status, and told this on standard error; and after
-/// an explanation of a file that can't be read what the system says.
+/// After a call with these words, which ended with this status and told this on standard error, tells a terminal where to read on. After an
+/// explanation of a file that can't be read, it also tells what the system says of the file.
 pub(crate) fn tell_after(rt: &HostRuntime, words: &[&str], status: u8, told: Told) {
     let command = words.get(1).copied();
     if command == Some("explain") && status == FAILED {

@@ -1,11 +1,11 @@
-//! A folder whose files are seen as they are read.
+//! A folder that shows how far its files are read.
 
 use super::progress::Progress;
 use super::shown::Shown;
 use host_files::Folder;
 use log_file::{ReadFault, WriteFailed};
 
-/// A folder that does what the one in it does. Of its files the lines are counted.
+/// A folder that does what the one in it does, and counts the lines that are read of its files.
 #[derive(Drop)]
 pub(crate) struct ShownFolder<'a, F> {
     pub(crate) folder: F,

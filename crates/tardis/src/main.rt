@@ -17,7 +17,7 @@ use shown::Shown;
 use std::process::ExitCode;
 use words::{WordsFault, texts, words};
 
-/// Tells the user why the words can't be read, and answers the exit status.
+/// Tells the user why the words can't be read, and gives the exit status.
 fn refuse(rt: &HostRuntime, fault: WordsFault) -> u8 {
     if let Ok(line) = format!(in rt.alloc(); "{fault}\n") {
         let _ = write_all(&mut FromWrite::new(rt.stderr()), line.as_bytes());

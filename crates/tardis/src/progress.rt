@@ -1,4 +1,4 @@
-//! The line by which work that lasts shows that it lives.
+//! The line by which long work shows that it goes on.
 
 use commands::{ReplayWatch, SearchWatch, Watch};
 use mem_op::CoreId;
@@ -8,15 +8,15 @@ use std::sync::atomic::{AtomicBool, AtomicU64, Ordering};
 use std::time::Clock;
 use trace_replay::WrongLoad;
 
-/// As many operations of a core are counted at once, so that cores seldom meet at the count.
+/// How many operations of a core are counted at once, so that cores seldom meet at the count.
 const OPERATIONS: u64 = 64;
 
-/// As many turns without an operation are made between two looks at the clock.
+/// How many turns without an operation a core makes between two looks at the clock.
 const TURNS: u64 = 65_536;
 
-/// Tells on standard error how many lines were read so far, how many operations a run has performed, or how many of its steps a search has made,
-/// in one line that is written anew each second; nothing where standard error is no terminal, or the work takes less than a second. A terminal is
-/// told of a wrong load too.
+/// Tells on standard error how many lines were read so far, how many operations a run has performed, or how many of its steps a search has made, in
+/// one line that it writes anew each second. It tells nothing if standard error is no terminal, or the work takes less than a second. It tells a
+/// terminal of a wrong load, too.
 #[derive(Drop)]
 pub(crate) struct Progress<'a> {
     rt: &'a HostRuntime,
@@ -32,7 +32,7 @@ pub(crate) struct Progress<'a> {
 }
 
 impl<'a> Progress<'a> {
-    /// Of a program that begins now.
+    /// The progress of a program that begins now.
     pub(crate) fn new(rt: &'a HostRuntime) -> Progress<'a> {
         Progress {
             rt,
@@ -55,14 +55,14 @@ impl<'a> Progress<'a> {
         self.tell(&self.lines, "lines read");
     }
 
-    /// Takes the line away, where it stands. A write that fails is passed over.
+    /// Takes the line away, if it stands there. Passes over a write that fails.
     pub(crate) fn wipe(&self) {
         if self.is_shown.swap(false, Ordering::SeqCst) {
             let _ = eprint!(self.rt; "\r                                        \r");
         }
     }
 
-    // Tells a count, where that is due. A write that fails is passed over.
+    // Tells a count, if that is due. Passes over a write that fails.
     fn tell(&self, count: &AtomicU64, what: &str) {
         if self.is_due() {
             let _ = eprint!(self.rt; "\r{} {what}", count.load(Ordering::SeqCst));
@@ -80,7 +80,7 @@ impl<'a> Progress<'a> {
     }
 }
 
-// The seconds of the host's clock; 0 where it can't be read.
+// The seconds of the host's clock; 0 if it can't be read.
 fn seconds(rt: &HostRuntime) -> u64 {
     match rt.monotonic() {
         Ok(time) => time.as_secs(),

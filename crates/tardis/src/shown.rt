@@ -1,10 +1,9 @@
-//! Devices by which the progress of the program is seen.
+//! Devices that show the progress of the program.
 
 use super::progress::Progress;
 use log_file::{ByteSink, ByteSource, ReadFailed, WriteFailed};
 
-/// A device that does what the one in it does. Of a source the lines are counted; before a sink takes anything, the line that tells of
-/// the progress is taken away.
+/// A device that does what the one in it does. A source counts its lines, too; a sink takes the line of the progress away before it takes anything.
 #[derive(Drop)]
 pub(crate) struct Shown<'a, D> {
     pub(crate) device: D,

@@ -20,7 +20,7 @@ pub(crate) enum WordsFault {
 }
 
 impl WordsFault {
-    /// The exit status: 3, as of other words that aren't a command line, or 4 where memory was refused.
+    /// The exit status: 3, as for other words that aren't a command line, or 4 if memory was refused.
     pub(crate) fn status(self) -> u8
         ensures { result ≡ words_fault_status self }
     {

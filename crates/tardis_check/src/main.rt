@@ -1,4 +1,4 @@
-//! `check` and nothing else: the least that one has to read for a yes.
+//! `check` and nothing else: the least that one has to read to trust a yes.
 #![tactic(auto)]
 
 use host_files::{HostSource, open};
@@ -21,7 +21,7 @@ fn words(rt: &HostRuntime) -> io::Result<Vec<String>> {
     Ok(words)
 }
 
-/// How many workers the words ask for, and the names of the files to judge; none where they ask for something else.
+/// How many workers the words ask for, and the names of the files to judge; none if they ask for something else.
 fn asked(words: &[String]) -> Option<(usize, &[String])> {
     let (workers, names) = match words {
         [_, check, workers, count, names @ ..]

@@ -1,4 +1,4 @@
-//! Texts of one item a line: the first line, its words, and what is read of lines one by one.
+//! Texts of one item a line: the first line, its words, and how to read a text line by line.
 #![tactic(auto)]
 
 mod lines;

@@ -6,14 +6,14 @@ ghost use Rattle.text_lines.specs.Words.{ends_word, spaced_number};
 
 use decimal_text::{after_text, read_number};
 
-/// Whether no word goes on with these bytes.
+/// Whether a word before these bytes ends where they begin.
 pub fn ends_word(bytes: &[u8]) -> bool
     ensures { result ≡ ends_word bytes.now }
 {
     matches!(bytes, [] | [b' ', ..])
 }
 
-/// A space and then a number of 64 bits, and the bytes after them; None where they aren't such, or the word goes on.
+/// A space and then a number of 64 bits, and the bytes after them; None if they don't come first, or the word goes on.
 #[tactic(auto, unfolding(crate::specs::Words::spaced_number))]
 pub fn read_spaced(bytes: &[u8]) -> Option<(u64, &[u8])>
     ensures { front_now result ≡ spaced_number bytes.now }

@@ -15,14 +15,14 @@ use thiserror::Error;
 pub enum ReplayFault {
     /// This line is the first that isn't a line of a trace.
     BadTraceLine { line: u64 },
-    /// A growth was refused.
+    /// Memory was refused.
     OutOfMemory,
     /// A read failed.
     Read,
 }
 
 impl ReplayFault {
-    /// The exit status of a program that answers so: 2 for a bad line, else 4.
+    /// The exit status of a program that answers so: 2 for a bad line, otherwise 4.
     pub fn status(&self) -> u8
         ensures { result ≡ fault_status self.now }
     {

@@ -2,12 +2,12 @@
 
 ghost use Rattle.trace_replay.specs.Laws.{AtMostOneAnswer, IsOfTrace};
 
-/// Bytes have one verdict at most, and none where they have a bad line.
+/// Bytes have at most one verdict, and none if they have a bad line.
 pub fn one_answer()
     ensures { AtMostOneAnswer }
 {}
 
-/// The operations of the steps that lines tell are those of their trace.
+/// The steps that lines tell have the operations of the lines' trace.
 pub fn same_trace()
     ensures { IsOfTrace }
 {}

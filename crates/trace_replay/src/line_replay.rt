@@ -27,7 +27,7 @@ pub(crate) struct LineReplay {
     number: u64,
 }
 
-/// Keeps an operation where stores are kept by their words.
+/// Keeps an operation, if stores are kept by their words.
 fn keep(stores: &mut Option<StoresByWord>, id: StepId, access: &Access) -> Result<(), AllocError> {
     match stores {
         Some(stores) => stores.keep(id, access),
@@ -81,7 +81,7 @@ impl LineReplay {
         perform(&mut self.replayer, stores, said)
     }
 
-    /// Replays the line that ends with this part, where `begun` has the bytes before it.
+    /// Replays the line that ends with this part and begins with the bytes in `begun`.
     fn end(
         &mut self,
         stores: &mut Option<StoresByWord>,
@@ -102,7 +102,7 @@ impl LineReplay {
         Ok(())
     }
 
-    /// Replays the lines that end in a piece, where `begun` has the bytes before it, and keeps the beginning of one more there.
+    /// Replays the lines that end in a piece. `begun` has the bytes before the piece, and then those that begin one more line.
     pub(crate) fn feed(
         &mut self,
         stores: &mut Option<StoresByWord>,
@@ -122,7 +122,7 @@ impl LineReplay {
         Ok(())
     }
 
-    /// Replays the last line, which lacks its line feed, and answers how many operations there were.
+    /// Replays the last line, if one without a line feed is left, and gives how many operations there were.
     pub(crate) fn finish(
         mut self,
         stores: &mut Option<StoresByWord>,

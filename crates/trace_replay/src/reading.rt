@@ -18,7 +18,7 @@ use std::alloc::Global;
 /// How many bytes are read at once.
 const PIECE: usize = 65_536;
 
-/// Replays the lines of a source, piece by piece, and answers how many operations they have.
+/// Replays the lines of a source, piece by piece, and gives how many operations they have.
 fn replay_pieces<S: ByteSource>(
     alloc: Global,
     source: &mut S,
@@ -46,7 +46,7 @@ fn replay_pieces<S: ByteSource>(
     Err(Stop::Refused(ReplayFault::OutOfMemory))
 }
 
-/// What a stop is answered as.
+/// The answer to a stop.
 fn answer_to(stop: Stop) -> Result<ReplayVerdict, ReplayFault>
     ensures { result ≡ answer_to stop }
 {
@@ -56,10 +56,9 @@ fn answer_to(stop: Stop) -> Result<ReplayVerdict, ReplayFault>
     }
 }
 
-/// Judges a trace in the order in which its lines stand: Yes where that is a sequential order of it, and No with the first
-/// operation at which it isn't. It reads no further than a piece of 65,536 bytes beyond. 42 comes with the first line that
-/// isn't a line of a trace, 10 where a growth was refused, and 28 where a read failed. The stores that were performed are kept by their
-/// words, where these are given.
+/// Judges a trace in the order in which its lines stand: Yes if that is a sequential order of it, and No with the first operation at which it isn't.
+/// It reads no further than a piece of 65,536 bytes beyond that. It refuses with 42 at the first line that isn't a line of a trace, with 10 if memory
+/// was refused, and with 28 if a read failed. It keeps the stores that it performed by their words, if `stores` is there.
 pub fn replay<S: ByteSource>(
     alloc: Global,
     source: &mut S,
@@ -68,7 +67,7 @@ pub fn replay<S: ByteSource>(
     ensures answer { (bytes : List ℕ) × Tells (S.remaining source.old) bytes
         × MatchResult result (IsVerdict bytes) (IsFault bytes) }
     ensures far { ReadsOn (S.remaining source.old) (S.remaining source.new) }
-    // A failed read is answered only where the source failed in this call, and none is passed over.
+    // It answers that a read failed only if the source failed in this call, and it passes over no failure.
     ensures read { IsErrOf result ReplayFault.Read →
         Failed (S.failed source.old) (S.failed source.new) }
     ensures quiet { ¬ IsErrOf result ReplayFault.Read → S.failed source.new ≡ S.failed source.old }

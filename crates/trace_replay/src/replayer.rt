@@ -50,7 +50,7 @@ impl Replayer {
         }
     }
 
-    /// What is told of the operation of this id if it may not come next.
+    /// What is wrong with the operation of this id, if it may not come next.
     fn wrong_load(&self, id: StepId, access: &Access) -> Option<WrongLoad>
         ensures { MatchOption result
             (IsAnsweredBy (word_at self.now.memory) access.now)
@@ -69,8 +69,8 @@ impl Replayer {
         })
     }
 
-    /// Performs the next operation of a core. A load or a swap that didn't read the word of its address is told, and isn't
-    /// performed.
+    /// Performs the next operation of a core. A load or a swap that didn't read the word at its address isn't performed:
+    /// this tells what is wrong with it. Err if memory was refused.
     pub fn step(&mut self, core: CoreId, access: &Access) -> Result<Option<WrongLoad>, AllocError>
         ensures performed { (steps : List Step) → StandsFor self.old steps → IfOk result (λ wrong. MatchOption wrong
             (StandsFor self.new (steps ++ next_step steps core access.now ∷ []))

@@ -1,4 +1,4 @@
-//! Why the lines of a trace aren't gone on with.
+//! Why the replay of a trace's lines stops.
 
 ghost use Rattle.std.specs.Prelude.{◌≡◌};
 ghost use Rattle.trace_replay.specs.declared.fault.ReplayFault.TheVariants.{OutOfMemory, Read};
@@ -9,7 +9,7 @@ use super::wrong_load::WrongLoad;
 use log_file::ReadFailed;
 use std::alloc::AllocError;
 
-/// Why the lines of a trace aren't gone on with.
+/// Why the replay of a trace's lines stops.
 #[derive(Clone, Copy)]
 pub(crate) enum Stop {
     /// A load that didn't read the last store to its address.

@@ -1,4 +1,4 @@
-//! Stores that are kept by their words.
+//! Stores, kept by their words.
 
 ghost use Rattle.std.specs.Prelude.{◌≡◌, ◌==◌, ◌&&◌, cond, ℕ, None, Some, OnOk};
 ghost use Rattle.mem_op.specs.Consistency.{is_store_to, word_left};

@@ -16,8 +16,8 @@ pub struct WrongLoad {
     pub addr: Address,
     /// The word that it read.
     pub read: Word,
-    /// The word of the last store to the address before it, which it should have read, and which store that is; where there is
-    /// none, it should have read the initial 0.
+    /// The word of the last store to the address before it, which it should have read, and that store; None if there was no
+    /// store, so that it should have read the initial 0.
     pub last: Option<(Word, StepId)>,
 }
 

@@ -1,4 +1,4 @@
-//! What has to come where a call is made again in another way, whatever its row says.
+//! What has to come of a call that is made again in another way, whatever its row says.
 
 ghost use Rattle.std.specs.Prelude.{◌<◌};
 
@@ -12,16 +12,16 @@ use std::alloc::Global;
 use std::sync::Wait;
 use std::thread::Threads;
 
-/// How many writes fail in turn, each time with four bytes a write before it.
+/// How many writes fail in turn. Each write before the one that fails takes four bytes.
 const WRITES: usize = 8;
 
-/// The most reads of ten bytes of a file that fail in turn.
+/// How many reads of a file, of ten bytes each, fail in turn, at most.
 const READS: usize = 20;
 
-/// The longest beginning of a log that is looked at, in bytes.
+/// How many beginnings of a log are tried, at most, the shortest first.
 const LONGEST_CUT: usize = 120;
 
-/// How often a call went wrong that was made again in other ways.
+/// How often a call went wrong when it was made again in other ways.
 pub(crate) fn wrong_again<R: Threads + Wait + Sync + Print>(
     rt: &R,
     alloc: Global,
@@ -72,7 +72,7 @@ impl Wrong {
     }
 }
 
-/// Only a run is watched: one that is done made a turn for each operation, and was over once.
+/// Only a run is watched: one that is done made at least a turn for each operation, and was over once.
 fn is_seen(command: &str, done: &Done) -> bool {
     let (turns, over) = done.seen;
     if command != "run" || done.status == 3 {
@@ -96,7 +96,7 @@ struct Again<'a, R> {
 }
 
 impl<'a, R: Threads + Wait + Sync + Print> Again<'a, R> {
-    /// Whether a call with these words does what it should, over these files and where writes go so.
+    /// Whether a call with these words does what it should, over these files and with these writes.
     fn does(
         &self,
         words: &[&str],
@@ -108,7 +108,7 @@ impl<'a, R: Threads + Wait + Sync + Print> Again<'a, R> {
         compare(self.rt, words, wanted, &done)
     }
 
-    /// A check answers the same by any number of workers.
+    /// A check answers the same with any number of workers.
     fn by_workers(&self) -> Result<bool, RowsFault> {
         if have(self.words, "--workers") {
             return Ok(true);
@@ -116,7 +116,7 @@ impl<'a, R: Threads + Wait + Sync + Print> Again<'a, R> {
         Ok(self.by("--workers=1")? && self.by("--workers=2")? && self.by("--workers=64")?)
     }
 
-    /// Whether a check does what it should with an option more.
+    /// Whether a check does what it should with one more option.
     fn by(&self, option: &'a str) -> Result<bool, RowsFault> {
         let words = other_call(self.alloc, "check", Some(option), self.words)?;
         self.does(words.as_slice(), self.given, SOUND, &self.expected)
@@ -134,7 +134,7 @@ impl<'a, R: Threads + Wait + Sync + Print> Again<'a, R> {
         compare(self.rt, self.words, &self.expected, &done)
     }
 
-    /// Where an order is written the verdict goes to standard error, and only with a Yes the order is whole.
+    /// If an order is written, the verdict goes to standard error, and the order is whole only with a Yes.
     fn as_order(&self) -> Result<bool, RowsFault> {
         if have(self.words, "--") {
             return Ok(true);
@@ -156,7 +156,7 @@ impl<'a, R: Threads + Wait + Sync + Print> Again<'a, R> {
         Ok(is_good && is_whole == (self.expected.status == 0))
     }
 
-    /// An explanation begins with the verdict's line; or it is refused, and says more of that on standard output.
+    /// An explanation begins with the verdict's line; or it is refused, and tells more about that on standard output.
     fn as_explanation(&self) -> Result<bool, RowsFault> {
         if have(self.words, "--workers") {
             return Ok(true);
@@ -174,7 +174,7 @@ impl<'a, R: Threads + Wait + Sync + Print> Again<'a, R> {
         self.does(words.as_slice(), self.given, SOUND, &wanted)
     }
 
-    /// Each proper beginning of a log is cut off at the line after its last line feed.
+    /// Each proper beginning of a log is refused as cut off at the line after its last line feed.
     fn cut_off(&self) -> Result<bool, RowsFault> {
         if have(self.words, "--") || self.expected.status > 1 {
             return Ok(true);
@@ -188,7 +188,7 @@ impl<'a, R: Threads + Wait + Sync + Print> Again<'a, R> {
         Ok(is_good)
     }
 
-    /// Each proper beginning of this log, which is the one of this number, is cut off at the line after its last line feed.
+    /// Each proper beginning of this log, the one of this number, is refused as cut off at the line after its last line feed.
     fn cut_off_in(&self, number: usize, file: &File) -> Result<bool, RowsFault> {
         let mut is_good = true;
         for length in 0..file.bytes.len().min(LONGEST_CUT) {
@@ -257,7 +257,7 @@ impl<'a, R: Threads + Wait + Sync + Print> Again<'a, R> {
         self.does(words.as_slice(), given, SOUND, &wanted)
     }
 
-    /// Where a write of standard output fails, it has taken a beginning, and 29 is told; but a refusal is told as it was.
+    /// If a write to standard output fails, the output has taken a beginning, and the call tells 29; but it tells a refusal as before.
     fn failing_writes(&self) -> Result<bool, RowsFault> {
         let mut is_good = true;
         for write in 0..WRITES {
@@ -286,7 +286,7 @@ impl<'a, R: Threads + Wait + Sync + Print> Again<'a, R> {
         Ok(is_good)
     }
 
-    /// A write of standard error that fails is passed over.
+    /// The call passes over a write to standard error that fails.
     fn failing_complaints(&self) -> Result<bool, RowsFault> {
         let mut is_good = true;
         for write in 0..WRITES {
@@ -304,7 +304,7 @@ impl<'a, R: Threads + Wait + Sync + Print> Again<'a, R> {
         Ok(is_good)
     }
 
-    /// Where a read of a file fails, up to the one that finds its end, 28 is told; a replay with a no may end before that.
+    /// If a read of a file fails, up to the one that finds its end, the call tells 28; a replay with a no may end before that.
     fn failing_reads(&self) -> Result<bool, RowsFault> {
         if self.expected.status > 1 {
             return Ok(true);
@@ -324,7 +324,7 @@ impl<'a, R: Threads + Wait + Sync + Print> Again<'a, R> {
         Ok(is_good)
     }
 
-    /// Whether a call tells 28 where a read of a file fails after so many good ones; if not, it does what it should without.
+    /// Whether a call tells 28 if a read of a file fails after this many good ones. If not, it should do what it does without the failure.
     fn failing_read(&self, file: &'a File, good: usize) -> Result<bool, RowsFault> {
         let mut steps = [Step::Move(9); READS];
         if let Some(step) = steps.get_mut(good) {
@@ -354,7 +354,7 @@ fn failing_at(write: usize) -> [Step; WRITES]
     steps
 }
 
-/// What is told of a file that has only this beginning of a log.
+/// What a call tells of a file that has only this beginning of a log.
 fn told_of_beginning(alloc: Global, file: usize, beginning: &[u8]) -> Result<String, RowsFault> {
     let feeds = beginning.iter().filter(|byte| **byte == b'\n').count();
     let line = feeds.saturating_add(1);
@@ -366,7 +366,7 @@ fn copied(alloc: Global, file: &File) -> Result<File, RowsFault> {
     Ok(File::new(alloc, file.name.as_str(), file.bytes.as_slice())?)
 }
 
-/// The files, one of them cut off after so many bytes.
+/// The files, one of them cut off after this many bytes.
 fn with_beginning(
     alloc: Global,
     files: &[File],

@@ -40,12 +40,12 @@ pub(crate) struct Done {
     /// What standard error took.
     pub(crate) told: String,
     pub(crate) put: Vec<File>,
-    /// How many turns were seen, and how many runs that were over.
+    /// How many turns were seen, and how many runs were over.
     pub(crate) seen: (u64, u64),
 }
 
-/// Calls the program over files in memory. Where a verdict was asked for and the answer is 0, the given files spell a set of logs whose
-/// operations are sequentially consistent.
+/// Calls the program over files in memory. If a verdict was asked for and the answer is 0, the given files spell a set of logs whose operations are
+/// sequentially consistent.
 pub(crate) fn call<R: Threads + Wait + Sync>(
     rt: &R,
     alloc: Global,
@@ -62,7 +62,7 @@ pub(crate) fn call<R: Threads + Wait + Sync>(
     Ok(done)
 }
 
-/// Calls the program over any folder; which files it puts isn't looked at.
+/// Calls the program over any folder, without a look at the files that it puts.
 pub(crate) fn call_over<R: Threads + Wait + Sync, F: Folder>(
     rt: &R,
     alloc: Global,

@@ -1,4 +1,4 @@
-//! What a call did, beside what it should do.
+//! What a call did, compared with what it should do.
 
 use super::call::Done;
 use super::fault::RowsFault;
@@ -27,8 +27,8 @@ impl<'a> Expected<'a> {
     }
 }
 
-/// Whether a text is as it should be. In what is expected a line that ends with `*` stands for each line that begins so, and the
-/// line `**` for all that is left.
+/// Whether a text is as it should be. In the expected text, a line that ends with `*` stands for any line that begins so,
+/// and the line `**` for all that is left.
 pub(crate) fn is_like(expected: &str, found: &str) -> bool {
     if !expected.contains('*') {
         return found == expected;
@@ -52,7 +52,7 @@ fn is_like_line(expected: &str, line: &str) -> bool {
     }
 }
 
-/// Whether a call did what it should; if not, what it did otherwise is told.
+/// Whether a call did what it should; if not, prints what it did instead.
 pub(crate) fn compare<R: Print>(
     rt: &R,
     words: &[&str],
@@ -78,14 +78,14 @@ pub(crate) fn compare<R: Print>(
     Ok(is_good)
 }
 
-/// Whether a file that was put is as it should be: where a text of one line, `**`, is expected, any is.
+/// Whether a file that was put is as it should be: if the one line `**` is expected, any text is.
 fn is_put(wanted: &File, put: &File) -> bool {
     wanted.name.as_str() == put.name.as_str()
         && (wanted.bytes.as_slice() == b"**\n".as_slice()
             || wanted.bytes.as_slice() == put.bytes.as_slice())
 }
 
-/// Whether just the files were put that should be; if not, how many were put, or which is another, is told.
+/// Whether just the files were put that should be; if not, prints how many were put, or which one is different.
 pub(crate) fn compare_files<R: Print>(
     rt: &R,
     line: usize,

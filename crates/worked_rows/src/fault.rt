@@ -7,15 +7,15 @@ use std::io;
 /// Why rows can't be replayed.
 #[derive(Clone, Copy, Debug, PartialEq, Eq)]
 pub(crate) enum RowsFault {
-    /// A line isn't one of rows, or doesn't fit where it stands.
+    /// A line isn't a line of rows, or doesn't fit where it stands.
     BadLine,
-    /// A file can't be read, or what is told can't be written.
+    /// A file can't be read, or a line of this program can't be written.
     Device,
     /// A text isn't UTF-8.
     NotText,
     /// There is no memory.
     OutOfMemory,
-    /// Some call did another thing than its row says.
+    /// Some call did something else than its row says.
     Wrong,
 }
 

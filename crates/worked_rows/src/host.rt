@@ -11,8 +11,8 @@ use std::fs;
 use std::sync::Wait;
 use std::thread::Threads;
 
-/// Makes a call over files of the host: those of the row are written there before it, and go after it. Answers how often it went wrong,
-/// and the files that it put.
+/// Makes a call over files of the host. Those of the row are written there before it and removed after it. Gives how often the call went wrong, and
+/// the files that it put.
 pub(crate) fn perform_on_host<R: Threads + Wait + Sync + Print>(
     rt: &R,
     host: &HostRuntime,
@@ -36,7 +36,7 @@ pub(crate) fn perform_on_host<R: Threads + Wait + Sync + Print>(
     Ok((u64::from(!(is_told && is_put)), left))
 }
 
-/// The files of the names that the call is to put, as they are now.
+/// The files that the call should put, as they are now.
 fn left(
     host: &HostRuntime,
     folder: &mut HostFolder<'_>,
@@ -55,7 +55,7 @@ fn left(
     Ok(left)
 }
 
-/// Takes files away again.
+/// Removes files.
 fn remove(host: &HostRuntime, files: &[File]) {
     for file in files {
         let _ = fs::remove_file(host, file.name.as_str());

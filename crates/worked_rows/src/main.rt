@@ -1,7 +1,7 @@
-//! Replays rows: calls of the program over files in memory, with what each prints, its status and the files that it puts. They are those
-//! of each file in the folder where this runs whose name ends with `.rows`, and `docs/ROWS.md` tells how they are written. Besides, each
-//! call is made again in other ways, of which `again.rt` knows what has to come. The rows of a file whose name ends with `.host.rows` are
-//! calls over files of the host.
+//! Replays rows: calls of the program over files in memory, with what each prints, its status and the files that it puts. It reads the rows from each
+//! file in the folder where it runs whose name ends with `.rows`; `docs/ROWS.md` tells how to write them. It also makes each call that went right
+//! again in other ways; `again.rt` knows what has to come of those. The rows of a file whose name ends with `.host.rows` are calls over files of the
+//! host.
 #![tactic(auto)]
 
 mod again;

@@ -18,7 +18,7 @@ pub(crate) struct Tally {
     pub(crate) wrong: u64,
 }
 
-/// Makes a call over files in memory, and makes it again in other ways where it went right. Answers how often it went wrong, and the files that it put.
+/// Makes a call over files in memory, and if it went right, again in other ways. Gives how often it went wrong, and the files that it put.
 fn perform<R: Threads + Wait + Sync + Print>(
     rt: &R,
     alloc: Global,
@@ -45,7 +45,7 @@ fn perform<R: Threads + Wait + Sync + Print>(
     Ok((wrong, done.put))
 }
 
-/// Makes the calls of the row's call, if it has one, and has the row keep the files that they put.
+/// Makes the calls for which the row's call stands, if it has one, and lets the row keep the files that they put.
 fn finish<R: Threads + Wait + Sync + Print>(
     rt: &R,
     alloc: Global,
@@ -70,7 +70,7 @@ fn finish<R: Threads + Wait + Sync + Print>(
     Ok(())
 }
 
-/// Replays the rows of a text, over files of the host where one is given.
+/// Replays the rows of a text, over files of the host if one is given.
 pub(crate) fn replay<R: Threads + Wait + Sync + Print>(
     rt: &R,
     alloc: Global,

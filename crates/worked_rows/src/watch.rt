@@ -5,7 +5,7 @@ use mem_op::CoreId;
 use std::sync::atomic::{AtomicU64, Ordering};
 use trace_replay::WrongLoad;
 
-/// Counts the turns of runs, and the runs that are over. Nothing is counted of a search or a replay.
+/// Counts the turns of runs and the runs that are over; it counts nothing of a search or a replay.
 #[derive(Drop)]
 pub(crate) struct Counting {
     turns: AtomicU64,

@@ -11,7 +11,7 @@ pub(crate) fn texts_of(alloc: Global, words: &[String]) -> Result<Vec<&str>, All
     Ok(texts)
 }
 
-/// Whether one of the words begins so.
+/// Whether one of the words begins with this text.
 pub(crate) fn have(words: &[&str], beginning: &str) -> bool {
     words.iter().any(|word| word.starts_with(beginning))
 }
@@ -21,7 +21,7 @@ pub(crate) fn have_word(words: &[&str], wanted: &str) -> bool {
     words.iter().any(|word| *word == wanted)
 }
 
-/// The call of another command, with an option where there is one, on what these words name.
+/// The call of another command, with an option if there is one, on what these words name.
 pub(crate) fn other_call<'a>(
     alloc: Global,
     command: &'a str,
