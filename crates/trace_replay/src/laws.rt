@@ -2,7 +2,7 @@
 
 ghost use Rattle.trace_replay.specs.Laws.{AtMostOneAnswer, IsOfTrace};
 
-/// Bytes have at most one verdict, and none if they have a bad line.
+/// Bytes have at most one verdict, and none if a bad line comes before any wrong load.
 pub fn one_answer()
     ensures { AtMostOneAnswer }
 {}
